@@ -1,0 +1,2 @@
+-- the comparisons of specs/Order answer `Less` exactly where one stands before the other
+pub mod Comparing

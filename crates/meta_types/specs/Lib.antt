@@ -1,0 +1,11 @@
+-- What must be believed of node numbers, names and values, in the order in which to read it.
+-- the numbers of nodes
+pub mod Node
+-- the parts of a prefix and of a key, and their lengths
+pub mod Name
+-- the parts of a value, and the length of its body
+pub mod Value
+-- byte order, and the order of prefixes and keys
+pub mod Order
+-- the numbers of refusals
+pub mod Fault

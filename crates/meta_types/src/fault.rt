@@ -1,0 +1,53 @@
+ghost use Rattle.std.specs.Prelude.{◌≡◌};
+ghost use Rattle.meta_types.specs.Fault.{code_of};
+ghost use Rattle.meta_types.specs.declared.fault.TypeFault.TheVariants.{Memory};
+
+use std::alloc::{AllocError, AllocFailed};
+use thiserror::Error;
+
+/// Why a node number, a name or a value was refused. It prints as the name of the variant.
+#[derive(Debug, Drop, Error, PartialEq, Eq)]
+pub enum TypeFault {
+    /// 1: the length of a prefix, a sub-prefix or a key is out of range.
+    #[error("BadName")]
+    BadName,
+    /// 2: the body of a value is longer than a value may be.
+    #[error("ValueTooLong")]
+    ValueTooLong,
+    /// 3: no node has this number.
+    #[error("BadNode")]
+    BadNode,
+    /// 99: an allocation was refused. No constructor answers it; a copy does.
+    #[error("Memory")]
+    Memory,
+}
+
+impl TypeFault {
+    /// The number of the refusal, as programs print it.
+    pub fn code(&self) -> u16
+        ensures { result ≡ code_of self.now }
+    {
+        match self {
+            TypeFault::BadName => 1,
+            TypeFault::ValueTooLong => 2,
+            TypeFault::BadNode => 3,
+            TypeFault::Memory => 99,
+        }
+    }
+}
+
+impl From<AllocError> for TypeFault {
+    ghost from_gives = { λ _ fault. fault ≡ Memory };
+
+    fn from(_error: AllocError) -> TypeFault {
+        TypeFault::Memory
+    }
+}
+
+impl<T: Drop> From<AllocFailed<T>> for TypeFault {
+    ghost from_gives = { λ _ fault. fault ≡ Memory };
+
+    fn from(_error: AllocFailed<T>) -> TypeFault {
+        TypeFault::Memory
+    }
+}
