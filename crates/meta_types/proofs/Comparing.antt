@@ -1,17 +1,19 @@
-use Rattle.std.proofs.Common.{ℕ, ◌≡◌, ◌<◌, ◌⊎◌, ◌↔◌, List, [], ◌∷◌, ◌++◌, refl, sym, ap, subst, ◌∙◌, inl, inr}
+use Rattle.std.proofs.Common.{ℕ, ◌≡◌, ◌<◌, ◌⊎◌, ◌↔◌, List, [], ◌∷◌, ◌++◌, Option, Some, None, refl, sym, ap, subst, ◌∙◌, inl, inr}
 use Rattle.std.specs.declared.cmp.Ordering.{Ordering}
 use Rattle.std.specs.declared.cmp.Ordering.TheVariants.{Less, Equal, Greater}
 use Rattle.std.specs.Ordering.{nat_cmp, ordering_then, MatchOrdering}
 use Rattle.std.specs.Cmp.{nat_cmp_is, ranked}
 use Rattle.std.specs.FinMap.{nat_cmp-IsAntisymmetric, slice_cmp-IsAntisymmetric}
+use Rattle.std.specs.Option.{option_cmp}
 use Rattle.meta_types.specs.Name.{Prefix, Key}
-use Rattle.meta_types.specs.Order.{IsProperPrefix, IsLessAtFirstDifference, BytesBefore, PrefixBefore, KeyBefore, bytes_cmp, prefix_cmp, key_cmp}
+use Rattle.meta_types.specs.Value.{ValueParts}
+use Rattle.meta_types.specs.Order.{BytesBefore, PrefixBefore, KeyBefore, BodyBefore, ValueBefore, bytes_cmp, prefix_cmp, key_cmp, value_cmp}
 
 -- ---- bytes
 
 BytesBefore-cons : (x y : ℕ) (xs ys : List ℕ) → x ≡ y → BytesBefore xs ys → BytesBefore (x ∷ xs) (y ∷ ys)
 BytesBefore-cons x y xs ys e (inl p) =
-    inl (record { next = p.next; rest = p.rest; spelled = λ i. sym e i ∷ p.spelled i })
+    inl (record { next = p.next; rest = p.rest; split = λ i. sym e i ∷ p.split i })
 BytesBefore-cons x y xs ys e (inr d) =
     inr (record {
       front = x ∷ d.front;
@@ -19,8 +21,8 @@ BytesBefore-cons x y xs ys e (inr d) =
       high = d.high;
       lesser_rest = d.lesser_rest;
       greater_rest = d.greater_rest;
-      lesser_spelled = λ i. x ∷ d.lesser_spelled i;
-      greater_spelled = λ i. sym e i ∷ d.greater_spelled i;
+      lesser_split = λ i. x ∷ d.lesser_split i;
+      greater_split = λ i. sym e i ∷ d.greater_split i;
       differs = d.differs;
     })
 
@@ -33,8 +35,8 @@ BytesBefore-step x y xs ys Less less rest h =
       high = y;
       lesser_rest = xs;
       greater_rest = ys;
-      lesser_spelled = refl;
-      greater_spelled = refl;
+      lesser_split = refl;
+      greater_split = refl;
       differs = less;
     })
 BytesBefore-step x y xs ys Equal same rest h = BytesBefore-cons x y xs ys same (rest h)
@@ -42,7 +44,7 @@ BytesBefore-step x y xs ys Greater more rest h = cc
 
 before_from_cmp : (xs ys : List ℕ) → bytes_cmp xs ys ≡ Less → BytesBefore xs ys
 before_from_cmp [] [] h = cc
-before_from_cmp [] (y ∷ ys) h = inl (record { next = y; rest = ys; spelled = refl })
+before_from_cmp [] (y ∷ ys) h = inl (record { next = y; rest = ys; split = refl })
 before_from_cmp (x ∷ xs) [] h = cc
 before_from_cmp (x ∷ xs) (y ∷ ys) h =
     BytesBefore-step x y xs ys (nat_cmp x y) (ranked x y (nat_cmp x y) refl) (before_from_cmp xs ys) h
@@ -60,9 +62,9 @@ bytes_cmp-append_nil (x ∷ front) ys =
 
 cmp_from_before : (xs ys : List ℕ) → BytesBefore xs ys → bytes_cmp xs ys ≡ Less
 cmp_from_before xs ys (inl p) =
-    ap (λ zs. bytes_cmp xs zs) p.spelled ∙ bytes_cmp-append_nil xs (p.next ∷ p.rest)
+    ap (λ zs. bytes_cmp xs zs) p.split ∙ bytes_cmp-append_nil xs (p.next ∷ p.rest)
 cmp_from_before xs ys (inr d) =
-    (λ i. bytes_cmp (d.lesser_spelled i) (d.greater_spelled i))
+    (λ i. bytes_cmp (d.lesser_split i) (d.greater_split i))
     ∙ bytes_cmp-append d.front (d.low ∷ d.lesser_rest) (d.high ∷ d.greater_rest)
     ∙ ap (λ o. ordering_then o (bytes_cmp d.lesser_rest d.greater_rest)) (sym (nat_cmp_is d.low d.high Less d.differs))
 
@@ -126,9 +128,43 @@ key_cmp-Less k l = (forth, back)
     back (inl before) = then_from_less (prefix_cmp k.prefix l.prefix) (bytes_cmp k.key l.key) (inl ((prefix_cmp-Less k.prefix l.prefix).1 before))
     back (inr both) = then_from_less (prefix_cmp k.prefix l.prefix) (bytes_cmp k.key l.key) (inr (subst (λ r. prefix_cmp k.prefix r ≡ Equal) both.0 (prefix_cmp-same k.prefix), cmp_from_before k.key l.key both.1))
 
--- what a comparison answered, where it answered this
+-- ---- values
+
+body_before_from_cmp : (v w : Option (List ℕ)) → option_cmp bytes_cmp v w ≡ Less → BodyBefore v w
+body_before_from_cmp None None h = cc
+body_before_from_cmp None (Some ys) h = tt
+body_before_from_cmp (Some xs) None h = cc
+body_before_from_cmp (Some xs) (Some ys) h = before_from_cmp xs ys h
+
+cmp_from_body_before : (v w : Option (List ℕ)) → BodyBefore v w → option_cmp bytes_cmp v w ≡ Less
+cmp_from_body_before None None h = absurd h
+cmp_from_body_before None (Some ys) h = refl
+cmp_from_body_before (Some xs) None h = absurd h
+cmp_from_body_before (Some xs) (Some ys) h = cmp_from_before xs ys h
+
+value_cmp-Less : (v w : ValueParts) → (value_cmp v w ≡ Less) ↔ ValueBefore v w
+value_cmp-Less v w = (forth, back)
+  where
+    forth : value_cmp v w ≡ Less → ValueBefore v w
+    forth h = elim (less_from_then (nat_cmp v.stamp w.stamp) (option_cmp bytes_cmp v.body w.body) h) [
+      | inl less ↦ inl (ranked v.stamp w.stamp Less (sym less))
+      | inr both ↦ inr (ranked v.stamp w.stamp Equal (sym both.0), body_before_from_cmp v.body w.body both.1)
+    ]
+
+    back : ValueBefore v w → value_cmp v w ≡ Less
+    back (inl less) = then_from_less (nat_cmp v.stamp w.stamp) (option_cmp bytes_cmp v.body w.body) (inl (sym (nat_cmp_is v.stamp w.stamp Less less)))
+    back (inr both) = then_from_less (nat_cmp v.stamp w.stamp) (option_cmp bytes_cmp v.body w.body) (inr (sym (nat_cmp_is v.stamp w.stamp Equal both.0), cmp_from_body_before v.body w.body both.1))
+
+-- ---- what a comparison answered, where it answered this
+
+pub bytes_before : (r : Ordering) (xs ys : List ℕ) → r ≡ bytes_cmp xs ys → (r ≡ Less) ↔ BytesBefore xs ys
+bytes_before r xs ys e = ((λ h. before_from_cmp xs ys (sym e ∙ h)), (λ b. e ∙ cmp_from_before xs ys b))
+
 pub prefix_before : (r : Ordering) (p q : Prefix) → r ≡ prefix_cmp p q → (r ≡ Less) ↔ PrefixBefore p q
 prefix_before r p q e = ((λ h. (prefix_cmp-Less p q).0 (sym e ∙ h)), (λ b. e ∙ (prefix_cmp-Less p q).1 b))
 
 pub key_before : (r : Ordering) (k l : Key) → r ≡ key_cmp k l → (r ≡ Less) ↔ KeyBefore k l
 key_before r k l e = ((λ h. (key_cmp-Less k l).0 (sym e ∙ h)), (λ b. e ∙ (key_cmp-Less k l).1 b))
+
+pub value_before : (r : Ordering) (v w : ValueParts) → r ≡ value_cmp v w → (r ≡ Less) ↔ ValueBefore v w
+value_before r v w e = ((λ h. (value_cmp-Less v w).0 (sym e ∙ h)), (λ b. e ∙ (value_cmp-Less v w).1 b))

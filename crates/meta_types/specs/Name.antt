@@ -1,8 +1,6 @@
 use Rattle.std.specs.Prelude.{ℕ, ◌≤◌, List, length}
-use Rattle.meta_types.specs.declared.prefix.TheConstants.{MAX_PREFIX}
-use Rattle.meta_types.specs.declared.key.TheConstants.{MAX_KEY}
 
--- the two parts of a full prefix
+-- the two parts of a full prefix, as lists of bytes
 pub record Prefix : Type 0 where
   pub prefix : List ℕ
   pub sub : List ℕ
@@ -16,10 +14,10 @@ pub record Key : Type 0 where
 abbrev pub IsName : ℕ → List ℕ → Type 0
 IsName most bytes = (1 ≤ length bytes) × (length bytes ≤ most)
 
--- both parts of a prefix are names
-abbrev pub IsPrefix : Prefix → Type 0
-IsPrefix p = IsName MAX_PREFIX p.prefix × IsName MAX_PREFIX p.sub
+-- both parts of a full prefix have a length in range
+abbrev pub IsFullPrefix : Prefix → Type 0
+IsFullPrefix p = IsName 64 p.prefix × IsName 64 p.sub
 
--- the parts of a key are names
+-- each part of a key has a length in range
 abbrev pub IsKey : Key → Type 0
-IsKey k = IsPrefix k.prefix × IsName MAX_KEY k.key
+IsKey k = IsFullPrefix k.prefix × IsName 256 k.key

@@ -1,6 +1,5 @@
 use Rattle.std.specs.Prelude.{ℕ, ◌<◌}
-use Rattle.meta_types.specs.declared.node.TheConstants.{MAX_NODES}
 
--- the number of a node of a cluster
+-- a number that a node may have
 abbrev pub IsNode : ℕ → Type 0
-IsNode n = n < MAX_NODES
+IsNode n = n < 16

@@ -62,9 +62,11 @@ impl Eq for ByteString {
 }
 
 impl Ord for ByteString {
+    ghost use Rattle.std.specs.Prelude.{◌≡◌, ◌↔◌};
+    ghost use Rattle.std.specs.declared.cmp.Ordering.TheVariants.{Less};
     ghost use Rattle.std.proofs.Common.{rules};
     ghost use Rattle.std.specs.Cmp.Rules.{comparing};
-    ghost use Rattle.meta_types.specs.Order.{bytes_cmp};
+    ghost use Rattle.meta_types.specs.Order.{bytes_cmp, BytesBefore};
 
     ghost cmp = { bytes_cmp };
 
@@ -74,7 +76,10 @@ impl Ord for ByteString {
 
     ghost matches_eq = { Prim.search (comparing, rules) };
 
-    fn cmp(&self, other: &ByteString) -> Ordering {
+    fn cmp(&self, other: &ByteString) -> Ordering
+        ensures value { result ≡ bytes_cmp self.now other.now }
+        ensures before { (result ≡ Less) ↔ BytesBefore self.now other.now }
+    {
         self.bytes.as_slice().cmp(other.bytes.as_slice())
     }
 }

@@ -14,10 +14,11 @@ pub enum TypeFault {
     /// 2: the body of a value is longer than a value may be.
     #[error("ValueTooLong")]
     ValueTooLong,
-    /// 3: no node has this number.
+    /// 3: no node can have this number.
     #[error("BadNode")]
     BadNode,
-    /// 99: an allocation was refused. No constructor answers it; a copy does.
+    /// 99: an allocation was refused. No call of this crate answers it: a copy answers `AllocError`,
+    /// which `?` turns into this.
     #[error("Memory")]
     Memory,
 }

@@ -6,7 +6,7 @@ use std::cmp::Ordering;
 use std::marker::Model;
 
 /// The most bytes of a key under its full prefix.
-pub const MAX_KEY: usize = 256;
+pub const MAX_KEY_LEN: usize = 256;
 
 /// A key: a full prefix, and a byte string of 1 to 256 bytes under it.
 ///
@@ -37,11 +37,11 @@ impl MetaKey {
     /// Refused with 1 `BadName` where the length is out of range, and only then. What was handed in
     /// is dropped with a refusal: whoever needs it afterwards compares its length first.
     pub fn new(prefix: FullPrefix, key: Vec<u8>) -> Result<Self, TypeFault>
-        ensures range { IsOk result ↔ IsName MAX_KEY key.items }
+        ensures range { IsOk result ↔ IsName MAX_KEY_LEN key.items }
         ensures value { IfOk result (λ k. k ≡ record { prefix = prefix; key = key.items }) }
         ensures fault { IfErr result (λ fault. fault ≡ BadName) }
     {
-        if is_name(key.as_slice(), MAX_KEY) {
+        if is_name(key.as_slice(), MAX_KEY_LEN) {
             // Read for what it tells: the prefix is in range.
             let _ = prefix.prefix();
             Ok(MetaKey {
@@ -55,7 +55,7 @@ impl MetaKey {
 
     pub fn prefix(&self) -> &FullPrefix
         ensures value { result.now ≡ self.now.prefix }
-        ensures lawful { IsKey self.now }
+        ensures in_range { IsKey self.now }
     {
         &self.prefix
     }
@@ -63,7 +63,7 @@ impl MetaKey {
     /// The bytes of the key itself, without its prefix.
     pub fn key(&self) -> &[u8]
         ensures value { result.now ≡ self.now.key }
-        ensures lawful { IsKey self.now }
+        ensures in_range { IsKey self.now }
     {
         self.key.as_slice()
     }

@@ -4,7 +4,7 @@ use std::marker::Model;
 /// How many nodes a cluster has at most: they are numbered from 0.
 pub const MAX_NODES: u16 = 16;
 
-/// The number of a node, 0 to 15.
+/// The number of a node, 0 to 15, ordered as numbers are.
 #[derive(Clone, Copy, Debug, PartialEq, Eq, PartialOrd, Ord, Hash)]
 pub struct NodeId {
     number: u16,
@@ -43,7 +43,7 @@ impl NodeId {
 
     pub fn number(self) -> u16
         ensures value { result ≡ self }
-        ensures range { IsNode self }
+        ensures in_range { IsNode self }
     {
         self.number
     }

@@ -8,7 +8,7 @@ use std::cmp::Ordering;
 use std::marker::Model;
 
 /// The most bytes of a prefix, and of a sub-prefix.
-pub const MAX_PREFIX: usize = 64;
+pub const MAX_PREFIX_LEN: usize = 64;
 
 /// A full prefix: a prefix and a sub-prefix, byte strings of 1 to 64 bytes each.
 ///
@@ -20,13 +20,13 @@ pub struct FullPrefix {
 }
 
 impl Model for FullPrefix {
-    ghost use Rattle.meta_types.specs.Name.{Prefix, IsPrefix};
+    ghost use Rattle.meta_types.specs.Name.{Prefix, IsFullPrefix};
 
     ghost Value = { Prefix };
 
     ghost view = { λ p. record { prefix = p.prefix; sub = p.sub } };
 
-    ghost invariant = { λ p. IsPrefix (record { prefix = p.prefix; sub = p.sub }) };
+    ghost invariant = { λ p. IsFullPrefix (record { prefix = p.prefix; sub = p.sub }) };
 
     ghost inverse = { λ p. record { prefix = p.prefix; sub = p.sub } };
 }
@@ -40,17 +40,17 @@ pub(crate) fn is_name(bytes: &[u8], most: usize) -> bool
 
 impl FullPrefix {
     ghost use Rattle.std.specs.Prelude.{◌≡◌, ◌↔◌, IfOk, IsOk, IfErr};
-    ghost use Rattle.meta_types.specs.Name.{Prefix, IsName, IsPrefix};
+    ghost use Rattle.meta_types.specs.Name.{Prefix, IsName, IsFullPrefix};
     ghost use Rattle.meta_types.specs.declared.fault.TypeFault.TheVariants.{BadName};
 
     /// Refused with 1 `BadName` where a length is out of range, and only then. What was handed in
     /// is dropped with a refusal: whoever needs it afterwards compares its length first.
     pub fn new(prefix: Vec<u8>, sub: Vec<u8>) -> Result<Self, TypeFault>
-        ensures range { IsOk result ↔ IsPrefix (record { prefix = prefix.items; sub = sub.items }) }
+        ensures range { IsOk result ↔ IsFullPrefix (record { prefix = prefix.items; sub = sub.items }) }
         ensures value { IfOk result (λ p. p ≡ record { prefix = prefix.items; sub = sub.items }) }
         ensures fault { IfErr result (λ fault. fault ≡ BadName) }
     {
-        if is_name(prefix.as_slice(), MAX_PREFIX) && is_name(sub.as_slice(), MAX_PREFIX) {
+        if is_name(prefix.as_slice(), MAX_PREFIX_LEN) && is_name(sub.as_slice(), MAX_PREFIX_LEN) {
             Ok(FullPrefix {
                 prefix: ByteString::new(prefix),
                 sub: ByteString::new(sub),
@@ -62,7 +62,7 @@ impl FullPrefix {
 
     pub fn prefix(&self) -> &[u8]
         ensures value { result.now ≡ self.now.prefix }
-        ensures lawful { IsPrefix self.now }
+        ensures in_range { IsFullPrefix self.now }
     {
         self.prefix.as_slice()
     }
@@ -70,7 +70,7 @@ impl FullPrefix {
     /// The sub-prefix.
     pub fn sub(&self) -> &[u8]
         ensures value { result.now ≡ self.now.sub }
-        ensures lawful { IsPrefix self.now }
+        ensures in_range { IsFullPrefix self.now }
     {
         self.sub.as_slice()
     }

@@ -1,0 +1,175 @@
+ghost use Rattle.std.specs.Prelude.{◌≡◌, ◌+◌, ◌≤◌, ◌↔◌, ◌++◌, IfOk, IsTrue, All};
+ghost use Rattle.meta_types.specs.Value.{IsValue};
+ghost use Rattle.dvvset.specs.Object.{IsEntry, IsObject};
+ghost use Rattle.dvvset.specs.Clock.{values_of};
+
+use crate::entry::{Entry, push_copies};
+use crate::fault::ClockFault;
+use meta_types::Value;
+use std::alloc::{AllocError, Global};
+use std::marker::Model;
+
+/// An object: what is kept under one key. Its entries stand in the order of their writers; the one
+/// without entries is the absent object.
+#[derive(Debug, Drop)]
+pub struct Entries {
+    entries: Vec<Entry>,
+}
+
+impl Model for Entries {
+    ghost use Rattle.std.specs.Prelude.{List};
+    ghost use Rattle.dvvset.specs.Object.{Entry as Parts, IsObject};
+
+    ghost Value = { List Parts };
+
+    ghost view = { λ e. e.entries.items };
+
+    ghost invariant = { λ e. IsObject e.entries.items };
+}
+
+impl Entries {
+    ghost use Rattle.std.specs.Prelude.{◌≡◌, ◌↔◌, [], IfOk, IfErr, IsOk, IsTrue};
+    ghost use Rattle.dvvset.specs.Object.{IsObject};
+    ghost use Rattle.dvvset.specs.declared.fault.ClockFault.TheVariants.{BadEntries};
+
+    /// The absent object.
+    pub fn empty(alloc: Global) -> Self
+        ensures { result ≡ [] }
+    {
+        Entries {
+            entries: Vec::new(alloc),
+        }
+    }
+
+    /// The object of these parts, which must be one.
+    pub fn new(entries: Vec<Entry>) -> Self
+        requires { IsObject entries.items }
+        ensures { result ≡ entries.items }
+    {
+        Entries { entries }
+    }
+
+    /// The object of these parts. Refused with 21 `BadEntries` where they are none, and only then:
+    /// where writers don't rise strictly, a count is 0, or an entry shows more values than its
+    /// count. What was handed in is dropped with a refusal.
+    pub fn from_parts(entries: Vec<Entry>) -> Result<Self, ClockFault>
+        ensures range { IsOk result ↔ IsObject entries.items }
+        ensures value { IfOk result (λ object. object ≡ entries.items) }
+        ensures fault { IfErr result (λ fault. fault ≡ BadEntries) }
+    {
+        if is_object(entries.as_slice()) {
+            Ok(Entries { entries })
+        } else {
+            Err(ClockFault::BadEntries)
+        }
+    }
+
+    /// The parts, without taking memory.
+    pub fn into_parts(self) -> Vec<Entry>
+        ensures value { result.items ≡ self }
+        ensures lawful { IsObject self }
+    {
+        self.entries
+    }
+
+    pub fn entries(&self) -> &[Entry]
+        ensures value { result.now ≡ self.now }
+        ensures lawful { IsObject self.now }
+    {
+        self.entries.as_slice()
+    }
+
+    /// Tells whether the object is the absent one.
+    pub fn is_empty(&self) -> bool
+        ensures { IsTrue result ↔ (self.now ≡ []) }
+    {
+        self.entries.is_empty()
+    }
+
+    pub fn copy(&self) -> Result<Self, AllocError>
+        ensures { IfOk result (λ copy. copy ≡ self.now) }
+    {
+        let entries = copy_entries(*self.entries.allocator(), self.entries.as_slice())?;
+        Ok(Entries { entries })
+    }
+}
+
+/// Copies of the values that an object shows, in the order of the writers, newest first of each.
+pub fn values(alloc: Global, object: &Entries) -> Result<Vec<Value>, AllocError>
+    ensures { IfOk result (λ values. values.items ≡ values_of object.now) }
+{
+    let mut values = Vec::new(alloc);
+    for entry in object.entries() {
+        push_copies(&mut values, entry.values())?;
+    }
+    Ok(values)
+}
+
+/// Copies a list of entries.
+fn copy_entries(alloc: Global, entries: &[Entry]) -> Result<Vec<Entry>, AllocError>
+    ensures { IfOk result (λ copy. copy.items ≡ entries.now) }
+{
+    let mut copy = Vec::with_capacity(alloc, entries.len())?;
+    for entry in entries {
+        copy.push(entry.copy()?)?;
+    }
+    Ok(copy)
+}
+
+/// Tells whether entries are an object.
+fn is_object(entries: &[Entry]) -> bool
+    ensures { IsTrue result ↔ IsObject entries.now }
+{
+    let mut low = 0;
+    for entry in entries {
+        let id = entry.id().number();
+        if id < low || !is_entry(entry) {
+            return false;
+        }
+        low = id + 1;
+    }
+    true
+}
+
+/// Tells whether an entry is lawful by itself.
+fn is_entry(entry: &Entry) -> bool
+    ensures { IsTrue result ↔ IsEntry entry.now }
+{
+    let _ = entry.id().number();
+    1 <= entry.count() && entry.values().len() as u64 <= entry.count() && are_values(entry.values())
+}
+
+/// Always true: what is asked of each value is what its type keeps. It is asked here so that an
+/// object can say it of all its values.
+fn are_values(values: &[Value]) -> bool
+    ensures holds { All IsValue values.now }
+    ensures answer { IsTrue result }
+{
+    for value in values {
+        let _ = value.stamp();
+    }
+    true
+}
+
+impl PartialEq for Entries {
+    ghost use Rattle.std.specs.Prelude.{◌≡◌, ◌↔◌, IsTrue};
+    ghost use Rattle.std.specs.Cmp.{partial_equiv_from_equiv};
+    ghost use Rattle.dvvset.specs.Equal.{entries_eq, entries_equivalence};
+
+    ghost eq = { entries_eq };
+
+    ghost laws = { partial_equiv_from_equiv entries_equivalence };
+
+    fn eq(&self, other: &Entries) -> bool
+        ensures value { result ≡ entries_eq self.now other.now }
+        ensures same { IsTrue result ↔ (self.now ≡ other.now) }
+    {
+        self.entries.as_slice() == other.entries.as_slice()
+    }
+}
+
+impl Eq for Entries {
+    ghost use Rattle.dvvset.specs.Equal.{entries_equivalence};
+
+    ghost laws = { entries_equivalence };
+}

@@ -1,0 +1,99 @@
+ghost use Rattle.std.specs.Prelude.{◌≡◌, ◌++◌, IfOk, OnOk};
+
+use meta_types::{NodeId, Value};
+use std::alloc::AllocError;
+use std::marker::Model;
+
+/// The events of one writer: how many there were, and the values of the newest of them, newest first.
+///
+/// An entry is plain parts, whatever they are: `Entries::from_parts` tells whether they are lawful.
+#[derive(Debug, Drop)]
+pub struct Entry {
+    id: NodeId,
+    count: u64,
+    values: Vec<Value>,
+}
+
+impl Model for Entry {
+    ghost use Rattle.dvvset.specs.Object.{Entry as Parts};
+
+    ghost Value = { Parts };
+
+    ghost view = { λ e. record { id = e.id; count = e.count; values = e.values.items } };
+}
+
+impl Entry {
+    pub fn new(id: NodeId, count: u64, values: Vec<Value>) -> Self
+        ensures { result ≡ record { id = id; count = count; values = values.items } }
+    {
+        Entry { id, count, values }
+    }
+
+    /// The writer.
+    pub fn id(&self) -> NodeId
+        ensures { result ≡ self.now.id }
+    {
+        self.id
+    }
+
+    /// How many events the writer has.
+    pub fn count(&self) -> u64
+        ensures { result ≡ self.now.count }
+    {
+        self.count
+    }
+
+    /// The values of its newest events, newest first.
+    pub fn values(&self) -> &[Value]
+        ensures { result.now ≡ self.now.values }
+    {
+        self.values.as_slice()
+    }
+
+    pub fn copy(&self) -> Result<Self, AllocError>
+        ensures { IfOk result (λ copy. copy ≡ self.now) }
+    {
+        let mut values = Vec::with_capacity(*self.values.allocator(), self.values.len())?;
+        push_copies(&mut values, self.values.as_slice())?;
+        Ok(Entry {
+            id: self.id,
+            count: self.count,
+            values,
+        })
+    }
+}
+
+/// Adds copies of values at the end.
+pub(crate) fn push_copies(copies: &mut Vec<Value>, values: &[Value]) -> Result<(), AllocError>
+    ensures { OnOk result (copies.new.items ≡ copies.old.items ++ values.now) }
+{
+    for value in values {
+        copies.push(value.copy()?)?;
+    }
+    Ok(())
+}
+
+impl PartialEq for Entry {
+    ghost use Rattle.std.specs.Prelude.{◌≡◌, ◌↔◌, IsTrue};
+    ghost use Rattle.std.specs.Cmp.{partial_equiv_from_equiv};
+    ghost use Rattle.dvvset.specs.Equal.{entry_eq, entry_equivalence};
+
+    ghost eq = { entry_eq };
+
+    ghost laws = { partial_equiv_from_equiv entry_equivalence };
+
+    fn eq(&self, other: &Entry) -> bool
+        ensures value { result ≡ entry_eq self.now other.now }
+        ensures same { IsTrue result ↔ (self.now ≡ other.now) }
+    {
+        self.id == other.id
+            && self.count == other.count
+            && self.values.as_slice() == other.values.as_slice()
+    }
+}
+
+impl Eq for Entry {
+    ghost use Rattle.dvvset.specs.Equal.{entry_equivalence};
+
+    ghost laws = { entry_equivalence };
+}
