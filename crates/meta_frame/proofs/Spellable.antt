@@ -1,0 +1,177 @@
+-- Which names, values, vectors and objects have a spelling: the rules of their types, and what frames ask
+-- beside them.
+use Rattle.std.proofs.Common.{◌≡◌, ℕ, ◌+◌, ◌*◌, ◌^◌, ◌<◌, ◌≤◌, ◌↔◌, Bool, true, false, ◌&&◌, not, List, [], ◌∷◌, ◌++◌, length, All, Option, Some, None, Ok, refl, sym, ap, subst, ◌∙◌, arith}
+use Rattle.std.specs.Int.{Width, w8, w16, w64, byte_len}
+use Rattle.std.proofs.lemmas.Bool.{le-leb}
+use Rattle.std.proofs.lemmas.List.Elements.{All-cons, All-nil, All-head, All-tail}
+use Rattle.meta_types.specs.Name.{Key, IsKey}
+use Rattle.meta_types.specs.Value.{ValueParts, IsBody, IsValue}
+use Rattle.dvvset.specs.Object.{Entry, Counter, RisesFrom, ids_of, ids_counted, IsCount, IsEntry, IsObject, IsCounter, IsVector}
+use Rattle.std.specs.List.{flat_map, list_all}
+use Rattle.std.proofs.lemmas.List.Concat.{flat_map-cons}
+use Rattle.meta_frame.specs.Form.{EachFits, spell_each}
+use Rattle.meta_frame.specs.Field.{number, name, key, counter, above_counter, vector, any_count, none, forget, body_form, tag_of, bytes_or_none, value, entry, above_entry, object, is_bare, has_value}
+use Rattle.meta_frame.specs.Size.{IsShort}
+use Rattle.meta_frame.specs.Reading.{vector_at, entries_at}
+use Rattle.meta_frame.proofs.Readers.{IsBytes}
+use Rattle.meta_frame.proofs.Fields.{number_within, vector_reads, entries_reads}
+
+-- a number in its range fits
+pub number_fits : (w : Width) (low high n : ℕ) → n < 2 ^ (8 * byte_len w) → low ≤ n → n ≤ high → (number w low high).Fits n
+number_fits w low high n lt least most = (lt, (λ i. le-leb low n least i && le-leb n high most i))
+
+-- ---- names
+
+pub name_fits : (low high : ℕ) (bytes : List ℕ) → high < 2 ^ 16 → low ≤ length bytes → length bytes ≤ high → (name low high).Fits bytes
+name_fits low high bytes lt least most = (number_fits w16 low high (length bytes) (omega arith) least most, refl)
+
+pub key_fits : (k : Key) → IsKey k → key.Fits k
+key_fits k is =
+    ((name_fits 1 64 k.prefix.prefix (omega arith) is.0.0.0 is.0.0.1, name_fits 1 64 k.prefix.sub (omega arith) is.0.1.0 is.0.1.1), name_fits 1 256 k.key (omega arith) is.1.0 is.1.1)
+
+-- ---- values
+
+body_in_range : (body : Option (List ℕ)) → (body_form (tag_of body)).Fits (bytes_or_none body) → IsBody body
+body_in_range None fits = tt
+body_in_range (Some bytes) fits = (number_within w16 0 1024 (length bytes) fits.0).most
+
+body_fits : (body : Option (List ℕ)) → IsBody body → (body_form (tag_of body)).Fits (bytes_or_none body)
+body_fits None is = refl
+body_fits (Some bytes) is = name_fits 0 1024 bytes (omega arith) (omega arith) is
+
+tag_fits : (body : Option (List ℕ)) → (number w8 0 1).Fits (tag_of body)
+tag_fits None = number_fits w8 0 1 0 (omega arith) (omega arith) (omega arith)
+tag_fits (Some bytes) = number_fits w8 0 1 1 (omega arith) (omega arith) (omega arith)
+
+pub value_in_range : (v : ValueParts) → value.Fits v → IsValue v
+value_in_range v fits = (fits.1.0, body_in_range v.body fits.1.1)
+
+pub value_fits : (v : ValueParts) → IsValue v → value.Fits v
+value_fits v is = (tag_fits v.body, (is.0, body_fits v.body is.1))
+
+values_in_range : (vs : List ValueParts) → EachFits (λ (_ : ℕ). value) forget none vs → All IsValue vs
+values_in_range [] fits = All-nil IsValue
+values_in_range (v ∷ vs) fits = All-cons IsValue v vs (value_in_range v fits.0) (values_in_range vs fits.1)
+
+values_fit : (vs : List ValueParts) → All IsValue vs → EachFits (λ (_ : ℕ). value) forget none vs
+values_fit [] all = tt
+values_fit (v ∷ vs) all = (value_fits v (All-head IsValue v vs all), values_fit vs (All-tail IsValue v vs all))
+
+-- ---- vectors
+
+count_in_range : (n : ℕ) → (number w64 1 any_count).Fits n → IsCount n
+count_in_range n fits = let within = number_within w64 1 any_count n fits in record { least = within.least; most = omega (arith, within.most) }
+
+count_fits : (n : ℕ) → IsCount n → (number w64 1 any_count).Fits n
+count_fits n is = number_fits w64 1 any_count n is.most is.least (omega (arith, is.most))
+
+counter_in_range : (low : ℕ) (c : Counter) → (counter low).Fits c → IsCounter c
+counter_in_range low c fits = let within = number_within w16 low 15 c.id fits.0 in record { node = omega (arith, within.most); counted = count_in_range c.count fits.1 }
+
+counters_rise : (low : ℕ) (cs : List Counter) → EachFits counter above_counter low cs → RisesFrom low (ids_counted cs)
+counters_rise low [] fits = tt
+counters_rise low (c ∷ cs) fits = ((number_within w16 low 15 c.id fits.0.0).least, counters_rise (c.id + 1) cs fits.1)
+
+counters_in_range : (low : ℕ) (cs : List Counter) → EachFits counter above_counter low cs → All IsCounter cs
+counters_in_range low [] fits = All-nil IsCounter
+counters_in_range low (c ∷ cs) fits = All-cons IsCounter c cs (counter_in_range low c fits.0) (counters_in_range (c.id + 1) cs fits.1)
+
+vector_in_range : (cs : List Counter) → vector.Fits cs → IsVector cs
+vector_in_range cs fits =
+    let few = number_within w16 1 65535 (length cs) fits.0 in
+    record { rising = counters_rise 0 cs fits.1.1; counters = counters_in_range 0 cs fits.1.1; few = omega (arith, few.most) }
+
+counters_fit : (low : ℕ) (cs : List Counter) → RisesFrom low (ids_counted cs) → All IsCounter cs → EachFits counter above_counter low cs
+counters_fit low [] rises all = tt
+counters_fit low (c ∷ cs) rises all =
+    let one = All-head IsCounter c cs all in
+    ((number_fits w16 low 15 c.id (omega (arith, one.node)) rises.0 (omega (arith, one.node)), count_fits c.count one.counted), counters_fit (c.id + 1) cs rises.1 (All-tail IsCounter c cs all))
+
+-- ---- objects
+
+entry_in_range : (low : ℕ) (e : Entry) → (entry low).Fits e → IsEntry e
+entry_in_range low e fits =
+    let within = number_within w16 low 15 e.id fits.0 in
+    let many = number_within w16 0 e.count (length e.values) fits.1.1.0 in
+    record { node = omega (arith, within.most); counted = count_in_range e.count fits.1.0; within = many.most; written = values_in_range e.values fits.1.1.1.1 }
+
+entries_rise : (low : ℕ) (es : List Entry) → EachFits entry above_entry low es → RisesFrom low (ids_of es)
+entries_rise low [] fits = tt
+entries_rise low (e ∷ es) fits = ((number_within w16 low 15 e.id fits.0.0).least, entries_rise (e.id + 1) es fits.1)
+
+entries_in_range : (low : ℕ) (es : List Entry) → EachFits entry above_entry low es → All IsEntry es
+entries_in_range low [] fits = All-nil IsEntry
+entries_in_range low (e ∷ es) fits = All-cons IsEntry e es (entry_in_range low e fits.0) (entries_in_range (e.id + 1) es fits.1)
+
+short_entry : (low : ℕ) (e : Entry) → (entry low).Fits e → IsShort e
+short_entry low e fits = fits.1.1.0.0
+
+short_entries : (low : ℕ) (es : List Entry) → EachFits entry above_entry low es → All IsShort es
+short_entries low [] fits = All-nil IsShort
+short_entries low (e ∷ es) fits = All-cons IsShort e es (short_entry low e fits.0) (short_entries (e.id + 1) es fits.1)
+
+entries_fit : (low : ℕ) (es : List Entry) → RisesFrom low (ids_of es) → All IsEntry es → All IsShort es → EachFits entry above_entry low es
+entries_fit low [] rises all short = tt
+entries_fit low (e ∷ es) rises all short =
+    let one = All-head IsEntry e es all in
+    let few : length e.values < 2 ^ 16 = All-head IsShort e es short in (
+      (
+        number_fits w16 low 15 e.id (omega (arith, one.node)) rises.0 (omega (arith, one.node)),
+        (count_fits e.count one.counted, (number_fits w16 0 e.count (length e.values) few (omega arith) one.within, (refl, values_fit e.values one.written))),
+      ),
+      entries_fit (e.id + 1) es rises.1 (All-tail IsEntry e es all) (All-tail IsShort e es short),
+    )
+
+-- what an object that has a spelling keeps beside its own rule
+pub record HasSpelling (es : List Entry) : Type 0 where
+  pub object : IsObject es
+  pub short : All IsShort es
+  pub shows : has_value es ≡ true
+
+pub spelled_object : (es : List Entry) → object.Fits es → HasSpelling es
+spelled_object es fits =
+    let few = number_within w16 1 65535 (length es) fits.0.0 in
+    record {
+      object = record { rising = entries_rise 0 es fits.0.1.1; entries = entries_in_range 0 es fits.0.1.1; few = omega (arith, few.most) };
+      short = short_entries 0 es fits.0.1.1;
+      shows = fits.1;
+    }
+
+one_at_least : (es : List Entry) → has_value es ≡ true → 1 ≤ length es
+one_at_least [] shows = cc
+one_at_least (e ∷ es) shows = omega arith
+
+pub object_fits : (es : List Entry) → IsObject es → All IsShort es → has_value es ≡ true → object.Fits es
+object_fits es is short shows =
+    ((number_fits w16 1 65535 (length es) is.few (one_at_least es shows) (omega (arith, is.few)), (refl, entries_fit 0 es is.rising is.entries short)), shows)
+
+-- ---- what was read
+
+pub object_from_entries : (bytes : List ℕ) (es : List Entry) (rest : List ℕ) → IsBytes bytes → entries_at bytes ≡ Ok (es, rest) → IsObject es
+object_from_entries bytes es rest is e =
+    let t = entries_reads.takes bytes es rest is e in
+    let few = number_within w16 1 65535 (length es) t.0.0 in
+    record { rising = entries_rise 0 es t.0.1.1; entries = entries_in_range 0 es t.0.1.1; few = omega (arith, few.most) }
+
+pub vector_from_counters : (bytes : List ℕ) (cs : List Counter) (rest : List ℕ) → IsBytes bytes → vector_at bytes ≡ Ok (cs, rest) → IsVector cs
+vector_from_counters bytes cs rest is e = vector_in_range cs (vector_reads.takes bytes cs rest is e).0
+
+-- the entries' spelling depends on nothing but themselves
+pub spell_entries : (low : ℕ) (es : List Entry) → spell_each entry above_entry low es ≡ flat_map (entry 0).spell es
+spell_entries low [] = refl
+spell_entries low (e ∷ es) = ap (λ bytes. (entry 0).spell e ++ bytes) (spell_entries (e.id + 1) es) ∙ sym (flat_map-cons (entry 0).spell e es)
+
+pub spell_values : (vs : List ValueParts) → spell_each (λ (_ : ℕ). value) forget none vs ≡ flat_map value.spell vs
+spell_values [] = refl
+spell_values (v ∷ vs) = ap (λ bytes. value.spell v ++ bytes) (spell_values vs) ∙ sym (flat_map-cons value.spell v vs)
+
+-- ---- what the tests of an object answer
+
+pub shown_object : (es entries : List Entry) (bare : Bool) → entries ≡ es → IsObject es → All IsShort entries → bare ≡ list_all is_bare entries → (not bare ≡ true) ↔ object.Fits es
+shown_object es entries bare same is short bare_is =
+    let shows : has_value es ≡ not bare = (λ i. not (list_all is_bare (sym same i))) ∙ ap not (sym bare_is) in
+    ((λ h. object_fits es is (subst (λ xs. All IsShort xs) same short) (shows ∙ h)), (λ fits. sym shows ∙ (spelled_object es fits).shows))
+
+pub long_object : (es entries : List Entry) (short : Bool) → entries ≡ es → (short ≡ true) ↔ All IsShort entries → short ≡ false → (short ≡ true) ↔ object.Fits es
+long_object es entries short same tells is_false =
+    ((λ h. cc), (λ fits. tells.1 (subst (λ xs. All IsShort xs) (sym same) (spelled_object es fits).short)))

@@ -1,0 +1,12 @@
+use Rattle.std.proofs.Common.{arith}
+use Rattle.meta_frame.specs.Field.{key}
+use Rattle.meta_frame.specs.Reading.{key_at}
+use Rattle.meta_frame.proofs.Fields.{key_reads}
+use Rattle.meta_frame.proofs.Fronts.{begins, refuses_field}
+use Rattle.meta_frame.proofs.field.get_key.Goals as goal
+
+pub returns-in-Ok-clause-found : goal.returns-in-Ok-clause-found
+returns-in-Ok-clause-found c = begins key key_at key_reads c.args.bytes.now c.in-Ok.found.0 c.in-Ok.found.1.now (λ i. omega (arith, c.type_inv.bytes i)) c.in-Ok.ensures
+
+pub returns-in-Err-clause-refused : goal.returns-in-Err-clause-refused
+returns-in-Err-clause-refused c = refuses_field key key_at key_reads c.args.bytes.now c.in-Err.fault c.offset.result (λ i. omega (arith, c.type_inv.bytes i)) c.in-Err.ensures c.offset.ensures

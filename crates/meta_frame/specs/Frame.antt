@@ -1,0 +1,133 @@
+-- Frames: a header of 20 bytes, and a body for each kind of message.
+use Rattle.std.specs.Prelude.{◌≡◌, ℕ, ◌+◌, ◌-◌, ◌<◌, ◌≤◌, ◌^◌, ◌==◌, ◌≢◌, nat_lt, ◌⊎◌, List, [], ◌∷◌, ◌++◌, length, take, drop, Bool, not, ◌||◌, Option, Some, None, MatchOption, if◌then◌else◌, codes}
+use Rattle.std.specs.Int.{Width, byte_len, w8, w16, w32, w64, to_be_bytes, from_be_bytes}
+use Rattle.meta_frame.specs.declared.message.Message.{Message}
+use Rattle.meta_frame.specs.declared.message.Message.TheVariants.{Gossip, Prune}
+use Rattle.meta_frame.specs.declared.message.Frame.{Frame}
+use Rattle.meta_frame.specs.declared.fault.FrameFault.{FrameFault}
+use Rattle.meta_frame.specs.declared.fault.FrameFault.TheVariants.{Short, BadMagic, BadVersion, BadKind, TooLong, BadBody, LeftOver}
+use Rattle.meta_frame.specs.Form.{Form, any_number, then_form}
+use Rattle.meta_frame.specs.Field.{key, object}
+use Rattle.meta_types.specs.Name.{Key}
+use Rattle.dvvset.specs.Object.{Entry}
+
+-- ---- the table of kinds: number, name, and the form of the body
+
+abbrev pub kind_of : Message → ℕ
+kind_of (Gossip round k o) = 1
+kind_of Prune = 4
+
+abbrev pub name_of : Message → List ℕ
+name_of (Gossip round k o) = codes "GOSSIP"
+name_of Prune = codes "PRUNE"
+
+-- a round, a key and an object
+abbrev pub gossip : Form (ℕ × (Key × List Entry))
+gossip = then_form (any_number w16) (λ _. then_form key (λ _. object))
+
+abbrev pub body : Message → List ℕ
+body (Gossip round k o) = gossip.spell (round, (k, o))
+body Prune = []
+
+-- the fields of the message have a spelling
+abbrev pub IsMessage : Message → Type 0
+IsMessage (Gossip round k o) = gossip.Fits (round, (k, o))
+IsMessage Prune = Unit {0}
+
+-- a field of a body of this kind is at fault
+abbrev pub BadFields : ℕ → List ℕ → ℕ → Type 0
+BadFields kind bytes left = (kind ≡ 1) × gossip.Bad bytes left
+
+abbrev pub is_kind : ℕ → Bool
+is_kind kind = (kind == 1) || (kind == 4)
+
+-- ---- frames
+
+-- the most bytes of a frame
+abbrev pub limit : ℕ
+limit = 16777216
+
+-- 50 54 (hexadecimal), version 1, kind, sender, addressee, number, length of the body
+abbrev pub header : Frame → List ℕ
+header f =
+    to_be_bytes w16 20564 ++ to_be_bytes w8 1 ++ to_be_bytes w8 (kind_of f.message)
+    ++ to_be_bytes w16 f.from ++ to_be_bytes w16 f.to ++ to_be_bytes w64 f.number ++ to_be_bytes w32 (length (body f.message))
+
+abbrev pub spelling : Frame → List ℕ
+spelling f = header f ++ body f.message
+
+-- the fields of the frame have a spelling, whatever its length
+pub record IsLawful (f : Frame) : Type 0 where
+  pub from : f.from < 16
+  pub to : f.to < 16
+  pub apart : f.from ≢ f.to
+  pub number : f.number < 2 ^ 64
+  pub message : IsMessage f.message
+
+-- the bytes are the spelling of the frame
+pub record Spells (f : Frame) (bytes : List ℕ) : Type 0 where
+  pub lawful : IsLawful f
+  pub spelled : bytes ≡ spelling f
+  pub short : length bytes ≤ limit
+
+-- ---- which refusal comes first
+
+-- the refusal of the first test that applies
+abbrev pub first_that_applies : {F : Type 0} → List (Bool × F) → Option F
+first_that_applies [] = None
+first_that_applies (test ∷ tests) = if test.0 then Some test.1 else first_that_applies tests
+
+-- the number of a width at an offset
+abbrev pub number_in : Width → ℕ → List ℕ → ℕ
+number_in w at bytes = from_be_bytes w (take (byte_len w) (drop at bytes))
+
+abbrev pub kind_in : List ℕ → ℕ
+kind_in bytes = number_in w8 3 bytes
+
+abbrev pub from_in : List ℕ → ℕ
+from_in bytes = number_in w16 4 bytes
+
+abbrev pub to_in : List ℕ → ℕ
+to_in bytes = number_in w16 6 bytes
+
+-- the length of the body that the header names
+abbrev pub len_in : List ℕ → ℕ
+len_in bytes = number_in w32 16 bytes
+
+-- the tests of a header, in their order
+abbrev pub header_tests : List ℕ → List (Bool × FrameFault)
+header_tests bytes =
+    (nat_lt (length bytes) 20, Short)
+    ∷ (not (number_in w16 0 bytes == 20564), BadMagic)
+    ∷ (not (number_in w8 2 bytes == 1), BadVersion)
+    ∷ (not (is_kind (kind_in bytes)), BadKind)
+    ∷ (nat_lt limit (20 + len_in bytes), TooLong)
+    ∷ (nat_lt (length bytes) (20 + len_in bytes), Short)
+    ∷ (nat_lt (20 + len_in bytes) (length bytes), LeftOver)
+    ∷ (not (nat_lt (from_in bytes) 16), BadBody 4)
+    ∷ (not (nat_lt (to_in bytes) 16) || (to_in bytes == from_in bytes), BadBody 6)
+    ∷ []
+
+-- bytes are left over behind the last field
+pub record IsLeftOver (kind : ℕ) (bytes : List ℕ) (left : ℕ) : Type 0 where
+  pub message : Message
+  pub rest : List ℕ
+  pub kind_is : kind ≡ kind_of message
+  pub fits : IsMessage message
+  pub spelled : bytes ≡ body message ++ rest
+  pub more : 0 < length rest
+  pub left_is : left ≡ length rest
+
+-- the first fault of a body, `at` bytes behind the front of the frame
+pub record BadAt (bytes : List ℕ) (at : ℕ) : Type 0 where
+  pub left : ℕ
+  pub offset : at ≡ length bytes - left
+  pub bad : BadFields (kind_in bytes) (drop 20 bytes) left ⊎ IsLeftOver (kind_in bytes) (drop 20 bytes) left
+
+abbrev pub IsBodyFault : List ℕ → FrameFault → Type 0
+IsBodyFault bytes (BadBody at) = BadAt bytes at
+IsBodyFault bytes fault = ⊥
+
+-- this refusal is the first that applies: of the tests of the header, and otherwise of the body
+abbrev pub Refuses : List ℕ → FrameFault → Type 0
+Refuses bytes fault = MatchOption (first_that_applies (header_tests bytes)) (IsBodyFault bytes fault) (λ first. fault ≡ first)

@@ -1,0 +1,20 @@
+-- What must be believed of frames, in the order in which to read it.
+-- what an object and a vector are, names and values
+pub use Rattle.dvvset.specs.Object
+pub use Rattle.meta_types.specs.Node
+pub use Rattle.meta_types.specs.Name
+pub use Rattle.meta_types.specs.Value
+-- what a form of a field is, and how forms are put together
+pub mod Form
+-- the forms of the fields
+pub mod Field
+-- the kinds of message, frames, and which refusal comes first
+pub mod Frame
+-- a field at the front of bytes
+pub mod Front
+-- how many values an entry may show in a frame
+pub mod Size
+-- the numbers of refusals
+pub mod Fault
+-- the forms as readers on lists: what private functions are proved against; no public contract cites it
+pub mod Reading

@@ -1,0 +1,140 @@
+-- The forms as readers on lists, from left to right. A reader answers the value and the bytes behind it, or
+-- how many bytes were left at the field that is at fault. Private functions are proved against these, and the
+-- readers against the forms; no public contract cites this file.
+use Rattle.std.specs.Prelude.{◌≡◌, ℕ, zero, suc, List, [], ◌∷◌, length, take, drop, Option, Some, None, Result, Ok, Err, Bool, ◌&&◌, nat_lt, nat_le, ◌==◌, ◌-◌, ◌<◌, ◌≤◌, ◌⊎◌, if◌then◌else◌}
+use Rattle.std.specs.Int.{Width, w8, w16, w64, byte_len, from_be_bytes}
+use Rattle.meta_types.specs.Name.{Prefix, Key}
+use Rattle.meta_types.specs.Value.{ValueParts}
+use Rattle.dvvset.specs.Object.{Entry, Counter}
+use Rattle.meta_frame.specs.Field.{any_count, none, forget, above_counter, above_entry, has_value}
+use Rattle.meta_frame.specs.Frame.{number_in, kind_in, from_in, to_in, header_tests, first_that_applies}
+use Rattle.meta_frame.specs.declared.message.Message.{Message}
+use Rattle.meta_frame.specs.declared.message.Message.TheVariants.{Gossip, Prune}
+use Rattle.meta_frame.specs.declared.message.Frame.{Frame}
+use Rattle.meta_frame.specs.declared.fault.FrameFault.{FrameFault}
+use Rattle.meta_frame.specs.declared.fault.FrameFault.TheVariants as frames
+use Rattle.meta_frame.specs.declared.fault.FieldFault.{FieldFault}
+use Rattle.meta_frame.specs.declared.fault.FieldFault.TheVariants as faults
+
+abbrev pub Reader : Type 0 → Type 0
+Reader A = List ℕ → Result (A × List ℕ) ℕ
+
+infixl 10 ◌>>=◌
+abbrev pub ◌>>=◌ : {A B : Type 0} → Result A ℕ → (A → Result B ℕ) → Result B ℕ
+(Ok x) >>= f = f x
+(Err e) >>= f = Err e
+
+-- what a function answered is what a reader gives, unless memory ran out
+abbrev pub Fails : {Y : Type 0} → FieldFault → Result Y ℕ → Type 0
+Fails faults.Memory read = Unit {0}
+Fails (faults.Left n) read = read ≡ Err n
+
+abbrev pub Gives : {X Y : Type 0} → (X → Y) → Result X FieldFault → Result Y ℕ → Type 0
+Gives view (Ok x) read = read ≡ Ok (view x)
+Gives view (Err e) read = Fails e read
+
+abbrev pub number_at : Width → Reader ℕ
+number_at w bytes = if nat_lt (length bytes) (byte_len w) then Err (length bytes) else Ok (from_be_bytes w (take (byte_len w) bytes), drop (byte_len w) bytes)
+
+abbrev pub bytes_at : ℕ → Reader (List ℕ)
+bytes_at n bytes = if nat_lt (length bytes) n then Err (length bytes) else Ok (take n bytes, drop n bytes)
+
+abbrev pub ruled_at : {A : Type 0} → Reader A → (A → Bool) → Reader A
+ruled_at read rule bytes = read bytes >>= λ x. if rule x.0 then Ok x else Err (length bytes)
+
+abbrev pub then_at : {A B : Type 0} → Reader A → (A → Reader B) → Reader (A × B)
+then_at first second bytes = first bytes >>= λ a. second a.0 a.1 >>= λ b. Ok ((a.0, b.0), b.1)
+
+abbrev pub made_at : {A B : Type 0} → Reader A → (A → B) → Reader B
+made_at read make bytes = read bytes >>= λ x. Ok (make x.0, x.1)
+
+unfoldable pub each_at : {S A : Type 0} → (S → Reader A) → (A → S) → S → ℕ → Reader (List A)
+each_at read next s zero bytes = Ok ([], bytes)
+each_at read next s (suc n) bytes = read s bytes >>= λ first. each_at read next (next first.0) n first.1 >>= λ others. Ok (first.0 ∷ others.0, others.1)
+
+unfoldable pub within_at : Width → ℕ → ℕ → Reader ℕ
+within_at w low high = ruled_at (number_at w) (λ n. nat_le low n && nat_le n high)
+
+unfoldable pub node_at : Reader ℕ
+node_at = within_at w16 0 15
+
+unfoldable pub name_at : ℕ → ℕ → Reader (List ℕ)
+name_at low high = made_at (then_at (within_at w16 low high) bytes_at) (λ p. p.1)
+
+unfoldable pub prefix_at : Reader Prefix
+prefix_at = made_at (then_at (name_at 1 64) (λ _. name_at 1 64)) (λ p. record { prefix = p.0; sub = p.1 })
+
+unfoldable pub key_at : Reader Key
+key_at = made_at (then_at prefix_at (λ _. name_at 1 256)) (λ p. record { prefix = p.0; key = p.1 })
+
+unfoldable pub counter_at : ℕ → Reader Counter
+counter_at low = made_at (then_at (within_at w16 low 15) (λ _. within_at w64 1 any_count)) (λ p. record { id = p.0; count = p.1 })
+
+unfoldable pub vector_at : Reader (List Counter)
+vector_at = made_at (then_at (within_at w16 1 65535) (each_at counter_at above_counter 0)) (λ p. p.1)
+
+-- a body of this tag
+abbrev pub body_of_tag : ℕ → List ℕ → Option (List ℕ)
+body_of_tag zero bytes = None
+body_of_tag (suc tag) bytes = Some bytes
+
+abbrev pub body_at : ℕ → Reader (List ℕ)
+body_at zero bytes = Ok ([], bytes)
+body_at (suc tag) bytes = name_at 0 1024 bytes
+
+unfoldable pub value_at : Reader ValueParts
+value_at = made_at (then_at (within_at w8 0 1) (λ tag. then_at (number_at w64) (λ _. body_at tag))) (λ p. record { stamp = p.1.0; body = body_of_tag p.0 p.1.1 })
+
+unfoldable pub values_at : ℕ → Reader (List ValueParts)
+values_at count = made_at (then_at (within_at w16 0 count) (each_at (λ (_ : ℕ). value_at) forget none)) (λ p. p.1)
+
+unfoldable pub entry_at : ℕ → Reader Entry
+entry_at low = made_at (then_at (within_at w16 low 15) (λ _. then_at (within_at w64 1 any_count) values_at)) (λ p. record { id = p.0; count = p.1.0; values = p.1.1 })
+
+unfoldable pub entries_at : Reader (List Entry)
+entries_at = made_at (then_at (within_at w16 1 65535) (each_at entry_at above_entry 0)) (λ p. p.1)
+
+unfoldable pub object_at : Reader (List Entry)
+object_at = ruled_at entries_at has_value
+
+-- ---- messages and frames
+
+unfoldable pub gossip_at : Reader Message
+gossip_at = made_at (then_at (number_at w16) (λ _. then_at key_at (λ _. object_at))) (λ p. Gossip p.0 p.1.0 p.1.1)
+
+unfoldable pub message_at : ℕ → Reader Message
+message_at kind bytes =
+    if kind == 1 then gossip_at bytes else (
+    if kind == 4 then Ok (Prune, bytes) else Err (length bytes))
+
+-- the frame of a header and a message
+abbrev pub framed : List ℕ → Message → Frame
+framed bytes message = record { from = from_in bytes; to = to_in bytes; number = number_in w64 8 bytes; message = message }
+
+-- a body was read, and nothing may be left
+abbrev pub whole : List ℕ → Result (Message × List ℕ) ℕ → Result Frame FrameFault
+whole bytes (Err left) = Err (frames.BadBody (length bytes - left))
+whole bytes (Ok read) = if length read.1 == 0 then Ok (framed bytes read.0) else Err (frames.BadBody (length bytes - length read.1))
+
+abbrev pub checked : List ℕ → Option FrameFault → Result Frame FrameFault
+checked bytes (Some fault) = Err fault
+checked bytes None = whole bytes (message_at (kind_in bytes) (drop 20 bytes))
+
+unfoldable pub decode_of : List ℕ → Result Frame FrameFault
+decode_of bytes = checked bytes (first_that_applies (header_tests bytes))
+
+-- what a call answered is what reading gives, unless memory ran out
+abbrev pub Decodes : Result Frame FrameFault → Result Frame FrameFault → Type 0
+Decodes (Ok frame) read = read ≡ Ok frame
+Decodes (Err fault) read = (fault ≡ frames.Memory) ⊎ (read ≡ Err fault)
+
+-- what a header that passed its tests keeps
+pub record IsHeader (bytes : List ℕ) : Type 0 where
+  pub long : 20 ≤ length bytes
+  pub from : from_in bytes < 16
+  pub to : to_in bytes < 16
+
+-- a fault by its offset
+abbrev pub offset_of : List ℕ → FieldFault → FrameFault
+offset_of bytes faults.Memory = frames.Memory
+offset_of bytes (faults.Left left) = frames.BadBody (length bytes - left)

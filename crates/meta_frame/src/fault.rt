@@ -1,0 +1,95 @@
+ghost use Rattle.std.specs.Prelude.{◌≡◌};
+ghost use Rattle.meta_frame.specs.Fault.{code_of};
+ghost use Rattle.meta_frame.specs.declared.fault.FrameFault.TheVariants.{Memory};
+ghost use Rattle.meta_frame.specs.declared.fault.FieldFault.TheVariants as fields;
+
+use meta_types::TypeFault;
+use std::alloc::{AllocError, AllocFailed};
+use thiserror::Error;
+
+/// Why bytes are no frame, or a frame can't be written. It prints as the name of the variant.
+#[derive(Debug, Drop, Error, PartialEq, Eq)]
+pub enum FrameFault {
+    /// 10: fewer bytes than a header, or than a header and its body.
+    #[error("Short")]
+    Short,
+    /// 11: the first two bytes are not those of a frame.
+    #[error("BadMagic")]
+    BadMagic,
+    /// 12: a version other than 1.
+    #[error("BadVersion")]
+    BadVersion,
+    /// 13: no message has this kind.
+    #[error("BadKind")]
+    BadKind,
+    /// 14: the frame has more than 16,777,216 bytes.
+    #[error("TooLong")]
+    TooLong,
+    /// 15: a field is cut, or breaks its rule; `at` is the offset of its first byte.
+    #[error("BadBody")]
+    BadBody { at: usize },
+    /// 16: more bytes than a header and its body.
+    #[error("LeftOver")]
+    LeftOver,
+    /// 99: an allocation was refused.
+    #[error("Memory")]
+    Memory,
+}
+
+impl FrameFault {
+    /// The number of the refusal, as programs print it.
+    pub fn code(&self) -> u16
+        ensures { result ≡ code_of self.now }
+    {
+        match self {
+            FrameFault::Short => 10,
+            FrameFault::BadMagic => 11,
+            FrameFault::BadVersion => 12,
+            FrameFault::BadKind => 13,
+            FrameFault::TooLong => 14,
+            FrameFault::BadBody { .. } => 15,
+            FrameFault::LeftOver => 16,
+            FrameFault::Memory => TypeFault::Memory.code(),
+        }
+    }
+}
+
+impl From<AllocError> for FrameFault {
+    ghost from_gives = { λ _ fault. fault ≡ Memory };
+
+    fn from(_error: AllocError) -> FrameFault {
+        FrameFault::Memory
+    }
+}
+
+impl<T: Drop> From<AllocFailed<T>> for FrameFault {
+    ghost from_gives = { λ _ fault. fault ≡ Memory };
+
+    fn from(_error: AllocFailed<T>) -> FrameFault {
+        FrameFault::Memory
+    }
+}
+
+/// Why a field was not read.
+#[derive(Debug, Drop)]
+pub(crate) enum FieldFault {
+    Memory,
+    /// The field is cut, or breaks its rule; so many bytes were left at its first byte.
+    Left(usize),
+}
+
+impl From<AllocError> for FieldFault {
+    ghost from_gives = { λ _ fault. fault ≡ fields.Memory };
+
+    fn from(_error: AllocError) -> FieldFault {
+        FieldFault::Memory
+    }
+}
+
+impl<T: Drop> From<AllocFailed<T>> for FieldFault {
+    ghost from_gives = { λ _ fault. fault ≡ fields.Memory };
+
+    fn from(_error: AllocFailed<T>) -> FieldFault {
+        FieldFault::Memory
+    }
+}

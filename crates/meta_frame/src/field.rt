@@ -1,0 +1,69 @@
+//! The fields that other formats are made of too, from the front of bytes.
+
+ghost use Rattle.std.specs.Prelude.{◌≡◌, ◌⊎◌, IfOk, IfErr};
+ghost use Rattle.meta_frame.specs.Field.{prefix, key, vector, object};
+ghost use Rattle.meta_frame.specs.Reading.{offset_of};
+ghost use Rattle.meta_frame.specs.Front.{Begins, RefusesField};
+
+use crate::fault::{FieldFault, FrameFault};
+use crate::reading::{key_of, object_of, prefix_of, vector_of};
+use dvvset::{Entries, Vector};
+use meta_types::{FullPrefix, MetaKey};
+use std::alloc::Global;
+
+/// The full prefix at the front of the bytes, and the bytes behind it. Otherwise 15 `BadBody` at the
+/// first byte of the first field that is at fault, counted from the front of these bytes.
+pub fn get_prefix(alloc: Global, bytes: &[u8]) -> Result<(FullPrefix, &[u8]), FrameFault>
+    ensures found { IfOk result (λ x. Begins prefix bytes.now x.0 x.1.now) }
+    ensures refused { IfErr result (λ fault. (fault ≡ FrameFault.Memory) ⊎ RefusesField prefix bytes.now fault) }
+{
+    match prefix_of(alloc, bytes) {
+        Ok(found) => Ok(found),
+        Err(fault) => Err(offset(bytes, fault)),
+    }
+}
+
+/// The key at the front of the bytes, and the bytes behind it; refused as `get_prefix` is.
+pub fn get_key(alloc: Global, bytes: &[u8]) -> Result<(MetaKey, &[u8]), FrameFault>
+    ensures found { IfOk result (λ x. Begins key bytes.now x.0 x.1.now) }
+    ensures refused { IfErr result (λ fault. (fault ≡ FrameFault.Memory) ⊎ RefusesField key bytes.now fault) }
+{
+    match key_of(alloc, bytes) {
+        Ok(found) => Ok(found),
+        Err(fault) => Err(offset(bytes, fault)),
+    }
+}
+
+/// The vector at the front of the bytes, and the bytes behind it; refused as `get_prefix` is.
+pub fn get_vector(alloc: Global, bytes: &[u8]) -> Result<(Vector, &[u8]), FrameFault>
+    ensures found { IfOk result (λ x. Begins vector bytes.now x.0 x.1.now) }
+    ensures refused { IfErr result (λ fault. (fault ≡ FrameFault.Memory) ⊎ RefusesField vector bytes.now fault) }
+{
+    match vector_of(alloc, bytes) {
+        Ok(found) => Ok(found),
+        Err(fault) => Err(offset(bytes, fault)),
+    }
+}
+
+/// The object at the front of the bytes, and the bytes behind it; refused as `get_prefix` is.
+pub fn get_object(alloc: Global, bytes: &[u8]) -> Result<(Entries, &[u8]), FrameFault>
+    ensures found { IfOk result (λ x. Begins object bytes.now x.0 x.1.now) }
+    ensures refused { IfErr result (λ fault. (fault ≡ FrameFault.Memory) ⊎ RefusesField object bytes.now fault) }
+{
+    match object_of(alloc, bytes) {
+        Ok(found) => Ok(found),
+        Err(fault) => Err(offset(bytes, fault)),
+    }
+}
+
+/// A fault by its offset in the bytes.
+fn offset(bytes: &[u8], fault: FieldFault) -> FrameFault
+    ensures { result ≡ offset_of bytes.now fault }
+{
+    match fault {
+        FieldFault::Memory => FrameFault::Memory,
+        FieldFault::Left(left) => FrameFault::BadBody {
+            at: bytes.len().saturating_sub(left),
+        },
+    }
+}

@@ -1,0 +1,31 @@
+//! Laws of the spelling of frames. Each function does nothing: its contract is the law.
+
+ghost use Rattle.std.specs.Prelude.{◌≡◌, ◌++◌, [], ℕ, List};
+ghost use Rattle.meta_frame.specs.declared.message.Frame.{Frame};
+ghost use Rattle.meta_frame.specs.declared.fault.FrameFault.{FrameFault as Fault};
+ghost use Rattle.meta_frame.specs.Frame.{Spells, Refuses};
+
+/// A frame has one spelling.
+pub fn one_spelling_for_a_frame()
+    ensures { (frame : Frame) (bytes others : List ℕ) → Spells frame bytes → Spells frame others → bytes ≡ others }
+{}
+
+/// Bytes spell one frame.
+pub fn one_frame_for_a_spelling()
+    ensures { (frame other : Frame) (bytes : List ℕ) → Spells frame bytes → Spells other bytes → frame ≡ other }
+{}
+
+/// No spelling is a proper front of another.
+pub fn no_spelling_begins_another()
+    ensures { (frame other : Frame) (bytes rest : List ℕ) → Spells frame bytes → Spells other (bytes ++ rest) → rest ≡ [] }
+{}
+
+/// Bytes have one refusal.
+pub fn one_refusal_for_bytes()
+    ensures { (bytes : List ℕ) (fault other : Fault) → Refuses bytes fault → Refuses bytes other → fault ≡ other }
+{}
+
+/// What spells a frame has no refusal.
+pub fn no_refusal_beside_a_frame()
+    ensures { (frame : Frame) (bytes : List ℕ) (fault : Fault) → Spells frame bytes → Refuses bytes fault → ⊥ }
+{}

@@ -1,0 +1,122 @@
+//! Writing fields at the end of bytes.
+
+ghost use Rattle.std.specs.Prelude.{◌≡◌, ◌++◌, ◌∷◌, [], ◌<◌, ◌≤◌, ◌^◌, List, length, OnOk, All};
+ghost use Rattle.std.specs.Int.{w8, w16, w32, w64, to_be_bytes};
+ghost use Rattle.std.specs.List.{flat_map};
+ghost use Rattle.meta_frame.specs.Field.{name, prefix, key, value, entry, object};
+ghost use Rattle.meta_frame.specs.Size.{IsShort};
+
+use dvvset::{Entries, Entry};
+use meta_types::{FullPrefix, MetaKey, NodeId, Value};
+use std::alloc::AllocError;
+
+pub(crate) fn write_u8(out: &mut Vec<u8>, number: u8) -> Result<(), AllocError>
+    ensures { OnOk result (out.new.items ≡ out.old.items ++ to_be_bytes w8 number) }
+{
+    out.extend_from_slice(&number.to_be_bytes())
+}
+
+pub(crate) fn write_u16(out: &mut Vec<u8>, number: u16) -> Result<(), AllocError>
+    ensures { OnOk result (out.new.items ≡ out.old.items ++ to_be_bytes w16 number) }
+{
+    out.extend_from_slice(&number.to_be_bytes())
+}
+
+pub(crate) fn write_u32(out: &mut Vec<u8>, number: u32) -> Result<(), AllocError>
+    ensures { OnOk result (out.new.items ≡ out.old.items ++ to_be_bytes w32 number) }
+{
+    out.extend_from_slice(&number.to_be_bytes())
+}
+
+pub(crate) fn write_u64(out: &mut Vec<u8>, number: u64) -> Result<(), AllocError>
+    ensures { OnOk result (out.new.items ≡ out.old.items ++ to_be_bytes w64 number) }
+{
+    out.extend_from_slice(&number.to_be_bytes())
+}
+
+pub(crate) fn write_node(out: &mut Vec<u8>, node: NodeId) -> Result<(), AllocError>
+    ensures { OnOk result (out.new.items ≡ out.old.items ++ to_be_bytes w16 node) }
+{
+    write_u16(out, node.number())
+}
+
+fn write_name(out: &mut Vec<u8>, bytes: &[u8]) -> Result<(), AllocError>
+    requires { length bytes.now < 2 ^ 16 }
+    ensures { OnOk result (out.new.items ≡ out.old.items ++ (name 0 65535).spell bytes.now) }
+{
+    write_u16(out, bytes.len() as u16)?;
+    out.extend_from_slice(bytes)?;
+    Ok(())
+}
+
+pub(crate) fn write_prefix(out: &mut Vec<u8>, p: &FullPrefix) -> Result<(), AllocError>
+    ensures { OnOk result (out.new.items ≡ out.old.items ++ prefix.spell p.now) }
+{
+    write_name(out, p.prefix())?;
+    write_name(out, p.sub())?;
+    Ok(())
+}
+
+pub(crate) fn write_key(out: &mut Vec<u8>, k: &MetaKey) -> Result<(), AllocError>
+    ensures { OnOk result (out.new.items ≡ out.old.items ++ key.spell k.now) }
+{
+    write_prefix(out, k.prefix())?;
+    write_name(out, k.key())?;
+    Ok(())
+}
+
+fn write_value(out: &mut Vec<u8>, v: &Value) -> Result<(), AllocError>
+    ensures { OnOk result (out.new.items ≡ out.old.items ++ value.spell v.now) }
+{
+    match v.body() {
+        None => {
+            write_u8(out, 0)?;
+            write_u64(out, v.stamp())?;
+        }
+        Some(bytes) => {
+            write_u8(out, 1)?;
+            write_u64(out, v.stamp())?;
+            write_name(out, bytes)?;
+        }
+    }
+    Ok(())
+}
+
+fn write_values(out: &mut Vec<u8>, values: &[Value]) -> Result<(), AllocError>
+    ensures { OnOk result (out.new.items ≡ out.old.items ++ flat_map value.spell values.now) }
+{
+    for value in values {
+        write_value(out, value)?;
+    }
+    Ok(())
+}
+
+fn write_entry(out: &mut Vec<u8>, e: &Entry) -> Result<(), AllocError>
+    requires { IsShort e.now }
+    ensures { OnOk result (out.new.items ≡ out.old.items ++ (entry 0).spell e.now) }
+{
+    write_node(out, e.id())?;
+    write_u64(out, e.count())?;
+    write_u16(out, e.values().len() as u16)?;
+    write_values(out, e.values())?;
+    Ok(())
+}
+
+fn write_entries(out: &mut Vec<u8>, entries: &[Entry]) -> Result<(), AllocError>
+    requires { All IsShort entries.now }
+    ensures { OnOk result (out.new.items ≡ out.old.items ++ flat_map (entry 0).spell entries.now) }
+{
+    for entry in entries {
+        write_entry(out, entry)?;
+    }
+    Ok(())
+}
+
+pub(crate) fn write_object(out: &mut Vec<u8>, o: &Entries) -> Result<(), AllocError>
+    requires { object.Fits o.now }
+    ensures { OnOk result (out.new.items ≡ out.old.items ++ object.spell o.now) }
+{
+    write_u16(out, o.entries().len() as u16)?;
+    write_entries(out, o.entries())?;
+    Ok(())
+}
