@@ -7,6 +7,8 @@
 pub mod entries;
 pub mod entry;
 pub mod fault;
+#[cfg(test)]
+mod tests;
 pub mod vector;
 
 pub use entries::{Entries, values};

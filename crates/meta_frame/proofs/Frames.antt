@@ -1,10 +1,10 @@
 -- A frame that is read is spelled so, what is spelled so is read, and the reader's refusals are the first that
 -- apply.
-use Rattle.std.proofs.Common.{◌≡◌, ◌≢◌, ℕ, ◌+◌, ◌-◌, ◌^◌, ◌<◌, ◌≤◌, ◌⊎◌, Bool, true, false, cond, eqb, ltb, not, ◌||◌, List, [], ◌++◌, length, take, drop, Option, Some, None, Result, Ok, Err, refl, sym, ap, subst, ◌∙◌, arith, inl, inr}
+use Rattle.std.proofs.Common.{◌≡◌, ◌≢◌, ℕ, ◌+◌, ◌-◌, ◌^◌, ◌<◌, ◌≤◌, ◌⊎◌, Bool, true, false, cond, eqb, ltb, not, ◌||◌, List, [], ◌++◌, length, take, drop, All, Option, Some, None, Result, Ok, Err, refl, sym, ap, subst, ◌∙◌, arith, inl, inr}
 use Rattle.std.specs.Prelude.{IfOk, IfErr, MatchOption}
 use Rattle.std.specs.Int.{Width, byte_len, w8, w16, w32, w64, to_be_bytes}
-use Rattle.std.proofs.lemmas.Bool.{eqb-true, eqb-false, ne_eqb, ltb-true, ltb-false, le-ltb, lt-ltb}
-use Rattle.std.proofs.lemmas.List.{append-nil, nil_from_length, length-append, length-take, length-drop, take-append-drop, drop-drop}
+use Rattle.std.proofs.lemmas.Bool.{eqb-true, eqb-false, ne_eqb, ltb-true, ltb-false, le-ltb, lt-ltb, cases_lt}
+use Rattle.std.proofs.lemmas.List.{append-nil, nil_from_length, length-append, length-take, length-drop, take-append-drop, drop-drop, get_or_past}
 use Rattle.meta_types.specs.Name.{Key}
 use Rattle.dvvset.specs.Object.{Entry}
 use Rattle.meta_frame.specs.declared.message.Message.{Message}
@@ -383,3 +383,18 @@ answers_frame bytes (Err e) is given = tt
 pub answers_refusal : (bytes : List ℕ) (r : Result Frame FrameFault) → IsBytes bytes → Decodes r (decode_of bytes) → IfErr r (λ x. (x ≡ Memory) ⊎ Refuses bytes x)
 answers_refusal bytes (Ok f) is given = tt
 answers_refusal bytes (Err x) is given = elim given [ inl memory ↦ inl memory | inr read ↦ inr (decode_faulty bytes x is read) ]
+
+bytes_are : (bytes : List ℕ) → All (λ b. b < 256) bytes → IsBytes bytes
+bytes_are bytes all i =
+    elim (cases_lt i (length bytes)) [
+      | inl lt ↦ all i 0 lt
+      | inr le ↦ rw (get_or_past bytes i 0 le) (omega arith)
+    ]
+
+pub frame_or_refusal : (bytes : List ℕ) → All (λ b. b < 256) bytes → ((f : Frame) × Spells f bytes) ⊎ ((x : FrameFault) × Refuses bytes x)
+frame_or_refusal bytes all =
+    let is : IsBytes bytes = bytes_are bytes all in
+    elim (decode_of bytes) as (λ r. decode_of bytes ≡ r → ((f : Frame) × Spells f bytes) ⊎ ((x : FrameFault) × Refuses bytes x)) [
+      | Ok f ↦ λ e. inl (f, decode_takes bytes f is e)
+      | Err x ↦ λ e. inr (x, decode_faulty bytes x is e)
+    ] refl

@@ -189,15 +189,15 @@ ruled_reads form read rule reads = record {
         | inr b ↦
             let r = rule_err (rule b.0.0) b.0 (length bytes) left b.1.1 in
             let t = reads.takes bytes b.0.0 b.0.1 is b.1.0 in
-            inr (record { value = b.0.0; rest = b.0.1; fits = t.0; spelled = t.1; bad = (r.0, sym r.1) })
+            inr (record { value = b.0.0; rest = b.0.1; fits = t.0; spelled = t.1; broken = r.0; left_is = sym r.1 })
       ];
   refuses = λ bytes left bad. elim bad [
     | inl first ↦ rw (reads.refuses bytes left first) refl
     | inr b ↦
         ap (λ bs. read bs >>= λ y. cond (rule y.0) (Ok y) (Err (length bytes))) b.spelled
         ∙ ap (λ r. r >>= λ y. cond (rule y.0) (Ok y) (Err (length bytes))) (reads.again b.value b.rest b.fits)
-        ∙ ap (λ t. cond t (Ok (b.value, b.rest)) (Err (length bytes))) b.bad.0
-        ∙ ap (λ n. Err n) (sym b.bad.1)
+        ∙ ap (λ t. cond t (Ok (b.value, b.rest)) (Err (length bytes))) b.broken
+        ∙ ap (λ n. Err n) (sym b.left_is)
   ];
 }
 

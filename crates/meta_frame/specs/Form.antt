@@ -47,12 +47,21 @@ some_bytes size = record {
 abbrev pub nothing : {A : Type 0} → A → Form A
 nothing x = record { spell = λ _. []; Fits = λ y. y ≡ x; Bad = λ _ _. ⊥ }
 
+-- a field is spelled, but breaks a further rule
+pub record BreaksRule {A : Type 0} (form : Form A) (rule : A → Bool) (bytes : List ℕ) (left : ℕ) : Type 0 where
+  pub value : A
+  pub rest : List ℕ
+  pub fits : form.Fits value
+  pub spelled : bytes ≡ form.spell value ++ rest
+  pub broken : rule value ≡ false
+  pub left_is : left ≡ length bytes
+
 -- a field with a further rule, whose breach is at fault at the first byte of the field
 abbrev pub ruled : {A : Type 0} → Form A → (A → Bool) → Form A
 ruled form rule = record {
   spell = form.spell;
   Fits = λ x. form.Fits x × (rule x ≡ true);
-  Bad = λ bytes left. form.Bad bytes left ⊎ BadBehind form (λ x _ _. (rule x ≡ false) × (left ≡ length bytes)) bytes left;
+  Bad = λ bytes left. form.Bad bytes left ⊎ BreaksRule form rule bytes left;
 }
 
 -- one field, and then another whose form may depend on the first
@@ -63,7 +72,8 @@ then_form first second = record {
   Bad = λ bytes left. first.Bad bytes left ⊎ BadBehind first (λ x. (second x).Bad) bytes left;
 }
 
--- the same bytes, seen as values of another type, each of which stands for one of the first
+-- the same bytes, seen as values of another type: each value that fits the first form stands for one of
+-- these, and each of these for one of the first
 abbrev pub seen_as : {A B : Type 0} → Form A → (B → A) → Form B
 seen_as form parts = record { spell = λ y. form.spell (parts y); Fits = λ y. form.Fits (parts y); Bad = form.Bad }
 

@@ -18,3 +18,9 @@ pub record FaultAt {A : Type 0} (form : Form A) (bytes : List ℕ) (at : ℕ) : 
 abbrev pub RefusesField : {A : Type 0} → Form A → List ℕ → FrameFault → Type 0
 RefusesField form bytes (BadBody at) = FaultAt form bytes at
 RefusesField form bytes fault = ⊥
+
+-- bytes begin with one value at most, or have one fault, and never both
+pub record IsUnambiguous {A : Type 0} (form : Form A) : Type 0 where
+  pub one_value : (bytes : List ℕ) (x y : A) (rest others : List ℕ) → Begins form bytes x rest → Begins form bytes y others → (x ≡ y) × (rest ≡ others)
+  pub one_fault : (bytes : List ℕ) (at other : ℕ) → FaultAt form bytes at → FaultAt form bytes other → at ≡ other
+  pub never_both : (bytes : List ℕ) (x : A) (rest : List ℕ) (at : ℕ) → Begins form bytes x rest → FaultAt form bytes at → ⊥

@@ -1,7 +1,7 @@
 //! The table of kinds, and what is made from it: one row for each kind, with its number, its name and
 //! the fields of its body in their order, each with its form.
 
-ghost use Rattle.std.specs.Prelude.{◌≡◌, ◌++◌, ◌<◌, ◌^◌, ◌↔◌, length, Ok, OnOk, IsTrue};
+ghost use Rattle.std.specs.Prelude.{◌≡◌, ◌++◌, ◌<◌, ◌^◌, ◌↔◌, length, Ok, IfOk, OnOk, IsTrue};
 ghost use Rattle.meta_frame.specs.Frame.{is_kind, kind_of, name_of, body, IsMessage};
 ghost use Rattle.meta_frame.specs.Reading.{Gives, message_at};
 
@@ -188,4 +188,33 @@ pub(crate) fn body_len(message: &Message) -> usize
     ensures small { result < 2 ^ 48 }
 {
     frame_kinds!(kind_len(message))
+}
+
+macro_rules! copy_field {
+    (number16 $field:ident) => {
+        *$field
+    };
+    (key $field:ident) => {
+        $field.copy()?
+    };
+    (object $field:ident) => {
+        $field.copy()?
+    };
+}
+
+macro_rules! copy_kind {
+    (($message:ident)
+     $($number:literal $name:literal $variant:ident { $($field:ident : $form:ident),* })*) => {
+        match $message {
+            $(Message::$variant { $($field),* } => Message::$variant {
+                $($field: copy_field!($form $field)),*
+            },)*
+        }
+    };
+}
+
+pub(crate) fn copy_message(message: &Message) -> Result<Message, AllocError>
+    ensures { IfOk result (λ copy. copy ≡ message.now) }
+{
+    Ok(frame_kinds!(copy_kind(message)))
 }

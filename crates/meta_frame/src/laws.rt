@@ -1,6 +1,8 @@
 //! Laws of the spelling of frames. Each function does nothing: its contract is the law.
 
-ghost use Rattle.std.specs.Prelude.{◌≡◌, ◌++◌, [], ℕ, List};
+ghost use Rattle.std.specs.Prelude.{◌≡◌, ◌++◌, ◌⊎◌, ◌<◌, [], ℕ, List, All};
+ghost use Rattle.meta_frame.specs.Field.{prefix, key, vector, object};
+ghost use Rattle.meta_frame.specs.Front.{IsUnambiguous};
 ghost use Rattle.meta_frame.specs.declared.message.Frame.{Frame};
 ghost use Rattle.meta_frame.specs.declared.fault.FrameFault.{FrameFault as Fault};
 ghost use Rattle.meta_frame.specs.Frame.{Spells, Refuses};
@@ -28,4 +30,17 @@ pub fn one_refusal_for_bytes()
 /// What spells a frame has no refusal.
 pub fn no_refusal_beside_a_frame()
     ensures { (frame : Frame) (bytes : List ℕ) (fault : Fault) → Spells frame bytes → Refuses bytes fault → ⊥ }
+{}
+
+/// Bytes spell a frame or have a refusal.
+pub fn a_frame_or_a_refusal()
+    ensures { (bytes : List ℕ) → All (λ b. b < 256) bytes → ((frame : Frame) × Spells frame bytes) ⊎ ((fault : Fault) × Refuses bytes fault) }
+{}
+
+/// Bytes begin with one value of a field at most, or have one fault, and never both.
+pub fn fields_are_unambiguous()
+    ensures prefix { IsUnambiguous prefix }
+    ensures key { IsUnambiguous key }
+    ensures vector { IsUnambiguous vector }
+    ensures object { IsUnambiguous object }
 {}

@@ -11,6 +11,8 @@ pub mod laws;
 mod lengths;
 pub mod message;
 mod reading;
+#[cfg(test)]
+mod tests;
 mod writing;
 
 pub use fault::FrameFault;

@@ -1,5 +1,9 @@
+ghost use Rattle.std.specs.Prelude.{◌≡◌, IfOk};
+
+use crate::kinds::copy_message;
 use dvvset::Entries;
 use meta_types::{MetaKey, NodeId};
+use std::alloc::AllocError;
 
 /// What a node tells another: one variant for each kind.
 #[derive(Debug, Drop, PartialEq, Eq)]
@@ -22,4 +26,25 @@ pub struct Frame {
     pub to: NodeId,
     pub number: u64,
     pub message: Message,
+}
+
+impl Message {
+    pub fn copy(&self) -> Result<Self, AllocError>
+        ensures { IfOk result (λ copy. copy ≡ self.now) }
+    {
+        copy_message(self)
+    }
+}
+
+impl Frame {
+    pub fn copy(&self) -> Result<Self, AllocError>
+        ensures { IfOk result (λ copy. copy ≡ self.now) }
+    {
+        Ok(Frame {
+            from: self.from,
+            to: self.to,
+            number: self.number,
+            message: self.message.copy()?,
+        })
+    }
 }
