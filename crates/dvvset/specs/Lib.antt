@@ -6,7 +6,7 @@ pub use Rattle.meta_types.specs.Value
 pub mod Object
 -- the clock formulas
 pub mod Clock
--- when two values, entries or counters are equal
+-- lemmas, which stand here since impls cite them: the comparisons decide equality of all parts
 pub mod Equal
 -- the numbers of refusals
 pub mod Fault

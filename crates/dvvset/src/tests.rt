@@ -206,7 +206,7 @@ fn refusals_print_their_names(rt: HostRuntime) -> Result<(), Fail> {
 }
 
 // Holds whichever single allocation is refused: a call that was refused memory succeeds when it is
-// made again and answers what it should, and the object is as it was.
+// made again and answers what it should, and the object is as it was. Allocates at most 35 times.
 #[test]
 fn calls_succeed_again_under_refused_memory(rt: HostRuntime) -> Result<(), Fail> {
     let alloc = rt.alloc();

@@ -12,9 +12,8 @@ pub mod Field
 pub mod Frame
 -- a field at the front of bytes
 pub mod Front
--- how many values an entry may show in a frame
-pub mod Size
 -- the numbers of refusals
 pub mod Fault
--- the forms as readers on lists: what private functions are proved against; no public contract cites it
+-- what private functions alone cite: the forms as readers on lists, and what writing asks of an entry
 pub mod Reading
+pub mod Size

@@ -347,7 +347,7 @@ fn refusals_print_their_names(rt: HostRuntime) -> Result<(), Fail> {
     Ok(())
 }
 
-// What was refused memory succeeds when it is made again.
+// What was refused memory succeeds when it is made again. Allocates at most 8 times.
 #[test]
 fn frames_are_read_and_written_again_under_refused_memory(rt: HostRuntime) -> Result<(), Fail> {
     let alloc = rt.alloc();
@@ -364,7 +364,7 @@ fn frames_are_read_and_written_again_under_refused_memory(rt: HostRuntime) -> Re
     Ok(())
 }
 
-// Bytes stay as they were where an object could not be added.
+// Bytes stay as they were where an object could not be added. Allocates at most 8 times.
 #[test]
 fn bytes_stay_as_they_were_under_refused_memory(rt: HostRuntime) -> Result<(), Fail> {
     let alloc = rt.alloc();

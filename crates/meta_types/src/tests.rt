@@ -137,7 +137,7 @@ fn copies_equal_their_sources(rt: HostRuntime) -> Result<(), Fail> {
 }
 
 // Holds whichever single allocation is refused: a copy that was refused memory succeeds when it is
-// made again, and equals its source, which is as it was.
+// made again, and equals its source, which is as it was. Allocates at most 10 times.
 #[test]
 fn copies_succeed_again_under_refused_memory(rt: HostRuntime) -> Result<(), Fail> {
     let alloc = rt.alloc();
