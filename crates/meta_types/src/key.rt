@@ -37,7 +37,7 @@ impl MetaKey {
     /// Refused with 1 `BadName` where the length is out of range, and only then. What was handed in
     /// is dropped with a refusal: whoever needs it afterwards compares its length first.
     pub fn new(prefix: FullPrefix, key: Vec<u8>) -> Result<Self, TypeFault>
-        ensures range { IsOk result ↔ IsName MAX_KEY_LEN key.items }
+        ensures range { IsOk result ↔ IsName 256 key.items }
         ensures value { IfOk result (λ k. k ≡ record { prefix = prefix; key = key.items }) }
         ensures fault { IfErr result (λ fault. fault ≡ BadName) }
     {
