@@ -1,5 +1,5 @@
 ghost use Rattle.std.specs.Prelude.{◌≡◌};
-ghost use Rattle.dvvset.specs.Fault.{code_of};
+ghost use Rattle.dvvset.specs.Fault.{code_of, fault_name};
 ghost use Rattle.dvvset.specs.declared.fault.ClockFault.TheVariants.{Memory};
 
 use meta_types::TypeFault;
@@ -8,15 +8,13 @@ use thiserror::Error;
 
 /// Why a clock's call was refused. It prints as the name of the variant.
 #[derive(Debug, Drop, Error, PartialEq, Eq)]
+#[error("{}", self.name())]
 pub enum ClockFault {
     /// 20: the writer's counter is at its greatest value, so it can have no further event.
-    #[error("CounterSpent")]
     CounterSpent,
     /// 21: the parts are no object, or no vector.
-    #[error("BadEntries")]
     BadEntries,
     /// 99: an allocation was refused.
-    #[error("Memory")]
     Memory,
 }
 
@@ -29,6 +27,17 @@ impl ClockFault {
             ClockFault::CounterSpent => 20,
             ClockFault::BadEntries => 21,
             ClockFault::Memory => TypeFault::Memory.code(),
+        }
+    }
+
+    /// The name of the refusal, as programs print it.
+    pub fn name(&self) -> &'static str
+        ensures { result.now ≡ fault_name self.now }
+    {
+        match self {
+            ClockFault::CounterSpent => "CounterSpent",
+            ClockFault::BadEntries => "BadEntries",
+            ClockFault::Memory => "Memory",
         }
     }
 }

@@ -1,5 +1,5 @@
 ghost use Rattle.std.specs.Prelude.{◌≡◌};
-ghost use Rattle.meta_frame.specs.Fault.{code_of};
+ghost use Rattle.meta_frame.specs.Fault.{code_of, fault_name};
 ghost use Rattle.meta_frame.specs.declared.fault.FrameFault.TheVariants.{Memory};
 ghost use Rattle.meta_frame.specs.declared.fault.FieldFault.TheVariants as fields;
 
@@ -9,30 +9,23 @@ use thiserror::Error;
 
 /// Why bytes are no frame, or a frame can't be written. It prints as the name of the variant.
 #[derive(Debug, Drop, Error, PartialEq, Eq)]
+#[error("{}", self.name())]
 pub enum FrameFault {
     /// 10: fewer bytes than a header, or than a header and its body.
-    #[error("Short")]
     Short,
     /// 11: the first two bytes are not those of a frame.
-    #[error("BadMagic")]
     BadMagic,
     /// 12: a version other than 1.
-    #[error("BadVersion")]
     BadVersion,
     /// 13: no message has this kind.
-    #[error("BadKind")]
     BadKind,
     /// 14: the frame has more than 16,777,216 bytes.
-    #[error("TooLong")]
     TooLong,
     /// 15: a field is cut, or breaks its rule; `at` is the offset of its first byte.
-    #[error("BadBody")]
     BadBody { at: usize },
     /// 16: more bytes than a header and its body.
-    #[error("LeftOver")]
     LeftOver,
     /// 99: an allocation was refused.
-    #[error("Memory")]
     Memory,
 }
 
@@ -50,6 +43,22 @@ impl FrameFault {
             FrameFault::BadBody { .. } => 15,
             FrameFault::LeftOver => 16,
             FrameFault::Memory => TypeFault::Memory.code(),
+        }
+    }
+
+    /// The name of the refusal, as programs print it.
+    pub fn name(&self) -> &'static str
+        ensures { result.now ≡ fault_name self.now }
+    {
+        match self {
+            FrameFault::Short => "Short",
+            FrameFault::BadMagic => "BadMagic",
+            FrameFault::BadVersion => "BadVersion",
+            FrameFault::BadKind => "BadKind",
+            FrameFault::TooLong => "TooLong",
+            FrameFault::BadBody { .. } => "BadBody",
+            FrameFault::LeftOver => "LeftOver",
+            FrameFault::Memory => "Memory",
         }
     }
 }

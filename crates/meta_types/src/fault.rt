@@ -1,5 +1,5 @@
 ghost use Rattle.std.specs.Prelude.{◌≡◌};
-ghost use Rattle.meta_types.specs.Fault.{code_of};
+ghost use Rattle.meta_types.specs.Fault.{code_of, fault_name};
 ghost use Rattle.meta_types.specs.declared.fault.TypeFault.TheVariants.{Memory};
 
 use std::alloc::{AllocError, AllocFailed};
@@ -7,19 +7,16 @@ use thiserror::Error;
 
 /// Why a node number, a name or a value was refused. It prints as the name of the variant.
 #[derive(Debug, Drop, Error, PartialEq, Eq)]
+#[error("{}", self.name())]
 pub enum TypeFault {
     /// 1: the length of a prefix, a sub-prefix or a key is out of range.
-    #[error("BadName")]
     BadName,
     /// 2: the body of a value is longer than a value may be.
-    #[error("ValueTooLong")]
     ValueTooLong,
     /// 3: no node can have this number.
-    #[error("BadNode")]
     BadNode,
     /// 99: an allocation was refused. No call of this crate answers it: a copy answers `AllocError`,
     /// which `?` turns into this.
-    #[error("Memory")]
     Memory,
 }
 
@@ -33,6 +30,18 @@ impl TypeFault {
             TypeFault::ValueTooLong => 2,
             TypeFault::BadNode => 3,
             TypeFault::Memory => 99,
+        }
+    }
+
+    /// The name of the refusal, as programs print it.
+    pub fn name(&self) -> &'static str
+        ensures { result.now ≡ fault_name self.now }
+    {
+        match self {
+            TypeFault::BadName => "BadName",
+            TypeFault::ValueTooLong => "ValueTooLong",
+            TypeFault::BadNode => "BadNode",
+            TypeFault::Memory => "Memory",
         }
     }
 }

@@ -1,0 +1,329 @@
+-- A run of `frame`, line by line.
+use Rattle.std.proofs.Common.{◌≡◌, ℕ, suc, ◌+◌, ◌<◌, ◌↔◌, ◌&&◌, if◌then◌else◌, Bool, true, false, List, [], ◌∷◌, ◌++◌, length, All, Option, Some, None, refl, sym, ap, subst, ◌∙◌, append_assoc, arith, IsTrue, inl, inr}
+use Rattle.std.proofs.lemmas.List.{append-nil, length-append}
+use Rattle.std.proofs.lemmas.List.Elements.{All-append, All-nil, All-cons, All-head, All-tail}
+use Rattle.std.specs.Io.KnownBytes.{Appends, Consumes, Keeps}
+use Rattle.streams.specs.declared.fault.StreamFault.{StreamFault}
+use Rattle.streams.specs.declared.fault.StreamFault.TheVariants.{Read, InputTooLong, Write, Memory}
+use Rattle.streams.specs.Fault.{HasCause}
+use Rattle.streams.specs.Line.{Pending, TakesLine, StopsReading}
+use Rattle.streams.proofs.Sent.{Appends-nil, Appends-then, Appends-kept}
+use Rattle.streams.proofs.Pieces.{Consumes-nil, Consumes-then}
+use Rattle.plumctl_core.specs.declared.frame.Ended.{Ended}
+use Rattle.plumctl_core.specs.declared.frame.Ended.TheVariants.{AllPrinted, SomeRefused}
+use Rattle.plumctl_core.specs.Lines.{lines_of}
+use Rattle.plumctl_core.specs.Output.{IsTextOfAll, IsFrameLine, IsOutput}
+use Rattle.plumctl_core.specs.Run.{Prints, Stops, WritesLine, StopsLine, WritesLast, StopsLast}
+use Rattle.plumctl_core.proofs.LinesOf.{EndsLine, ends_none, ends_more, lines_line, lines_rest, lines_more, lines_last}
+use Rattle.plumctl_core.proofs.Texts.{text_of_line, text_of_all, text_then, text_more}
+
+-- nothing of the line was written
+pub stopped_before : (failed : Type 0) (line : List ℕ) (w : Option (List ℕ)) (fault : StreamFault) → fault ≡ Memory → StopsLine failed line w w fault
+stopped_before failed line w fault e =
+    let text = text_of_line line in
+    record {
+      text = text.0;
+      text_is = text.1;
+      appended = record { front = []; rest = text.0 ++ 10 ∷ []; parts = refl; appended = Appends-nil w };
+      cause = subst (HasCause ⊥ ⊥ failed) (sym e) tt;
+    }
+
+-- whole lines were read, and the output for them was written
+pub record Going (r s w v : Option (List ℕ)) (now : Pending) (all : Bool) : Type 0 where
+  pub read : List ℕ
+  pub consumed : Consumes r s read
+  pub counted : 67108864 ≡ now.left + length read
+  pub done : List ℕ
+  pub parts : read ≡ done ++ now.bytes
+  pub ends : EndsLine done
+  pub output : List ℕ
+  pub output_is : IsOutput done output
+  pub appended : Appends w v output
+  pub frames : IsTrue all ↔ All IsFrameLine (lines_of done)
+
+pub going_none : (r w : Option (List ℕ)) → Going r r w w (record { bytes = []; left = 67108864 }) true
+unfolding lines_of
+going_none r w = record {
+  read = [];
+  consumed = Consumes-nil r;
+  counted = omega arith;
+  done = [];
+  parts = refl;
+  ends = ends_none;
+  output = [];
+  output_is = refl;
+  appended = Appends-nil w;
+  frames = (λ yes. All-nil IsFrameLine, λ frames. refl);
+}
+
+All-before : (xs ys : List (List ℕ)) → All IsFrameLine (xs ++ ys) → All IsFrameLine xs
+All-before [] ys h = All-nil IsFrameLine
+All-before (x ∷ xs) ys h = All-cons IsFrameLine x xs (All-head IsFrameLine x (xs ++ ys) h) (All-before xs ys (All-tail IsFrameLine x (xs ++ ys) h))
+
+All-behind : (xs ys : List (List ℕ)) → All IsFrameLine (xs ++ ys) → All IsFrameLine ys
+All-behind [] ys h = h
+All-behind (x ∷ xs) ys h = All-behind xs ys (All-tail IsFrameLine x (xs ++ ys) h)
+
+-- both are true, and so are all of both
+both_all : (a b : Bool) (lines : List (List ℕ)) (line : List ℕ) → (IsTrue a ↔ All IsFrameLine lines) → (IsTrue b ↔ IsFrameLine line) → IsTrue (a && b) ↔ All IsFrameLine (lines ++ line ∷ [])
+both_all true true lines line p q = (λ yes. All-append IsFrameLine lines (line ∷ []) (p.0 refl) (All-cons IsFrameLine line [] (q.0 refl) (All-nil IsFrameLine)), λ frames. refl)
+both_all true false lines line p q = (λ yes. cc yes, λ frames. q.1 (All-head IsFrameLine line [] (All-behind lines (line ∷ []) frames)))
+both_all false b lines line p q = (λ yes. cc yes, λ frames. p.1 (All-before lines (line ∷ []) frames))
+
+abbrev text_written : List ℕ → List ℕ
+text_written text = text ++ 10 ∷ []
+
+-- a line was taken and written
+pub going_line : (r s t w v u : Option (List ℕ)) (now new : Pending) (all is : Bool) (line : List ℕ)
+    → Going r s w v now all → TakesLine now new s t line true → WritesLine line v u is → Going r t w u new (all && is)
+going_line r s t w v u now new all is line so_far takes writes =
+    let more = takes.reads.bytes in
+    record {
+      read = so_far.read ++ more;
+      consumed = Consumes-then r s t so_far.read more so_far.consumed takes.reads.consumed;
+      counted = let a = so_far.counted in let b = takes.reads.counted in omega (arith, length-append so_far.read more);
+      done = so_far.done ++ (line ++ 10 ∷ []);
+      parts =
+          ap (λ (bytes : List ℕ). bytes ++ more) so_far.parts ∙ append_assoc so_far.done now.bytes more
+          ∙ ap (λ (bytes : List ℕ). so_far.done ++ bytes) (takes.answer ∙ sym (append_assoc line (10 ∷ []) new.bytes))
+          ∙ sym (append_assoc so_far.done (line ++ 10 ∷ []) new.bytes);
+      ends = ends_more so_far.done line so_far.ends takes.whole;
+      output = so_far.output ++ text_written writes.text;
+      output_is =
+          subst (λ lines. IsTextOfAll lines (so_far.output ++ text_written writes.text)) (sym (lines_more so_far.done line so_far.ends takes.whole))
+          (text_more (lines_of so_far.done) line so_far.output writes.text so_far.output_is writes.text_is);
+      appended = Appends-then w v u so_far.output (text_written writes.text) so_far.appended writes.appended;
+      frames =
+          subst (λ lines. IsTrue (all && is) ↔ All IsFrameLine lines) (sym (lines_more so_far.done line so_far.ends takes.whole))
+          (both_all all is (lines_of so_far.done) line so_far.frames writes.frame);
+    }
+
+-- what was held back was passed on
+pub going_flushed : (r s w v u : Option (List ℕ)) (now : Pending) (all : Bool) → Going r s w v now all → Keeps v u → Going r s w u now all
+going_flushed r s w v u now all so_far keeps = record {
+  read = so_far.read;
+  consumed = so_far.consumed;
+  counted = so_far.counted;
+  done = so_far.done;
+  parts = so_far.parts;
+  ends = so_far.ends;
+  output = so_far.output;
+  output_is = so_far.output_is;
+  appended = Appends-kept w v u so_far.output so_far.appended keeps;
+  frames = so_far.frames;
+}
+
+-- a line that was taken leaves less to do
+pub going_less : (now new : Pending) (s t : Option (List ℕ)) (line : List ℕ) → TakesLine now new s t line true → new.left + length new.bytes < now.left + length now.bytes
+going_less now new s t line takes =
+    let more = takes.reads.bytes in
+    let counted = takes.reads.counted in
+    let parts : length now.bytes + length more ≡ length line + suc (length new.bytes) =
+    sym (length-append now.bytes more) ∙ ap length takes.answer ∙ length-append line (10 ∷ new.bytes) in
+    omega arith
+
+-- ---- the end
+
+ended_is : (all : Bool) (ended : Ended) → ended ≡ (if all then AllPrinted else SomeRefused) → (ended ≡ AllPrinted) ↔ IsTrue all
+ended_is true ended e = (λ same. refl, λ yes. e)
+ended_is false ended e = (λ same. cc (sym e ∙ same), λ yes. cc yes)
+
+-- the input ended behind a line feed
+prints_all : (r s t w v u : Option (List ℕ)) (now new : Pending) (all : Bool) (line : List ℕ) (ended : Ended)
+    → Going r s w v now all → TakesLine now new s t line false → line ≡ [] → Keeps v u → ended ≡ (if all then AllPrinted else SomeRefused) → Prints r t w u ended
+prints_all r s t w v u now new all line ended so_far takes none keeps e =
+    let more = takes.reads.bytes in
+    let done : so_far.read ++ more ≡ so_far.done =
+    ap (λ (bytes : List ℕ). bytes ++ more) so_far.parts ∙ append_assoc so_far.done now.bytes more
+    ∙ ap (λ (bytes : List ℕ). so_far.done ++ bytes) (takes.answer.0 ∙ none) ∙ append-nil so_far.done in
+    record {
+      input = so_far.read ++ more;
+      consumed = Consumes-then r s t so_far.read more so_far.consumed takes.reads.consumed;
+      end = takes.answer.2;
+      short = let a = so_far.counted in let b = takes.reads.counted in omega (arith, length-append so_far.read more);
+      output = so_far.output;
+      output_is = subst (λ input. IsOutput input so_far.output) (sym done) so_far.output_is;
+      appended = Appends-kept w v u so_far.output so_far.appended keeps;
+      all =
+          let is = ended_is all ended e in
+          subst (λ input. (ended ≡ AllPrinted) ↔ All IsFrameLine (lines_of input)) (sym done) (λ same. so_far.frames.0 (is.0 same), λ frames. is.1 (so_far.frames.1 frames));
+    }
+
+-- the input ended without a line feed behind its last line
+prints_last : (r s t w v u x : Option (List ℕ)) (now new : Pending) (all is : Bool) (line : List ℕ) (ended : Ended)
+    → Going r s w v now all → TakesLine now new s t line false → 0 < length line → WritesLine line v u is → Keeps u x → ended ≡ (if all && is then AllPrinted else SomeRefused) → Prints r t w x ended
+prints_last r s t w v u x now new all is line ended so_far takes some writes keeps e =
+    let more = takes.reads.bytes in
+    let done : so_far.read ++ more ≡ so_far.done ++ line =
+    ap (λ (bytes : List ℕ). bytes ++ more) so_far.parts ∙ append_assoc so_far.done now.bytes more
+    ∙ ap (λ (bytes : List ℕ). so_far.done ++ bytes) takes.answer.0 in
+    let lines : lines_of (so_far.read ++ more) ≡ lines_of so_far.done ++ line ∷ [] = ap lines_of done ∙ lines_last so_far.done line so_far.ends takes.whole some in
+    record {
+      input = so_far.read ++ more;
+      consumed = Consumes-then r s t so_far.read more so_far.consumed takes.reads.consumed;
+      end = takes.answer.2;
+      short = let a = so_far.counted in let b = takes.reads.counted in omega (arith, length-append so_far.read more);
+      output = so_far.output ++ text_written writes.text;
+      output_is =
+          subst (λ ls. IsTextOfAll ls (so_far.output ++ text_written writes.text)) (sym lines)
+          (text_more (lines_of so_far.done) line so_far.output writes.text so_far.output_is writes.text_is);
+      appended = Appends-kept w u x (so_far.output ++ text_written writes.text) (Appends-then w v u so_far.output (text_written writes.text) so_far.appended writes.appended) keeps;
+      all =
+          let is_true = ended_is (all && is) ended e in
+          let both = both_all all is (lines_of so_far.done) line so_far.frames writes.frame in
+          subst (λ ls. (ended ≡ AllPrinted) ↔ All IsFrameLine ls) (sym lines) (λ same. both.0 (is_true.0 same), λ frames. is_true.1 (both.1 frames));
+    }
+
+-- ---- faults
+
+no_text : IsTextOfAll (lines_of []) []
+unfolding lines_of
+no_text = refl
+
+cause_of_writing : (read_failed too_long write_failed : Type 0) (fault : StreamFault) → HasCause ⊥ ⊥ write_failed fault → HasCause read_failed too_long write_failed fault
+cause_of_writing read_failed too_long write_failed Read cause = absurd cause
+cause_of_writing read_failed too_long write_failed InputTooLong cause = absurd cause
+cause_of_writing read_failed too_long write_failed Write cause = cause
+cause_of_writing read_failed too_long write_failed Memory cause = tt
+
+cause_of_reading : (read_failed write_failed : Type 0) (a b c d : ℕ) (fault : StreamFault) → (a < b → c < d) → HasCause read_failed (a < b) ⊥ fault → HasCause read_failed (c < d) write_failed fault
+cause_of_reading read_failed write_failed a b c d Read more cause = cause
+cause_of_reading read_failed write_failed a b c d InputTooLong more cause = more cause
+cause_of_reading read_failed write_failed a b c d Write more cause = absurd cause
+cause_of_reading read_failed write_failed a b c d Memory more cause = tt
+
+-- of what was read behind the whole lines, a front of the output was written
+stops : (read_failed write_failed : Type 0) (r s w v u : Option (List ℕ)) (input done rest output front back : List ℕ) (fault : StreamFault)
+    → Consumes r s input → input ≡ done ++ rest → EndsLine done → IsOutput done output → Appends w v output
+    → IsTextOfAll (lines_of rest) (front ++ back) → Appends v u front → HasCause read_failed (67108864 < length input) write_failed fault
+    → Stops read_failed write_failed r s w u fault
+stops read_failed write_failed r s w v u input done rest output front back fault consumed parts ends output_is appended text more cause = record {
+  input = input;
+  consumed = consumed;
+  output = output ++ (front ++ back);
+  output_is = subst (λ ls. IsTextOfAll ls (output ++ (front ++ back))) (sym (ap lines_of parts ∙ ends rest)) (text_then (lines_of done) (lines_of rest) output (front ++ back) output_is text);
+  appended = record { front = output ++ front; rest = back; parts = sym (append_assoc output front back); appended = Appends-then w v u output front appended more };
+  cause = cause;
+}
+
+Appends-kept-nil : (v u : Option (List ℕ)) → Keeps v u → Appends v u []
+Appends-kept-nil v u keeps = Appends-kept v v u [] (Appends-nil v) keeps
+
+-- the reader failed, or gave too much
+pub stops_reading : (read_failed write_failed : Type 0) (r s t w v : Option (List ℕ)) (now : Pending) (all : Bool) (fault : StreamFault)
+    → Going r s w v now all → StopsReading read_failed now s t fault → Stops read_failed write_failed r t w v fault
+stops_reading read_failed write_failed r s t w v now all fault so_far stop =
+    let rest = text_of_all (lines_of (now.bytes ++ stop.bytes)) in
+    stops read_failed write_failed r t w v v (so_far.read ++ stop.bytes) so_far.done (now.bytes ++ stop.bytes) so_far.output [] rest.0 fault
+    (Consumes-then r s t so_far.read stop.bytes so_far.consumed stop.consumed)
+    (ap (λ (bytes : List ℕ). bytes ++ stop.bytes) so_far.parts ∙ append_assoc so_far.done now.bytes stop.bytes)
+    so_far.ends so_far.output_is so_far.appended rest.1 (Appends-nil v)
+    (cause_of_reading read_failed write_failed now.left (length stop.bytes) 67108864 (length (so_far.read ++ stop.bytes)) fault
+    (λ lt. let a = so_far.counted in omega (arith, length-append so_far.read stop.bytes)) stop.cause)
+
+-- passing on failed between lines
+pub stops_flushing : (read_failed write_failed : Type 0) (r s w v u : Option (List ℕ)) (now : Pending) (all : Bool) (fault : StreamFault)
+    → Going r s w v now all → Keeps v u → HasCause ⊥ ⊥ write_failed fault → Stops read_failed write_failed r s w u fault
+stops_flushing read_failed write_failed r s w v u now all fault so_far keeps cause =
+    let rest = text_of_all (lines_of now.bytes) in
+    stops read_failed write_failed r s w v u so_far.read so_far.done now.bytes so_far.output [] rest.0 fault so_far.consumed so_far.parts
+    so_far.ends so_far.output_is so_far.appended rest.1 (Appends-kept-nil v u keeps)
+    (cause_of_writing read_failed (67108864 < length so_far.read) write_failed fault cause)
+
+-- the writer failed within a line
+pub stops_line : (read_failed write_failed : Type 0) (r s t w v u : Option (List ℕ)) (now new : Pending) (all : Bool) (line : List ℕ) (fault : StreamFault)
+    → Going r s w v now all → TakesLine now new s t line true → StopsLine write_failed line v u fault → Stops read_failed write_failed r t w u fault
+stops_line read_failed write_failed r s t w v u now new all line fault so_far takes stop =
+    let more = takes.reads.bytes in
+    let rest = text_of_all (lines_of new.bytes) in
+    let front = stop.appended.front in
+    let back = stop.appended.rest in
+    let text : stop.text ++ 10 ∷ rest.0 ≡ front ++ (back ++ rest.0) =
+    sym (append_assoc stop.text (10 ∷ []) rest.0) ∙ ap (λ (bytes : List ℕ). bytes ++ rest.0) stop.appended.parts ∙ append_assoc front back rest.0 in
+    stops read_failed write_failed r t w v u (so_far.read ++ more) so_far.done (line ++ 10 ∷ new.bytes) so_far.output front (back ++ rest.0) fault
+    (Consumes-then r s t so_far.read more so_far.consumed takes.reads.consumed)
+    (ap (λ (bytes : List ℕ). bytes ++ more) so_far.parts ∙ append_assoc so_far.done now.bytes more ∙ ap (λ (bytes : List ℕ). so_far.done ++ bytes) takes.answer)
+    so_far.ends so_far.output_is so_far.appended
+    (subst (λ ls. IsTextOfAll ls (front ++ (back ++ rest.0))) (sym (lines_line line new.bytes takes.whole))
+    (stop.text, rest.0, stop.text_is, rest.1, sym text))
+    stop.appended.appended
+    (cause_of_writing read_failed (67108864 < length (so_far.read ++ more)) write_failed fault stop.cause)
+
+-- the writer failed within the last line, which lacks its line feed
+stops_last : (read_failed write_failed : Type 0) (r s t w v u : Option (List ℕ)) (now new : Pending) (all : Bool) (line : List ℕ) (fault : StreamFault)
+    → Going r s w v now all → TakesLine now new s t line false → 0 < length line → StopsLine write_failed line v u fault → Stops read_failed write_failed r t w u fault
+stops_last read_failed write_failed r s t w v u now new all line fault so_far takes some stop =
+    let more = takes.reads.bytes in
+    let front = stop.appended.front in
+    let back = stop.appended.rest in
+    stops read_failed write_failed r t w v u (so_far.read ++ more) so_far.done line so_far.output front back fault
+    (Consumes-then r s t so_far.read more so_far.consumed takes.reads.consumed)
+    (ap (λ (bytes : List ℕ). bytes ++ more) so_far.parts ∙ append_assoc so_far.done now.bytes more ∙ ap (λ (bytes : List ℕ). so_far.done ++ bytes) takes.answer.0)
+    so_far.ends so_far.output_is so_far.appended
+    (subst (λ ls. IsTextOfAll ls (front ++ back)) (sym (lines_rest line takes.whole some))
+    (stop.text, [], stop.text_is, refl, sym stop.appended.parts))
+    stop.appended.appended
+    (cause_of_writing read_failed (67108864 < length (so_far.read ++ more)) write_failed fault stop.cause)
+
+-- the last line was written, and a writer that fails then had all of it
+stops_behind : (write_failed : Type 0) (line : List ℕ) (v u x : Option (List ℕ)) (is : Bool) (fault : StreamFault) → WritesLine line v u is → Keeps u x → HasCause ⊥ ⊥ write_failed fault → StopsLine write_failed line v x fault
+stops_behind write_failed line v u x is fault writes keeps cause = record {
+  text = writes.text;
+  text_is = writes.text_is;
+  appended = record { front = text_written writes.text; rest = []; parts = sym (append-nil (text_written writes.text)); appended = Appends-kept v u x (text_written writes.text) writes.appended keeps };
+  cause = cause;
+}
+
+-- passing on failed at the end
+stops_at_end : (read_failed write_failed : Type 0) (r s t w v u : Option (List ℕ)) (now new : Pending) (all : Bool) (line : List ℕ) (fault : StreamFault)
+    → Going r s w v now all → TakesLine now new s t line false → line ≡ [] → Keeps v u → HasCause ⊥ ⊥ write_failed fault → Stops read_failed write_failed r t w u fault
+stops_at_end read_failed write_failed r s t w v u now new all line fault so_far takes none keeps cause =
+    let more = takes.reads.bytes in
+    stops read_failed write_failed r t w v u (so_far.read ++ more) so_far.done [] so_far.output [] [] fault
+    (Consumes-then r s t so_far.read more so_far.consumed takes.reads.consumed)
+    (ap (λ (bytes : List ℕ). bytes ++ more) so_far.parts ∙ append_assoc so_far.done now.bytes more ∙ ap (λ (bytes : List ℕ). so_far.done ++ bytes) (takes.answer.0 ∙ none))
+    so_far.ends so_far.output_is so_far.appended no_text (Appends-kept-nil v u keeps)
+    (cause_of_writing read_failed (67108864 < length (so_far.read ++ more)) write_failed fault cause)
+
+-- nothing was read
+pub stops_none : (read_failed write_failed : Type 0) (r w : Option (List ℕ)) (fault : StreamFault) → fault ≡ Memory → Stops read_failed write_failed r r w w fault
+stops_none read_failed write_failed r w fault e =
+    stops read_failed write_failed r r w w w [] [] [] [] [] [] fault (Consumes-nil r) refl ends_none no_text (Appends-nil w) no_text (Appends-nil w)
+    (subst (HasCause read_failed (67108864 < length {A = ℕ} []) write_failed) (sym e) tt)
+
+Keeps-self : (v : Option (List ℕ)) → Keeps v v
+Keeps-self None = tt
+Keeps-self (Some xs) = refl
+
+Keeps-then : (v u x : Option (List ℕ)) → Keeps v u → Keeps u x → Keeps v x
+Keeps-then None u x p q = tt
+Keeps-then (Some xs) None x p q = absurd p
+Keeps-then (Some xs) (Some ys) None p q = absurd q
+Keeps-then (Some xs) (Some ys) (Some zs) p q = q ∙ p
+
+pub last_none : (line : List ℕ) (v : Option (List ℕ)) → line ≡ [] → WritesLast line v v true
+last_none line v none = inl (none, Keeps-self v, refl)
+
+and_is : (all is : Bool) → IsTrue is → (all && is) ≡ all
+and_is true true e = refl
+and_is false is e = refl
+and_is true false e = cc e
+
+-- the last line was written, if there is one, and what was held back was passed on
+pub prints_over : (r s t w v u x : Option (List ℕ)) (now new : Pending) (all is : Bool) (line : List ℕ) (ended : Ended)
+    → Going r s w v now all → TakesLine now new s t line false → WritesLast line v u is → Keeps u x → ended ≡ (if all && is then AllPrinted else SomeRefused) → Prints r t w x ended
+prints_over r s t w v u x now new all is line ended so_far takes last keeps e = elim last [
+  | inl none ↦ prints_all r s t w v x now new all line ended so_far takes none.0 (Keeps-then v u x none.1 keeps) (e ∙ ap (λ b. if b then AllPrinted else SomeRefused) (and_is all is none.2))
+  | inr some ↦ prints_last r s t w v u x now new all is line ended so_far takes some.0 some.1 keeps e
+]
+
+pub stops_over : (read_failed write_failed : Type 0) (r s t w v u : Option (List ℕ)) (now new : Pending) (all : Bool) (line : List ℕ) (fault : StreamFault)
+    → Going r s w v now all → TakesLine now new s t line false → StopsLast write_failed line v u fault → Stops read_failed write_failed r t w u fault
+stops_over read_failed write_failed r s t w v u now new all line fault so_far takes stop = stops_last read_failed write_failed r s t w v u now new all line fault so_far takes stop.0 stop.1
+
+pub stops_passing : (read_failed write_failed : Type 0) (r s t w v u x : Option (List ℕ)) (now new : Pending) (all is : Bool) (line : List ℕ) (fault : StreamFault)
+    → Going r s w v now all → TakesLine now new s t line false → WritesLast line v u is → Keeps u x → HasCause ⊥ ⊥ write_failed fault → Stops read_failed write_failed r t w x fault
+stops_passing read_failed write_failed r s t w v u x now new all is line fault so_far takes last keeps cause = elim last [
+  | inl none ↦ stops_at_end read_failed write_failed r s t w v x now new all line fault so_far takes none.0 (Keeps-then v u x none.1 keeps) cause
+  | inr some ↦ stops_last read_failed write_failed r s t w v x now new all line fault so_far takes some.0 (stops_behind write_failed line v u x is fault some.1 keeps cause)
+]

@@ -1,0 +1,6 @@
+-- the lines of a text that is read line by line
+pub mod LinesOf
+-- each line has one text
+pub mod Texts
+-- a run of `frame`, line by line
+pub mod Going

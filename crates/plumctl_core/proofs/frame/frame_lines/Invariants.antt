@@ -1,0 +1,10 @@
+use Rattle.std.proofs.Common.{◌+◌, length}
+use Rattle.plumctl_core.proofs.Going.{Going}
+use Rattle.plumctl_core.proofs.frame.frame_lines.Given as goal
+
+abbrev pub invariant-loop-text : goal.invariant-loop-text
+invariant-loop-text g l =
+    Going (g.R.Read.remaining l.fn.reader) (g.R.Read.remaining l.reader) (g.W.Write.contents l.fn.writer) (g.W.Write.contents l.writer) l.lines l.all
+
+abbrev pub decreases-loop-text : goal.decreases-loop-text
+decreases-loop-text g l = l.lines.left + length l.lines.bytes

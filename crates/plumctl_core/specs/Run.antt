@@ -1,0 +1,54 @@
+-- How a run of `frame` ends.
+use Rattle.std.specs.Prelude.{◌≡◌, ◌⊎◌, ◌↔◌, ◌<◌, ◌≤◌, ℕ, List, [], ◌∷◌, ◌++◌, length, All, Option, Bool, IsTrue}
+use Rattle.std.specs.Io.KnownBytes.{Appends, Keeps, Consumes, IsAtEnd}
+use Rattle.streams.specs.declared.fault.StreamFault.{StreamFault}
+use Rattle.streams.specs.Fault.{HasCause}
+use Rattle.streams.specs.Written.{AppendsFront}
+use Rattle.plumctl_core.specs.declared.frame.Ended.{Ended}
+use Rattle.plumctl_core.specs.declared.frame.Ended.TheVariants.{AllPrinted}
+use Rattle.plumctl_core.specs.Lines.{lines_of}
+use Rattle.plumctl_core.specs.Output.{IsTextOf, IsFrameLine, IsOutput}
+
+-- the whole input was read, which is within the limit, and its output was written
+pub record Prints (reader_old reader_new writer_old writer_new : Option (List ℕ)) (ended : Ended) : Type 0 where
+  pub input : List ℕ
+  pub consumed : Consumes reader_old reader_new input
+  pub end : IsAtEnd reader_new
+  pub short : length input ≤ 67108864
+  pub output : List ℕ
+  pub output_is : IsOutput input output
+  pub appended : Appends writer_old writer_new output
+  pub all : (ended ≡ AllPrinted) ↔ All IsFrameLine (lines_of input)
+
+-- what was read until the fault, of whose output a front was written, and the fault's cause
+pub record Stops (read_failed write_failed : Type 0) (reader_old reader_new writer_old writer_new : Option (List ℕ)) (fault : StreamFault) : Type 0 where
+  pub input : List ℕ
+  pub consumed : Consumes reader_old reader_new input
+  pub output : List ℕ
+  pub output_is : IsOutput input output
+  pub appended : AppendsFront writer_old writer_new output
+  pub cause : HasCause read_failed (67108864 < length input) write_failed fault
+
+-- ---- what private functions cite
+
+-- the text of a line was written, and a line feed
+pub record WritesLine (line : List ℕ) (writer_old writer_new : Option (List ℕ)) (is_frame : Bool) : Type 0 where
+  pub text : List ℕ
+  pub text_is : IsTextOf line text
+  pub appended : Appends writer_old writer_new (text ++ 10 ∷ [])
+  pub frame : IsTrue is_frame ↔ IsFrameLine line
+
+-- a front of it was written
+pub record StopsLine (write_failed : Type 0) (line : List ℕ) (writer_old writer_new : Option (List ℕ)) (fault : StreamFault) : Type 0 where
+  pub text : List ℕ
+  pub text_is : IsTextOf line text
+  pub appended : AppendsFront writer_old writer_new (text ++ 10 ∷ [])
+  pub cause : HasCause ⊥ ⊥ write_failed fault
+
+-- a last line was written, or it is empty and nothing was
+abbrev pub WritesLast : (line : List ℕ) (writer_old writer_new : Option (List ℕ)) (is_frame : Bool) → Type 0
+WritesLast line writer_old writer_new is_frame =
+    ((line ≡ []) × Keeps writer_old writer_new × IsTrue is_frame) ⊎ ((0 < length line) × WritesLine line writer_old writer_new is_frame)
+
+abbrev pub StopsLast : (write_failed : Type 0) (line : List ℕ) (writer_old writer_new : Option (List ℕ)) (fault : StreamFault) → Type 0
+StopsLast write_failed line writer_old writer_new fault = (0 < length line) × StopsLine write_failed line writer_old writer_new fault

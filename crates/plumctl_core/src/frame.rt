@@ -1,0 +1,93 @@
+//! The command `frame`.
+
+ghost use Rattle.std.specs.Prelude.{◌≡◌, IfOk, IfErr, if◌then◌else◌};
+ghost use Rattle.plumctl_core.specs.declared.frame.Ended.TheVariants.{AllPrinted, SomeRefused};
+ghost use Rattle.plumctl_core.specs.Run.{Prints, Stops, WritesLine, StopsLine, WritesLast, StopsLast};
+
+use crate::line::print_line;
+use std::alloc::Global;
+use streams::{LineBuffer, Sink, Source, StreamFault, flush, write_whole};
+
+/// How a run that read its whole input ended.
+#[derive(Clone, Copy, Debug, PartialEq, Eq)]
+pub enum Ended {
+    /// Each line stood for a frame.
+    AllPrinted,
+    /// Some line was refused.
+    SomeRefused,
+}
+
+impl Ended {
+    fn of(all: bool) -> Self
+        ensures { result ≡ (if all then AllPrinted else SomeRefused) }
+    {
+        if all {
+            Ended::AllPrinted
+        } else {
+            Ended::SomeRefused
+        }
+    }
+}
+
+/// Writes what is printed for a line, and a line feed, and tells whether the line stands for a frame.
+fn write_line<W: Sink>(
+    alloc: Global,
+    line: &[u8],
+    text: &mut Vec<u8>,
+    writer: &mut W,
+) -> Result<bool, StreamFault>
+    ensures ok { IfOk result (λ is. WritesLine line.now (W.contents writer.old) (W.contents writer.new) is) }
+    ensures err { IfErr result (λ fault. StopsLine (W.write_failed writer.new) line.now (W.contents writer.old) (W.contents writer.new) fault) }
+{
+    let is_frame = print_line(alloc, line, text)?;
+    text.push(b'\n')?;
+    write_whole(writer, text.as_slice())?;
+    Ok(is_frame)
+}
+
+/// Writes the last line, which lacks its line feed, as `write_line` does. Where it is empty there is
+/// none.
+fn write_last_line<W: Sink>(
+    alloc: Global,
+    line: &[u8],
+    text: &mut Vec<u8>,
+    writer: &mut W,
+) -> Result<bool, StreamFault>
+    ensures ok { IfOk result (λ is. WritesLast line.now (W.contents writer.old) (W.contents writer.new) is) }
+    ensures err { IfErr result (λ fault. StopsLast (W.write_failed writer.new) line.now (W.contents writer.old) (W.contents writer.new) fault) }
+{
+    if line.is_empty() {
+        return Ok(true);
+    }
+    write_line(alloc, line, text, writer)
+}
+
+/// Reads lines of hexadecimal digits to the end of the input, and writes for each line the frame that
+/// its digits spell, or the first refusal: spaces are skipped, digits may be of either case, and a line
+/// that is not an even number of digits is `error 9 BadHex`. Each line is written before more is waited
+/// for. Ends with 7 `Read` at the first error of the reader, an interruption too, with 8
+/// `InputTooLong` once more than 67,108,864 bytes were read, with `Write` at the first error of the
+/// writer or when it takes no more, and with 99 `Memory`. It takes memory for the longest line, its
+/// bytes, its frame and its text, and for one read.
+pub fn frame_lines<R: Source, W: Sink>(
+    alloc: Global,
+    reader: &mut R,
+    writer: &mut W,
+) -> Result<Ended, StreamFault>
+    ensures ok { IfOk result (λ ended. Prints (R.remaining reader.old) (R.remaining reader.new) (W.contents writer.old) (W.contents writer.new) ended) }
+    ensures err { IfErr result (λ fault. Stops (R.read_failed reader.new) (W.write_failed writer.new) (R.remaining reader.old) (R.remaining reader.new) (W.contents writer.old) (W.contents writer.new) fault) }
+{
+    let mut lines = LineBuffer::new(alloc)?;
+    let mut line = Vec::new(alloc);
+    let mut text = Vec::new(alloc);
+    let mut all = true;
+    while lines.next_line(reader, &mut line)? {
+        all &= write_line(alloc, line.as_slice(), &mut text, writer)?;
+        if lines.is_drained() {
+            flush(writer)?;
+        }
+    }
+    all &= write_last_line(alloc, line.as_slice(), &mut text, writer)?;
+    flush(writer)?;
+    Ok(Ended::of(all))
+}

@@ -1,0 +1,204 @@
+use super::*;
+use std::io::{self, ErrorKind, Read};
+use std::test::Fail;
+use streams::{MayFail, StreamFault};
+
+const PRUNE: &[u8] = b"50540104 0001 0000 0000000000000005 00000000\n";
+
+const PRUNE_TEXT: &[u8] = b"PRUNE from 1 to 0 number 5\n";
+
+const GOSSIP: &[u8] = b"50540101 0000 0001 0000000000000001 00000025 0000 000161 000162 00016b \
+    0001 0000 0000000000000001 0001 01 0000000000000000 0001 78\n";
+
+const GOSSIP_TEXT: &[u8] = b"GOSSIP from 0 to 1 number 1 round 0 key a/b/k ctx 0:1 values x\n";
+
+/// Gives one byte at a time.
+#[derive(Drop)]
+struct Drops<'a>(&'a [u8]);
+
+impl Read for Drops<'_> {
+    fn read(&mut self, piece: &mut [u8]) -> io::Result<usize> {
+        let room = piece.len().min(1);
+        self.0.read(&mut piece[..room])
+    }
+}
+
+/// Is interrupted at once.
+#[derive(Drop)]
+struct Interrupted;
+
+impl Read for Interrupted {
+    fn read(&mut self, _piece: &mut [u8]) -> io::Result<usize> {
+        Err(io::Error::from(ErrorKind::Interrupted))
+    }
+}
+
+/// Tells whether `frame_lines` prints just this text for this input, and ends so.
+fn prints(rt: &HostRuntime, input: &[u8], text: &[u8], ended: Ended) -> bool {
+    let mut reader = input;
+    let mut out = Vec::new(rt.alloc());
+    frame_lines(rt.alloc(), &mut reader, &mut out) == Ok(ended) && out.as_slice() == text
+}
+
+#[test]
+fn two_frames_are_printed(rt: HostRuntime) -> Result<(), Fail> {
+    assert!(rt; prints(&rt, PRUNE, PRUNE_TEXT, Ended::AllPrinted));
+    assert!(rt; prints(&rt, GOSSIP, GOSSIP_TEXT, Ended::AllPrinted));
+    let input = [PRUNE, GOSSIP].concat(rt.alloc())?;
+    let text = [PRUNE_TEXT, GOSSIP_TEXT].concat(rt.alloc())?;
+    assert!(rt; prints(&rt, &input, &text, Ended::AllPrinted));
+    Ok(())
+}
+
+#[test]
+fn refused_lines_name_their_refusal(rt: HostRuntime) -> Result<(), Fail> {
+    let input = b"50540104 0001 0000 0000000000000005 000000\n\
+        50540104 0001 0000 0000000000000005 00000000 00\n\
+        50540101 0000 0001 0000000000000001 00000025 0000 000161 000162 00016b \
+        0001 0000 0000000000000000 0001 01 0000000000000000 0001 78\n\
+        \n\
+        5g\n";
+    let text = b"error 10 Short\nerror 16 LeftOver\nerror 15 BadBody at 35\nerror 10 Short\n\
+        error 9 BadHex\n";
+    assert!(rt; prints(&rt, input, text, Ended::SomeRefused));
+    Ok(())
+}
+
+#[test]
+fn a_refused_line_does_not_end_the_run(rt: HostRuntime) -> Result<(), Fail> {
+    let input = [b"5g\n", PRUNE].concat(rt.alloc())?;
+    let text = [b"error 9 BadHex\n", PRUNE_TEXT].concat(rt.alloc())?;
+    assert!(rt; prints(&rt, &input, &text, Ended::SomeRefused));
+    Ok(())
+}
+
+#[test]
+fn digits_may_be_of_either_case_with_spaces_between(rt: HostRuntime) -> Result<(), Fail> {
+    let text = b"PRUNE from 1 to 10 number 171\n";
+    let inputs: [&[u8]; 3] = [
+        b"5054010400010 00A00000000000000Ab00000000",
+        b"  50 54 01 04 00 01 00 0a 00 00 00 00 00 00 00 aB 00 00 00 00  \n",
+        b"505401040001000A00000000000000AB00000000",
+    ];
+    for input in inputs {
+        assert!(rt; prints(&rt, input, text, Ended::AllPrinted));
+    }
+    Ok(())
+}
+
+#[test]
+fn what_is_no_even_number_of_digits_is_refused(rt: HostRuntime) -> Result<(), Fail> {
+    let lines: [&[u8]; 7] = [
+        b"505",
+        b"5 0 5",
+        b"\t",
+        b"50\r",
+        b"\xff\xfe",
+        b"@0",
+        b"/\x00",
+    ];
+    for line in lines {
+        assert!(rt; prints(&rt, line, b"error 9 BadHex\n", Ended::SomeRefused));
+    }
+    Ok(())
+}
+
+#[test]
+fn a_last_line_feed_starts_no_line(rt: HostRuntime) -> Result<(), Fail> {
+    let table: [(&[u8], &[u8]); 5] = [
+        (b"\n", b"error 10 Short\n"),
+        (b"\n\n", b"error 10 Short\nerror 10 Short\n"),
+        (b"  ", b"error 10 Short\n"),
+        (b"5g", b"error 9 BadHex\n"),
+        (b"5g\n", b"error 9 BadHex\n"),
+    ];
+    for (input, text) in table {
+        assert!(rt; prints(&rt, input, text, Ended::SomeRefused));
+    }
+    assert!(rt; prints(&rt, b"", b"", Ended::AllPrinted));
+    Ok(())
+}
+
+#[test]
+fn an_input_may_come_byte_by_byte(rt: HostRuntime) -> Result<(), Fail> {
+    let mut reader = MayFail(Drops(GOSSIP));
+    let mut out = Vec::new(rt.alloc());
+    let done = frame_lines(rt.alloc(), &mut reader, &mut out);
+    assert!(rt; done == Ok(Ended::AllPrinted));
+    assert_eq!(rt; out.as_slice(), GOSSIP_TEXT);
+    Ok(())
+}
+
+#[test]
+fn a_reader_that_fails_at_any_byte_has_the_lines_before_printed(
+    rt: HostRuntime,
+) -> Result<(), Fail> {
+    let input = [PRUNE, PRUNE].concat(rt.alloc())?;
+    for n in 0..input.len() {
+        let mut reader = MayFail(Drops(&input[..n]).chain(Interrupted));
+        let mut out = Vec::new(rt.alloc());
+        let done = frame_lines(rt.alloc(), &mut reader, &mut out);
+        assert!(rt; done == Err(StreamFault::Read));
+        let text = if n < PRUNE.len() { b"" } else { PRUNE_TEXT };
+        assert_eq!(rt; out.as_slice(), text);
+    }
+    Ok(())
+}
+
+#[test]
+fn a_writer_that_is_full_at_any_byte_has_a_front(rt: HostRuntime) -> Result<(), Fail> {
+    for n in 0..PRUNE_TEXT.len() {
+        let mut reader = PRUNE;
+        let mut room = [b'.'; 64];
+        let mut writer = MayFail(&mut room[..n]);
+        let done = frame_lines(rt.alloc(), &mut reader, &mut writer);
+        assert!(rt; done == Err(StreamFault::Write));
+        assert_eq!(rt; &room[..n], &PRUNE_TEXT[..n]);
+        assert!(rt; room[n] == b'.');
+    }
+    Ok(())
+}
+
+#[test]
+fn an_input_beyond_the_limit_is_refused(rt: HostRuntime) -> Result<(), Fail> {
+    let mut reader = MayFail(io::repeat(b' '));
+    let mut out = Vec::new(rt.alloc());
+    let done = frame_lines(rt.alloc(), &mut reader, &mut out);
+    assert!(rt; done == Err(StreamFault::InputTooLong));
+    assert!(rt; out.is_empty());
+    let mut reader = MayFail(io::repeat(b' ').take(67_108_864));
+    let done = frame_lines(rt.alloc(), &mut reader, &mut out);
+    assert!(rt; done == Ok(Ended::SomeRefused));
+    assert_eq!(rt; out.as_slice(), b"error 10 Short\n".as_slice());
+    Ok(())
+}
+
+#[test]
+fn statuses_are_as_the_program_has_them(rt: HostRuntime) -> Result<(), Fail> {
+    assert!(rt; Ended::AllPrinted.status() == 0);
+    assert!(rt; Ended::SomeRefused.status() == 1);
+    assert!(rt; status_of_fault(StreamFault::InputTooLong) == 1);
+    assert!(rt; status_of_fault(StreamFault::Read) == 3);
+    assert!(rt; status_of_fault(StreamFault::Write) == 3);
+    assert!(rt; status_of_fault(StreamFault::Memory) == 4);
+    Ok(())
+}
+
+// Holds whichever allocation is refused: the run ends with Memory and a front of the output, and made
+// again it prints all. Allocates at most 40 times.
+#[test]
+fn a_run_ends_with_memory_under_refused_memory(rt: HostRuntime) -> Result<(), Fail> {
+    let mut reader = GOSSIP;
+    let mut room = [b'.'; 128];
+    let mut writer = MayFail(&mut room[..64]);
+    let done = frame_lines(rt.alloc(), &mut reader, &mut writer);
+    let again = prints(&rt, GOSSIP, GOSSIP_TEXT, Ended::AllPrinted);
+    if done == Err(StreamFault::Memory) {
+        assert!(rt; again);
+        assert!(rt; room[0] == b'.');
+    } else {
+        assert!(rt; done == Ok(Ended::AllPrinted));
+        assert!(rt; room.starts_with(GOSSIP_TEXT));
+    }
+    Ok(())
+}

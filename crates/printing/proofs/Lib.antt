@@ -1,0 +1,2 @@
+-- lists that are put one text after another
+pub mod Lists

@@ -1,0 +1,29 @@
+-- Printed frames and refusals.
+use Rattle.std.specs.Prelude.{ℕ, List, [], ◌++◌, codes, decimal}
+use Rattle.meta_frame.specs.declared.message.Message.{Message}
+use Rattle.meta_frame.specs.declared.message.Message.TheVariants.{Gossip, Prune}
+use Rattle.meta_frame.specs.declared.message.Frame.{Frame}
+use Rattle.meta_frame.specs.declared.fault.FrameFault.{FrameFault}
+use Rattle.meta_frame.specs.declared.fault.FrameFault.TheVariants.{BadBody}
+use Rattle.meta_frame.specs.Frame.{name_of}
+use Rattle.meta_frame.specs.Fault.{code_of, fault_name}
+use Rattle.printing.specs.Field.{key_text}
+use Rattle.printing.specs.Object.{object_text}
+
+-- the table of kinds: the fields of each, in their order
+unfoldable pub message_text : Message → List ℕ
+message_text (Gossip round k o) = codes " round " ++ decimal round ++ codes " key " ++ key_text k ++ codes " ctx " ++ object_text o
+message_text Prune = []
+
+-- as `PRUNE from 1 to 0 number 5`
+abbrev pub frame_text : Frame → List ℕ
+frame_text f = name_of f.message ++ codes " from " ++ decimal f.from ++ codes " to " ++ decimal f.to ++ codes " number " ++ decimal f.number ++ message_text f.message
+
+-- where the field at fault begins
+abbrev pub offset_text : FrameFault → List ℕ
+offset_text (BadBody at) = codes " at " ++ decimal at
+offset_text fault = []
+
+-- as `error 10 Short`, or `error 15 BadBody at 35`
+abbrev pub frame_fault_text : FrameFault → List ℕ
+frame_fault_text fault = codes "error " ++ decimal (code_of fault) ++ codes " " ++ fault_name fault ++ offset_text fault

@@ -1,0 +1,21 @@
+-- Printed lists.
+use Rattle.std.specs.Prelude.{◌≡◌, ℕ, Bool, true, false, ◌&&◌, if◌then◌else◌, List, [], ◌∷◌, ◌++◌, codes}
+
+-- texts with a comma before each, but for one that stands first
+abbrev pub separated : Bool → List (List ℕ) → List ℕ
+separated first [] = []
+separated first (text ∷ texts) = (if first then text else codes "," ++ text) ++ separated false texts
+
+-- texts joined by commas; no text is `-`
+abbrev pub joined : List (List ℕ) → List ℕ
+joined [] = codes "-"
+joined (text ∷ texts) = separated true (text ∷ texts)
+
+abbrev pub are_none : List (List ℕ) → Bool
+are_none [] = true
+are_none (text ∷ texts) = false
+
+-- what was put of a list: the texts, behind what stood there, and whether a next one stands first
+pub record IsPut (first : Bool) (texts : List (List ℕ)) (old new : List ℕ) (next : Bool) : Type 0 where
+  pub text : new ≡ old ++ separated first texts
+  pub next_is : next ≡ (first && are_none texts)

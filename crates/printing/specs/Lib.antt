@@ -1,0 +1,8 @@
+-- numbers, names and values as text
+pub mod Field
+-- lists as text
+pub mod Joined
+-- contexts and objects as text
+pub mod Object
+-- frames and refusals as text
+pub mod Frame

@@ -1,0 +1,22 @@
+-- Printed contexts and objects.
+use Rattle.std.specs.Prelude.{ℕ, List, ◌++◌, map, codes, decimal}
+use Rattle.dvvset.specs.Object.{Entry, Counter}
+use Rattle.dvvset.specs.Clock.{join, values_of}
+use Rattle.printing.specs.Field.{value_text}
+use Rattle.printing.specs.Joined.{joined}
+
+-- as `0:2`
+unfoldable pub counter_text : Counter → List ℕ
+counter_text c = decimal c.id ++ codes ":" ++ decimal c.count
+
+-- a context, as `0:2,1:1`
+abbrev pub vector_text : List Counter → List ℕ
+vector_text cs = joined (map counter_text cs)
+
+-- the values that an object shows, in their order
+abbrev pub values_text : List Entry → List ℕ
+values_text es = joined (map value_text (values_of es))
+
+-- an object, as `0:1 values x`
+abbrev pub object_text : List Entry → List ℕ
+object_text es = vector_text (join es) ++ codes " values " ++ values_text es

@@ -1,0 +1,83 @@
+//! Numbers, names and values.
+
+ghost use Rattle.std.specs.Prelude.{◌≡◌, ◌++◌, OnOk, decimal};
+ghost use Rattle.printing.specs.Field.{is_plain, are_plain, bytes_text, prefix_text, key_text, stamp_text, value_text};
+
+use itoa::Buffer;
+use meta_types::{FullPrefix, MetaKey, Value};
+use std::alloc::AllocError;
+
+/// Adds a number in decimal digits.
+pub fn put_number(out: &mut Vec<u8>, number: u64) -> Result<(), AllocError>
+    ensures { OnOk result (out.new.items ≡ out.old.items ++ decimal number) }
+{
+    let mut buffer = Buffer::new();
+    out.extend_from_slice(buffer.format(number).as_bytes())
+}
+
+fn is_plain(byte: u8) -> bool
+    ensures { result ≡ is_plain byte }
+{
+    matches!(byte, b'A'..=b'Z' | b'a'..=b'z' | b'0'..=b'9' | b'.' | b'_' | b'-')
+}
+
+/// Tells whether bytes stand as they are.
+fn are_plain(bytes: &[u8]) -> bool
+    ensures { result ≡ are_plain bytes.now }
+{
+    !bytes.is_empty() && bytes.iter().all(|byte| is_plain(*byte))
+}
+
+/// Adds the bytes of a name or a value: as they are where there is at least one and all are letters,
+/// digits, `.`, `_` or `-`, otherwise `hex:` and their digits in lower case.
+#[tactic(auto, unfolding(crate::specs::Field::bytes_text))]
+pub fn put_bytes(out: &mut Vec<u8>, bytes: &[u8]) -> Result<(), AllocError>
+    ensures { OnOk result (out.new.items ≡ out.old.items ++ bytes_text bytes.now) }
+{
+    if are_plain(bytes) {
+        return out.extend_from_slice(bytes);
+    }
+    let digits = hex::encode(*out.allocator(), bytes)?;
+    out.extend_from_slice(b"hex:")?;
+    out.extend_from_slice(digits.as_bytes())
+}
+
+/// Adds a prefix, as `a/b`.
+pub fn put_prefix(out: &mut Vec<u8>, prefix: &FullPrefix) -> Result<(), AllocError>
+    ensures { OnOk result (out.new.items ≡ out.old.items ++ prefix_text prefix.now) }
+{
+    put_bytes(out, prefix.prefix())?;
+    out.extend_from_slice(b"/")?;
+    put_bytes(out, prefix.sub())
+}
+
+/// Adds a key, as `a/b/k`.
+pub fn put_key(out: &mut Vec<u8>, key: &MetaKey) -> Result<(), AllocError>
+    ensures { OnOk result (out.new.items ≡ out.old.items ++ key_text key.now) }
+{
+    put_prefix(out, key.prefix())?;
+    out.extend_from_slice(b"/")?;
+    put_bytes(out, key.key())
+}
+
+fn put_stamp(out: &mut Vec<u8>, stamp: u64) -> Result<(), AllocError>
+    ensures { OnOk result (out.new.items ≡ out.old.items ++ stamp_text stamp) }
+{
+    if stamp == 0 {
+        return Ok(());
+    }
+    out.extend_from_slice(b"@")?;
+    put_number(out, stamp)
+}
+
+/// Adds a value: its bytes, or `~` for a tombstone, and behind them its stamp, as `@5`, unless that is 0.
+#[tactic(auto, unfolding(crate::specs::Field::value_text))]
+pub fn put_value(out: &mut Vec<u8>, value: &Value) -> Result<(), AllocError>
+    ensures { OnOk result (out.new.items ≡ out.old.items ++ value_text value.now) }
+{
+    match value.body() {
+        None => out.extend_from_slice(b"~")?,
+        Some(bytes) => put_bytes(out, bytes)?,
+    }
+    put_stamp(out, value.stamp())
+}

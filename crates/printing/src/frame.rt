@@ -1,0 +1,91 @@
+//! Frames and their refusals, as lines without their line feed.
+
+ghost use Rattle.std.specs.Prelude.{◌≡◌, ◌++◌, OnOk};
+ghost use Rattle.printing.specs.Frame.{message_text, frame_text, offset_text, frame_fault_text};
+
+use crate::field::{put_key, put_number};
+use crate::list::put_object;
+use meta_frame::{Frame, FrameFault, Message, kind_name};
+use std::alloc::AllocError;
+
+macro_rules! printed_kinds {
+    ($make:ident $with:tt) => {
+        $make! { $with
+            Gossip { " round " round: number, " key " key: key, " ctx " object: object }
+            Prune {}
+        }
+    };
+}
+
+macro_rules! put_field {
+    (number $out:ident $field:ident) => {
+        put_number($out, u64::from(*$field))?
+    };
+    (key $out:ident $field:ident) => {
+        put_key($out, $field)?
+    };
+    (object $out:ident $field:ident) => {
+        put_object($out, $field)?
+    };
+}
+
+macro_rules! put_kind {
+    (($message:ident $out:ident)
+     $($variant:ident { $($label:literal $field:ident : $form:ident),* })*) => {
+        match $message {
+            $(Message::$variant { $($field),* } => {
+                $(
+                    $out.extend_from_slice($label.as_bytes())?;
+                    put_field!($form $out $field);
+                )*
+            })*
+        }
+    };
+}
+
+/// Adds the fields of a message, each behind a space and its label.
+#[tactic(auto, unfolding(crate::specs::Frame::message_text))]
+fn put_message(out: &mut Vec<u8>, message: &Message) -> Result<(), AllocError>
+    ensures { OnOk result (out.new.items ≡ out.old.items ++ message_text message.now) }
+{
+    printed_kinds!(put_kind(message out));
+    Ok(())
+}
+
+/// Adds a frame: the name of its kind, sender, addressee and number, and the fields of its message, as
+/// `GOSSIP from 0 to 1 number 1 round 0 key a/b/k ctx 0:1 values x`.
+pub fn put_frame(out: &mut Vec<u8>, frame: &Frame) -> Result<(), AllocError>
+    ensures { OnOk result (out.new.items ≡ out.old.items ++ frame_text frame.now) }
+{
+    out.extend_from_slice(kind_name(&frame.message).as_bytes())?;
+    out.extend_from_slice(b" from ")?;
+    put_number(out, u64::from(frame.from.number()))?;
+    out.extend_from_slice(b" to ")?;
+    put_number(out, u64::from(frame.to.number()))?;
+    out.extend_from_slice(b" number ")?;
+    put_number(out, frame.number)?;
+    put_message(out, &frame.message)
+}
+
+/// Adds where the field at fault begins.
+fn put_offset(out: &mut Vec<u8>, fault: &FrameFault) -> Result<(), AllocError>
+    ensures { OnOk result (out.new.items ≡ out.old.items ++ offset_text fault.now) }
+{
+    if let FrameFault::BadBody { at } = fault {
+        out.extend_from_slice(b" at ")?;
+        put_number(out, *at as u64)?;
+    }
+    Ok(())
+}
+
+/// Adds why bytes are no frame, as `error 10 Short`, or `error 15 BadBody at 35` with the offset of the
+/// field at fault in the frame.
+pub fn put_frame_fault(out: &mut Vec<u8>, fault: &FrameFault) -> Result<(), AllocError>
+    ensures { OnOk result (out.new.items ≡ out.old.items ++ frame_fault_text fault.now) }
+{
+    out.extend_from_slice(b"error ")?;
+    put_number(out, u64::from(fault.code()))?;
+    out.extend_from_slice(b" ")?;
+    out.extend_from_slice(fault.name().as_bytes())?;
+    put_offset(out, fault)
+}

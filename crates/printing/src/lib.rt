@@ -1,0 +1,13 @@
+//! Printed forms: of numbers, names, values, contexts and lists, which every command prints alike, and
+//! of frames and their refusals. Each call adds its text at the end of bytes.
+#![tactic(auto)]
+
+mod field;
+mod frame;
+mod list;
+#[cfg(test)]
+mod tests;
+
+pub use field::{put_bytes, put_key, put_number, put_prefix, put_value};
+pub use frame::{put_frame, put_frame_fault};
+pub use list::{put_object, put_vector};

@@ -1,0 +1,104 @@
+-- A line that is taken from several pieces.
+use Rattle.std.proofs.Common.{◌≡◌, ◌≢◌, ℕ, ◌+◌, ◌<◌, Bool, true, false, List, [], ◌∷◌, ◌++◌, length, Option, sym, ap, subst, ◌∙◌, append_assoc, arith}
+use Rattle.std.proofs.lemmas.List.{append-nil, length-append}
+use Rattle.std.proofs.lemmas.List.Elements.{All-append, All-nil}
+use Rattle.std.specs.Io.KnownBytes.{IsAtEnd}
+use Rattle.streams.specs.declared.fault.StreamFault.{StreamFault}
+use Rattle.streams.specs.declared.fault.StreamFault.TheVariants.{Read, InputTooLong, Write, Memory}
+use Rattle.streams.specs.Fault.{HasCause}
+use Rattle.streams.specs.Line.{Pending, IsOneLine, Reads, Fills, Moves, TakesLine, StopsReading}
+use Rattle.streams.proofs.Pieces.{Consumes-nil, Consumes-then}
+
+-- the bytes that were read, behind what was pending at first, are the line so far and what is pending now
+pub record Taking (old now : Pending) (r s : Option (List ℕ)) (line : List ℕ) : Type 0 where
+  pub reads : Reads r s old.left now.left
+  pub parts : old.bytes ++ reads.bytes ≡ line ++ now.bytes
+  pub whole : IsOneLine line
+
+pub taking_none : (old : Pending) (r : Option (List ℕ)) → Taking old old r r []
+taking_none old r = record {
+  reads = record { bytes = []; consumed = Consumes-nil r; counted = omega arith };
+  parts = append-nil old.bytes;
+  whole = All-nil (λ x. x ≢ 10);
+}
+
+pub taking_filled : (old now filled : Pending) (r s t : Option (List ℕ)) (line : List ℕ) (more : Bool) → Taking old now r s line → Fills now filled s t more → Taking old filled r t line
+taking_filled old now filled r s t line more so_far fill =
+    let first = so_far.reads.bytes in
+    let next = fill.reads.bytes in
+    record {
+      reads = record {
+        bytes = first ++ next;
+        consumed = Consumes-then r s t first next so_far.reads.consumed fill.reads.consumed;
+        counted = let a = so_far.reads.counted in let b = fill.reads.counted in omega (arith, length-append first next);
+      };
+      parts =
+          sym (append_assoc old.bytes first next) ∙ ap (λ (bytes : List ℕ). bytes ++ next) so_far.parts ∙ append_assoc line now.bytes next
+          ∙ ap (λ (bytes : List ℕ). line ++ bytes) (sym fill.pending);
+      whole = so_far.whole;
+    }
+
+-- the line with a part behind it is still one
+whole_line : (line part new : List ℕ) → IsOneLine line → IsOneLine part → new ≡ line ++ part → IsOneLine new
+whole_line line part new a b e = subst IsOneLine (sym e) (All-append (λ x. x ≢ 10) line part a b)
+
+pub taking_moved : (old filled new : Pending) (r s : Option (List ℕ)) (line longer : List ℕ) → Taking old filled r s line → Moves filled new line longer false → Taking old new r s longer
+taking_moved old filled new r s line longer so_far move = record {
+  reads = record { bytes = so_far.reads.bytes; consumed = so_far.reads.consumed; counted = let a = so_far.reads.counted in let b = move.left in omega arith };
+  parts =
+      so_far.parts ∙ ap (λ (bytes : List ℕ). line ++ bytes) move.answer.0 ∙ sym move.line
+      ∙ sym (append-nil longer) ∙ ap (λ (bytes : List ℕ). longer ++ bytes) (sym move.answer.1);
+  whole = whole_line line move.part longer so_far.whole move.whole move.line;
+}
+
+pub taking_line : (old filled new : Pending) (r s : Option (List ℕ)) (line longer : List ℕ) → Taking old filled r s line → Moves filled new line longer true → TakesLine old new r s longer true
+taking_line old filled new r s line longer so_far move = record {
+  reads = record { bytes = so_far.reads.bytes; consumed = so_far.reads.consumed; counted = let a = so_far.reads.counted in let b = move.left in omega arith };
+  whole = whole_line line move.part longer so_far.whole move.whole move.line;
+  answer =
+      so_far.parts ∙ ap (λ (bytes : List ℕ). line ++ bytes) move.answer ∙ sym (append_assoc line move.part (10 ∷ new.bytes))
+      ∙ ap (λ (bytes : List ℕ). bytes ++ 10 ∷ new.bytes) (sym move.line);
+}
+
+-- the reader is at its end
+pub taking_rest : (old filled : Pending) (r s : Option (List ℕ)) (line : List ℕ) → Taking old filled r s line → filled.bytes ≡ [] → IsAtEnd s → TakesLine old filled r s line false
+taking_rest old filled r s line so_far none end = record {
+  reads = so_far.reads;
+  whole = so_far.whole;
+  answer = (so_far.parts ∙ ap (λ (bytes : List ℕ). line ++ bytes) none ∙ append-nil line, none, end);
+}
+
+-- a cause of reading within a longer one
+cause_more : (failed : Type 0) (a b c d : ℕ) (fault : StreamFault) → (a < b → c < d) → HasCause failed (a < b) ⊥ fault → HasCause failed (c < d) ⊥ fault
+cause_more failed a b c d Read more cause = cause
+cause_more failed a b c d InputTooLong more cause = more cause
+cause_more failed a b c d Write more cause = cause
+cause_more failed a b c d Memory more cause = tt
+
+pub taking_stopped : (failed : Type 0) (old now : Pending) (r s t : Option (List ℕ)) (line : List ℕ) (fault : StreamFault) → Taking old now r s line → StopsReading failed now s t fault → StopsReading failed old r t fault
+taking_stopped failed old now r s t line fault so_far stop =
+    let first = so_far.reads.bytes in
+    record {
+      bytes = first ++ stop.bytes;
+      consumed = Consumes-then r s t first stop.bytes so_far.reads.consumed stop.consumed;
+      cause =
+          cause_more failed now.left (length stop.bytes) old.left (length (first ++ stop.bytes)) fault
+          (λ lt. let a = so_far.reads.counted in omega (arith, length-append first stop.bytes)) stop.cause;
+    }
+
+pub taking_refused : (failed : Type 0) (old now : Pending) (r s : Option (List ℕ)) (line : List ℕ) (fault : StreamFault) → Taking old now r s line → fault ≡ Memory → StopsReading failed old r s fault
+taking_refused failed old now r s line fault so_far e = record {
+  bytes = so_far.reads.bytes;
+  consumed = so_far.reads.consumed;
+  cause = subst (HasCause failed (old.left < length so_far.reads.bytes) ⊥) (sym e) tt;
+}
+
+-- a piece that was moved leaves less to do
+pub taking_less : (now filled new : Pending) (s t : Option (List ℕ)) (line longer : List ℕ) → Fills now filled s t true → Moves filled new line longer false → new.left + length new.bytes < now.left + length now.bytes
+taking_less now filled new s t line longer fill move =
+    let left = fill.reads.counted in
+    let same = move.left in
+    let some = fill.answer in
+    let pending : length filled.bytes ≡ length now.bytes + length fill.reads.bytes = ap length fill.pending ∙ length-append now.bytes fill.reads.bytes in
+    let none : length new.bytes ≡ 0 = ap length move.answer.1 in
+    omega arith

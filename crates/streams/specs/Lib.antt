@@ -1,0 +1,6 @@
+-- the numbers of faults, and what each stands for
+pub mod Fault
+-- what is written, whole or up to a fault
+pub mod Written
+-- lines
+pub mod Line

@@ -1,0 +1,51 @@
+-- Lines: a line feed ends a line; the last line may lack it.
+use Rattle.std.specs.Prelude.{◌≡◌, ◌≢◌, ◌<◌, ◌+◌, ℕ, List, [], ◌∷◌, ◌++◌, length, All, Bool, Option, MatchBool}
+use Rattle.std.specs.Io.KnownBytes.{Consumes, IsAtEnd}
+use Rattle.streams.specs.declared.fault.StreamFault.{StreamFault}
+use Rattle.streams.specs.Fault.{HasCause}
+
+-- what was read and belongs to no line yet, and how many bytes may still be read
+pub record Pending : Type 0 where
+  pub bytes : List ℕ
+  pub left : ℕ
+
+-- no byte is a line feed
+abbrev pub IsOneLine : List ℕ → Type 0
+IsOneLine xs = All (λ x. x ≢ 10) xs
+
+-- what a call read from the reader
+pub record Reads (reader_old reader_new : Option (List ℕ)) (left_old left_new : ℕ) : Type 0 where
+  pub bytes : List ℕ
+  pub consumed : Consumes reader_old reader_new bytes
+  pub counted : left_old ≡ left_new + length bytes
+
+-- a line was taken from what was pending and what was read, up to its line feed; or the reader is at its end, and the
+-- line is all that was left, without a line feed
+pub record TakesLine (old new : Pending) (reader_old reader_new : Option (List ℕ)) (line : List ℕ) (ended : Bool) : Type 0 where
+  pub reads : Reads reader_old reader_new old.left new.left
+  pub whole : IsOneLine line
+  pub answer : MatchBool ended
+      (old.bytes ++ reads.bytes ≡ line ++ 10 ∷ new.bytes)
+      ((old.bytes ++ reads.bytes ≡ line) × (new.bytes ≡ []) × IsAtEnd reader_new)
+
+-- a fault of reading: what was read until then, and the fault's cause
+pub record StopsReading (read_failed : Type 0) (old : Pending) (reader_old reader_new : Option (List ℕ)) (fault : StreamFault) : Type 0 where
+  pub bytes : List ℕ
+  pub consumed : Consumes reader_old reader_new bytes
+  pub cause : HasCause read_failed (old.left < length bytes) ⊥ fault
+
+-- ---- what private functions cite
+
+-- something is pending, of what was pending and what was read; or nothing is, and the reader is at its end
+pub record Fills (old new : Pending) (reader_old reader_new : Option (List ℕ)) (more : Bool) : Type 0 where
+  pub reads : Reads reader_old reader_new old.left new.left
+  pub pending : new.bytes ≡ old.bytes ++ reads.bytes
+  pub answer : MatchBool more (0 < length new.bytes) ((new.bytes ≡ []) × IsAtEnd reader_new)
+
+-- what was pending up to the first line feed was moved behind the line, or all of it
+pub record Moves (old new : Pending) (line_old line_new : List ℕ) (ended : Bool) : Type 0 where
+  pub part : List ℕ
+  pub line : line_new ≡ line_old ++ part
+  pub whole : IsOneLine part
+  pub left : new.left ≡ old.left
+  pub answer : MatchBool ended (old.bytes ≡ part ++ 10 ∷ new.bytes) ((old.bytes ≡ part) × (new.bytes ≡ []))
