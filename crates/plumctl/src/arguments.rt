@@ -14,10 +14,14 @@ pub enum Asked {
     Frame,
 }
 
+/// The exit status of wrong arguments.
+const USAGE: u8 = 2;
+
 const HELP: &str = "Example:
   plumctl frame <frames.hex";
 
-const FRAME_HELP: &str = "Each line gives one line: the frame that its digits spell, or the refusal that comes first.
+const FRAME_HELP: &str =
+    "Each line gives one line: the frame that its digits spell, or the refusal that comes first.
 Spaces are skipped, and digits may be of either case.
 
 Example:
@@ -25,8 +29,11 @@ Example:
 prints
   PRUNE from 1 to 0 number 5
 
+A refusal prints as its number and name, as `error 10 Short`; `error 15 BadBody at 35` says where in
+the frame the field at fault begins.
+
 Exit status: 0 each line was a frame, 1 a line was refused or the input is longer than
-67,108,864 bytes, 3 reading or writing failed, 4 want of memory.";
+67,108,864 bytes, 2 wrong arguments, 3 reading or writing failed, 4 want of memory.";
 
 /// The command line, with its help.
 fn command<'a>(alloc: Global) -> Result<Command<'a>, AllocError> {
@@ -53,16 +60,18 @@ fn words(rt: &HostRuntime) -> Result<Option<Vec<String>>, StreamFault> {
 pub fn read_arguments(rt: &HostRuntime) -> Result<Asked, StreamFault> {
     let Some(words) = words(rt)? else {
         let _ = eprintln!(rt; "error: the arguments are not text");
-        return Ok(Asked::Nothing(2));
+        return Ok(Asked::Nothing(USAGE));
     };
     match command(rt.alloc())?.try_get_matches_from(words.as_slice()) {
         Ok(matches) => match matches.subcommand() {
             Some(("frame", _)) => Ok(Asked::Frame),
-            _ => Ok(Asked::Nothing(2)),
+            _ => Ok(Asked::Nothing(USAGE)),
         },
         Err(error) if error.kind() == ErrorKind::OutOfMemory => Err(StreamFault::Memory),
         Err(error) => match error.print(rt) {
             Ok(()) => Ok(Asked::Nothing(error.exit_code() as u8)),
+            Err(told) if told.kind() == io::ErrorKind::OutOfMemory => Err(StreamFault::Memory),
+            Err(_) if error.use_stderr() => Ok(Asked::Nothing(USAGE)),
             Err(_) => Err(StreamFault::Write),
         },
     }

@@ -5,17 +5,21 @@ use Rattle.std.proofs.lemmas.List.Elements.{All-append, All-nil, All-cons, All-h
 use Rattle.std.specs.Io.KnownBytes.{Appends, Consumes, Keeps}
 use Rattle.streams.specs.declared.fault.StreamFault.{StreamFault}
 use Rattle.streams.specs.declared.fault.StreamFault.TheVariants.{Read, InputTooLong, Write, Memory}
-use Rattle.streams.specs.Fault.{HasCause}
-use Rattle.streams.specs.Line.{Pending, TakesLine, StopsReading}
+use Rattle.streams.specs.Fault.{HasCause, IsWriteFault, IsReadFault}
+use Rattle.streams.specs.Written.{AppendsFront}
+use Rattle.streams.specs.Line.{input_limit, lines_of, Pending, TakesLine, StopsReading}
 use Rattle.streams.proofs.Sent.{Appends-nil, Appends-then, Appends-kept}
 use Rattle.streams.proofs.Pieces.{Consumes-nil, Consumes-then}
 use Rattle.plumctl_core.specs.declared.frame.Ended.{Ended}
 use Rattle.plumctl_core.specs.declared.frame.Ended.TheVariants.{AllPrinted, SomeRefused}
-use Rattle.plumctl_core.specs.Lines.{lines_of}
 use Rattle.plumctl_core.specs.Output.{IsTextOfAll, IsFrameLine, IsOutput}
-use Rattle.plumctl_core.specs.Run.{Prints, Stops, WritesLine, StopsLine, WritesLast, StopsLast}
-use Rattle.plumctl_core.proofs.LinesOf.{EndsLine, ends_none, ends_more, lines_line, lines_rest, lines_more, lines_last}
+use Rattle.plumctl_core.specs.Run.{EndsLine, Prints, Stops, WritesLine, StopsLine, WritesLast, StopsLast}
+use Rattle.plumctl_core.proofs.LinesOf.{ends_none, ends_more, lines_line, lines_rest, lines_more, lines_last}
 use Rattle.plumctl_core.proofs.Texts.{text_of_line, text_of_all, text_then, text_more}
+
+Keeps-self : (v : Option (List ℕ)) → Keeps v v
+Keeps-self None = tt
+Keeps-self (Some xs) = refl
 
 -- nothing of the line was written
 pub stopped_before : (failed : Type 0) (line : List ℕ) (w : Option (List ℕ)) (fault : StreamFault) → fault ≡ Memory → StopsLine failed line w w fault
@@ -25,7 +29,7 @@ stopped_before failed line w fault e =
       text = text.0;
       text_is = text.1;
       appended = record { front = []; rest = text.0 ++ 10 ∷ []; parts = refl; appended = Appends-nil w };
-      cause = subst (HasCause ⊥ ⊥ failed) (sym e) tt;
+      cause = subst (IsWriteFault failed) (sym e) tt;
     }
 
 -- whole lines were read, and the output for them was written
@@ -73,6 +77,18 @@ both_all false b lines line p q = (λ yes. cc yes, λ frames. p.1 (All-before li
 abbrev text_written : List ℕ → List ℕ
 text_written text = text ++ 10 ∷ []
 
+-- what was read up to a line feed, and up to the end
+read_line : (read done pending more line after : List ℕ) → read ≡ done ++ pending → pending ++ more ≡ line ++ 10 ∷ after → read ++ more ≡ (done ++ (line ++ 10 ∷ [])) ++ after
+read_line read done pending more line after parts answer =
+    ap (λ (bytes : List ℕ). bytes ++ more) parts ∙ append_assoc done pending more
+    ∙ ap (λ (bytes : List ℕ). done ++ bytes) (answer ∙ sym (append_assoc line (10 ∷ []) after))
+    ∙ sym (append_assoc done (line ++ 10 ∷ []) after)
+
+read_rest : (read done pending more line : List ℕ) → read ≡ done ++ pending → pending ++ more ≡ line → read ++ more ≡ (done ++ line) ++ []
+read_rest read done pending more line parts answer =
+    ap (λ (bytes : List ℕ). bytes ++ more) parts ∙ append_assoc done pending more
+    ∙ ap (λ (bytes : List ℕ). done ++ bytes) answer ∙ sym (append-nil (done ++ line))
+
 -- a line was taken and written
 pub going_line : (r s t w v u : Option (List ℕ)) (now new : Pending) (all is : Bool) (line : List ℕ)
     → Going r s w v now all → TakesLine now new s t line true → WritesLine line v u is → Going r t w u new (all && is)
@@ -83,18 +99,15 @@ going_line r s t w v u now new all is line so_far takes writes =
       consumed = Consumes-then r s t so_far.read more so_far.consumed takes.reads.consumed;
       counted = let a = so_far.counted in let b = takes.reads.counted in omega (arith, length-append so_far.read more);
       done = so_far.done ++ (line ++ 10 ∷ []);
-      parts =
-          ap (λ (bytes : List ℕ). bytes ++ more) so_far.parts ∙ append_assoc so_far.done now.bytes more
-          ∙ ap (λ (bytes : List ℕ). so_far.done ++ bytes) (takes.answer ∙ sym (append_assoc line (10 ∷ []) new.bytes))
-          ∙ sym (append_assoc so_far.done (line ++ 10 ∷ []) new.bytes);
-      ends = ends_more so_far.done line so_far.ends takes.whole;
+      parts = read_line so_far.read so_far.done now.bytes more line new.bytes so_far.parts takes.answer;
+      ends = ends_more so_far.done line so_far.ends takes.one_line;
       output = so_far.output ++ text_written writes.text;
       output_is =
-          subst (λ lines. IsTextOfAll lines (so_far.output ++ text_written writes.text)) (sym (lines_more so_far.done line so_far.ends takes.whole))
+          subst (λ lines. IsTextOfAll lines (so_far.output ++ text_written writes.text)) (sym (lines_more so_far.done line so_far.ends takes.one_line))
           (text_more (lines_of so_far.done) line so_far.output writes.text so_far.output_is writes.text_is);
       appended = Appends-then w v u so_far.output (text_written writes.text) so_far.appended writes.appended;
       frames =
-          subst (λ lines. IsTrue (all && is) ↔ All IsFrameLine lines) (sym (lines_more so_far.done line so_far.ends takes.whole))
+          subst (λ lines. IsTrue (all && is) ↔ All IsFrameLine lines) (sym (lines_more so_far.done line so_far.ends takes.one_line))
           (both_all all is (lines_of so_far.done) line so_far.frames writes.frame);
     }
 
@@ -129,9 +142,9 @@ ended_is true ended e = (λ same. refl, λ yes. e)
 ended_is false ended e = (λ same. cc (sym e ∙ same), λ yes. cc yes)
 
 -- the input ended behind a line feed
-prints_all : (r s t w v u : Option (List ℕ)) (now new : Pending) (all : Bool) (line : List ℕ) (ended : Ended)
-    → Going r s w v now all → TakesLine now new s t line false → line ≡ [] → Keeps v u → ended ≡ (if all then AllPrinted else SomeRefused) → Prints r t w u ended
-prints_all r s t w v u now new all line ended so_far takes none keeps e =
+prints_all : (passed : Type 0) (r s t w v u : Option (List ℕ)) (now new : Pending) (all : Bool) (line : List ℕ) (ended : Ended)
+    → Going r s w v now all → TakesLine now new s t line false → line ≡ [] → Keeps v u → ended ≡ (if all then AllPrinted else SomeRefused) → passed → Prints passed r t w u ended
+prints_all passed r s t w v u now new all line ended so_far takes none keeps e on =
     let more = takes.reads.bytes in
     let done : so_far.read ++ more ≡ so_far.done =
     ap (λ (bytes : List ℕ). bytes ++ more) so_far.parts ∙ append_assoc so_far.done now.bytes more
@@ -140,34 +153,36 @@ prints_all r s t w v u now new all line ended so_far takes none keeps e =
       input = so_far.read ++ more;
       consumed = Consumes-then r s t so_far.read more so_far.consumed takes.reads.consumed;
       end = takes.answer.2;
-      short = let a = so_far.counted in let b = takes.reads.counted in omega (arith, length-append so_far.read more);
+      within = let a = so_far.counted in let b = takes.reads.counted in omega (arith, length-append so_far.read more);
       output = so_far.output;
       output_is = subst (λ input. IsOutput input so_far.output) (sym done) so_far.output_is;
       appended = Appends-kept w v u so_far.output so_far.appended keeps;
+      passed = on;
       all =
           let is = ended_is all ended e in
           subst (λ input. (ended ≡ AllPrinted) ↔ All IsFrameLine (lines_of input)) (sym done) (λ same. so_far.frames.0 (is.0 same), λ frames. is.1 (so_far.frames.1 frames));
     }
 
 -- the input ended without a line feed behind its last line
-prints_last : (r s t w v u x : Option (List ℕ)) (now new : Pending) (all is : Bool) (line : List ℕ) (ended : Ended)
-    → Going r s w v now all → TakesLine now new s t line false → 0 < length line → WritesLine line v u is → Keeps u x → ended ≡ (if all && is then AllPrinted else SomeRefused) → Prints r t w x ended
-prints_last r s t w v u x now new all is line ended so_far takes some writes keeps e =
+prints_last : (passed : Type 0) (r s t w v u x : Option (List ℕ)) (now new : Pending) (all is : Bool) (line : List ℕ) (ended : Ended)
+    → Going r s w v now all → TakesLine now new s t line false → 0 < length line → WritesLine line v u is → Keeps u x → ended ≡ (if all && is then AllPrinted else SomeRefused) → passed → Prints passed r t w x ended
+prints_last passed r s t w v u x now new all is line ended so_far takes some writes keeps e on =
     let more = takes.reads.bytes in
     let done : so_far.read ++ more ≡ so_far.done ++ line =
     ap (λ (bytes : List ℕ). bytes ++ more) so_far.parts ∙ append_assoc so_far.done now.bytes more
     ∙ ap (λ (bytes : List ℕ). so_far.done ++ bytes) takes.answer.0 in
-    let lines : lines_of (so_far.read ++ more) ≡ lines_of so_far.done ++ line ∷ [] = ap lines_of done ∙ lines_last so_far.done line so_far.ends takes.whole some in
+    let lines : lines_of (so_far.read ++ more) ≡ lines_of so_far.done ++ line ∷ [] = ap lines_of done ∙ lines_last so_far.done line so_far.ends takes.one_line some in
     record {
       input = so_far.read ++ more;
       consumed = Consumes-then r s t so_far.read more so_far.consumed takes.reads.consumed;
       end = takes.answer.2;
-      short = let a = so_far.counted in let b = takes.reads.counted in omega (arith, length-append so_far.read more);
+      within = let a = so_far.counted in let b = takes.reads.counted in omega (arith, length-append so_far.read more);
       output = so_far.output ++ text_written writes.text;
       output_is =
           subst (λ ls. IsTextOfAll ls (so_far.output ++ text_written writes.text)) (sym lines)
           (text_more (lines_of so_far.done) line so_far.output writes.text so_far.output_is writes.text_is);
       appended = Appends-kept w u x (so_far.output ++ text_written writes.text) (Appends-then w v u so_far.output (text_written writes.text) so_far.appended writes.appended) keeps;
+      passed = on;
       all =
           let is_true = ended_is (all && is) ended e in
           let both = both_all all is (lines_of so_far.done) line so_far.frames writes.frame in
@@ -180,120 +195,143 @@ no_text : IsTextOfAll (lines_of []) []
 unfolding lines_of
 no_text = refl
 
-cause_of_writing : (read_failed too_long write_failed : Type 0) (fault : StreamFault) → HasCause ⊥ ⊥ write_failed fault → HasCause read_failed too_long write_failed fault
+cause_of_writing : (read_failed too_long write_failed : Type 0) (fault : StreamFault) → IsWriteFault write_failed fault → HasCause read_failed too_long write_failed fault
 cause_of_writing read_failed too_long write_failed Read cause = absurd cause
 cause_of_writing read_failed too_long write_failed InputTooLong cause = absurd cause
 cause_of_writing read_failed too_long write_failed Write cause = cause
 cause_of_writing read_failed too_long write_failed Memory cause = tt
 
-cause_of_reading : (read_failed write_failed : Type 0) (a b c d : ℕ) (fault : StreamFault) → (a < b → c < d) → HasCause read_failed (a < b) ⊥ fault → HasCause read_failed (c < d) write_failed fault
+cause_of_reading : (read_failed write_failed : Type 0) (a b c d : ℕ) (fault : StreamFault) → (a < b → c < d) → IsReadFault read_failed (a < b) fault → HasCause read_failed (c < d) write_failed fault
 cause_of_reading read_failed write_failed a b c d Read more cause = cause
 cause_of_reading read_failed write_failed a b c d InputTooLong more cause = more cause
 cause_of_reading read_failed write_failed a b c d Write more cause = absurd cause
 cause_of_reading read_failed write_failed a b c d Memory more cause = tt
 
--- of what was read behind the whole lines, a front of the output was written
-stops : (read_failed write_failed : Type 0) (r s w v u : Option (List ℕ)) (input done rest output front back : List ℕ) (fault : StreamFault)
-    → Consumes r s input → input ≡ done ++ rest → EndsLine done → IsOutput done output → Appends w v output
-    → IsTextOfAll (lines_of rest) (front ++ back) → Appends v u front → HasCause read_failed (67108864 < length input) write_failed fault
-    → Stops read_failed write_failed r s w u fault
-stops read_failed write_failed r s w v u input done rest output front back fault consumed parts ends output_is appended text more cause = record {
-  input = input;
-  consumed = consumed;
-  output = output ++ (front ++ back);
-  output_is = subst (λ ls. IsTextOfAll ls (output ++ (front ++ back))) (sym (ap lines_of parts ∙ ends rest)) (text_then (lines_of done) (lines_of rest) output (front ++ back) output_is text);
-  appended = record { front = output ++ front; rest = back; parts = sym (append_assoc output front back); appended = Appends-then w v u output front appended more };
-  cause = cause;
+-- the output so far, and a front of more
+front_more : (w v u : Option (List ℕ)) (output more : List ℕ) → Appends w v output → AppendsFront v u more → AppendsFront w u (output ++ more)
+front_more w v u output more appended f = record {
+  front = output ++ f.front;
+  rest = f.rest;
+  parts = ap (λ (bytes : List ℕ). output ++ bytes) f.parts ∙ sym (append_assoc output f.front f.rest);
+  appended = Appends-then w v u output f.front appended f.appended;
 }
 
-Appends-kept-nil : (v u : Option (List ℕ)) → Keeps v u → Appends v u []
-Appends-kept-nil v u keeps = Appends-kept v v u [] (Appends-nil v) keeps
+-- all of it
+front_all : (w v u : Option (List ℕ)) (output : List ℕ) → Appends w v output → Keeps v u → AppendsFront w u output
+front_all w v u output appended keeps = record { front = output; rest = []; parts = sym (append-nil output); appended = Appends-kept w v u output appended keeps }
 
 -- the reader failed, or gave too much
 pub stops_reading : (read_failed write_failed : Type 0) (r s t w v : Option (List ℕ)) (now : Pending) (all : Bool) (fault : StreamFault)
     → Going r s w v now all → StopsReading read_failed now s t fault → Stops read_failed write_failed r t w v fault
 stops_reading read_failed write_failed r s t w v now all fault so_far stop =
-    let rest = text_of_all (lines_of (now.bytes ++ stop.bytes)) in
-    stops read_failed write_failed r t w v v (so_far.read ++ stop.bytes) so_far.done (now.bytes ++ stop.bytes) so_far.output [] rest.0 fault
-    (Consumes-then r s t so_far.read stop.bytes so_far.consumed stop.consumed)
-    (ap (λ (bytes : List ℕ). bytes ++ stop.bytes) so_far.parts ∙ append_assoc so_far.done now.bytes stop.bytes)
-    so_far.ends so_far.output_is so_far.appended rest.1 (Appends-nil v)
-    (cause_of_reading read_failed write_failed now.left (length stop.bytes) 67108864 (length (so_far.read ++ stop.bytes)) fault
-    (λ lt. let a = so_far.counted in omega (arith, length-append so_far.read stop.bytes)) stop.cause)
+    let read : so_far.read ++ stop.bytes ≡ so_far.done ++ (now.bytes ++ stop.bytes) =
+    ap (λ (bytes : List ℕ). bytes ++ stop.bytes) so_far.parts ∙ append_assoc so_far.done now.bytes stop.bytes in
+    record {
+      lines = so_far.done;
+      begun = now.bytes ++ stop.bytes;
+      consumed = subst (Consumes r t) read (Consumes-then r s t so_far.read stop.bytes so_far.consumed stop.consumed);
+      ended = inl so_far.ends;
+      output = so_far.output;
+      output_is = so_far.output_is;
+      appended = front_all w v v so_far.output so_far.appended (Keeps-self v);
+      cause =
+          cause_of_reading read_failed write_failed now.left (length stop.bytes) input_limit (length (so_far.done ++ (now.bytes ++ stop.bytes))) fault
+          (λ lt. let a = so_far.counted in let same = ap length read in omega (arith, length-append so_far.read stop.bytes)) stop.cause;
+    }
 
 -- passing on failed between lines
 pub stops_flushing : (read_failed write_failed : Type 0) (r s w v u : Option (List ℕ)) (now : Pending) (all : Bool) (fault : StreamFault)
-    → Going r s w v now all → Keeps v u → HasCause ⊥ ⊥ write_failed fault → Stops read_failed write_failed r s w u fault
-stops_flushing read_failed write_failed r s w v u now all fault so_far keeps cause =
-    let rest = text_of_all (lines_of now.bytes) in
-    stops read_failed write_failed r s w v u so_far.read so_far.done now.bytes so_far.output [] rest.0 fault so_far.consumed so_far.parts
-    so_far.ends so_far.output_is so_far.appended rest.1 (Appends-kept-nil v u keeps)
-    (cause_of_writing read_failed (67108864 < length so_far.read) write_failed fault cause)
+    → Going r s w v now all → Keeps v u → IsWriteFault write_failed fault → Stops read_failed write_failed r s w u fault
+stops_flushing read_failed write_failed r s w v u now all fault so_far keeps cause = record {
+  lines = so_far.done;
+  begun = now.bytes;
+  consumed = subst (Consumes r s) so_far.parts so_far.consumed;
+  ended = inl so_far.ends;
+  output = so_far.output;
+  output_is = so_far.output_is;
+  appended = front_all w v u so_far.output so_far.appended keeps;
+  cause = cause_of_writing read_failed (input_limit < length (so_far.done ++ now.bytes)) write_failed fault cause;
+}
 
 -- the writer failed within a line
 pub stops_line : (read_failed write_failed : Type 0) (r s t w v u : Option (List ℕ)) (now new : Pending) (all : Bool) (line : List ℕ) (fault : StreamFault)
     → Going r s w v now all → TakesLine now new s t line true → StopsLine write_failed line v u fault → Stops read_failed write_failed r t w u fault
 stops_line read_failed write_failed r s t w v u now new all line fault so_far takes stop =
     let more = takes.reads.bytes in
-    let rest = text_of_all (lines_of new.bytes) in
-    let front = stop.appended.front in
-    let back = stop.appended.rest in
-    let text : stop.text ++ 10 ∷ rest.0 ≡ front ++ (back ++ rest.0) =
-    sym (append_assoc stop.text (10 ∷ []) rest.0) ∙ ap (λ (bytes : List ℕ). bytes ++ rest.0) stop.appended.parts ∙ append_assoc front back rest.0 in
-    stops read_failed write_failed r t w v u (so_far.read ++ more) so_far.done (line ++ 10 ∷ new.bytes) so_far.output front (back ++ rest.0) fault
-    (Consumes-then r s t so_far.read more so_far.consumed takes.reads.consumed)
-    (ap (λ (bytes : List ℕ). bytes ++ more) so_far.parts ∙ append_assoc so_far.done now.bytes more ∙ ap (λ (bytes : List ℕ). so_far.done ++ bytes) takes.answer)
-    so_far.ends so_far.output_is so_far.appended
-    (subst (λ ls. IsTextOfAll ls (front ++ (back ++ rest.0))) (sym (lines_line line new.bytes takes.whole))
-    (stop.text, rest.0, stop.text_is, rest.1, sym text))
-    stop.appended.appended
-    (cause_of_writing read_failed (67108864 < length (so_far.read ++ more)) write_failed fault stop.cause)
+    let lines = so_far.done ++ (line ++ 10 ∷ []) in
+    let read : so_far.read ++ more ≡ lines ++ new.bytes = read_line so_far.read so_far.done now.bytes more line new.bytes so_far.parts takes.answer in
+    record {
+      lines = lines;
+      begun = new.bytes;
+      consumed = subst (Consumes r t) read (Consumes-then r s t so_far.read more so_far.consumed takes.reads.consumed);
+      ended = inl (ends_more so_far.done line so_far.ends takes.one_line);
+      output = so_far.output ++ text_written stop.text;
+      output_is =
+          subst (λ ls. IsTextOfAll ls (so_far.output ++ text_written stop.text)) (sym (lines_more so_far.done line so_far.ends takes.one_line))
+          (text_more (lines_of so_far.done) line so_far.output stop.text so_far.output_is stop.text_is);
+      appended = front_more w v u so_far.output (text_written stop.text) so_far.appended stop.appended;
+      cause = cause_of_writing read_failed (input_limit < length (lines ++ new.bytes)) write_failed fault stop.cause;
+    }
 
 -- the writer failed within the last line, which lacks its line feed
 stops_last : (read_failed write_failed : Type 0) (r s t w v u : Option (List ℕ)) (now new : Pending) (all : Bool) (line : List ℕ) (fault : StreamFault)
     → Going r s w v now all → TakesLine now new s t line false → 0 < length line → StopsLine write_failed line v u fault → Stops read_failed write_failed r t w u fault
 stops_last read_failed write_failed r s t w v u now new all line fault so_far takes some stop =
     let more = takes.reads.bytes in
-    let front = stop.appended.front in
-    let back = stop.appended.rest in
-    stops read_failed write_failed r t w v u (so_far.read ++ more) so_far.done line so_far.output front back fault
-    (Consumes-then r s t so_far.read more so_far.consumed takes.reads.consumed)
-    (ap (λ (bytes : List ℕ). bytes ++ more) so_far.parts ∙ append_assoc so_far.done now.bytes more ∙ ap (λ (bytes : List ℕ). so_far.done ++ bytes) takes.answer.0)
-    so_far.ends so_far.output_is so_far.appended
-    (subst (λ ls. IsTextOfAll ls (front ++ back)) (sym (lines_rest line takes.whole some))
-    (stop.text, [], stop.text_is, refl, sym stop.appended.parts))
-    stop.appended.appended
-    (cause_of_writing read_failed (67108864 < length (so_far.read ++ more)) write_failed fault stop.cause)
+    let lines = so_far.done ++ line in
+    let read : so_far.read ++ more ≡ lines ++ [] = read_rest so_far.read so_far.done now.bytes more line so_far.parts takes.answer.0 in
+    record {
+      lines = lines;
+      begun = [];
+      consumed = subst (Consumes r t) read (Consumes-then r s t so_far.read more so_far.consumed takes.reads.consumed);
+      ended = inr (refl, takes.answer.2);
+      output = so_far.output ++ text_written stop.text;
+      output_is =
+          subst (λ ls. IsTextOfAll ls (so_far.output ++ text_written stop.text)) (sym (lines_last so_far.done line so_far.ends takes.one_line some))
+          (text_more (lines_of so_far.done) line so_far.output stop.text so_far.output_is stop.text_is);
+      appended = front_more w v u so_far.output (text_written stop.text) so_far.appended stop.appended;
+      cause = cause_of_writing read_failed (input_limit < length (lines ++ [])) write_failed fault stop.cause;
+    }
 
 -- the last line was written, and a writer that fails then had all of it
-stops_behind : (write_failed : Type 0) (line : List ℕ) (v u x : Option (List ℕ)) (is : Bool) (fault : StreamFault) → WritesLine line v u is → Keeps u x → HasCause ⊥ ⊥ write_failed fault → StopsLine write_failed line v x fault
+stops_behind : (write_failed : Type 0) (line : List ℕ) (v u x : Option (List ℕ)) (is : Bool) (fault : StreamFault) → WritesLine line v u is → Keeps u x → IsWriteFault write_failed fault → StopsLine write_failed line v x fault
 stops_behind write_failed line v u x is fault writes keeps cause = record {
   text = writes.text;
   text_is = writes.text_is;
-  appended = record { front = text_written writes.text; rest = []; parts = sym (append-nil (text_written writes.text)); appended = Appends-kept v u x (text_written writes.text) writes.appended keeps };
+  appended = front_all v u x (text_written writes.text) writes.appended keeps;
   cause = cause;
 }
 
 -- passing on failed at the end
 stops_at_end : (read_failed write_failed : Type 0) (r s t w v u : Option (List ℕ)) (now new : Pending) (all : Bool) (line : List ℕ) (fault : StreamFault)
-    → Going r s w v now all → TakesLine now new s t line false → line ≡ [] → Keeps v u → HasCause ⊥ ⊥ write_failed fault → Stops read_failed write_failed r t w u fault
+    → Going r s w v now all → TakesLine now new s t line false → line ≡ [] → Keeps v u → IsWriteFault write_failed fault → Stops read_failed write_failed r t w u fault
 stops_at_end read_failed write_failed r s t w v u now new all line fault so_far takes none keeps cause =
     let more = takes.reads.bytes in
-    stops read_failed write_failed r t w v u (so_far.read ++ more) so_far.done [] so_far.output [] [] fault
-    (Consumes-then r s t so_far.read more so_far.consumed takes.reads.consumed)
-    (ap (λ (bytes : List ℕ). bytes ++ more) so_far.parts ∙ append_assoc so_far.done now.bytes more ∙ ap (λ (bytes : List ℕ). so_far.done ++ bytes) (takes.answer.0 ∙ none))
-    so_far.ends so_far.output_is so_far.appended no_text (Appends-kept-nil v u keeps)
-    (cause_of_writing read_failed (67108864 < length (so_far.read ++ more)) write_failed fault cause)
+    let read : so_far.read ++ more ≡ so_far.done ++ [] =
+    read_rest so_far.read so_far.done now.bytes more [] so_far.parts (takes.answer.0 ∙ none) ∙ ap (λ (bytes : List ℕ). bytes ++ []) (append-nil so_far.done) in
+    record {
+      lines = so_far.done;
+      begun = [];
+      consumed = subst (Consumes r t) read (Consumes-then r s t so_far.read more so_far.consumed takes.reads.consumed);
+      ended = inl so_far.ends;
+      output = so_far.output;
+      output_is = so_far.output_is;
+      appended = front_all w v u so_far.output so_far.appended keeps;
+      cause = cause_of_writing read_failed (input_limit < length (so_far.done ++ [])) write_failed fault cause;
+    }
 
 -- nothing was read
 pub stops_none : (read_failed write_failed : Type 0) (r w : Option (List ℕ)) (fault : StreamFault) → fault ≡ Memory → Stops read_failed write_failed r r w w fault
-stops_none read_failed write_failed r w fault e =
-    stops read_failed write_failed r r w w w [] [] [] [] [] [] fault (Consumes-nil r) refl ends_none no_text (Appends-nil w) no_text (Appends-nil w)
-    (subst (HasCause read_failed (67108864 < length {A = ℕ} []) write_failed) (sym e) tt)
-
-Keeps-self : (v : Option (List ℕ)) → Keeps v v
-Keeps-self None = tt
-Keeps-self (Some xs) = refl
+stops_none read_failed write_failed r w fault e = record {
+  lines = [];
+  begun = [];
+  consumed = Consumes-nil r;
+  ended = inl ends_none;
+  output = [];
+  output_is = no_text;
+  appended = front_all w w w [] (Appends-nil w) (Keeps-self w);
+  cause = subst (HasCause read_failed (input_limit < length {A = ℕ} []) write_failed) (sym e) tt;
+}
 
 Keeps-then : (v u x : Option (List ℕ)) → Keeps v u → Keeps u x → Keeps v x
 Keeps-then None u x p q = tt
@@ -310,11 +348,11 @@ and_is false is e = refl
 and_is true false e = cc e
 
 -- the last line was written, if there is one, and what was held back was passed on
-pub prints_over : (r s t w v u x : Option (List ℕ)) (now new : Pending) (all is : Bool) (line : List ℕ) (ended : Ended)
-    → Going r s w v now all → TakesLine now new s t line false → WritesLast line v u is → Keeps u x → ended ≡ (if all && is then AllPrinted else SomeRefused) → Prints r t w x ended
-prints_over r s t w v u x now new all is line ended so_far takes last keeps e = elim last [
-  | inl none ↦ prints_all r s t w v x now new all line ended so_far takes none.0 (Keeps-then v u x none.1 keeps) (e ∙ ap (λ b. if b then AllPrinted else SomeRefused) (and_is all is none.2))
-  | inr some ↦ prints_last r s t w v u x now new all is line ended so_far takes some.0 some.1 keeps e
+pub prints_over : (passed : Type 0) (r s t w v u x : Option (List ℕ)) (now new : Pending) (all is : Bool) (line : List ℕ) (ended : Ended)
+    → Going r s w v now all → TakesLine now new s t line false → WritesLast line v u is → Keeps u x → ended ≡ (if all && is then AllPrinted else SomeRefused) → passed → Prints passed r t w x ended
+prints_over passed r s t w v u x now new all is line ended so_far takes last keeps e on = elim last [
+  | inl none ↦ prints_all passed r s t w v x now new all line ended so_far takes none.0 (Keeps-then v u x none.1 keeps) (e ∙ ap (λ b. if b then AllPrinted else SomeRefused) (and_is all is none.2)) on
+  | inr some ↦ prints_last passed r s t w v u x now new all is line ended so_far takes some.0 some.1 keeps e on
 ]
 
 pub stops_over : (read_failed write_failed : Type 0) (r s t w v u : Option (List ℕ)) (now new : Pending) (all : Bool) (line : List ℕ) (fault : StreamFault)
@@ -322,7 +360,7 @@ pub stops_over : (read_failed write_failed : Type 0) (r s t w v u : Option (List
 stops_over read_failed write_failed r s t w v u now new all line fault so_far takes stop = stops_last read_failed write_failed r s t w v u now new all line fault so_far takes stop.0 stop.1
 
 pub stops_passing : (read_failed write_failed : Type 0) (r s t w v u x : Option (List ℕ)) (now new : Pending) (all is : Bool) (line : List ℕ) (fault : StreamFault)
-    → Going r s w v now all → TakesLine now new s t line false → WritesLast line v u is → Keeps u x → HasCause ⊥ ⊥ write_failed fault → Stops read_failed write_failed r t w x fault
+    → Going r s w v now all → TakesLine now new s t line false → WritesLast line v u is → Keeps u x → IsWriteFault write_failed fault → Stops read_failed write_failed r t w x fault
 stops_passing read_failed write_failed r s t w v u x now new all is line fault so_far takes last keeps cause = elim last [
   | inl none ↦ stops_at_end read_failed write_failed r s t w v x now new all line fault so_far takes none.0 (Keeps-then v u x none.1 keeps) cause
   | inr some ↦ stops_last read_failed write_failed r s t w v x now new all line fault so_far takes some.0 (stops_behind write_failed line v u x is fault some.1 keeps cause)

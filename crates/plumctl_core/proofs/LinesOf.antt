@@ -3,7 +3,8 @@ use Rattle.std.proofs.Common.{◌≡◌, ◌≢◌, ℕ, ◌<◌, List, [], ◌�
 use Rattle.std.proofs.lemmas.Bool.{ne_eqb}
 use Rattle.std.proofs.lemmas.List.Elements.{All-head, All-tail}
 use Rattle.streams.specs.Line.{IsOneLine}
-use Rattle.plumctl_core.specs.Lines.{lines_of}
+use Rattle.plumctl_core.specs.Run.{EndsLine}
+use Rattle.streams.specs.Line.{lines_of}
 
 abbrev IsOther : ℕ → Type 0
 IsOther b = b ≢ 10
@@ -21,10 +22,6 @@ lines_rest [] one some = absurd (omega arith)
 lines_rest (b ∷ []) one some = rw (ne_eqb b 10 (All-head IsOther b [] one)) refl
 lines_rest (b ∷ c ∷ line) one some =
     rw (ne_eqb b 10 (All-head IsOther b (c ∷ line) one), lines_rest (c ∷ line) (All-tail IsOther b (c ∷ line) one) (omega arith)) refl
-
--- the text ends with a line's end, so that what follows it starts a line
-abbrev pub EndsLine : List ℕ → Type 0
-EndsLine done = (rest : List ℕ) → lines_of (done ++ rest) ≡ lines_of done ++ lines_of rest
 
 pub ends_none : EndsLine []
 unfolding lines_of

@@ -1,5 +1,9 @@
--- the lines of a text
-pub mod Lines
+-- the lines of a text, and what is read and written
+pub use Rattle.streams.specs.Line
+pub use Rattle.streams.specs.Written
+pub use Rattle.streams.specs.Fault
+-- printed frames and refusals
+pub use Rattle.printing.specs.Frame
 -- what is printed for a line, and for a whole input
 pub mod Output
 -- how a run ends

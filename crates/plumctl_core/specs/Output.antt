@@ -6,7 +6,7 @@ use Rattle.meta_frame.specs.declared.message.Frame.{Frame}
 use Rattle.meta_frame.specs.declared.fault.FrameFault.{FrameFault}
 use Rattle.meta_frame.specs.Frame.{Spells, Refuses}
 use Rattle.printing.specs.Frame.{frame_text, frame_fault_text}
-use Rattle.plumctl_core.specs.Lines.{lines_of}
+use Rattle.streams.specs.Line.{lines_of}
 
 -- spaces in a line are skipped
 abbrev pub without_spaces : List ℕ → List ℕ
@@ -17,10 +17,6 @@ abbrev pub IsTextOfBytes : List ℕ → List ℕ → Type 0
 IsTextOfBytes bytes text =
     ((frame : Frame) × Spells frame bytes × (text ≡ frame_text frame))
     ⊎ ((fault : FrameFault) × Refuses bytes fault × (text ≡ frame_fault_text fault))
-
--- the text was put behind what stood there
-abbrev pub PutsText : List ℕ → List ℕ → List ℕ → Type 0
-PutsText bytes old new = (text : List ℕ) × IsTextOfBytes bytes text × (new ≡ old ++ text)
 
 -- the text of a line: of the bytes that its digits stand for
 abbrev pub IsTextOf : List ℕ → List ℕ → Type 0
@@ -41,3 +37,9 @@ IsTextOfAll (line ∷ lines) text = (first : List ℕ) × (rest : List ℕ) × I
 -- the output for a whole input
 abbrev pub IsOutput : List ℕ → List ℕ → Type 0
 IsOutput input output = IsTextOfAll (lines_of input) output
+
+-- ---- what private functions cite
+
+-- the text was put behind what stood there
+abbrev pub PutsText : List ℕ → List ℕ → List ℕ → Type 0
+PutsText bytes old new = (text : List ℕ) × IsTextOfBytes bytes text × (new ≡ old ++ text)

@@ -2,32 +2,40 @@
 use Rattle.std.specs.Prelude.{◌≡◌, ◌⊎◌, ◌↔◌, ◌<◌, ◌≤◌, ℕ, List, [], ◌∷◌, ◌++◌, length, All, Option, Bool, IsTrue}
 use Rattle.std.specs.Io.KnownBytes.{Appends, Keeps, Consumes, IsAtEnd}
 use Rattle.streams.specs.declared.fault.StreamFault.{StreamFault}
-use Rattle.streams.specs.Fault.{HasCause}
+use Rattle.streams.specs.Fault.{HasCause, IsWriteFault}
 use Rattle.streams.specs.Written.{AppendsFront}
 use Rattle.plumctl_core.specs.declared.frame.Ended.{Ended}
 use Rattle.plumctl_core.specs.declared.frame.Ended.TheVariants.{AllPrinted}
-use Rattle.plumctl_core.specs.Lines.{lines_of}
+use Rattle.streams.specs.Line.{input_limit, lines_of}
 use Rattle.plumctl_core.specs.Output.{IsTextOf, IsFrameLine, IsOutput}
 
--- the whole input was read, which is within the limit, and its output was written
-pub record Prints (reader_old reader_new writer_old writer_new : Option (List ℕ)) (ended : Ended) : Type 0 where
+-- the text ends where a line ends: what follows it starts a line
+abbrev pub EndsLine : List ℕ → Type 0
+EndsLine text = (rest : List ℕ) → lines_of (text ++ rest) ≡ lines_of text ++ lines_of rest
+
+-- the whole input was read, which is within the limit, and its output was written and passed on
+pub record Prints (passed_on : Type 0) (reader_old reader_new writer_old writer_new : Option (List ℕ)) (ended : Ended) : Type 0 where
   pub input : List ℕ
   pub consumed : Consumes reader_old reader_new input
   pub end : IsAtEnd reader_new
-  pub short : length input ≤ 67108864
+  pub within : length input ≤ input_limit
   pub output : List ℕ
   pub output_is : IsOutput input output
   pub appended : Appends writer_old writer_new output
+  pub passed : passed_on
   pub all : (ended ≡ AllPrinted) ↔ All IsFrameLine (lines_of input)
 
--- what was read until the fault, of whose output a front was written, and the fault's cause
+-- what was read until the fault, whole lines and the beginning of another, and of the output for the whole lines a front
+-- was written; and the fault's cause. A last line without a line feed is whole where the reader is at its end.
 pub record Stops (read_failed write_failed : Type 0) (reader_old reader_new writer_old writer_new : Option (List ℕ)) (fault : StreamFault) : Type 0 where
-  pub input : List ℕ
-  pub consumed : Consumes reader_old reader_new input
+  pub lines : List ℕ
+  pub begun : List ℕ
+  pub consumed : Consumes reader_old reader_new (lines ++ begun)
+  pub ended : EndsLine lines ⊎ ((begun ≡ []) × IsAtEnd reader_new)
   pub output : List ℕ
-  pub output_is : IsOutput input output
+  pub output_is : IsOutput lines output
   pub appended : AppendsFront writer_old writer_new output
-  pub cause : HasCause read_failed (67108864 < length input) write_failed fault
+  pub cause : HasCause read_failed (input_limit < length (lines ++ begun)) write_failed fault
 
 -- ---- what private functions cite
 
@@ -43,7 +51,7 @@ pub record StopsLine (write_failed : Type 0) (line : List ℕ) (writer_old write
   pub text : List ℕ
   pub text_is : IsTextOf line text
   pub appended : AppendsFront writer_old writer_new (text ++ 10 ∷ [])
-  pub cause : HasCause ⊥ ⊥ write_failed fault
+  pub cause : IsWriteFault write_failed fault
 
 -- a last line was written, or it is empty and nothing was
 abbrev pub WritesLast : (line : List ℕ) (writer_old writer_new : Option (List ℕ)) (is_frame : Bool) → Type 0

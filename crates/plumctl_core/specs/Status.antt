@@ -1,4 +1,5 @@
--- The exit status of a program: 0 done, 1 refused, 3 a fault of reading or writing, 4 want of memory.
+-- The exit status of a run: 0 done, 1 a line was refused or the input is too long, 3 a fault of reading or writing, 4 want
+-- of memory. Wrong arguments, with status 2, start no run.
 use Rattle.std.specs.Prelude.{ℕ}
 use Rattle.streams.specs.declared.fault.StreamFault.{StreamFault}
 use Rattle.streams.specs.declared.fault.StreamFault.TheVariants.{Read, InputTooLong, Write, Memory}

@@ -1,6 +1,6 @@
 //! The command `frame`.
 
-ghost use Rattle.std.specs.Prelude.{◌≡◌, IfOk, IfErr, if◌then◌else◌};
+ghost use Rattle.std.specs.Prelude.{◌≡◌, IfOk, IfErr, OnOk, if◌then◌else◌};
 ghost use Rattle.plumctl_core.specs.declared.frame.Ended.TheVariants.{AllPrinted, SomeRefused};
 ghost use Rattle.plumctl_core.specs.Run.{Prints, Stops, WritesLine, StopsLine, WritesLast, StopsLast};
 
@@ -38,6 +38,7 @@ fn write_line<W: Sink>(
 ) -> Result<bool, StreamFault>
     ensures ok { IfOk result (λ is. WritesLine line.now (W.contents writer.old) (W.contents writer.new) is) }
     ensures err { IfErr result (λ fault. StopsLine (W.write_failed writer.new) line.now (W.contents writer.old) (W.contents writer.new) fault) }
+    ensures sound { OnOk result (W.write_failed writer.new → W.write_failed writer.old) }
 {
     let is_frame = print_line(alloc, line, text)?;
     text.push(b'\n')?;
@@ -55,6 +56,7 @@ fn write_last_line<W: Sink>(
 ) -> Result<bool, StreamFault>
     ensures ok { IfOk result (λ is. WritesLast line.now (W.contents writer.old) (W.contents writer.new) is) }
     ensures err { IfErr result (λ fault. StopsLast (W.write_failed writer.new) line.now (W.contents writer.old) (W.contents writer.new) fault) }
+    ensures sound { OnOk result (W.write_failed writer.new → W.write_failed writer.old) }
 {
     if line.is_empty() {
         return Ok(true);
@@ -64,8 +66,8 @@ fn write_last_line<W: Sink>(
 
 /// Reads lines of hexadecimal digits to the end of the input, and writes for each line the frame that
 /// its digits spell, or the first refusal: spaces are skipped, digits may be of either case, and a line
-/// that is not an even number of digits is `error 9 BadHex`. Each line is written before more is waited
-/// for. Ends with 7 `Read` at the first error of the reader, an interruption too, with 8
+/// that is not an even number of digits is `error 9 BadHex`. The writer is flushed before the reader is
+/// asked for more. Ends with 7 `Read` at the first error of the reader, an interruption too, with 8
 /// `InputTooLong` once more than 67,108,864 bytes were read, with `Write` at the first error of the
 /// writer or when it takes no more, and with 99 `Memory`. It takes memory for the longest line, its
 /// bytes, its frame and its text, and for one read.
@@ -74,8 +76,9 @@ pub fn frame_lines<R: Source, W: Sink>(
     reader: &mut R,
     writer: &mut W,
 ) -> Result<Ended, StreamFault>
-    ensures ok { IfOk result (λ ended. Prints (R.remaining reader.old) (R.remaining reader.new) (W.contents writer.old) (W.contents writer.new) ended) }
+    ensures ok { IfOk result (λ ended. Prints (W.passed_on writer.new) (R.remaining reader.old) (R.remaining reader.new) (W.contents writer.old) (W.contents writer.new) ended) }
     ensures err { IfErr result (λ fault. Stops (R.read_failed reader.new) (W.write_failed writer.new) (R.remaining reader.old) (R.remaining reader.new) (W.contents writer.old) (W.contents writer.new) fault) }
+    ensures sound { OnOk result ((R.read_failed reader.new → R.read_failed reader.old) × (W.write_failed writer.new → W.write_failed writer.old)) }
 {
     let mut lines = LineBuffer::new(alloc)?;
     let mut line = Vec::new(alloc);
@@ -83,7 +86,7 @@ pub fn frame_lines<R: Source, W: Sink>(
     let mut all = true;
     while lines.next_line(reader, &mut line)? {
         all &= write_line(alloc, line.as_slice(), &mut text, writer)?;
-        if lines.is_drained() {
+        if !lines.holds_line() {
             flush(writer)?;
         }
     }

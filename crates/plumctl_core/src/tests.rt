@@ -1,5 +1,5 @@
 use super::*;
-use std::io::{self, ErrorKind, Read};
+use std::io::{self, ErrorKind, Read, Write};
 use std::test::Fail;
 use streams::{MayFail, StreamFault};
 
@@ -30,6 +30,34 @@ struct Interrupted;
 impl Read for Interrupted {
     fn read(&mut self, _piece: &mut [u8]) -> io::Result<usize> {
         Err(io::Error::from(ErrorKind::Interrupted))
+    }
+}
+
+/// Is interrupted once, and then at its end.
+#[derive(Drop)]
+struct InterruptedOnce(bool);
+
+impl Read for InterruptedOnce {
+    fn read(&mut self, _piece: &mut [u8]) -> io::Result<usize> {
+        if self.0 {
+            return Ok(0);
+        }
+        self.0 = true;
+        Err(io::Error::from(ErrorKind::Interrupted))
+    }
+}
+
+/// Takes all, and can't pass it on.
+#[derive(Drop)]
+struct Stuck;
+
+impl Write for Stuck {
+    fn write(&mut self, bytes: &[u8]) -> io::Result<usize> {
+        Ok(bytes.len())
+    }
+
+    fn flush(&mut self) -> io::Result<()> {
+        Err(io::Error::from(ErrorKind::StorageFull))
     }
 }
 
@@ -142,6 +170,23 @@ fn a_reader_that_fails_at_any_byte_has_the_lines_before_printed(
         let text = if n < PRUNE.len() { b"" } else { PRUNE_TEXT };
         assert_eq!(rt; out.as_slice(), text);
     }
+    Ok(())
+}
+
+#[test]
+fn an_interruption_is_not_tried_again(rt: HostRuntime) -> Result<(), Fail> {
+    let mut reader = MayFail(InterruptedOnce(false));
+    let mut out = Vec::new(rt.alloc());
+    let done = frame_lines(rt.alloc(), &mut reader, &mut out);
+    assert!(rt; done == Err(StreamFault::Read));
+    Ok(())
+}
+
+#[test]
+fn a_writer_that_can_not_be_flushed_has_failed(rt: HostRuntime) -> Result<(), Fail> {
+    let mut reader = PRUNE;
+    let done = frame_lines(rt.alloc(), &mut reader, &mut MayFail(Stuck));
+    assert!(rt; done == Err(StreamFault::Write));
     Ok(())
 }
 

@@ -16,7 +16,7 @@ is_plain b = between 65 90 b || between 97 122 b || between 48 57 b || (b == 46)
 abbrev pub are_plain : List ℕ → Bool
 are_plain bytes = not (length bytes == 0) && list_all is_plain bytes
 
--- plain bytes stand as they are, others in lower case digits
+-- plain bytes stand as they are, others as `hex:` and two lower case digits for each
 unfoldable pub bytes_text : List ℕ → List ℕ
 bytes_text bytes = if are_plain bytes then bytes else codes "hex:" ++ encode_lower bytes
 

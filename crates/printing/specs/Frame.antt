@@ -12,7 +12,7 @@ use Rattle.printing.specs.Object.{object_text}
 
 -- the table of kinds: the fields of each, in their order
 unfoldable pub message_text : Message → List ℕ
-message_text (Gossip round k o) = codes " round " ++ decimal round ++ codes " key " ++ key_text k ++ codes " ctx " ++ object_text o
+message_text (Gossip round k o) = codes " round " ++ decimal round ++ codes " key " ++ key_text k ++ codes " " ++ object_text o
 message_text Prune = []
 
 -- as `PRUNE from 1 to 0 number 5`

@@ -11,11 +11,13 @@ abbrev pub joined : List (List ℕ) → List ℕ
 joined [] = codes "-"
 joined (text ∷ texts) = separated true (text ∷ texts)
 
+-- ---- what private functions cite
+
 abbrev pub are_none : List (List ℕ) → Bool
 are_none [] = true
 are_none (text ∷ texts) = false
 
 -- what was put of a list: the texts, behind what stood there, and whether a next one stands first
-pub record IsPut (first : Bool) (texts : List (List ℕ)) (old new : List ℕ) (next : Bool) : Type 0 where
+pub record PutsTexts (first : Bool) (texts : List (List ℕ)) (old new : List ℕ) (next : Bool) : Type 0 where
   pub text : new ≡ old ++ separated first texts
   pub next_is : next ≡ (first && are_none texts)

@@ -17,6 +17,6 @@ vector_text cs = joined (map counter_text cs)
 abbrev pub values_text : List Entry → List ℕ
 values_text es = joined (map value_text (values_of es))
 
--- an object, as `0:1 values x`
+-- an object, as `ctx 0:1 values x`
 abbrev pub object_text : List Entry → List ℕ
-object_text es = vector_text (join es) ++ codes " values " ++ values_text es
+object_text es = codes "ctx " ++ vector_text (join es) ++ codes " values " ++ values_text es

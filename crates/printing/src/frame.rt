@@ -11,7 +11,7 @@ use std::alloc::AllocError;
 macro_rules! printed_kinds {
     ($make:ident $with:tt) => {
         $make! { $with
-            Gossip { " round " round: number, " key " key: key, " ctx " object: object }
+            Gossip { " round " round: number, " key " key: key, " " object: object }
             Prune {}
         }
     };

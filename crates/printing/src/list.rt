@@ -3,7 +3,7 @@
 ghost use Rattle.std.specs.Prelude.{◌≡◌, ◌++◌, ◌∷◌, [], true, map, OnOk, IfOk, if◌then◌else◌};
 ghost use Rattle.dvvset.specs.Clock.{values_of};
 ghost use Rattle.printing.specs.Field.{value_text};
-ghost use Rattle.printing.specs.Joined.{separated, IsPut};
+ghost use Rattle.printing.specs.Joined.{separated, PutsTexts};
 ghost use Rattle.printing.specs.Object.{counter_text, vector_text, values_text, object_text};
 
 use crate::field::{put_number, put_value};
@@ -57,7 +57,7 @@ pub fn put_vector(out: &mut Vec<u8>, vector: &Vector) -> Result<(), AllocError>
 /// Adds values, a comma before each but for one that stands first, and tells whether the next one
 /// stands first.
 fn put_values(out: &mut Vec<u8>, values: &[Value], first: bool) -> Result<bool, AllocError>
-    ensures { IfOk result (λ next. IsPut first (map value_text values.now) out.old.items out.new.items next) }
+    ensures { IfOk result (λ next. PutsTexts first (map value_text values.now) out.old.items out.new.items next) }
 {
     let mut first = first;
     for value in values {
@@ -70,7 +70,7 @@ fn put_values(out: &mut Vec<u8>, values: &[Value], first: bool) -> Result<bool, 
 
 /// Adds the values of entries, as `put_values` does.
 fn put_entries(out: &mut Vec<u8>, entries: &[Entry]) -> Result<bool, AllocError>
-    ensures { IfOk result (λ next. IsPut true (map value_text (values_of entries.now)) out.old.items out.new.items next) }
+    ensures { IfOk result (λ next. PutsTexts true (map value_text (values_of entries.now)) out.old.items out.new.items next) }
 {
     let mut first = true;
     for entry in entries {
@@ -79,11 +79,12 @@ fn put_entries(out: &mut Vec<u8>, entries: &[Entry]) -> Result<bool, AllocError>
     Ok(first)
 }
 
-/// Adds an object: its context, and the values that it shows, as `0:2 values y,x`. It takes memory for
-/// the context.
+/// Adds an object: its context, and the values that it shows, as `ctx 0:2 values y,x`. It takes memory
+/// for the context.
 pub fn put_object(out: &mut Vec<u8>, object: &Entries) -> Result<(), AllocError>
     ensures { OnOk result (out.new.items ≡ out.old.items ++ object_text object.now) }
 {
+    out.extend_from_slice(b"ctx ")?;
     put_vector(out, &join(*out.allocator(), object)?)?;
     out.extend_from_slice(b" values ")?;
     if put_entries(out, object.entries())? {

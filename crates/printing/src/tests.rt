@@ -116,7 +116,7 @@ fn an_object_prints_its_context_and_its_values(rt: HostRuntime) -> Result<(), Fa
     put_object(&mut out, &Entries::empty(alloc))?;
     assert_eq!(rt;
         out.as_slice(),
-        b"0:2,3:3 values y,~@5 - values -".as_slice()
+        b"ctx 0:2,3:3 values y,~@5 ctx - values -".as_slice()
     );
     Ok(())
 }

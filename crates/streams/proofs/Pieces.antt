@@ -1,7 +1,7 @@
 -- Reading in pieces, and the lines in them.
-use Rattle.std.proofs.Common.{◌≡◌, ◌≢◌, ℕ, zero, suc, ◌+◌, ◌-◌, ◌<◌, ◌≤◌, true, false, List, [], ◌∷◌, ◌++◌, length, take, drop, get_or, slice_range, Option, Some, None, refl, sym, ap, subst, ◌∙◌, append_assoc, arith, nat_lt}
+use Rattle.std.proofs.Common.{◌≡◌, ◌≢◌, ℕ, zero, suc, ◌+◌, ◌-◌, ◌<◌, ◌≤◌, true, false, List, [], ◌∷◌, ◌++◌, length, take, drop, get_or, slice_range, Option, Some, None, is_some, ◌↔◌, refl, sym, ap, subst, ◌∙◌, append_assoc, arith, nat_lt}
 use Rattle.std.proofs.lemmas.List.{append-nil, take_all, drop-take, drop-drop, length-take, length-drop, get_or-take}
-use Rattle.std.proofs.lemmas.List.Elements.{All-from_get_or}
+use Rattle.std.proofs.lemmas.List.Elements.{All-from_get_or, All-get_or}
 use Rattle.std.proofs.lemmas.Bool.{eqb-true, lt-ltb}
 use Rattle.std.specs.Io.KnownBytes.{Consumes, IsAtEnd}
 use Rattle.memchr.specs.Find.{IsFirstByte, is_byte}
@@ -83,7 +83,7 @@ moves_line piece start end left n old new le within found e =
     record {
       part = take n (slice_range piece start end);
       line = e;
-      whole = one_line_before (slice_range piece start end) n found.0.before;
+      one_line = one_line_before (slice_range piece start end) n found.0.before;
       left = refl;
       answer =
           text_at (slice_range piece start end) n found.0.high found.1
@@ -97,7 +97,18 @@ pub moves_all : (piece : List ℕ) (start end left : ℕ) (old new : List ℕ)
 moves_all piece start end left old new none e = record {
   part = slice_range piece start end;
   line = e;
-  whole = subst IsOneLine (take_all (length (slice_range piece start end)) (slice_range piece start end) (omega arith)) (one_line_before (slice_range piece start end) (length (slice_range piece start end)) none);
+  one_line = subst IsOneLine (take_all (length (slice_range piece start end)) (slice_range piece start end) (omega arith)) (one_line_before (slice_range piece start end) (length (slice_range piece start end)) none);
   left = refl;
   answer = (refl, slice-none piece end end (omega arith));
 }
+
+-- a line feed is found exactly where the bytes are not of one line
+pub found_line : (xs : List ℕ) (place : Option ℕ) → IsFirstByte (is_byte 10) xs place → (is_some place ≡ true) ↔ (IsOneLine xs → ⊥)
+found_line xs None none = (
+  λ no. cc no,
+  λ more. absurd (more (subst IsOneLine (take_all (length xs) xs (omega arith)) (one_line_before xs (length xs) none))),
+)
+found_line xs (Some n) found = (
+  λ some. λ one. All-get_or (λ x. x ≢ 10) xs n 0 found.0.high one (eqb-true (get_or xs n 0) 10 found.1),
+  λ more. refl,
+)

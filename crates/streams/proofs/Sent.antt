@@ -1,5 +1,5 @@
 -- Writing in pieces: what was appended so far, and what is still to be written.
-use Rattle.std.proofs.Common.{◌≡◌, ℕ, ◌-◌, List, [], ◌++◌, length, take, drop, Option, Some, None, refl, sym, ap, ◌∙◌, append_assoc, arith}
+use Rattle.std.proofs.Common.{◌≡◌, ℕ, ◌-◌, ◌<◌, List, [], ◌++◌, length, take, drop, Option, Some, None, refl, sym, ap, ◌∙◌, append_assoc, arith}
 use Rattle.std.proofs.lemmas.List.{append-nil, take-append-drop, take_all, length-drop}
 use Rattle.std.specs.Io.KnownBytes.{Appends, Keeps}
 use Rattle.streams.specs.Written.{AppendsFront}
@@ -47,3 +47,6 @@ sent_all old new bytes rest s none = let e : bytes ≡ s.front = s.parts ∙ ap 
 -- a write failed, and kept what the writer held
 pub sent_front : (old now new : Option (List ℕ)) (bytes rest : List ℕ) → Sent old now bytes rest → Keeps now new → AppendsFront old new bytes
 sent_front old now new bytes rest s keeps = record { front = s.front; rest = rest; parts = s.parts; appended = Appends-kept old now new s.front s.appended keeps }
+
+pub positive : (n : ℕ) → (n ≡ 0 → ⊥) → 0 < n
+positive n some = omega (arith, some)

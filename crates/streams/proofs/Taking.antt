@@ -13,13 +13,13 @@ use Rattle.streams.proofs.Pieces.{Consumes-nil, Consumes-then}
 pub record Taking (old now : Pending) (r s : Option (List ℕ)) (line : List ℕ) : Type 0 where
   pub reads : Reads r s old.left now.left
   pub parts : old.bytes ++ reads.bytes ≡ line ++ now.bytes
-  pub whole : IsOneLine line
+  pub one_line : IsOneLine line
 
 pub taking_none : (old : Pending) (r : Option (List ℕ)) → Taking old old r r []
 taking_none old r = record {
   reads = record { bytes = []; consumed = Consumes-nil r; counted = omega arith };
   parts = append-nil old.bytes;
-  whole = All-nil (λ x. x ≢ 10);
+  one_line = All-nil (λ x. x ≢ 10);
 }
 
 pub taking_filled : (old now filled : Pending) (r s t : Option (List ℕ)) (line : List ℕ) (more : Bool) → Taking old now r s line → Fills now filled s t more → Taking old filled r t line
@@ -35,7 +35,7 @@ taking_filled old now filled r s t line more so_far fill =
       parts =
           sym (append_assoc old.bytes first next) ∙ ap (λ (bytes : List ℕ). bytes ++ next) so_far.parts ∙ append_assoc line now.bytes next
           ∙ ap (λ (bytes : List ℕ). line ++ bytes) (sym fill.pending);
-      whole = so_far.whole;
+      one_line = so_far.one_line;
     }
 
 -- the line with a part behind it is still one
@@ -48,13 +48,13 @@ taking_moved old filled new r s line longer so_far move = record {
   parts =
       so_far.parts ∙ ap (λ (bytes : List ℕ). line ++ bytes) move.answer.0 ∙ sym move.line
       ∙ sym (append-nil longer) ∙ ap (λ (bytes : List ℕ). longer ++ bytes) (sym move.answer.1);
-  whole = whole_line line move.part longer so_far.whole move.whole move.line;
+  one_line = whole_line line move.part longer so_far.one_line move.one_line move.line;
 }
 
 pub taking_line : (old filled new : Pending) (r s : Option (List ℕ)) (line longer : List ℕ) → Taking old filled r s line → Moves filled new line longer true → TakesLine old new r s longer true
 taking_line old filled new r s line longer so_far move = record {
   reads = record { bytes = so_far.reads.bytes; consumed = so_far.reads.consumed; counted = let a = so_far.reads.counted in let b = move.left in omega arith };
-  whole = whole_line line move.part longer so_far.whole move.whole move.line;
+  one_line = whole_line line move.part longer so_far.one_line move.one_line move.line;
   answer =
       so_far.parts ∙ ap (λ (bytes : List ℕ). line ++ bytes) move.answer ∙ sym (append_assoc line move.part (10 ∷ new.bytes))
       ∙ ap (λ (bytes : List ℕ). bytes ++ 10 ∷ new.bytes) (sym move.line);
@@ -64,7 +64,7 @@ taking_line old filled new r s line longer so_far move = record {
 pub taking_rest : (old filled : Pending) (r s : Option (List ℕ)) (line : List ℕ) → Taking old filled r s line → filled.bytes ≡ [] → IsAtEnd s → TakesLine old filled r s line false
 taking_rest old filled r s line so_far none end = record {
   reads = so_far.reads;
-  whole = so_far.whole;
+  one_line = so_far.one_line;
   answer = (so_far.parts ∙ ap (λ (bytes : List ℕ). line ++ bytes) none ∙ append-nil line, none, end);
 }
 

@@ -1,13 +1,27 @@
 -- Lines: a line feed ends a line; the last line may lack it.
-use Rattle.std.specs.Prelude.{◌≡◌, ◌≢◌, ◌<◌, ◌+◌, ℕ, List, [], ◌∷◌, ◌++◌, length, All, Bool, Option, MatchBool}
+use Rattle.std.specs.Prelude.{◌≡◌, ◌≢◌, ◌<◌, ◌+◌, ℕ, List, [], ◌∷◌, ◌++◌, length, All, Bool, Option, MatchBool, ◌==◌, if◌then◌else◌}
 use Rattle.std.specs.Io.KnownBytes.{Consumes, IsAtEnd}
 use Rattle.streams.specs.declared.fault.StreamFault.{StreamFault}
-use Rattle.streams.specs.Fault.{HasCause}
+use Rattle.streams.specs.Fault.{IsReadFault}
+
+-- the most bytes of an input
+abbrev pub input_limit : ℕ
+input_limit = 67108864
 
 -- what was read and belongs to no line yet, and how many bytes may still be read
 pub record Pending : Type 0 where
   pub bytes : List ℕ
   pub left : ℕ
+
+-- a byte in front of the first line
+abbrev onto_first : ℕ → List (List ℕ) → List (List ℕ)
+onto_first b [] = (b ∷ []) ∷ []
+onto_first b (line ∷ lines) = (b ∷ line) ∷ lines
+
+-- the lines of a text; a last line feed starts none
+unfoldable pub lines_of : List ℕ → List (List ℕ)
+lines_of [] = []
+lines_of (b ∷ bytes) = if b == 10 then [] ∷ lines_of bytes else onto_first b (lines_of bytes)
 
 -- no byte is a line feed
 abbrev pub IsOneLine : List ℕ → Type 0
@@ -23,7 +37,7 @@ pub record Reads (reader_old reader_new : Option (List ℕ)) (left_old left_new 
 -- line is all that was left, without a line feed
 pub record TakesLine (old new : Pending) (reader_old reader_new : Option (List ℕ)) (line : List ℕ) (ended : Bool) : Type 0 where
   pub reads : Reads reader_old reader_new old.left new.left
-  pub whole : IsOneLine line
+  pub one_line : IsOneLine line
   pub answer : MatchBool ended
       (old.bytes ++ reads.bytes ≡ line ++ 10 ∷ new.bytes)
       ((old.bytes ++ reads.bytes ≡ line) × (new.bytes ≡ []) × IsAtEnd reader_new)
@@ -32,7 +46,7 @@ pub record TakesLine (old new : Pending) (reader_old reader_new : Option (List �
 pub record StopsReading (read_failed : Type 0) (old : Pending) (reader_old reader_new : Option (List ℕ)) (fault : StreamFault) : Type 0 where
   pub bytes : List ℕ
   pub consumed : Consumes reader_old reader_new bytes
-  pub cause : HasCause read_failed (old.left < length bytes) ⊥ fault
+  pub cause : IsReadFault read_failed (old.left < length bytes) fault
 
 -- ---- what private functions cite
 
@@ -46,6 +60,6 @@ pub record Fills (old new : Pending) (reader_old reader_new : Option (List ℕ))
 pub record Moves (old new : Pending) (line_old line_new : List ℕ) (ended : Bool) : Type 0 where
   pub part : List ℕ
   pub line : line_new ≡ line_old ++ part
-  pub whole : IsOneLine part
+  pub one_line : IsOneLine part
   pub left : new.left ≡ old.left
   pub answer : MatchBool ended (old.bytes ≡ part ++ 10 ∷ new.bytes) ((old.bytes ≡ part) × (new.bytes ≡ []))

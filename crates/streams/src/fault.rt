@@ -13,7 +13,7 @@ pub enum StreamFault {
     Read,
     /// 8: the input has more bytes than a program reads.
     InputTooLong,
-    /// The writer failed, or takes no more. It has no number, since there is nowhere to print it.
+    /// The writer failed, or takes no more. It has no number: the exit status alone tells it.
     Write,
     /// 99: an allocation was refused.
     Memory,

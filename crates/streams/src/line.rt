@@ -1,8 +1,8 @@
 //! The lines of a reader, read in pieces within a limit.
 
-ghost use Rattle.std.specs.Prelude.{◌≡◌, ◌≢◌, ◌<◌, ◌⊎◌, ◌++◌, ◌∷◌, [], ℕ, List, length, IfOk, IfErr, OnErr, IsTrue, ◌↔◌, MatchBool};
+ghost use Rattle.std.specs.Prelude.{◌≡◌, ◌≢◌, ◌<◌, ◌⊎◌, ◌++◌, ◌∷◌, [], ℕ, List, length, IfOk, IfErr, OnOk, OnErr, IsTrue, ◌↔◌, MatchBool};
 ghost use Rattle.streams.specs.Fault.{HasCause};
-ghost use Rattle.streams.specs.Line.{TakesLine, StopsReading, Fills, Moves};
+ghost use Rattle.streams.specs.Line.{input_limit, IsOneLine, TakesLine, StopsReading, Fills, Moves};
 
 use crate::fault::StreamFault;
 use crate::source::Source;
@@ -39,7 +39,7 @@ impl Model for LineBuffer {
 impl LineBuffer {
     /// The buffer of an input of which nothing was read. It takes memory for one read, 65,536 bytes.
     pub fn new(alloc: Global) -> Result<Self, AllocError>
-        ensures { IfOk result (λ buffer. buffer ≡ record { bytes = []; left = 67108864 }) }
+        ensures { IfOk result (λ buffer. buffer ≡ record { bytes = []; left = input_limit }) }
     {
         let piece = vec![in alloc; 0u8; PIECE_LEN]?;
         Ok(LineBuffer {
@@ -50,11 +50,11 @@ impl LineBuffer {
         })
     }
 
-    /// Tells whether nothing is pending, so that the next line waits for the reader.
-    pub fn is_drained(&self) -> bool
-        ensures { IsTrue result ↔ (self.now.bytes ≡ []) }
+    /// Tells whether a whole line is pending, so that the next one needs no read.
+    pub fn holds_line(&self) -> bool
+        ensures { IsTrue result ↔ (IsOneLine self.now.bytes → ⊥) }
     {
-        self.start == self.end
+        memchr(b'\n', &self.piece[self.start..self.end]).is_some()
     }
 
     /// Reads a piece where nothing is pending. Tells whether something is pending then; otherwise the
@@ -62,6 +62,7 @@ impl LineBuffer {
     fn fill<R: Source>(&mut self, reader: &mut R) -> Result<bool, StreamFault>
         ensures ok { IfOk result (λ more. Fills self.old self.new (R.remaining reader.old) (R.remaining reader.new) more) }
         ensures err { IfErr result (λ fault. StopsReading (R.read_failed reader.new) self.old (R.remaining reader.old) (R.remaining reader.new) fault) }
+        ensures sound { OnOk result (R.read_failed reader.new → R.read_failed reader.old) }
     {
         if self.start < self.end {
             return Ok(true);
@@ -110,6 +111,7 @@ impl LineBuffer {
     ) -> Result<bool, StreamFault>
         ensures ok { IfOk result (λ ended. TakesLine self.old self.new (R.remaining reader.old) (R.remaining reader.new) line.new.items ended) }
         ensures err { IfErr result (λ fault. StopsReading (R.read_failed reader.new) self.old (R.remaining reader.old) (R.remaining reader.new) fault) }
+        ensures sound { OnOk result (R.read_failed reader.new → R.read_failed reader.old) }
     {
         line.clear();
         while self.fill(reader)? {

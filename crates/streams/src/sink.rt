@@ -4,7 +4,7 @@ ghost use Rattle.std.specs.Prelude.{◌≡◌, ◌≢◌, ◌<◌, ⊤, length, 
 ghost use Rattle.std.specs.IoError.{error_kind};
 ghost use Rattle.std.specs.Io.{WritesAtMost};
 ghost use Rattle.std.specs.Io.KnownBytes.{WriteAppends, Keeps, Appends};
-ghost use Rattle.streams.specs.Fault.{HasCause};
+ghost use Rattle.streams.specs.Fault.{IsWriteFault};
 ghost use Rattle.streams.specs.Written.{AppendsFront};
 
 use crate::fault::StreamFault;
@@ -14,24 +14,32 @@ use std::io::{self, ErrorKind, Write};
 /// A writer that says when a write of it may fail. A `Vec` fails for want of memory alone, so a run
 /// over it can't answer that its writer failed.
 pub trait Sink: Write {
-    // Holds of a writer whose last call failed, or which took no byte of some.
+    // Holds of a writer of which a call has failed, or which took no byte of some.
     ghost write_failed: { Self → Type 0 };
+
+    // Holds of a writer that holds nothing back.
+    ghost passed_on: { Self → Type 0 };
 
     /// One write.
     fn write_some(&mut self, bytes: &[u8]) -> io::Result<usize>
         ensures bound { WritesAtMost result bytes.now }
         ensures bytes { WriteAppends (Self.contents self.old) (Self.contents self.new) result bytes.now }
         ensures cause { IfErr result (λ e. error_kind e ≢ ErrorKind.OutOfMemory → write_failed self.new) }
-        ensures full { IfOk result (λ n. n ≡ 0 → 0 < length bytes.now → write_failed self.new) };
+        ensures full { IfOk result (λ n. n ≡ 0 → 0 < length bytes.now → write_failed self.new) }
+        ensures sound { IfOk result (λ n. 0 < n → write_failed self.new → write_failed self.old) };
 
     /// Passes on what is held back.
     fn pass_on(&mut self) -> io::Result<()>
         ensures bytes { Keeps (Self.contents self.old) (Self.contents self.new) }
-        ensures cause { IfErr result (λ e. error_kind e ≢ ErrorKind.OutOfMemory → write_failed self.new) };
+        ensures cause { IfErr result (λ e. error_kind e ≢ ErrorKind.OutOfMemory → write_failed self.new) }
+        ensures done { OnOk result (passed_on self.new) }
+        ensures sound { OnOk result (write_failed self.new → write_failed self.old) };
 }
 
 impl Sink for Vec<u8> {
     ghost write_failed = { λ _. ⊥ };
+
+    ghost passed_on = { λ _. ⊤ };
 
     fn write_some(&mut self, bytes: &[u8]) -> io::Result<usize> {
         self.write(bytes)
@@ -56,6 +64,8 @@ impl<W: Write> Write for MayFail<W> {
 
 impl<W: Write> Sink for MayFail<W> {
     ghost write_failed = { λ _. ⊤ };
+
+    ghost passed_on = { λ _. ⊤ };
 
     fn write_some(&mut self, bytes: &[u8]) -> io::Result<usize> {
         self.0.write(bytes)
@@ -83,7 +93,8 @@ fn write_fault(error: io::Error) -> StreamFault
 pub fn write_whole<W: Sink>(writer: &mut W, bytes: &[u8]) -> Result<(), StreamFault>
     ensures ok { OnOk result (Appends (W.contents writer.old) (W.contents writer.new) bytes.now) }
     ensures err { OnErr result (AppendsFront (W.contents writer.old) (W.contents writer.new) bytes.now) }
-    ensures cause { IfErr result (λ fault. HasCause ⊥ ⊥ (W.write_failed writer.new) fault) }
+    ensures cause { IfErr result (λ fault. IsWriteFault (W.write_failed writer.new) fault) }
+    ensures sound { OnOk result (W.write_failed writer.new → W.write_failed writer.old) }
 {
     let mut rest = bytes;
     while !rest.is_empty() {
@@ -99,7 +110,9 @@ pub fn write_whole<W: Sink>(writer: &mut W, bytes: &[u8]) -> Result<(), StreamFa
 /// Passes on what the writer holds back.
 pub fn flush<W: Sink>(writer: &mut W) -> Result<(), StreamFault>
     ensures bytes { Keeps (W.contents writer.old) (W.contents writer.new) }
-    ensures cause { IfErr result (λ fault. HasCause ⊥ ⊥ (W.write_failed writer.new) fault) }
+    ensures cause { IfErr result (λ fault. IsWriteFault (W.write_failed writer.new) fault) }
+    ensures done { OnOk result (W.passed_on writer.new) }
+    ensures sound { OnOk result (W.write_failed writer.new → W.write_failed writer.old) }
 {
     match writer.pass_on() {
         Ok(()) => Ok(()),

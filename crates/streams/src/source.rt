@@ -1,6 +1,6 @@
 //! Readers that say when a read may fail.
 
-ghost use Rattle.std.specs.Prelude.{⊤, OnErr};
+ghost use Rattle.std.specs.Prelude.{⊤, OnOk, OnErr};
 ghost use Rattle.std.specs.Io.{ReadsAtMost, WritesAtMost};
 ghost use Rattle.std.specs.Io.KnownBytes.{ReadConsumes, WriteAppends, Keeps};
 
@@ -9,14 +9,15 @@ use std::io::{self, Read, Write};
 /// A reader that says when a read of it may fail. Bytes in memory never do, so a run over them can't
 /// answer that its reader failed.
 pub trait Source: Read {
-    // Holds of a reader whose last read failed.
+    // Holds of a reader of which a read has failed.
     ghost read_failed: { Self → Type 0 };
 
     /// One read.
     fn read_some(&mut self, piece: &mut [u8]) -> io::Result<usize>
         ensures bound { ReadsAtMost result piece.new }
         ensures bytes { ReadConsumes (Self.remaining self.old) (Self.remaining self.new) result piece.new }
-        ensures cause { OnErr result (read_failed self.new) };
+        ensures cause { OnErr result (read_failed self.new) }
+        ensures sound { OnOk result (read_failed self.new → read_failed self.old) };
 }
 
 impl Source for &[u8] {

@@ -87,13 +87,13 @@ fn lines_end_at_line_feeds(rt: HostRuntime) -> Result<(), Fail> {
 }
 
 #[test]
-fn a_buffer_is_drained_behind_the_last_piece(rt: HostRuntime) -> Result<(), Fail> {
-    let mut reader: &[u8] = b"a\nb\n";
+fn a_buffer_tells_whether_it_holds_a_line(rt: HostRuntime) -> Result<(), Fail> {
+    let mut reader: &[u8] = b"a\nb\nc";
     let mut buffer = LineBuffer::new(rt.alloc())?;
     let mut line = Vec::new(rt.alloc());
-    assert!(rt; buffer.is_drained());
-    assert!(rt; buffer.next_line(&mut reader, &mut line)? && !buffer.is_drained());
-    assert!(rt; buffer.next_line(&mut reader, &mut line)? && buffer.is_drained());
+    assert!(rt; !buffer.holds_line());
+    assert!(rt; buffer.next_line(&mut reader, &mut line)? && buffer.holds_line());
+    assert!(rt; buffer.next_line(&mut reader, &mut line)? && !buffer.holds_line());
     Ok(())
 }
 

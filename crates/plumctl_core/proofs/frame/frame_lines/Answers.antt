@@ -11,12 +11,12 @@ returns-in_err-lines-clause-err g c =
     rw p.1 (stops_none _ _ _ _ p.0 p.2)
 
 pub loop-text-init : goal.loop-text-init
-loop-text-init g c = rw c.in_ok-lines.ensures (going_none _ _)
+loop-text-init g c = (rw c.in_ok-lines.ensures (going_none _ _), λ failed. failed, λ failed. failed)
 
 pub returns-in_err-next_line-clause-err : goal.returns-in_err-next_line-clause-err
 returns-in_err-next_line-clause-err g c =
     let p = err_from_is_err_and c.from_residual-in_err-next_line.result c.from_residual-in_err-next_line.ensures.1 in
-    rw (p.1, p.2) (stops_reading _ _ _ _ _ _ _ c.loop-text.lines c.loop-text.all _ c.loop-text.invariant c.in_err-next_line.ensures.err)
+    rw (p.1, p.2) (stops_reading _ _ _ _ _ _ _ c.loop-text.lines c.loop-text.all _ c.loop-text.invariant.0 c.in_err-next_line.ensures.err)
 
 pub returns-in_err-all-clause-err : goal.returns-in_err-all-clause-err
 returns-in_err-all-clause-err g c =
@@ -28,7 +28,7 @@ returns-in_err-all-clause-err g c =
     let stop =
     subst (λ l. StopsLine (g.W.Sink.write_failed c.write_line.new.writer) l (w c.loop-text.writer) (w c.write_line.new.writer) c.in_err-all.field-0.0)
     c.as_slice.ensures.value c.in_err-all.ensures.err in
-    rw (p.1, p.2) (stops_line _ _ _ _ _ _ _ _ c.loop-text.lines c.next_line.new.self c.loop-text.all line _ c.loop-text.invariant takes stop)
+    rw (p.1, p.2) (stops_line _ _ _ _ _ _ _ _ c.loop-text.lines c.next_line.new.self c.loop-text.all line _ c.loop-text.invariant.0 takes stop)
 
 pub loop-text-preserved-in_ok-flush : goal.loop-text-preserved-in_ok-flush
 loop-text-preserved-in_ok-flush g c =
@@ -36,9 +36,12 @@ loop-text-preserved-in_ok-flush g c =
     let w = g.W.Write.contents in
     let line = c.next_line.new.line.items in
     let takes = subst (λ ended. TakesLine c.loop-text.lines c.next_line.new.self (r c.loop-text.reader) (r c.next_line.new.reader) line ended) c.if-branch.true c.in_ok-next_line.ensures.ok in
-    let writes = subst (λ l. WritesLine l (w c.loop-text.writer) (w c.write_line.new.writer) c.in_ok-all.field-0) c.as_slice.ensures.value c.in_ok-all.ensures.ok in
-    going_flushed _ _ _ _ _ c.next_line.new.self _
-    (going_line _ _ _ _ _ _ c.loop-text.lines c.next_line.new.self c.loop-text.all c.in_ok-all.field-0 line c.loop-text.invariant takes writes) c.flush.ensures.bytes
+    let writes = subst (λ l. WritesLine l (w c.loop-text.writer) (w c.write_line.new.writer) c.in_ok-all.field-0) c.as_slice.ensures.value c.in_ok-all.ensures.ok in (
+      going_flushed _ _ _ _ _ c.next_line.new.self _
+          (going_line _ _ _ _ _ _ c.loop-text.lines c.next_line.new.self c.loop-text.all c.in_ok-all.field-0 line c.loop-text.invariant.0 takes writes) c.flush.ensures.bytes,
+      λ failed. c.loop-text.invariant.1 (c.in_ok-next_line.ensures.sound failed),
+      λ failed. c.loop-text.invariant.2 (c.in_ok-all.ensures.sound (c.in_ok-flush.ensures.sound failed)),
+    )
 
 pub returns-in_err-flush-clause-err : goal.returns-in_err-flush-clause-err
 returns-in_err-flush-clause-err g c =
@@ -50,10 +53,17 @@ returns-in_err-flush-clause-err g c =
     let writes = subst (λ l. WritesLine l (w c.loop-text.writer) (w c.write_line.new.writer) c.in_ok-all.field-0) c.as_slice.ensures.value c.in_ok-all.ensures.ok in
     rw (p.1, p.2)
     (stops_flushing _ _ _ _ _ _ _ c.next_line.new.self _ _
-    (going_line _ _ _ _ _ _ c.loop-text.lines c.next_line.new.self c.loop-text.all c.in_ok-all.field-0 line c.loop-text.invariant takes writes) c.flush.ensures.bytes c.in_err-flush.ensures.cause)
+    (going_line _ _ _ _ _ _ c.loop-text.lines c.next_line.new.self c.loop-text.all c.in_ok-all.field-0 line c.loop-text.invariant.0 takes writes) c.flush.ensures.bytes c.in_err-flush.ensures.cause)
 
 pub loop-text-smaller : goal.loop-text-smaller
 loop-text-smaller g c =
+    let r = g.R.Read.remaining in
+    let line = c.next_line.new.line.items in
+    let takes = subst (λ ended. TakesLine c.loop-text.lines c.next_line.new.self (r c.loop-text.reader) (r c.next_line.new.reader) line ended) c.if-branch.true c.in_ok-next_line.ensures.ok in
+    going_less c.loop-text.lines c.next_line.new.self _ _ line takes
+
+pub loop-text-smaller-in_ok-flush : goal.loop-text-smaller-in_ok-flush
+loop-text-smaller-in_ok-flush g c =
     let r = g.R.Read.remaining in
     let line = c.next_line.new.line.items in
     let takes = subst (λ ended. TakesLine c.loop-text.lines c.next_line.new.self (r c.loop-text.reader) (r c.next_line.new.reader) line ended) c.if-branch.true c.in_ok-next_line.ensures.ok in
@@ -65,8 +75,11 @@ loop-text-preserved g c =
     let w = g.W.Write.contents in
     let line = c.next_line.new.line.items in
     let takes = subst (λ ended. TakesLine c.loop-text.lines c.next_line.new.self (r c.loop-text.reader) (r c.next_line.new.reader) line ended) c.if-branch.true c.in_ok-next_line.ensures.ok in
-    let writes = subst (λ l. WritesLine l (w c.loop-text.writer) (w c.write_line.new.writer) c.in_ok-all.field-0) c.as_slice.ensures.value c.in_ok-all.ensures.ok in
-    going_line _ _ _ _ _ _ c.loop-text.lines c.next_line.new.self c.loop-text.all c.in_ok-all.field-0 line c.loop-text.invariant takes writes
+    let writes = subst (λ l. WritesLine l (w c.loop-text.writer) (w c.write_line.new.writer) c.in_ok-all.field-0) c.as_slice.ensures.value c.in_ok-all.ensures.ok in (
+      going_line _ _ _ _ _ _ c.loop-text.lines c.next_line.new.self c.loop-text.all c.in_ok-all.field-0 line c.loop-text.invariant.0 takes writes,
+      λ failed. c.loop-text.invariant.1 (c.in_ok-next_line.ensures.sound failed),
+      λ failed. c.loop-text.invariant.2 (c.in_ok-all.ensures.sound failed),
+    )
 
 pub returns-in_err-all-2-clause-err : goal.returns-in_err-all-2-clause-err
 returns-in_err-all-2-clause-err g c =
@@ -78,7 +91,7 @@ returns-in_err-all-2-clause-err g c =
     let stop =
     subst (λ l. StopsLast (g.W.Sink.write_failed c.write_last_line.new.writer) l (w c.loop-text.writer) (w c.write_last_line.new.writer) c.in_err-all-2.field-0.0)
     c.as_slice-2.ensures.value c.in_err-all-2.ensures.err in
-    rw (p.1, p.2) (stops_over _ _ _ _ _ _ _ _ c.loop-text.lines c.next_line.new.self c.loop-text.all line _ c.loop-text.invariant takes stop)
+    rw (p.1, p.2) (stops_over _ _ _ _ _ _ _ _ c.loop-text.lines c.next_line.new.self c.loop-text.all line _ c.loop-text.invariant.0 takes stop)
 
 pub returns-in_err-flush-2-clause-err : goal.returns-in_err-flush-2-clause-err
 returns-in_err-flush-2-clause-err g c =
@@ -89,7 +102,7 @@ returns-in_err-flush-2-clause-err g c =
     let takes = subst (λ ended. TakesLine c.loop-text.lines c.next_line.new.self (r c.loop-text.reader) (r c.next_line.new.reader) line ended) c.if-branch.false c.in_ok-next_line.ensures.ok in
     let last = subst (λ l. WritesLast l (w c.loop-text.writer) (w c.write_last_line.new.writer) c.in_ok-all-2.field-0) c.as_slice-2.ensures.value c.in_ok-all-2.ensures.ok in
     rw (p.1, p.2)
-    (stops_passing _ _ _ _ _ _ _ _ _ c.loop-text.lines c.next_line.new.self c.loop-text.all c.in_ok-all-2.field-0 line _ c.loop-text.invariant takes last c.flush-2.ensures.bytes c.in_err-flush-2.ensures.cause)
+    (stops_passing _ _ _ _ _ _ _ _ _ c.loop-text.lines c.next_line.new.self c.loop-text.all c.in_ok-all-2.field-0 line _ c.loop-text.invariant.0 takes last c.flush-2.ensures.bytes c.in_err-flush-2.ensures.cause)
 
 pub returns-clause-ok : goal.returns-clause-ok
 returns-clause-ok g c =
@@ -98,4 +111,10 @@ returns-clause-ok g c =
     let line = c.next_line.new.line.items in
     let takes = subst (λ ended. TakesLine c.loop-text.lines c.next_line.new.self (r c.loop-text.reader) (r c.next_line.new.reader) line ended) c.if-branch.false c.in_ok-next_line.ensures.ok in
     let last = subst (λ l. WritesLast l (w c.loop-text.writer) (w c.write_last_line.new.writer) c.in_ok-all-2.field-0) c.as_slice-2.ensures.value c.in_ok-all-2.ensures.ok in
-    prints_over _ _ _ _ _ _ _ c.loop-text.lines c.next_line.new.self c.loop-text.all c.in_ok-all-2.field-0 line c.of.result c.loop-text.invariant takes last c.flush-2.ensures.bytes c.of.ensures
+    prints_over _ _ _ _ _ _ _ _ c.loop-text.lines c.next_line.new.self c.loop-text.all c.in_ok-all-2.field-0 line c.of.result c.loop-text.invariant.0 takes last c.flush-2.ensures.bytes c.of.ensures c.in_ok-flush-2.ensures.done
+
+pub returns-clause-sound : goal.returns-clause-sound
+returns-clause-sound g c = (
+  λ failed. c.loop-text.invariant.1 (c.in_ok-next_line.ensures.sound failed),
+  λ failed. c.loop-text.invariant.2 (c.in_ok-all-2.ensures.sound (c.in_ok-flush-2.ensures.sound failed)),
+)

@@ -1,4 +1,4 @@
-use Rattle.plumctl_core.specs.Lines.{lines_of}
+use Rattle.streams.specs.Line.{lines_of}
 use Rattle.plumctl_core.proofs.Texts.{text_of_all, one_text_of_all}
 use Rattle.plumctl_core.proofs.laws.one_output_for_an_input.Goals as goal
 
