@@ -1,5 +1,5 @@
--- The clock formulas, on lists. An entry (id, count, values) shows the events numbered from its cover + 1
--- to its count.
+-- The clock formulas, on lists; their source is that of an object. A lawful entry (id, count, values) shows the events
+-- numbered from its cover + 1 to its count.
 use Rattle.std.specs.Prelude.{ℕ, ◌+◌, ◌-◌, ◌==◌, nat_lt, nat_le, if◌then◌else◌, List, [], ◌∷◌, length, take, map, flat_map, Bool, true, false, ◌&&◌}
 use Rattle.meta_types.specs.Value.{ValueParts}
 use Rattle.dvvset.specs.Object.{Entry, Counter}
@@ -45,15 +45,15 @@ blanks cs = map (λ c. record { id = c.id; count = c.count; values = [] }) cs
 
 -- one more event of a writer, whose value goes in front
 abbrev pub raise : ℕ → ValueParts → List Entry → List Entry
-raise w v [] = (record { id = w; count = 1; values = v ∷ [] }) ∷ []
-raise w v (x ∷ xs) =
+raise w value [] = (record { id = w; count = 1; values = value ∷ [] }) ∷ []
+raise w value (x ∷ xs) =
     if nat_lt w x.id
-    then (record { id = w; count = 1; values = v ∷ [] }) ∷ (x ∷ xs)
-    else (if x.id == w then (record { id = x.id; count = x.count + 1; values = v ∷ x.values }) ∷ xs else x ∷ raise w v xs)
+    then (record { id = w; count = 1; values = value ∷ [] }) ∷ (x ∷ xs)
+    else (if x.id == w then (record { id = x.id; count = x.count + 1; values = value ∷ x.values }) ∷ xs else x ∷ raise w value xs)
 
--- a write by `w` of `v` that has read the vector
+-- a write by `w` of a value that has read the vector
 abbrev pub update : List Counter → List Entry → ℕ → ValueParts → List Entry
-update read e w v = raise w v (sync (blanks read) e)
+update read es w value = raise w value (sync (blanks read) es)
 
 -- a writer's counter, 0 where it is absent
 abbrev pub counter : List Counter → ℕ → ℕ
@@ -62,8 +62,8 @@ counter (c ∷ cs) w = if c.id == w then c.count else counter cs w
 
 -- each counter of the second is at most that of the first
 abbrev pub descends : List Counter → List Counter → Bool
-descends v [] = true
-descends v (c ∷ cs) = nat_le c.count (counter v c.id) && descends v cs
+descends a [] = true
+descends a (c ∷ cs) = nat_le c.count (counter a c.id) && descends a cs
 
 -- equal writers, counters and numbers of values
 abbrev pub same : List Entry → List Entry → Bool

@@ -1,10 +1,11 @@
-ghost use Rattle.std.specs.Prelude.{◌≡◌, ◌+◌, ◌≤◌, ◌↔◌, ◌++◌, IfOk, IsTrue, All};
+ghost use Rattle.std.specs.Prelude.{◌≡◌, ◌≢◌, ◌+◌, ◌≤◌, ◌↔◌, ◌++◌, [], IfOk, IsTrue, All};
 ghost use Rattle.meta_types.specs.Value.{IsValue};
 ghost use Rattle.dvvset.specs.Object.{IsEntry, IsObject};
 ghost use Rattle.dvvset.specs.Clock.{values_of};
 
 use crate::entry::{Entry, push_copies};
 use crate::fault::ClockFault;
+use crate::merge::push_entries;
 use meta_types::Value;
 use std::alloc::{AllocError, Global};
 use std::marker::Model;
@@ -28,7 +29,7 @@ impl Model for Entries {
 }
 
 impl Entries {
-    ghost use Rattle.std.specs.Prelude.{◌≡◌, ◌↔◌, [], IfOk, IfErr, IsOk, IsTrue};
+    ghost use Rattle.std.specs.Prelude.{◌≡◌, ◌≢◌, ◌↔◌, [], IfOk, IfErr, IsOk, IsTrue};
     ghost use Rattle.dvvset.specs.Object.{IsObject};
     ghost use Rattle.dvvset.specs.declared.fault.ClockFault.TheVariants.{BadEntries};
 
@@ -86,6 +87,13 @@ impl Entries {
         self.entries.is_empty()
     }
 
+    /// Tells whether the object shows a value.
+    pub fn has_value(&self) -> bool
+        ensures { IsTrue result ↔ (values_of self.now ≢ []) }
+    {
+        show_a_value(self.entries.as_slice())
+    }
+
     pub fn copy(&self) -> Result<Self, AllocError>
         ensures { IfOk result (λ copy. copy ≡ self.now) }
     {
@@ -105,14 +113,23 @@ pub fn values(alloc: Global, object: &Entries) -> Result<Vec<Value>, AllocError>
     Ok(values)
 }
 
+fn show_a_value(entries: &[Entry]) -> bool
+    ensures { IsTrue result ↔ (values_of entries.now ≢ []) }
+{
+    for entry in entries {
+        if !entry.values().is_empty() {
+            return true;
+        }
+    }
+    false
+}
+
 /// Copies a list of entries.
 fn copy_entries(alloc: Global, entries: &[Entry]) -> Result<Vec<Entry>, AllocError>
     ensures { IfOk result (λ copy. copy.items ≡ entries.now) }
 {
     let mut copy = Vec::with_capacity(alloc, entries.len())?;
-    for entry in entries {
-        copy.push(entry.copy()?)?;
-    }
+    push_entries(&mut copy, entries)?;
     Ok(copy)
 }
 

@@ -1,5 +1,8 @@
-ghost use Rattle.std.specs.Prelude.{◌≡◌, ◌++◌, IfOk, OnOk};
+ghost use Rattle.std.specs.Prelude.{◌≡◌, ◌<◌, ◌+◌, ◌⊎◌, ◌++◌, ◌∷◌, IfOk, IfErr, OnOk};
+ghost use Rattle.dvvset.specs.Clock.{cover, cut};
+ghost use Rattle.dvvset.specs.declared.fault.ClockFault.TheVariants.{CounterSpent, Memory};
 
+use crate::fault::ClockFault;
 use meta_types::{NodeId, Value};
 use std::alloc::AllocError;
 use std::marker::Model;
@@ -58,6 +61,49 @@ impl Entry {
         Ok(Entry {
             id: self.id,
             count: self.count,
+            values,
+        })
+    }
+
+    /// How many of its events are no longer shown.
+    pub(crate) fn cover(&self) -> u64
+        ensures { result ≡ cover self.now }
+    {
+        self.count.saturating_sub(self.values.len() as u64)
+    }
+
+    /// A copy without the values of the events up to number `low`, which are not copied.
+    pub(crate) fn cut(&self, low: u64) -> Result<Self, AllocError>
+        ensures { IfOk result (λ entry. entry ≡ cut self.now low) }
+    {
+        let kept = self.count.saturating_sub(low).min(self.values.len() as u64) as usize;
+        let mut values = Vec::with_capacity(*self.values.allocator(), kept)?;
+        push_copies(&mut values, &self.values[..kept])?;
+        Ok(Entry {
+            id: self.id,
+            count: self.count,
+            values,
+        })
+    }
+
+    /// The entry with one more event, whose value goes in front. No value is copied.
+    pub(crate) fn raised(self, value: Value) -> Result<Self, ClockFault>
+        ensures value { IfOk result (λ entry. entry ≡ record { id = self.id; count = self.count + 1; values = value ∷ self.values }) }
+        ensures room { OnOk result (self.count < 18446744073709551615) }
+        ensures fault { IfErr result (λ fault. (fault ≡ Memory) ⊎ ((fault ≡ CounterSpent) × (self.count ≡ 18446744073709551615))) }
+    {
+        let Entry {
+            id,
+            count,
+            mut values,
+        } = self;
+        if count == u64::MAX {
+            return Err(ClockFault::CounterSpent);
+        }
+        values.insert(0, value)?;
+        Ok(Entry {
+            id,
+            count: count + 1,
             values,
         })
     }

@@ -229,3 +229,204 @@ fn calls_succeed_again_under_refused_memory(rt: HostRuntime) -> Result<(), Fail>
     assert!(rt; vector.copy().or_else(|_| vector.copy())? == vector);
     Ok(())
 }
+
+fn object(alloc: Global, parts: &[Parts]) -> Result<Entries, Fail> {
+    Ok(Entries::from_parts(entries(alloc, parts)?)?)
+}
+
+fn vector(alloc: Global, parts: &[(u16, u64)]) -> Result<Vector, Fail> {
+    Ok(Vector::from_parts(counters(alloc, parts)?)?)
+}
+
+/// Tells whether the merge of two objects is this one.
+fn merges(alloc: Global, a: &[Parts], b: &[Parts], merged: &[Parts]) -> Result<bool, Fail> {
+    let answer = sync(alloc, &object(alloc, a)?, &object(alloc, b)?)?;
+    Ok(answer == object(alloc, merged)?)
+}
+
+#[test]
+fn a_merge_shows_what_neither_side_has_covered(rt: HostRuntime) -> Result<(), Fail> {
+    let table: [(&[Parts], &[Parts], &[Parts]); 8] = [
+        (
+            &[(0, 2, b"yx")],
+            &[(0, 1, b""), (1, 1, b"z")],
+            &[(0, 2, b"y"), (1, 1, b"z")],
+        ),
+        (&[(0, 3, b"zyx")], &[(0, 3, b"z")], &[(0, 3, b"z")]),
+        (
+            &[(0, 1, b"x")],
+            &[(1, 1, b"x")],
+            &[(0, 1, b"x"), (1, 1, b"x")],
+        ),
+        (&[(0, 1, b"x")], &[(0, 2, b"y")], &[(0, 2, b"y")]),
+        (&[(0, 1, b"x")], &[(0, 2, b"yx")], &[(0, 2, b"yx")]),
+        (&[(0, 3, b"")], &[(0, 4, b"dcba")], &[(0, 4, b"d")]),
+        (
+            &[(1, 1, b"a"), (3, 1, b"c")],
+            &[(0, 1, b"o"), (2, 1, b"b"), (4, 1, b"d")],
+            &[
+                (0, 1, b"o"),
+                (1, 1, b"a"),
+                (2, 1, b"b"),
+                (3, 1, b"c"),
+                (4, 1, b"d"),
+            ],
+        ),
+        (&[], &[(5, 2, b"e")], &[(5, 2, b"e")]),
+    ];
+    for (a, b, merged) in table {
+        assert!(rt; merges(rt.alloc(), a, b, merged)?, "{a:?} {b:?}");
+        assert!(rt; merges(rt.alloc(), b, a, merged)?, "{b:?} {a:?}");
+    }
+    Ok(())
+}
+
+/// What a write by a node of the value `w` makes of an object.
+fn written(
+    alloc: Global,
+    read: &[(u16, u64)],
+    parts: &[Parts],
+    id: u16,
+) -> Result<Result<Entries, ClockFault>, Fail> {
+    let value = Value::new(7, Some(b"w".to_vec(alloc)?))?;
+    let (read, parts) = (vector(alloc, read)?, object(alloc, parts)?);
+    Ok(update(alloc, &read, &parts, NodeId::new(id)?, value))
+}
+
+fn writes(
+    alloc: Global,
+    read: &[(u16, u64)],
+    parts: &[Parts],
+    id: u16,
+    after: &[Parts],
+) -> Result<bool, Fail> {
+    let expected = object(alloc, after)?;
+    Ok(matches!(written(alloc, read, parts, id)?, Ok(answer) if answer == expected))
+}
+
+#[test]
+fn a_write_keeps_the_values_that_were_not_read(rt: HostRuntime) -> Result<(), Fail> {
+    let table: [(&[(u16, u64)], &[Parts], u16, &[Parts]); 8] = [
+        (&[], &[], 0, &[(0, 1, b"w")]),
+        (&[], &[(0, 1, b"x")], 0, &[(0, 2, b"wx")]),
+        (&[(0, 1)], &[(0, 1, b"x")], 0, &[(0, 2, b"w")]),
+        (&[(1, 3)], &[], 0, &[(0, 1, b"w"), (1, 3, b"")]),
+        (
+            &[(0, 1)],
+            &[(0, 2, b"yx"), (1, 1, b"z")],
+            1,
+            &[(0, 2, b"y"), (1, 2, b"wz")],
+        ),
+        (
+            &[(0, 1)],
+            &[(0, 2, b"yx")],
+            5,
+            &[(0, 2, b"y"), (5, 1, b"w")],
+        ),
+        (&[(2, 9)], &[(2, 4, b"dc")], 1, &[(1, 1, b"w"), (2, 9, b"")]),
+        (&[], &[(0, u64::MAX - 1, b"")], 0, &[(0, u64::MAX, b"w")]),
+    ];
+    for (read, parts, id, after) in table {
+        assert!(rt;
+            writes(rt.alloc(), read, parts, id, after)?,
+            "{read:?} {parts:?}"
+        );
+    }
+    Ok(())
+}
+
+fn is_spent(alloc: Global, read: &[(u16, u64)], parts: &[Parts], id: u16) -> Result<bool, Fail> {
+    Ok(matches!(
+        written(alloc, read, parts, id)?,
+        Err(ClockFault::CounterSpent)
+    ))
+}
+
+#[test]
+fn a_writer_at_the_greatest_counter_is_spent(rt: HostRuntime) -> Result<(), Fail> {
+    let alloc = rt.alloc();
+    assert!(rt; is_spent(alloc, &[], &[(0, u64::MAX, b"x")], 0)?);
+    assert!(rt; is_spent(alloc, &[(0, u64::MAX)], &[], 0)?);
+    assert!(rt; !is_spent(alloc, &[], &[(0, u64::MAX, b"x")], 1)?);
+    assert!(rt; !is_spent(alloc, &[(1, u64::MAX)], &[(0, 1, b"x")], 0)?);
+    Ok(())
+}
+
+#[test]
+fn a_vector_descends_what_it_has_read(rt: HostRuntime) -> Result<(), Fail> {
+    let table: [(&[(u16, u64)], &[(u16, u64)], bool); 10] = [
+        (&[], &[], true),
+        (&[(0, 1)], &[], true),
+        (&[], &[(0, 1)], false),
+        (&[(0, 2)], &[(0, 2)], true),
+        (&[(0, 1)], &[(0, 2)], false),
+        (&[(0, 3), (1, 1)], &[(1, 1)], true),
+        (&[(0, 3)], &[(0, 1), (1, 1)], false),
+        (&[(1, 1)], &[(0, 1), (1, 1)], false),
+        (&[(0, 1), (2, 5), (7, 1)], &[(2, 5)], true),
+        (&[(0, 1), (2, 5), (7, 1)], &[(0, 1), (7, 2)], false),
+    ];
+    for (a, b, answer) in table {
+        let (a, b) = (vector(rt.alloc(), a)?, vector(rt.alloc(), b)?);
+        assert!(rt; descends(&a, &b) == answer);
+    }
+    Ok(())
+}
+
+#[test]
+fn objects_of_one_shape_are_the_same(rt: HostRuntime) -> Result<(), Fail> {
+    let table: [(&[Parts], &[Parts], bool); 6] = [
+        (&[], &[], true),
+        (&[(0, 2, b"yx")], &[(0, 2, b"ab")], true),
+        (&[(0, 2, b"yx")], &[(0, 2, b"y")], false),
+        (&[(0, 2, b"y")], &[(0, 3, b"y")], false),
+        (&[(0, 2, b"y")], &[(1, 2, b"y")], false),
+        (&[(0, 2, b"y")], &[(0, 2, b"y"), (1, 1, b"")], false),
+    ];
+    for (a, b, answer) in table {
+        let (a, b) = (object(rt.alloc(), a)?, object(rt.alloc(), b)?);
+        assert!(rt; same(&a, &b) == answer);
+    }
+    Ok(())
+}
+
+#[test]
+fn an_object_tells_whether_it_shows_a_value(rt: HostRuntime) -> Result<(), Fail> {
+    let alloc = rt.alloc();
+    assert!(rt; !Entries::empty(alloc).has_value());
+    assert!(rt; !object(alloc, &[(0, 1, b""), (1, 4, b"")])?.has_value());
+    assert!(rt; object(alloc, &[(0, 1, b""), (1, 1, b"z")])?.has_value());
+    Ok(())
+}
+
+// As above, for the calls that merge and write. Allocates at most 45 times.
+#[test]
+fn merges_and_writes_succeed_again_under_refused_memory(rt: HostRuntime) -> Result<(), Fail> {
+    let alloc = rt.alloc();
+    let (Ok(a), Ok(b), Ok(merged), Ok(known), Ok(values)) = (
+        entries(alloc, &[(0, 2, b"yx")]),
+        entries(alloc, &[(0, 1, b""), (1, 1, b"z")]),
+        entries(alloc, &[(0, 2, b"y"), (1, 1, b"z")]),
+        counters(alloc, &[(0, 2), (1, 1)]),
+        named(alloc, b"ww"),
+    ) else {
+        return Ok(());
+    };
+    let (a, b, merged) = (
+        Entries::from_parts(a)?,
+        Entries::from_parts(b)?,
+        Entries::from_parts(merged)?,
+    );
+    assert!(rt; sync(alloc, &a, &b).or_else(|_| sync(alloc, &a, &b))? == merged);
+    let read = Vector::from_parts(known)?;
+    let node = NodeId::new(1)?;
+    let mut written = false;
+    for value in values {
+        written |= match update(alloc, &read, &merged, node, value) {
+            Ok(object) => object.entries().len() == 2 && object.has_value(),
+            Err(fault) => fault != ClockFault::Memory,
+        };
+    }
+    assert!(rt; written);
+    Ok(())
+}

@@ -48,7 +48,7 @@ impl Counter {
 }
 
 /// A vector: how many events of each writer are known, in the order of the writers. It is the
-/// context of a read; the one without counters has read nothing.
+/// vector of a read's context; the one without counters has read nothing.
 #[derive(Debug, Drop)]
 pub struct Vector {
     counters: Vec<Counter>,
@@ -134,7 +134,8 @@ impl Vector {
 
 /// The vector of an object: how many events of each writer it knows, shown or not.
 pub fn join(alloc: Global, object: &Entries) -> Result<Vector, AllocError>
-    ensures { IfOk result (λ vector. vector ≡ join object.now) }
+    ensures value { IfOk result (λ vector. vector ≡ join object.now) }
+    ensures lawful { IfOk result (λ vector. IsVector vector) }
 {
     let counters = counters_of(alloc, object.entries())?;
     Ok(Vector { counters })

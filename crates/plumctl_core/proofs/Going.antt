@@ -14,8 +14,8 @@ use Rattle.plumctl_core.specs.declared.frame.Ended.{Ended}
 use Rattle.plumctl_core.specs.declared.frame.Ended.TheVariants.{AllPrinted, SomeRefused}
 use Rattle.plumctl_core.specs.Output.{IsTextOfAll, IsFrameLine, IsOutput}
 use Rattle.plumctl_core.specs.Run.{EndsLine, Prints, Stops, WritesLine, StopsLine, WritesLast, StopsLast}
-use Rattle.plumctl_core.proofs.LinesOf.{ends_none, ends_more, lines_line, lines_rest, lines_more, lines_last}
-use Rattle.plumctl_core.proofs.Texts.{text_of_line, text_of_all, text_then, text_more}
+use Rattle.plumctl_core.proofs.LinesOf.{ends_none, ends_more, lines_more, lines_last}
+use Rattle.plumctl_core.proofs.Texts.{text_of_line, text_more}
 
 Keeps-self : (v : Option (List ℕ)) → Keeps v v
 Keeps-self None = tt

@@ -1,8 +1,6 @@
-use Rattle.std.proofs.Common.{◌≡◌, ◌↔◌, true, rules}
+use Rattle.std.proofs.Common.{rules}
 use Rattle.std.specs.List.{slice_range}
-use Rattle.std.proofs.Common.{is_some}
 use Rattle.memchr.specs.Find.{IsFirstByte, is_byte}
-use Rattle.streams.specs.Line.{IsOneLine}
 use Rattle.streams.proofs.Pieces.{found_line}
 use Rattle.streams.proofs.line.LineBuffer.holds_line.Goals as goal
 

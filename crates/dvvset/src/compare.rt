@@ -1,0 +1,72 @@
+//! Comparing clocks. These calls take no memory and always succeed.
+
+ghost use Rattle.std.specs.Prelude.{◌≡◌, ◌≤◌, ◌↔◌, ◌∷◌, [], ℕ, IsTrue};
+ghost use Rattle.dvvset.specs.Object.{IsVector};
+ghost use Rattle.dvvset.specs.Clock.{counter, descends, same};
+ghost use Rattle.dvvset.specs.Writer.{shapes};
+
+use crate::entries::Entries;
+use crate::entry::Entry;
+use crate::vector::{Counter, Vector};
+
+/// Tells whether each counter of the second is at most that of the first, so that whoever has read the
+/// first has read all that the second has. An absent counter is 0. One pass over both.
+pub fn descends(a: &Vector, b: &Vector) -> bool
+    ensures value { result ≡ descends a.now b.now }
+    ensures counters { IsTrue result ↔ ((w : ℕ) → counter b.now w ≤ counter a.now w) }
+{
+    descends_from(a.counters(), b.counters())
+}
+
+fn descends_from(a: &[Counter], b: &[Counter]) -> bool
+    requires a { IsVector a.now }
+    requires b { IsVector b.now }
+    ensures { result ≡ descends a.now b.now }
+{
+    let (mut i, mut j) = (0, 0);
+    while j < b.len() {
+        if i == a.len() {
+            return false;
+        }
+        let (x, y) = (a[i], b[j]);
+        if y.id() < x.id() {
+            return false;
+        }
+        if x.id() == y.id() {
+            if x.count() < y.count() {
+                return false;
+            }
+            j += 1;
+        }
+        i += 1;
+    }
+    true
+}
+
+/// Tells whether two objects have the same writers, each with as many events and as many values.
+pub fn same(a: &Entries, b: &Entries) -> bool
+    ensures value { result ≡ same a.now b.now }
+    ensures shapes { IsTrue result ↔ (shapes a.now ≡ shapes b.now) }
+{
+    are_same(a.entries(), b.entries())
+}
+
+fn are_same(a: &[Entry], b: &[Entry]) -> bool
+    ensures { result ≡ same a.now b.now }
+{
+    if a.len() != b.len() {
+        return false;
+    }
+    for (i, x) in a.iter().enumerate() {
+        if !is_same(x, &b[i]) {
+            return false;
+        }
+    }
+    true
+}
+
+fn is_same(x: &Entry, y: &Entry) -> bool
+    ensures { result ≡ same (x.now ∷ []) (y.now ∷ []) }
+{
+    x.id() == y.id() && x.count() == y.count() && x.values().len() == y.values().len()
+}
