@@ -1,0 +1,44 @@
+-- what the writes of every history keep
+pub mod Orderly
+-- the test of keys
+pub mod Keys
+-- what holds of each set that a past has
+pub mod Reached
+-- closed sets as writes are added
+pub mod Grown
+-- tests that hold of all older elements once they hold of one
+pub mod Older
+-- a writer's entry by two numbers
+pub mod Rendered
+-- what holds of places after every list of happenings
+pub mod Placed
+-- what holds of the past after every list that keeps the restart premise
+pub mod Sound
+-- members of lists of writes, and tests over them
+pub mod Members
+-- what a longer history keeps
+pub mod Staying
+-- closed sets hold, of each writer, the oldest writes
+pub mod Closed
+-- objects of a set by their entries
+pub mod Entries
+-- a writer's entry after one more event
+pub mod Raised
+-- a merge is the object of the union of two sets
+pub mod Merging
+-- contexts are ordered as the sets are
+pub mod Order
+-- a closed set has an object
+pub mod Existing
+-- the object of a write
+pub mod Update
+-- the values of an object are those of the siblings of its set
+pub mod Showing
+-- a set with a write in it shows a value
+pub mod Survivor
+-- what a delivery and a write add
+pub mod Steps
+-- objects that arise in one history: merges, and their order
+pub mod Arisen
+-- counters of one writer rise
+pub mod Counted

@@ -1,0 +1,17 @@
+-- What must be believed of the past, in the order in which to read it.
+-- names, values, objects and their formulas, which the contracts of this crate speak of too
+pub use Rattle.meta_types.specs.Name
+pub use Rattle.meta_types.specs.Value
+pub use Rattle.dvvset.specs.Object
+pub use Rattle.dvvset.specs.Clock
+pub use Rattle.dvvset.specs.Writer
+-- sets of places
+pub mod Sets
+-- what each happening does to what the nodes know
+pub mod Past
+-- well-formed histories, and the premise on restarts
+pub mod History
+-- what a set of writes shows: siblings, context, object
+pub mod Shown
+-- objects that arise in one history, and their order
+pub mod Arisen

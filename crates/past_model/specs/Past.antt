@@ -1,0 +1,118 @@
+-- The past: happenings in one order for all nodes, and what each node knows after them. A place is a happening's number
+-- in that list, counted from 0; a write is named by its place. This is a rule of our own: it knows no counters.
+use Rattle.std.specs.Prelude.{◌≡◌, ℕ, ◌+◌, List, [], ◌∷◌, Option, Some, None, ◌⊎◌}
+use Rattle.meta_types.specs.Name.{Key}
+use Rattle.meta_types.specs.Value.{ValueParts}
+use Rattle.past_model.specs.declared.happening.Happening.{Happening}
+use Rattle.past_model.specs.declared.happening.Happening.TheVariants.{Wrote, Looked, Sent, Got, Kept, Restarted}
+use Rattle.past_model.specs.Sets.{Places, Knowledge, empty, singleton, union, nothing, with_set, union_by_key, put}
+
+-- a write: its place, whose it is, and the places of the writes that it had read
+pub record Write : Type 0 where
+  pub place : ℕ
+  pub writer : ℕ
+  pub key : Key
+  pub value : ValueParts
+  pub read : Places
+
+-- a write of the list
+abbrev pub In : Write → List Write → Type 0
+In x [] = ⊥
+In x (y ∷ ys) = (x ≡ y) ⊎ In x ys
+
+-- `seen` has, at the place of a Looked, what its node knew under its key; `load` at that of a Sent. Images are numbered
+-- from 0, which is the empty one; the standing image of a node is the one last made or last restarted from.
+pub record Past : Type 0 where
+  pub next : ℕ  -- the place of the next happening
+  pub writes : List Write  -- the later first
+  pub known : ℕ → Knowledge  -- of each node
+  pub seen : ℕ → Knowledge  -- by place
+  pub load : ℕ → Knowledge  -- by place
+  pub last : ℕ → ℕ  -- the number of a node's newest image
+  pub images : ℕ → ℕ → Knowledge  -- of each node, by number
+  pub standing : ℕ → Knowledge  -- of each node
+
+abbrev pub start : Past
+start = record {
+  next = 0;
+  writes = [];
+  known = λ n. nothing;
+  seen = λ p. nothing;
+  load = λ p. nothing;
+  last = λ n. 0;
+  images = λ n j. nothing;
+  standing = λ n. nothing;
+}
+
+-- whose a write is that the node makes now
+abbrev pub writer_of : Past → ℕ → ℕ
+writer_of s n = n
+
+-- what a write under the key has read: nothing, or what the Looked at place r saw
+abbrev pub read_of : Past → Key → Option ℕ → Places
+read_of s k None = empty
+read_of s k (Some r) = s.seen r k
+
+-- the node knows S under the key, and nothing else changes
+abbrev pub knows : ℕ → Key → Places → Past → Past
+knows n k S s = record s { known = put s.known n (with_set (s.known n) k S) }
+
+-- the node makes its next image: the standing one, with what it knows now under the key
+abbrev pub imaged : ℕ → Key → Past → Past
+imaged n k s =
+    let image : Knowledge = with_set (s.standing n) k (s.known n k) in
+    record s {
+      last = put s.last n (s.last n + 1);
+      images = put s.images n (put (s.images n) (s.last n + 1) image);
+      standing = put s.standing n image;
+    }
+
+-- the write stands in the list, and its node knows it and what it had read
+abbrev pub knows_write : ℕ → Key → ValueParts → Option ℕ → Past → Past
+knows_write n k v r s =
+    record (knows n k (union (s.known n k) (union (read_of s k r) (singleton s.next))) s) {
+      writes = (record { place = s.next; writer = writer_of s n; key = k; value = v; read = read_of s k r }) ∷ s.writes;
+    }
+
+-- what a happening changes, but for the next place
+abbrev pub happens_at : Past → Happening → Past
+happens_at s (Wrote n k v r) = imaged n k (knows_write n k v r s)
+happens_at s (Looked n k) = record s { seen = put s.seen s.next (with_set nothing k (s.known n k)) }
+happens_at s (Sent n k) = record s { load = put s.load s.next (with_set nothing k (s.known n k)) }
+happens_at s (Got n i) = record s { known = put s.known n (union_by_key (s.known n) (s.load i)) }
+happens_at s (Kept n k) = imaged n k s
+happens_at s (Restarted n j) = record s { known = put s.known n (s.images n j); standing = put s.standing n (s.images n j) }
+
+abbrev pub happens : Past → Happening → Past
+happens s h = record (happens_at s h) { next = s.next + 1 }
+
+abbrev pub run : Past → List Happening → Past
+run s [] = s
+run s (h ∷ hs) = run (happens s h) hs
+
+-- ---- words over a history
+
+abbrev pub past : List Happening → Past
+past hs = run start hs
+
+abbrev pub writes : List Happening → List Write
+writes hs = (past hs).writes
+
+-- what the node knows under the key
+abbrev pub known : List Happening → ℕ → Key → Places
+known hs n k = (past hs).known n k
+
+-- what the Looked at the place saw, and what the Sent at the place sent
+abbrev pub seen : List Happening → ℕ → Key → Places
+seen hs p k = (past hs).seen p k
+
+abbrev pub load : List Happening → ℕ → Key → Places
+load hs p k = (past hs).load p k
+
+-- what a write under the key would have read that names the Looked
+abbrev pub read : List Happening → Key → Option ℕ → Places
+read hs k r = read_of (past hs) k r
+
+-- what the node's image has under the key
+abbrev pub image : List Happening → ℕ → ℕ → Key → Places
+image hs n j k = (past hs).images n j k

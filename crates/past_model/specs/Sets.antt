@@ -1,0 +1,42 @@
+-- Sets of places in one list of happenings.
+use Rattle.std.specs.Prelude.{◌≡◌, ℕ, ◌==◌, nat_eq, if◌then◌else◌, Bool, true, false, ◌&&◌, ◌||◌}
+use Rattle.std.specs.Cmp.Lexicographic.{pointwise}
+use Rattle.meta_types.specs.Name.{Key}
+
+-- a set of places in the list of happenings
+abbrev pub Places : Type 0
+Places = ℕ → Bool
+
+abbrev pub empty : Places
+empty p = false
+
+abbrev pub singleton : ℕ → Places
+singleton place p = p == place
+
+abbrev pub union : Places → Places → Places
+union S T p = S p || T p
+
+pub record IsSubset (S T : Places) : Type 0 where
+  pub within : (p : ℕ) → S p ≡ true → T p ≡ true
+
+-- a set of places under each key
+abbrev pub Knowledge : Type 0
+Knowledge = Key → Places
+
+abbrev pub nothing : Knowledge
+nothing k = empty
+
+-- the keys have the same bytes
+abbrev pub key_eq : Key → Key → Bool
+key_eq a b = (pointwise nat_eq a.prefix.prefix b.prefix.prefix && pointwise nat_eq a.prefix.sub b.prefix.sub) && pointwise nat_eq a.key b.key
+
+-- the set S under k, and under each other key what there was
+abbrev pub with_set : Knowledge → Key → Places → Knowledge
+with_set v k S l = if key_eq l k then S else v l
+
+abbrev pub union_by_key : Knowledge → Knowledge → Knowledge
+union_by_key v w k = union (v k) (w k)
+
+-- x for n, and for each other number what there was
+abbrev pub put : {A : Type 0} → (ℕ → A) → ℕ → A → ℕ → A
+put f n x m = if m == n then x else f m
