@@ -42,3 +42,21 @@ pub mod Steps
 pub mod Arisen
 -- counters of one writer rise
 pub mod Counted
+-- the past of a history's first happenings
+pub mod Walking
+-- the moments at which a node's knowledge and images stand
+pub mod Latest
+-- the writes of a history's first happenings, and how many are in a set
+pub mod Counting
+-- what a write had read, and whether one had read another
+pub mod Reading
+-- lists by place and by writer
+pub mod Listing
+-- well-formed histories, place by place
+pub mod Fitting
+-- what was seen and sent before
+pub mod Told
+-- the moment behind one more happening
+pub mod Moving
+-- marks of unions and of sets under a key
+pub mod Marking

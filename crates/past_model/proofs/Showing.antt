@@ -31,7 +31,7 @@ pub append_right : (xs ys : List Write) (x : Write) → In x ys → In x (xs ++ 
 append_right [] ys x m = m
 append_right (z ∷ zs) ys x m = inr (append_right zs ys x m)
 
-order_append : (xs ys : List Write) → InOrder xs → InOrder ys → ((x y : Write) → In x xs → In y ys → ComesBefore x y) → InOrder (xs ++ ys)
+pub order_append : (xs ys : List Write) → InOrder xs → InOrder ys → ((x y : Write) → In x xs → In y ys → ComesBefore x y) → InOrder (xs ++ ys)
 order_append [] ys left right before = right
 order_append (z ∷ zs) ys left right before = (
   λ y m. ⊎_elim (λ h. left.0 y h) (λ h. before z y (inl refl) h) (in_append zs ys y m),
@@ -39,7 +39,7 @@ order_append (z ∷ zs) ys left right before = (
 )
 
 -- a list of one writer's writes that falls is in order
-order_filter : (w : ℕ) (P : Write → Bool) (ws : List Write) → IsFalling ws → InOrder (filter (λ x. eqb x.writer w && P x) ws)
+pub order_filter : (w : ℕ) (P : Write → Bool) (ws : List Write) → IsFalling ws → InOrder (filter (λ x. eqb x.writer w && P x) ws)
 order_filter w P [] falling = tt
 order_filter w P (x ∷ xs) falling =
     elim (eqb x.writer w && P x) as (λ b. (eqb x.writer w && P x) ≡ b → InOrder (cond b (x ∷ filter (λ x. eqb x.writer w && P x) xs) (filter (λ x. eqb x.writer w && P x) xs))) [

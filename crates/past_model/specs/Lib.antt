@@ -15,3 +15,5 @@ pub mod History
 pub mod Shown
 -- objects that arise in one history, and their order
 pub mod Arisen
+-- what private functions alone cite: marks for sets of places
+pub mod Moment

@@ -16,6 +16,11 @@ pub record IsClosed (ws : List Write) (k : Key) (S : Places) : Type 0 where
   pub reads : (x : Write) → In x ws → S x.place ≡ true → (p : ℕ) → x.read p ≡ true → S p ≡ true
   pub earlier : (x y : Write) → In x ws → In y ws → S x.place ≡ true → y.writer ≡ x.writer → y.key ≡ k → y.place < x.place → S y.place ≡ true
 
+-- the places of a set, rising
+pub record ArePlaces (S : Places) (places : List ℕ) : Type 0 where
+  pub all : (p : ℕ) → list_any (λ q. q == p) places ≡ S p
+  pub rising : RisesFrom 0 places
+
 -- ---- siblings
 
 -- a write of the set had read the one at the place

@@ -37,3 +37,82 @@ pub enum Happening {
         image: usize,
     },
 }
+
+impl Happening {
+    ghost use Rattle.std.specs.Prelude.{◌≡◌, Some};
+    ghost use Rattle.meta_types.specs.Node.{IsNode};
+    ghost use Rattle.past_model.specs.Moment.{is_look_under, is_sending, is_write_under, makes_image, node_of};
+
+    /// The node that it happened to.
+    pub(crate) fn node(&self) -> NodeId
+        ensures value { result ≡ node_of self.now }
+        ensures in_range { IsNode (node_of self.now) }
+    {
+        let node = match self {
+            Happening::Wrote { node, .. } => *node,
+            Happening::Looked { node, .. } => *node,
+            Happening::Sent { node, .. } => *node,
+            Happening::Got { node, .. } => *node,
+            Happening::Kept { node, .. } => *node,
+            Happening::Restarted { node, .. } => *node,
+        };
+        let _ = node.number();
+        node
+    }
+
+    /// Tells whether it makes an image of the node: a write, or keeping what is known.
+    pub(crate) fn makes_image(&self, of: NodeId) -> bool
+        ensures { result ≡ makes_image of self.now }
+    {
+        match self {
+            Happening::Wrote { node, .. } => *node == of,
+            Happening::Looked { .. } => false,
+            Happening::Sent { .. } => false,
+            Happening::Got { .. } => false,
+            Happening::Kept { node, .. } => *node == of,
+            Happening::Restarted { .. } => false,
+        }
+    }
+
+    /// Tells whether it is a write under the key.
+    pub(crate) fn is_write_under(&self, key: &MetaKey) -> bool
+        ensures { result ≡ is_write_under key.now (Some self.now) }
+    {
+        match self {
+            Happening::Wrote { key: of, .. } => *of == *key,
+            Happening::Looked { .. } => false,
+            Happening::Sent { .. } => false,
+            Happening::Got { .. } => false,
+            Happening::Kept { .. } => false,
+            Happening::Restarted { .. } => false,
+        }
+    }
+
+    /// Tells whether it is a `Looked` under the key.
+    pub(crate) fn is_look_under(&self, key: &MetaKey) -> bool
+        ensures { result ≡ is_look_under key.now (Some self.now) }
+    {
+        match self {
+            Happening::Wrote { .. } => false,
+            Happening::Looked { key: of, .. } => *of == *key,
+            Happening::Sent { .. } => false,
+            Happening::Got { .. } => false,
+            Happening::Kept { .. } => false,
+            Happening::Restarted { .. } => false,
+        }
+    }
+
+    /// Tells whether it is a `Sent`.
+    pub(crate) fn is_sending(&self) -> bool
+        ensures { result ≡ is_sending (Some self.now) }
+    {
+        match self {
+            Happening::Wrote { .. } => false,
+            Happening::Looked { .. } => false,
+            Happening::Sent { .. } => true,
+            Happening::Got { .. } => false,
+            Happening::Kept { .. } => false,
+            Happening::Restarted { .. } => false,
+        }
+    }
+}

@@ -1,0 +1,407 @@
+-- Lists by writer and by place: siblings, counters, and the places of a set.
+use Rattle.std.proofs.Common.{◌≡◌, ℕ, ◌+◌, ◌<◌, ◌≤◌, Bool, true, false, cond, zero, suc, List, [], ◌∷◌, ◌++◌, length, map, take, get_or, All, sym, ap, refl, subst, ◌∙◌, arith, ⊎_elim, inl, inr, eqb, Some, add-one, append_assoc}
+use Rattle.std.specs.Prelude.{slice_get, ◌&&◌, ◌||◌, not, filter}
+use Rattle.std.specs.List.{list_any}
+use Rattle.std.proofs.Math.Seq.{take-length}
+use Rattle.std.proofs.lemmas.Bool.{cases_eq, cases_lt, eqb-true, eq-eqb, ne_eqb, and_parts, and_from}
+use Rattle.std.proofs.lemmas.List.{append-nil, map-append}
+use Rattle.std.proofs.lemmas.List.Elements.{All-nil, All-cons, All-head, All-tail, All-append, All-push, All-weaker, filter-append}
+use Rattle.std.proofs.lemmas.List.Folds.{list_any-append}
+use Rattle.meta_types.specs.Node.{IsNode}
+use Rattle.meta_types.specs.Value.{ValueParts}
+use Rattle.dvvset.specs.Object.{Counter, RisesFrom, ids_counted, IsCounter, IsVector}
+use Rattle.dvvset.specs.Clock.{counter}
+use Rattle.dvvset.proofs.Objects.{vector_from_rest}
+use Rattle.past_model.specs.declared.happening.Happening.{Happening}
+use Rattle.past_model.specs.declared.happening.Happening.TheVariants.{Wrote, Looked, Sent, Got, Kept, Restarted}
+use Rattle.past_model.specs.Sets.{Places}
+use Rattle.past_model.specs.Past.{Past, Write, In, start, happens, run, past, writes}
+use Rattle.past_model.specs.Shown.{ArePlaces, was_read, is_sibling, InOrder, Shows, count_in, IsContext, siblings_by}
+use Rattle.past_model.specs.Moment.{made, node_of}
+use Rattle.past_model.proofs.Orderly.{IsFalling}
+use Rattle.past_model.proofs.Placed.{written, ordered}
+use Rattle.past_model.proofs.Members.{in_filter, of_filter}
+use Rattle.past_model.proofs.Showing.{in_append, append_left, append_right, order_append, order_filter}
+use Rattle.past_model.proofs.Counting.{writes_next, writes_made}
+use Rattle.past_model.proofs.Told.{next_at}
+
+-- ---- the siblings of one writer, from the last place down
+
+-- a writer's siblings
+abbrev pub by_writer : List Write → Places → ℕ → List Write
+by_writer ws S w = filter (λ x. eqb x.writer w && is_sibling ws S x) ws
+
+-- the values of those at the first places
+abbrev pub below_place : List Happening → Places → ℕ → ℕ → List ValueParts
+below_place hs S w i = map (λ x. x.value) (filter (λ x. eqb x.writer w && is_sibling (writes hs) S x) (writes (take i hs)))
+
+-- what is listed, and what is still to come, are the writer's siblings
+pub record Listed (hs : List Happening) (S : Places) (w : ℕ) (old values : List ValueParts) (i : ℕ) : Type 0 where
+  pub whole : values ++ below_place hs S w i ≡ old ++ siblings_by (writes hs) S w
+
+pub Listed-start : (hs : List Happening) (S : Places) (w : ℕ) (old : List ValueParts) (i : ℕ) → i ≡ length hs → Listed hs S w old old i
+Listed-start hs S w old i all =
+    record { whole = ap (λ l. old ++ map (λ x. x.value) (filter (λ x. eqb x.writer w && is_sibling (writes hs) S x) (writes l))) (ap (λ n. take n hs) all ∙ take-length hs) }
+
+pub Listed-end : (hs : List Happening) (S : Places) (w : ℕ) (old values : List ValueParts) (i : ℕ) → i ≡ 0 → Listed hs S w old values i → values ≡ old ++ siblings_by (writes hs) S w
+Listed-end hs S w old values i none l = sym (append-nil values) ∙ sym (ap (λ n. values ++ below_place hs S w n) none) ∙ l.whole
+
+one_kept : (a b : Bool) (x : Write) → cond (a && b) (x ∷ []) [] ≡ cond b (cond a (x ∷ []) []) []
+one_kept true true x = refl
+one_kept true false x = refl
+one_kept false true x = refl
+one_kept false false x = refl
+
+none_kept : (b : Bool) → ◌≡◌ {A = List Write} [] (cond b [] [])
+none_kept true = refl
+none_kept false = refl
+
+-- the write that a happening makes is kept where its place is a sibling's
+filter_made : (s : Past) (h : Happening) (ws : List Write) (S : Places) (w : ℕ) (b : Bool) → (S s.next && not (was_read ws S s.next)) ≡ b → filter (λ x. eqb x.writer w && is_sibling ws S x) (made s h) ≡ cond b (filter (λ x. eqb x.writer w) (made s h)) []
+filter_made s (Wrote n k v r) ws S w b e =
+    ap (λ t. cond (eqb n w && t) (written s n k v r ∷ []) []) e ∙ one_kept (eqb n w) b (written s n k v r)
+filter_made s (Looked n k) ws S w b e = none_kept b
+filter_made s (Sent n k) ws S w b e = none_kept b
+filter_made s (Got n i) ws S w b e = none_kept b
+filter_made s (Kept n k) ws S w b e = none_kept b
+filter_made s (Restarted n j) ws S w b e = none_kept b
+
+below_place-next : (hs : List Happening) (S : Places) (w i : ℕ) (h : Happening) (b : Bool) → i < length hs → h ≡ get_or hs i h → b ≡ (S i && not (was_read (writes hs) S i)) → below_place hs S w (i + 1) ≡ map (λ x. x.value) (cond b (filter (λ x. eqb x.writer w) (made (past (take i hs)) h)) []) ++ below_place hs S w i
+below_place-next hs S w i h b lt is sibling =
+    let P : Write → Bool = λ x. eqb x.writer w && is_sibling (writes hs) S x in
+    let s : Past = past (take i hs) in
+    let at : (S s.next && not (was_read (writes hs) S s.next)) ≡ b = ap (λ p. S p && not (was_read (writes hs) S p)) (next_at hs i (omega arith)) ∙ sym sibling in
+    ap (λ ws. map (λ x. x.value) (filter P ws)) (writes_next hs i h lt is)
+    ∙ ap (λ ws. map (λ x. x.value) ws) (filter-append P (made s h) (writes (take i hs)))
+    ∙ map-append (λ x. x.value) (filter P (made s h)) (filter P (writes (take i hs)))
+    ∙ ap (λ l. map (λ x. x.value) l ++ below_place hs S w i) (filter_made s h (writes hs) S w b at)
+
+pub Listed-sibling : (hs : List Happening) (S : Places) (w : ℕ) (old values more : List ValueParts) (i j : ℕ) (h : Happening) → i < length hs → h ≡ get_or hs i h → j ≡ i + 1 → true ≡ (S i && not (was_read (writes hs) S i)) → more ≡ values ++ map (λ x. x.value) (filter (λ x. eqb x.writer w) (made (past (take i hs)) h)) → Listed hs S w old values j → Listed hs S w old more i
+Listed-sibling hs S w old values more i j h lt is next sibling pushed l =
+    let new : List ValueParts = map (λ x. x.value) (filter (λ x. eqb x.writer w) (made (past (take i hs)) h)) in
+    record {
+      whole =
+          ap (λ vs. vs ++ below_place hs S w i) pushed
+          ∙ append_assoc values new (below_place hs S w i)
+          ∙ sym (ap (λ vs. values ++ vs) (below_place-next hs S w i h true lt is sibling))
+          ∙ sym (ap (λ n. values ++ below_place hs S w n) next)
+          ∙ l.whole;
+    }
+
+pub Listed-other : (hs : List Happening) (S : Places) (w : ℕ) (old values : List ValueParts) (i j : ℕ) (h : Happening) → i < length hs → h ≡ get_or hs i h → j ≡ i + 1 → false ≡ (S i && not (was_read (writes hs) S i)) → Listed hs S w old values j → Listed hs S w old values i
+Listed-other hs S w old values i j h lt is next sibling l =
+    record {
+      whole =
+          sym (ap (λ vs. values ++ vs) (below_place-next hs S w i h false lt is sibling))
+          ∙ sym (ap (λ n. values ++ below_place hs S w n) next)
+          ∙ l.whole;
+    }
+
+-- ---- the siblings of the first writers
+
+abbrev pub by_writers : List Write → Places → ℕ → List Write
+by_writers ws S zero = []
+by_writers ws S (suc n) = by_writers ws S n ++ by_writer ws S n
+
+pub by_writers-next : (ws : List Write) (S : Places) (n : ℕ) → map (λ x. x.value) (by_writers ws S (n + 1)) ≡ map (λ x. x.value) (by_writers ws S n) ++ siblings_by ws S n
+by_writers-next ws S n =
+    ap (λ m. map (λ x. x.value) (by_writers ws S m)) (add-one n) ∙ map-append (λ x. x.value) (by_writers ws S n) (by_writer ws S n)
+
+-- of one writer
+pub record IsBy (ws : List Write) (S : Places) (x : Write) (w : ℕ) : Type 0 where
+  pub member : In x ws
+  pub writer : x.writer ≡ w
+  pub sibling : is_sibling ws S x ≡ true
+
+of_writer : (ws : List Write) (S : Places) (w : ℕ) (x : Write) → In x (by_writer ws S w) → IsBy ws S x w
+of_writer ws S w x m =
+    let found : In x ws × ((eqb x.writer w && is_sibling ws S x) ≡ true) = of_filter (λ x. eqb x.writer w && is_sibling ws S x) ws x m in
+    let parts : (eqb x.writer w ≡ true) × (is_sibling ws S x ≡ true) = and_parts (eqb x.writer w) (is_sibling ws S x) found.1 in
+    record { member = found.0; writer = eqb-true x.writer w parts.0; sibling = parts.1 }
+
+-- of one of the first writers
+pub record IsBelow (ws : List Write) (S : Places) (x : Write) (n : ℕ) : Type 0 where
+  pub member : In x ws
+  pub writer : x.writer < n
+  pub sibling : is_sibling ws S x ≡ true
+
+of_writers : (ws : List Write) (S : Places) (n : ℕ) (x : Write) → In x (by_writers ws S n) → IsBelow ws S x n
+of_writers ws S zero x m = absurd m
+of_writers ws S (suc n) x m =
+    ⊎_elim
+    (λ h. let one : IsBelow ws S x n = of_writers ws S n x h in record { member = one.member; writer = let lt : x.writer < n = one.writer in omega arith; sibling = one.sibling })
+    (λ h. let one : IsBy ws S x n = of_writer ws S n x h in record { member = one.member; writer = let e : x.writer ≡ n = one.writer in omega arith; sibling = one.sibling })
+    (in_append (by_writers ws S n) (by_writer ws S n) x m)
+
+in_writers : (ws : List Write) (S : Places) (n : ℕ) (x : Write) → In x ws → x.writer < n → is_sibling ws S x ≡ true → In x (by_writers ws S n)
+in_writers ws S zero x m lt e = absurd (omega arith)
+in_writers ws S (suc n) x m lt e =
+    ⊎_elim
+    (λ (same : x.writer ≡ n).
+    append_right (by_writers ws S n) (by_writer ws S n) x
+    (in_filter (λ x. eqb x.writer n && is_sibling ws S x) ws x m (and_from (eqb x.writer n) (is_sibling ws S x) (eq-eqb x.writer n same) e)))
+    (λ ne. append_left (by_writers ws S n) (by_writer ws S n) x (in_writers ws S n x m (omega arith) e))
+    (cases_eq x.writer n)
+
+writers_ordered : (ws : List Write) (S : Places) (n : ℕ) → IsFalling ws → InOrder (by_writers ws S n)
+writers_ordered ws S zero falling = tt
+writers_ordered ws S (suc n) falling =
+    order_append (by_writers ws S n) (by_writer ws S n) (writers_ordered ws S n falling) (order_filter n (is_sibling ws S) ws falling)
+    (λ x y m l.
+    let before : x.writer < n = (of_writers ws S n x m).writer in
+    let here : y.writer ≡ n = (of_writer ws S n y l).writer in
+    let lt : x.writer < y.writer = omega arith in
+    inl lt)
+
+-- ---- all writers are nodes
+
+made_by : (s : Past) (h : Happening) (x : Write) → In x (made s h) → x.writer ≡ node_of h
+made_by s (Wrote n k v r) x m = ⊎_elim (λ here. ap (λ z. z.writer) here) (λ later. absurd later) m
+made_by s (Looked n k) x m = absurd m
+made_by s (Sent n k) x m = absurd m
+made_by s (Got n i) x m = absurd m
+made_by s (Kept n k) x m = absurd m
+made_by s (Restarted n j) x m = absurd m
+
+pub record Writers (ws : List Write) : Type 0 where
+  pub nodes : (x : Write) → In x ws → IsNode x.writer
+
+writers_run : (s : Past) (hs : List Happening) → ((p : ℕ) (h : Happening) → slice_get hs p ≡ Some h → IsNode (node_of h)) → Writers s.writes → Writers (run s hs).writes
+writers_run s [] nodes w = w
+writers_run s (h ∷ hs) nodes w =
+    writers_run (happens s h) hs (λ p g at. nodes (suc p) g at)
+    (record {
+      nodes = λ x m. ⊎_elim
+          (λ new. let node : node_of h < 16 = nodes 0 h refl in let by : x.writer ≡ node_of h = made_by s h x new in omega arith)
+          (λ old. w.nodes x old)
+          (in_append (made s h) s.writes x (subst (λ ws. In x ws) (writes_made s h) m));
+    })
+
+pub writers_are_nodes : (hs : List Happening) → ((p : ℕ) (h : Happening) → slice_get hs p ≡ Some h → IsNode (node_of h)) → Writers (writes hs)
+writers_are_nodes hs nodes = writers_run start hs nodes (record { nodes = λ x m. absurd m })
+
+pub all_shown : (hs : List Happening) (S : Places) (values : List ValueParts) → ((p : ℕ) (h : Happening) → slice_get hs p ≡ Some h → IsNode (node_of h)) → values ≡ map (λ x. x.value) (by_writers (writes hs) S 16) → Shows (writes hs) S values
+all_shown hs S values nodes is =
+    let ws : List Write = writes hs in
+    record {
+      siblings = by_writers ws S 16;
+      are = record {
+        members = λ x. (
+          λ m. let one : IsBelow ws S x 16 = of_writers ws S 16 x m in (one.member, one.sibling),
+          λ m. in_writers ws S 16 x m.0 ((writers_are_nodes hs nodes).nodes x m.0) m.1,
+        );
+        ordered = writers_ordered ws S 16 (ordered hs).falling;
+      };
+      of_siblings = is;
+    }
+
+-- ---- numbers that rise
+
+rises_snoc : (ns : List ℕ) (low n : ℕ) → low ≤ n → RisesFrom low ns → All (λ k. k < n) ns → RisesFrom low (ns ++ n ∷ [])
+rises_snoc [] low n le rises all = (le, tt)
+rises_snoc (m ∷ ns) low n le rises all =
+    let lt : m < n = All-head (λ k. k < n) m ns all in
+    (rises.0, rises_snoc ns (m + 1) n (omega arith) rises.1 (All-tail (λ k. k < n) m ns all))
+
+-- numbers that rise, all below one
+pub record Rise (n : ℕ) (ns : List ℕ) : Type 0 where
+  pub rising : RisesFrom 0 ns
+  pub below : All (λ k. k < n) ns
+
+rise_none : Rise 0 []
+rise_none = record { rising = tt; below = All-nil (λ k. k < 0) }
+
+rise_same : (n : ℕ) (ns : List ℕ) → Rise n ns → Rise (suc n) ns
+rise_same n ns r = record { rising = r.rising; below = All-weaker (λ k. k < n) (λ k. k < suc n) (λ k lt. omega arith) ns r.below }
+
+rise_more : (n : ℕ) (ns : List ℕ) → Rise n ns → Rise (suc n) (ns ++ n ∷ [])
+rise_more n ns r =
+    record {
+      rising = rises_snoc ns 0 n (omega arith) r.rising r.below;
+      below = All-push (λ k. k < suc n) ns n (All-weaker (λ k. k < n) (λ k. k < suc n) (λ k lt. omega arith) ns r.below) (omega arith);
+    }
+
+-- ---- the places of a set
+
+abbrev pub places_to : Places → ℕ → List ℕ
+places_to S zero = []
+places_to S (suc n) = places_to S n ++ cond (S n) (n ∷ []) []
+
+pub places_to-next : (S : Places) (n : ℕ) → places_to S (n + 1) ≡ places_to S n ++ cond (S n) (n ∷ []) []
+places_to-next S n = ap (places_to S) (add-one n)
+
+places_rise : (S : Places) (n : ℕ) → Rise n (places_to S n)
+places_rise S zero = rise_none
+places_rise S (suc n) =
+    elim (S n) as (λ b. Rise (suc n) (places_to S n ++ cond b (n ∷ []) [])) [
+      | true ↦ rise_more n (places_to S n) (places_rise S n)
+      | false ↦ subst (Rise (suc n)) (sym (append-nil (places_to S n))) (rise_same n (places_to S n) (places_rise S n))
+    ]
+
+or_none : (b : Bool) → (b || false) ≡ b
+or_none true = refl
+or_none false = refl
+
+and_none : (b : Bool) → (b && false) ≡ false
+and_none true = refl
+and_none false = refl
+
+and_all : (b : Bool) → (b && true) ≡ b
+and_all true = refl
+and_all false = refl
+
+-- whether the place is the next one of the set
+last_place : (S : Places) (n p : ℕ) → list_any (λ q. eqb q p) (places_to S (suc n)) ≡ (list_any (λ q. eqb q p) (places_to S n) || (S n && eqb n p))
+last_place S n p =
+    list_any-append (λ q. eqb q p) (places_to S n) (cond (S n) (n ∷ []) [])
+    ∙ ap (λ b. list_any (λ q. eqb q p) (places_to S n) || b)
+    (elim (S n) as (λ b. list_any (λ q. eqb q p) (cond b (n ∷ []) []) ≡ (b && eqb n p)) [
+      | true ↦ or_none (eqb n p)
+      | false ↦ refl
+    ])
+
+places_past : (S : Places) (n p : ℕ) → n ≤ p → list_any (λ q. eqb q p) (places_to S n) ≡ false
+places_past S zero p le = refl
+places_past S (suc n) p le =
+    let other : (n ≡ p → ⊥) = λ e. absurd (omega arith) in
+    last_place S n p
+    ∙ ap (λ b. b || (S n && eqb n p)) (places_past S n p (omega arith))
+    ∙ ap (λ b. S n && b) (ne_eqb n p other)
+    ∙ and_none (S n)
+
+places_in : (S : Places) (n p : ℕ) → p < n → list_any (λ q. eqb q p) (places_to S n) ≡ S p
+places_in S zero p lt = absurd (omega arith)
+places_in S (suc n) p lt =
+    last_place S n p
+    ∙ ⊎_elim
+    (λ (same : n ≡ p).
+    ap (λ b. b || (S n && eqb n p)) (places_past S n p (omega arith)) ∙ ap (λ b. S n && b) (eq-eqb n p same) ∙ and_all (S n) ∙ ap S same)
+    (λ ne.
+    ap (λ b. list_any (λ q. eqb q p) (places_to S n) || (S n && b)) (ne_eqb n p ne)
+    ∙ ap (λ b. list_any (λ q. eqb q p) (places_to S n) || b) (and_none (S n))
+    ∙ or_none (list_any (λ q. eqb q p) (places_to S n))
+    ∙ places_in S n p (omega arith))
+    (cases_eq n p)
+
+pub all_places : (S : Places) (n : ℕ) (places : List ℕ) → ((p : ℕ) → n ≤ p → S p ≡ false) → places ≡ places_to S n → ArePlaces S places
+all_places S n places none is =
+    subst (ArePlaces S) (sym is)
+    (record {
+      all = λ p. ⊎_elim (λ lt. places_in S n p lt) (λ le. places_past S n p le ∙ sym (none p le)) (cases_lt p n);
+      rising = (places_rise S n).rising;
+    })
+
+-- ---- the counters of the first writers
+
+abbrev pub counter_of : ℕ → ℕ → List Counter
+counter_of w n = cond (eqb n 0) [] ((record { id = w; count = n }) ∷ [])
+
+abbrev pub counters_to : List Write → Places → ℕ → List Counter
+counters_to ws S zero = []
+counters_to ws S (suc n) = counters_to ws S n ++ counter_of n (count_in ws S n)
+
+ids_append : (xs ys : List Counter) → ids_counted (xs ++ ys) ≡ ids_counted xs ++ ids_counted ys
+ids_append xs ys = map-append (λ (c : Counter). c.id) xs ys
+
+counters_rise : (ws : List Write) (S : Places) (n : ℕ) → Rise n (ids_counted (counters_to ws S n))
+counters_rise ws S zero = rise_none
+counters_rise ws S (suc n) =
+    subst (Rise (suc n)) (sym (ids_append (counters_to ws S n) (counter_of n (count_in ws S n))))
+    (elim (eqb (count_in ws S n) 0) as (λ b. Rise (suc n) (ids_counted (counters_to ws S n) ++ ids_counted (cond b [] ((record { id = n; count = count_in ws S n }) ∷ [])))) [
+      | true ↦ subst (Rise (suc n)) (sym (append-nil (ids_counted (counters_to ws S n)))) (rise_same n (ids_counted (counters_to ws S n)) (counters_rise ws S n))
+      | false ↦ rise_more n (ids_counted (counters_to ws S n)) (counters_rise ws S n)
+    ])
+
+counter_left : (xs ys : List Counter) (w : ℕ) → counter ys w ≡ 0 → counter (xs ++ ys) w ≡ counter xs w
+counter_left [] ys w none = none
+counter_left (x ∷ xs) ys w none = ap (λ n. cond (eqb x.id w) x.count n) (counter_left xs ys w none)
+
+counter_right : (xs ys : List Counter) (w n : ℕ) → n ≤ w → All (λ k. k < n) (ids_counted xs) → counter (xs ++ ys) w ≡ counter ys w
+counter_right [] ys w n le below = refl
+counter_right (x ∷ xs) ys w n le below =
+    let lt : x.id < n = All-head (λ k. k < n) x.id (ids_counted xs) below in
+    let other : (x.id ≡ w → ⊥) = λ e. absurd (omega arith) in
+    ap (λ b. cond b x.count (counter (xs ++ ys) w)) (ne_eqb x.id w other) ∙ counter_right xs ys w n le (All-tail (λ k. k < n) x.id (ids_counted xs) below)
+
+some_counter : (w n : ℕ) → counter_of w (suc n) ≡ (record { id = w; count = suc n }) ∷ []
+some_counter w n = ap (λ b. cond b [] ((record { id = w; count = suc n }) ∷ [])) (ne_eqb (suc n) 0 (λ e. absurd (omega arith)))
+
+counter_here : (w n : ℕ) → counter (counter_of w n) w ≡ n
+counter_here w zero = refl
+counter_here w (suc n) = ap (λ l. counter l w) (some_counter w n) ∙ ap (λ b. cond b (suc n) 0) (eq-eqb w w refl)
+
+counter_there : (v n w : ℕ) → (v ≡ w → ⊥) → counter (counter_of v n) w ≡ 0
+counter_there v zero w ne = refl
+counter_there v (suc n) w ne = ap (λ l. counter l w) (some_counter v n) ∙ ap (λ b. cond b (suc n) 0) (ne_eqb v w ne)
+
+counters_past : (ws : List Write) (S : Places) (n w : ℕ) → n ≤ w → counter (counters_to ws S n) w ≡ 0
+counters_past ws S zero w le = refl
+counters_past ws S (suc n) w le =
+    counter_left (counters_to ws S n) (counter_of n (count_in ws S n)) w (counter_there n (count_in ws S n) w (λ e. absurd (omega arith)))
+    ∙ counters_past ws S n w (omega arith)
+
+counters_in : (ws : List Write) (S : Places) (n w : ℕ) → w < n → counter (counters_to ws S n) w ≡ count_in ws S w
+counters_in ws S zero w lt = absurd (omega arith)
+counters_in ws S (suc n) w lt =
+    ⊎_elim
+    (λ (same : n ≡ w).
+    counter_right (counters_to ws S n) (counter_of n (count_in ws S n)) w n (omega arith) (counters_rise ws S n).below
+    ∙ ap (λ m. counter (counter_of m (count_in ws S m)) w) same
+    ∙ counter_here w (count_in ws S w))
+    (λ ne.
+    counter_left (counters_to ws S n) (counter_of n (count_in ws S n)) w (counter_there n (count_in ws S n) w ne)
+    ∙ counters_in ws S n w (omega arith))
+    (cases_eq n w)
+
+counter_held : (w n : ℕ) → All (λ c. 1 ≤ c.count) (counter_of w n)
+counter_held w zero = All-nil (λ (c : Counter). 1 ≤ c.count)
+counter_held w (suc n) =
+    subst (All (λ (c : Counter). 1 ≤ c.count)) (sym (some_counter w n)) (All-cons (λ (c : Counter). 1 ≤ c.count) (record { id = w; count = suc n }) [] (omega arith) (All-nil (λ (c : Counter). 1 ≤ c.count)))
+
+counters_held : (ws : List Write) (S : Places) (n : ℕ) → All (λ c. 1 ≤ c.count) (counters_to ws S n)
+counters_held ws S zero = All-nil (λ (c : Counter). 1 ≤ c.count)
+counters_held ws S (suc n) = All-append (λ (c : Counter). 1 ≤ c.count) (counters_to ws S n) (counter_of n (count_in ws S n)) (counters_held ws S n) (counter_held n (count_in ws S n))
+
+-- a writer that is no node has no write
+no_writes : (ws : List Write) (S : Places) (w : ℕ) → Writers ws → 16 ≤ w → count_in ws S w ≡ 0
+no_writes [] S w nodes le = refl
+no_writes (x ∷ xs) S w nodes le =
+    let node : x.writer < 16 = nodes.nodes x (inl refl) in
+    let other : (x.writer ≡ w → ⊥) = λ e. absurd (omega arith) in
+    ap (λ b. length (cond (b && S x.place) (x ∷ filter (λ y. eqb y.writer w && S y.place) xs) (filter (λ y. eqb y.writer w && S y.place) xs))) (ne_eqb x.writer w other)
+    ∙ no_writes xs S w (record { nodes = λ y m. nodes.nodes y (inr m) }) le
+
+-- the counters so far, and they are lawful
+pub record Counters (ws : List Write) (S : Places) (n : ℕ) (cs : List Counter) : Type 0 where
+  pub are : cs ≡ counters_to ws S n
+  pub lawful : All IsCounter cs
+
+pub Counters-start : (ws : List Write) (S : Places) → Counters ws S 0 []
+Counters-start ws S = record { are = refl; lawful = All-nil IsCounter }
+
+lawful_counter : (w n : ℕ) → w < 16 → n < 18446744073709551616 → All IsCounter (counter_of w n)
+lawful_counter w zero node lt = All-nil IsCounter
+lawful_counter w (suc n) node lt =
+    subst (All IsCounter) (sym (some_counter w n))
+    (All-cons IsCounter (record { id = w; count = suc n }) [] (record { node = node; counted = record { least = omega arith; most = lt } }) (All-nil IsCounter))
+
+pub Counters-next : (ws : List Write) (S : Places) (n m : ℕ) (cs more : List Counter) → n < 16 → m < 18446744073709551616 → m ≡ count_in ws S n → more ≡ cs ++ counter_of n m → Counters ws S n cs → Counters ws S (n + 1) more
+Counters-next ws S n m cs more node lt count pushed c =
+    record {
+      are = pushed ∙ ap (λ x. cs ++ counter_of n x) count ∙ ap (λ l. l ++ counter_of n (count_in ws S n)) c.are ∙ sym (ap (counters_to ws S) (add-one n));
+      lawful = subst (All IsCounter) (sym pushed) (All-append IsCounter cs (counter_of n m) c.lawful (lawful_counter n m node lt));
+    }
+
+pub counters_vector : (ws : List Write) (S : Places) (n : ℕ) (cs : List Counter) → Counters ws S n cs → IsVector cs
+counters_vector ws S n cs c =
+    vector_from_rest cs (record { rising = subst (λ l. RisesFrom 0 (ids_counted l)) (sym c.are) (counters_rise ws S n).rising; lawful = c.lawful })
+
+pub counters_context : (hs : List Happening) (S : Places) (cs : List Counter) → ((p : ℕ) (h : Happening) → slice_get hs p ≡ Some h → IsNode (node_of h)) → Counters (writes hs) S 16 cs → IsContext (writes hs) S cs
+counters_context hs S cs nodes c =
+    let ws : List Write = writes hs in
+    subst (IsContext ws S) (sym c.are)
+    (record {
+      rising = (counters_rise ws S 16).rising;
+      counts = λ w. ⊎_elim (λ lt. counters_in ws S 16 w lt) (λ le. counters_past ws S 16 w le ∙ sym (no_writes ws S w (writers_are_nodes hs nodes) le)) (cases_lt w 16);
+      held = counters_held ws S 16;
+    })
