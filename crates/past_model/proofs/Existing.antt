@@ -1,14 +1,16 @@
 -- A closed set has an object: its entries, writer by writer.
-use Rattle.std.proofs.Common.{◌≡◌, ℕ, ◌+◌, ◌<◌, ◌≤◌, true, cond, zero, suc, List, [], ◌∷◌, sym, ap, refl, subst, ◌∙◌, arith, max, ⊎_elim, Option, Some, None, eqb}
+use Rattle.std.proofs.Common.{◌≡◌, ℕ, ◌+◌, ◌<◌, ◌≤◌, Bool, true, false, cond, zero, suc, List, [], ◌∷◌, length, map, sym, ap, refl, subst, ◌∙◌, arith, max, ⊎_elim, Option, Some, None, eqb}
 use Rattle.std.specs.Prelude.{◌&&◌, filter}
 use Rattle.std.proofs.lemmas.Bool.{cases_eq, eqb-true, eq-eqb, ne_eqb, and_parts}
 use Rattle.meta_types.specs.Name.{Key}
 use Rattle.dvvset.specs.Object.{Entry}
 use Rattle.dvvset.specs.Writer.{entry_of}
 use Rattle.dvvset.proofs.Writers.{Rises, entry_of-low}
-use Rattle.past_model.specs.Sets.{Places}
+use Rattle.past_model.specs.Sets.{Places, empty}
 use Rattle.past_model.specs.Past.{Write, In}
 use Rattle.past_model.specs.Shown.{IsClosed, IsObjectOf, count_in, siblings_by}
+use Rattle.std.proofs.Math.Bool.{and-false}
+use Rattle.past_model.proofs.Grown.{closed_empty}
 use Rattle.past_model.proofs.Members.{of_filter, counted_member}
 use Rattle.past_model.proofs.Rendered.{entry_with}
 use Rattle.past_model.proofs.Closed.{entry_in}
@@ -109,3 +111,21 @@ object_of ws k S closed =
             entries = λ w. entry_of-gathered (entry_in ws S) is bound.0 0 w (omega arith) (λ far. none_from ws S bound.0 w bound.1 (omega arith));
           }),
     )
+
+-- ---- the empty set
+
+none_kept : (P : Write → Bool) (ws : List Write) → ((x : Write) → P x ≡ false) → filter P ws ≡ []
+none_kept P [] none = refl
+none_kept P (x ∷ xs) none = ap (λ b. cond b (x ∷ filter P xs) (filter P xs)) (none x) ∙ none_kept P xs none
+
+-- it has the absent object
+pub absent_object : (ws : List Write) (k : Key) → IsObjectOf ws k empty []
+absent_object ws k = record {
+  closed = closed_empty ws k;
+  context = record {
+    rising = tt;
+    counts = λ w. sym (ap length (none_kept (λ x. eqb x.writer w && false) ws (λ x. and-false (eqb x.writer w))));
+    held = λ i d lt. absurd (omega arith);
+  };
+  siblings = λ w. sym (ap (map (λ x. x.value)) (none_kept (λ x. eqb x.writer w && false) ws (λ x. and-false (eqb x.writer w))));
+}

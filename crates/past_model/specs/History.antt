@@ -23,6 +23,6 @@ pub record IsHistory (hs : List Happening) : Type 0 where
 pub record KnowsOwn (s : Past) (n : ℕ) : Type 0 where
   pub own : (x : Write) → In x s.writes → x.writer ≡ writer_of s n → s.known n x.key x.place ≡ true
 
--- the restart premise: after each restart its node knows every write that it made before
+-- the restart premise: no restart leaves a node without a write of its own
 pub record RestartsKeepOwnWrites (hs : List Happening) : Type 0 where
   pub keeps : (before after : List Happening) (n j : ℕ) → hs ≡ before ++ Restarted n j ∷ after → KnowsOwn (happens (past before) (Restarted n j)) n

@@ -1,5 +1,6 @@
 -- The past: happenings in one order for all nodes, and what each node knows after them. A place is a happening's number
--- in that list, counted from 0; a write is named by its place. This is a rule of our own: it knows no counters.
+-- in that list, counted from 0; a write is named by its place. The rule is our own. It uses no counters, so
+-- that clocks can be measured against it.
 use Rattle.std.specs.Prelude.{◌≡◌, ℕ, ◌+◌, List, [], ◌∷◌, Option, Some, None, ◌⊎◌}
 use Rattle.meta_types.specs.Name.{Key}
 use Rattle.meta_types.specs.Value.{ValueParts}
@@ -21,7 +22,8 @@ In x [] = ⊥
 In x (y ∷ ys) = (x ≡ y) ⊎ In x ys
 
 -- `seen` has, at the place of a Looked, what its node knew under its key; `load` at that of a Sent. Images are numbered
--- from 0, which is the empty one; the standing image of a node is the one last made or last restarted from.
+-- from 0, which is the empty one; a node's standing image is what its next image starts from: its newest,
+-- or that of its last restart if that came later.
 pub record Past : Type 0 where
   pub next : ℕ  -- the place of the next happening
   pub writes : List Write  -- the later first
@@ -44,7 +46,7 @@ start = record {
   standing = λ n. nothing;
 }
 
--- whose a write is that the node makes now
+-- the writer of a write that the node makes now: today, the node
 abbrev pub writer_of : Past → ℕ → ℕ
 writer_of s n = n
 
@@ -109,7 +111,7 @@ seen hs p k = (past hs).seen p k
 abbrev pub load : List Happening → ℕ → Key → Places
 load hs p k = (past hs).load p k
 
--- what a write under the key would have read that names the Looked
+-- what a write under the key would have read, were it made now and named r
 abbrev pub read : List Happening → Key → Option ℕ → Places
 read hs k r = read_of (past hs) k r
 

@@ -56,7 +56,8 @@ pub record Shows (ws : List Write) (S : Places) (values : List ValueParts) : Typ
 abbrev pub count_in : List Write → Places → ℕ → ℕ
 count_in ws S w = length (filter (λ x. x.writer == w && S x.place) ws)
 
--- the context of the set: in the order of the writers, for each that has a write in the set, how many it has there
+-- the context of the set: in the order of the writers, each that has a write in the set, and the number of its writes
+-- in the set
 pub record IsContext (ws : List Write) (S : Places) (counters : List Counter) : Type 0 where
   pub rising : RisesFrom 0 (ids_counted counters)
   pub counts : (w : ℕ) → counter counters w ≡ count_in ws S w
@@ -64,7 +65,7 @@ pub record IsContext (ws : List Write) (S : Places) (counters : List Counter) : 
 
 -- ---- the object
 
--- the values of a writer's siblings, the later first
+-- the values of a writer's siblings, in the order of the list, which in a history is the later first
 abbrev pub siblings_by : List Write → Places → ℕ → List ValueParts
 siblings_by ws S w = map (λ x. x.value) (filter (λ x. x.writer == w && is_sibling ws S x) ws)
 

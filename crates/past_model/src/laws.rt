@@ -1,6 +1,6 @@
 //! The laws of merging, writing and reading, over histories. Each function does nothing: its contract is
-//! the law. A law that asks for a history asks for the restart premise alone, so it holds of each list of
-//! happenings that keeps it, well-formed or not.
+//! the law. No law asks for a well-formed history; those that need more than a list of happenings ask for
+//! the restart premise.
 
 ghost use Rattle.std.specs.Prelude.{◌≡◌, ◌≢◌, ◌↔◌, ◌∷◌, ◌++◌, [], ℕ, true, List, Option, length};
 ghost use Rattle.meta_types.specs.Name.{Key};
@@ -10,7 +10,7 @@ ghost use Rattle.dvvset.specs.Clock.{descends, join, sync, update, values_of};
 ghost use Rattle.dvvset.specs.Writer.{count_of};
 ghost use Rattle.past_model.specs.declared.happening.Happening.{Happening as H};
 ghost use Rattle.past_model.specs.declared.happening.Happening.TheVariants.{Got, Wrote};
-ghost use Rattle.past_model.specs.Sets.{IsSubset, Places, singleton, union};
+ghost use Rattle.past_model.specs.Sets.{IsSubset, Places, empty, singleton, union};
 ghost use Rattle.past_model.specs.Past.{known, load, past, read, writer_of, writes};
 ghost use Rattle.past_model.specs.History.{RestartsKeepOwnWrites};
 ghost use Rattle.past_model.specs.Shown.{IsClosed, IsContext, IsObjectOf, Shows};
@@ -22,11 +22,12 @@ pub fn what_the_past_reaches_is_closed()
     ensures { (hs : List H) → RestartsKeepOwnWrites hs → (k : Key) → ReachesClosed hs k }
 {}
 
-/// A closed set of writes has an object, and only one. It stays the object of that set while the history
-/// goes on.
+/// A closed set of writes has an object, and only one; the empty set has the absent object. It stays the
+/// object of that set while the history goes on.
 pub fn a_closed_set_has_one_object()
     ensures exists { (hs : List H) → RestartsKeepOwnWrites hs → (k : Key) (S : Places) → IsClosed (writes hs) k S
         → (object : List Entry) × IsObjectOf (writes hs) k S object }
+    ensures absent { (hs : List H) (k : Key) → IsObjectOf (writes hs) k empty [] }
     ensures one { (hs : List H) (k : Key) (S : Places) (a b : List Entry)
         → IsObjectOf (writes hs) k S a → IsObjectOf (writes hs) k S b → a ≡ b }
     ensures stays { (hs more : List H) (k : Key) (S : Places) (a : List Entry)
@@ -65,17 +66,20 @@ pub fn merging_is_commutative_associative_and_idempotent()
     ensures idempotent { (hs : List H) (k : Key) (a : List Entry) → IsArisen hs k a → sync a a ≡ a }
 {}
 
-/// The merge is above both, and below each object that is.
+/// The merge is above both, and below each arisen object that is.
 pub fn merging_is_the_least_upper_bound()
     ensures { (hs : List H) (k : Key) (a b : List Entry) → IsArisen hs k a → IsArisen hs k b
         → IsLeastUpperBound hs k a b (sync a b) }
 {}
 
-/// A context descends another exactly where the other's set is a subset.
+/// A context descends another exactly where the other's set is a subset, and so exactly where the other
+/// object is below.
 pub fn descending_is_inclusion()
-    ensures { (hs : List H) → RestartsKeepOwnWrites hs → (k : Key) (S T : Places) (a b : List Entry)
+    ensures sets { (hs : List H) → RestartsKeepOwnWrites hs → (k : Key) (S T : Places) (a b : List Entry)
         → IsObjectOf (writes hs) k S a → IsObjectOf (writes hs) k T b
         → (descends (join b) (join a) ≡ true) ↔ IsSubset S T }
+    ensures order { (hs : List H) (k : Key) (a b : List Entry) → IsArisen hs k a → IsArisen hs k b
+        → (descends (join b) (join a) ≡ true) ↔ IsBelow hs k a b }
 {}
 
 /// Closed sets with equal contexts are equal, and so are their objects.
@@ -114,8 +118,9 @@ pub fn a_write_adds_what_it_read_and_itself()
 
 /// Two writes of one writer under one key have unequal counters.
 pub fn no_two_writes_share_a_counter()
-    ensures { (hs : List H) → RestartsKeepOwnWrites hs → (n : ℕ) (k : Key)
+    ensures { (hs : List H) → RestartsKeepOwnWrites hs → (n m : ℕ) (k : Key)
         → (before after earlier later : List H) (v u : ValueParts) (r q : Option ℕ)
-        → hs ≡ before ++ Wrote n k v r ∷ after → hs ≡ earlier ++ Wrote n k u q ∷ later
-        → counter_of before n k v r ≡ counter_of earlier n k u q → before ≡ earlier }
+        → hs ≡ before ++ Wrote n k v r ∷ after → hs ≡ earlier ++ Wrote m k u q ∷ later
+        → writer_of (past before) n ≡ writer_of (past earlier) m
+        → counter_of before n k v r ≡ counter_of earlier m k u q → before ≡ earlier }
 {}

@@ -1,7 +1,8 @@
 //! The past: what happened, what each node knows of it, and the laws that tie it to the arithmetic of
 //! clocks.
 //!
-//! Definitions and laws speak of sets of writes and of unions, and of no counter.
+//! What nodes know is defined by sets of writes and unions; counters come in only where a set is shown as
+//! an object.
 #![tactic(auto)]
 
 #[cfg(test)]

@@ -39,7 +39,7 @@ impl<'a> Model for Plain<'a> {
 }
 
 impl<'a> Plain<'a> {
-    /// The account of a history. It takes memory for two marks a place and happening, and time with the
+    /// The account of a history. It takes memory for two marks for each pair of a place and a happening, and time with the
     /// square of the number of happenings.
     pub fn replay(alloc: Global, history: &'a [Happening]) -> Result<Self, AllocError>
         requires { IsHistory history.now }
