@@ -39,8 +39,8 @@ impl<'a> Model for Plain<'a> {
 }
 
 impl<'a> Plain<'a> {
-    /// The account of a history. It takes memory for two marks for each pair of a place and a happening, and time with the
-    /// square of the number of happenings.
+    /// The account of a history. It takes memory for two marks for each pair of a place and a happening,
+    /// and time with the square of the number of happenings.
     pub fn replay(alloc: Global, history: &'a [Happening]) -> Result<Self, AllocError>
         requires { IsHistory history.now }
         ensures { IfOk result (λ plain. plain ≡ history.now) }
