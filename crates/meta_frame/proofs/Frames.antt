@@ -5,119 +5,18 @@ use Rattle.std.specs.Prelude.{IfOk, IfErr, MatchOption}
 use Rattle.std.specs.Int.{Width, byte_len, w8, w16, w32, w64, to_be_bytes}
 use Rattle.std.proofs.lemmas.Bool.{eqb-true, eqb-false, ne_eqb, ltb-true, ltb-false, le-ltb, lt-ltb, cases_lt}
 use Rattle.std.proofs.lemmas.List.{append-nil, nil_from_length, length-append, length-take, length-drop, take-append-drop, drop-drop, get_or_past}
-use Rattle.meta_types.specs.Name.{Key}
-use Rattle.dvvset.specs.Object.{Entry}
 use Rattle.meta_frame.specs.declared.message.Message.{Message}
-use Rattle.meta_frame.specs.declared.message.Message.TheVariants.{Gossip, Prune}
 use Rattle.meta_frame.specs.declared.message.Frame.{Frame}
 use Rattle.meta_frame.specs.declared.fault.FrameFault.{FrameFault}
 use Rattle.meta_frame.specs.declared.fault.FrameFault.TheVariants.{Short, BadMagic, BadVersion, BadKind, TooLong, BadBody, LeftOver, Memory}
-use Rattle.meta_frame.specs.Form.{any_number, then_form}
-use Rattle.meta_frame.specs.Field.{key, object}
-use Rattle.meta_frame.specs.Frame.{kind_of, gossip, body, IsMessage, BadFields, is_kind, limit, header, spelling, IsLawful, Spells, first_that_applies, number_in, kind_in, from_in, to_in, len_in, header_tests, IsBodyFault, Refuses}
-use Rattle.meta_frame.specs.Reading.{Reader, ◌>>=◌, number_at, then_at, key_at, object_at, gossip_at, message_at, framed, whole, checked, decode_of, Decodes}
-use Rattle.meta_frame.proofs.Readers.{IsBytes, IsBytes-drop, IsBytes-take, Reads, IsWide, wide8, wide16, wide32, wide64, number_reads, then_reads, bind_ok, bind_err, ok_is, done}
-use Rattle.meta_frame.proofs.Fields.{key_reads, object_reads}
-
--- ---- the table of kinds: one law for each
-
-gossip_fields : Reader (ℕ × (Key × List Entry))
-gossip_fields = then_at (number_at w16) (λ _. then_at key_at (λ _. object_at))
-
-gossip_reads : Reads gossip (then_at (number_at w16) (λ _. then_at key_at (λ _. object_at)))
-gossip_reads =
-    then_reads (any_number w16) (λ _. then_form key (λ _. object)) (number_at w16) (λ _. then_at key_at (λ _. object_at)) (number_reads w16 wide16)
-    (λ _. then_reads key (λ _. object) key_at (λ _. object_at) key_reads (λ _. object_reads))
-
--- what reading a body of one kind took
-pub record Took (kind : ℕ) (bytes : List ℕ) (m : Message) (rest : List ℕ) : Type 0 where
-  pub kind_is : kind ≡ kind_of m
-  pub fits : IsMessage m
-  pub spelled : bytes ≡ body m ++ rest
-
-abbrev TookBoth : ℕ → List ℕ → Message × List ℕ → Type 0
-TookBoth kind bytes p = Took kind bytes p.0 p.1
-
--- the laws of the reader of one kind
-record ReadsKind (kind : ℕ) (read : Reader Message) : Type 0 where
-  pub takes : (bytes : List ℕ) (p : Message × List ℕ) → IsBytes bytes → read bytes ≡ Ok p → TookBoth kind bytes p
-  pub faulty : (bytes : List ℕ) (left : ℕ) → IsBytes bytes → read bytes ≡ Err left → BadFields kind bytes left
-
-gossip_kind : ReadsKind 1 gossip_at
-unfolding gossip_at
-gossip_kind = record {
-  takes = λ bytes p is e.
-      let b = bind_ok (then_at (number_at w16) (λ _. then_at key_at (λ _. object_at)) bytes) (λ x. Ok (Gossip x.0.0 x.0.1.0 x.0.1.1, x.1)) p e in
-      let t = gossip_reads.takes bytes b.0.0 b.0.1 is b.1.0 in
-      subst (TookBoth 1 bytes) (ok_is (Gossip b.0.0.0 b.0.0.1.0 b.0.0.1.1, b.0.1) p b.1.1) (record { kind_is = refl; fits = t.0; spelled = t.1 });
-  faulty = λ bytes left is e.
-      elim (bind_err (then_at (number_at w16) (λ _. then_at key_at (λ _. object_at)) bytes) (λ x. Ok (Gossip x.0.0 x.0.1.0 x.0.1.1, x.1)) left e) [
-        | inl bad ↦ (refl, gossip_reads.faulty bytes left is bad)
-        | inr b ↦ absurd (let no : done (Gossip b.0.0.0 b.0.0.1.0 b.0.0.1.1, b.0.1) ≡ Err left = b.1.1 in cc)
-      ];
-}
-
-prune_kind : ReadsKind 4 (λ bytes. Ok (Prune, bytes))
-prune_kind = record {
-  takes = λ bytes p is e. subst (TookBoth 4 bytes) (ok_is (Prune, bytes) p e) (record { kind_is = refl; fits = tt; spelled = refl });
-  faulty = λ bytes left is e. absurd (let no : done (Prune, bytes) ≡ Err left = e in cc);
-}
-
-pub message_again : (m : Message) (rest : List ℕ) → IsMessage m → message_at (kind_of m) (body m ++ rest) ≡ Ok (m, rest)
-unfolding message_at gossip_at
-message_again (Gossip round k o) rest fits = rw (gossip_reads.again (round, (k, o)) rest fits) refl
-message_again Prune rest fits = refl
-
-pub message_refuses : (kind : ℕ) (bytes : List ℕ) (left : ℕ) → BadFields kind bytes left → message_at kind bytes ≡ Err left
-unfolding message_at gossip_at
-message_refuses kind bytes left bad =
-    (λ i. message_at (bad.0 i) bytes)
-    ∙ ap (λ r. r >>= λ x. Ok (Gossip x.0.0 x.0.1.0 x.0.1.1, x.1)) (gossip_reads.refuses bytes left bad.1)
-
--- ---- any kind
+use Rattle.meta_frame.specs.Frame.{kind_of, body, is_kind, limit, header, spelling, IsLawful, Spells, first_that_applies, number_in, kind_in, from_in, to_in, len_in, header_tests, IsBodyFault, Refuses}
+use Rattle.meta_frame.specs.Reading.{message_at, framed, whole, checked, decode_of, Decodes}
+use Rattle.meta_frame.proofs.Readers.{IsBytes, IsBytes-drop, IsBytes-take, IsWide, wide8, wide16, wide32, wide64}
+use Rattle.meta_frame.proofs.Rows.{message_again, message_refuses, message_takes, message_faulty, known_kind, small_kind}
 
 chosen : {A : Type 0} (b : Bool) (x y z : A) → cond b x y ≡ z → ((b ≡ true) × (x ≡ z)) ⊎ ((b ≡ false) × (y ≡ z))
 chosen true x y z e = inl (refl, e)
 chosen false x y z e = inr (refl, e)
-
-as_kind : (kind n : ℕ) (bytes : List ℕ) (p : Message × List ℕ) → eqb kind n ≡ true → TookBoth n bytes p → TookBoth kind bytes p
-as_kind kind n bytes p e t = record { kind_is = eqb-true kind n e ∙ t.kind_is; fits = t.fits; spelled = t.spelled }
-
-abbrev prune_at : Reader Message
-prune_at bytes = Ok (Prune, bytes)
-
-abbrev no_kind : Reader Message
-no_kind bytes = Err (length bytes)
-
-pub message_takes : (kind : ℕ) (bytes : List ℕ) (p : Message × List ℕ) → IsBytes bytes → message_at kind bytes ≡ Ok p → TookBoth kind bytes p
-unfolding message_at
-message_takes kind bytes p is e =
-    elim (chosen (eqb kind 1) (gossip_at bytes) (cond (eqb kind 4) (prune_at bytes) (no_kind bytes)) (Ok p) e) [
-      | inl one ↦ as_kind kind 1 bytes p one.0 (gossip_kind.takes bytes p is one.1)
-      | inr others ↦ elim (chosen (eqb kind 4) (prune_at bytes) (no_kind bytes) (Ok p) others.1) [
-        | inl four ↦ as_kind kind 4 bytes p four.0 (prune_kind.takes bytes p is four.1)
-        | inr none ↦ absurd (let no : no_kind bytes ≡ Ok p = none.1 in cc)
-      ]
-    ]
-
-pub message_faulty : (kind : ℕ) (bytes : List ℕ) (left : ℕ) → IsBytes bytes → is_kind kind ≡ true → message_at kind bytes ≡ Err left → BadFields kind bytes left
-unfolding message_at
-message_faulty kind bytes left is known e =
-    elim (chosen (eqb kind 1) (gossip_at bytes) (cond (eqb kind 4) (prune_at bytes) (no_kind bytes)) (Err left) e) [
-      | inl one ↦ (eqb-true kind 1 one.0, (gossip_kind.faulty bytes left is one.1).1)
-      | inr others ↦ elim (chosen (eqb kind 4) (prune_at bytes) (no_kind bytes) (Err left) others.1) [
-        | inl four ↦ absurd (let no : done (Prune, bytes) ≡ Err left = four.1 in cc)
-        | inr none ↦ absurd (let a : eqb kind 1 ≡ false = others.0 in let b : eqb kind 4 ≡ false = none.0 in let no : (eqb kind 1 || eqb kind 4) ≡ true = known in let yes : (false || false) ≡ true = (λ i. sym a i || sym b i) ∙ no in cc)
-      ]
-    ]
-
-known_kind : (m : Message) → is_kind (kind_of m) ≡ true
-known_kind (Gossip round k o) = refl
-known_kind Prune = refl
-
-small_kind : (m : Message) → kind_of m < 2 ^ 8
-small_kind (Gossip round k o) = omega arith
-small_kind Prune = omega arith
 
 -- ---- the header
 

@@ -6,6 +6,8 @@ pub mod Loops
 pub mod Fields
 -- which values, vectors and objects have a spelling
 pub mod Spellable
+-- the table of kinds, with the laws of each reader
+pub mod Rows
 -- frames: what is read is spelled so, and the refusals are the first that apply
 pub mod Frames
 -- what writing fields leaves at the end of bytes

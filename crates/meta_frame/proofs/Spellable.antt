@@ -87,6 +87,27 @@ counters_fit low (c ∷ cs) rises all =
     let one = All-head IsCounter c cs all in
     ((number_fits w16 low 15 c.id (omega (arith, one.node)) rises.0 (omega (arith, one.node)), count_fits c.count one.counted), counters_fit (c.id + 1) cs rises.1 (All-tail IsCounter c cs all))
 
+pub vector_fits : (cs : List Counter) → IsVector cs → 1 ≤ length cs → vector.Fits cs
+vector_fits cs is least = (number_fits w16 1 65535 (length cs) is.few least (omega (arith, is.few)), (refl, counters_fit 0 cs is.rising is.counters))
+
+-- what tells whether a vector counts some writer
+pub some_vector : (cs : List Counter) (empty : Bool) → IsVector cs → (empty ≡ true) ↔ (cs ≡ []) → (not empty ≡ true) ↔ vector.Fits cs
+some_vector [] empty is tells = ((λ h. absurd (let yes : empty ≡ true = tells.1 refl in let no : not true ≡ true = ap not (sym yes) ∙ h in cc)), (λ fits. absurd (let few = number_within w16 1 65535 0 fits.0 in omega (arith, few.least))))
+some_vector (c ∷ cs) true is tells = absurd (let no : c ∷ cs ≡ [] = tells.0 refl in cc)
+some_vector (c ∷ cs) false is tells = ((λ h. vector_fits (c ∷ cs) is (omega arith)), (λ fits. refl))
+
+-- the counters' spelling depends on nothing but themselves
+pub spell_counters : (low : ℕ) (cs : List Counter) → spell_each counter above_counter low cs ≡ flat_map (counter 0).spell cs
+spell_counters low [] = refl
+spell_counters low (c ∷ cs) = ap (λ bytes. (counter 0).spell c ++ bytes) (spell_counters (c.id + 1) cs) ∙ sym (flat_map-cons (counter 0).spell c cs)
+
+counters_size : (low : ℕ) (cs : List Counter) → length (spell_each counter above_counter low cs) ≡ 10 * length cs
+counters_size low [] = refl
+counters_size low (c ∷ cs) = let rest : length (spell_each counter above_counter (c.id + 1) cs) ≡ 10 * length cs = counters_size (c.id + 1) cs in omega arith
+
+pub vector_size : (cs : List Counter) → 2 + 10 * length cs ≡ length (vector.spell cs)
+vector_size cs = let n : length (spell_each counter above_counter 0 cs) ≡ 10 * length cs = counters_size 0 cs in omega arith
+
 -- ---- objects
 
 entry_in_range : (low : ℕ) (e : Entry) → (entry low).Fits e → IsEntry e

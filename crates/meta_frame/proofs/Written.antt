@@ -4,10 +4,10 @@ use Rattle.std.proofs.lemmas.List.{append-nil}
 use Rattle.std.proofs.lemmas.List.Concat.{flat_map-cons}
 use Rattle.std.specs.List.{flat_map}
 use Rattle.std.specs.Int.{w16, w64, to_be_bytes}
-use Rattle.dvvset.specs.Object.{Entry}
+use Rattle.dvvset.specs.Object.{Entry, Counter}
 use Rattle.meta_frame.specs.Form.{spell_each}
-use Rattle.meta_frame.specs.Field.{value, entry, object, above_entry}
-use Rattle.meta_frame.proofs.Spellable.{spell_values, spell_entries}
+use Rattle.meta_frame.specs.Field.{value, entry, object, above_entry, counter, vector}
+use Rattle.meta_frame.proofs.Spellable.{spell_values, spell_entries, spell_counters}
 
 pub written_entry : (front : List ℕ) (e : Entry) → (((front ++ to_be_bytes w16 e.id) ++ to_be_bytes w64 e.count) ++ to_be_bytes w16 (length e.values)) ++ flat_map value.spell e.values ≡ front ++ (entry 0).spell e
 written_entry front e =
@@ -37,3 +37,8 @@ written_object front es =
 
 pub object_size : (n : ℕ) (es : List Entry) → n ≡ length (flat_map (entry 0).spell es) → 2 + n ≡ length (object.spell es)
 object_size n es e = let same : length (spell_each entry above_entry 0 es) ≡ length (flat_map (entry 0).spell es) = ap length (spell_entries 0 es) in omega arith
+
+pub written_vector : (front : List ℕ) (cs : List Counter) → (front ++ to_be_bytes w16 (length cs)) ++ flat_map (counter 0).spell cs ≡ front ++ vector.spell cs
+written_vector front cs =
+    append_assoc front (to_be_bytes w16 (length cs)) (flat_map (counter 0).spell cs)
+    ∙ ap (λ bytes. front ++ (to_be_bytes w16 (length cs) ++ bytes)) (sym (spell_counters 0 cs))

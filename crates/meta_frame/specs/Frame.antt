@@ -1,45 +1,106 @@
 -- Frames: a header of 20 bytes, and a body for each kind of message.
-use Rattle.std.specs.Prelude.{◌≡◌, ℕ, ◌+◌, ◌-◌, ◌<◌, ◌≤◌, ◌^◌, ◌==◌, ◌≢◌, nat_lt, ◌⊎◌, List, [], ◌∷◌, ◌++◌, length, take, drop, Bool, not, ◌||◌, Option, Some, None, MatchOption, if◌then◌else◌, codes}
+use Rattle.std.specs.Prelude.{◌≡◌, ℕ, ◌+◌, ◌-◌, ◌<◌, ◌≤◌, ◌^◌, ◌==◌, ◌≢◌, nat_lt, ◌⊎◌, List, [], ◌∷◌, ◌++◌, length, take, drop, Bool, false, not, ◌||◌, Option, Some, None, MatchOption, if◌then◌else◌, codes}
 use Rattle.std.specs.Int.{Width, byte_len, w8, w16, w32, w64, to_be_bytes, from_be_bytes}
 use Rattle.meta_frame.specs.declared.message.Message.{Message}
-use Rattle.meta_frame.specs.declared.message.Message.TheVariants.{Gossip, Prune}
+use Rattle.meta_frame.specs.declared.message.Message.TheVariants.{Gossip, IHave, Graft, Prune, Join, Disconnect, XObject, XWant}
 use Rattle.meta_frame.specs.declared.message.Frame.{Frame}
 use Rattle.meta_frame.specs.declared.fault.FrameFault.{FrameFault}
 use Rattle.meta_frame.specs.declared.fault.FrameFault.TheVariants.{Short, BadMagic, BadVersion, BadKind, TooLong, BadBody, LeftOver}
 use Rattle.meta_frame.specs.Form.{Form, any_number, then_form}
-use Rattle.meta_frame.specs.Field.{key, object}
+use Rattle.meta_frame.specs.Field.{key, vector, object}
 use Rattle.meta_types.specs.Name.{Key}
-use Rattle.dvvset.specs.Object.{Entry}
+use Rattle.dvvset.specs.Object.{Entry, Counter}
 
 -- ---- the table of kinds: number, name, and the form of the body
 
 abbrev pub kind_of : Message → ℕ
 kind_of (Gossip round k o) = 1
+kind_of (IHave round k v) = 2
+kind_of (Graft round k v) = 3
 kind_of Prune = 4
+kind_of Join = 5
+kind_of Disconnect = 7
+kind_of (XObject k o) = 17
+kind_of (XWant k) = 18
 
 abbrev pub name_of : Message → List ℕ
 name_of (Gossip round k o) = codes "GOSSIP"
+name_of (IHave round k v) = codes "IHAVE"
+name_of (Graft round k v) = codes "GRAFT"
 name_of Prune = codes "PRUNE"
+name_of Join = codes "JOIN"
+name_of Disconnect = codes "DISCONNECT"
+name_of (XObject k o) = codes "XOBJECT"
+name_of (XWant k) = codes "XWANT"
 
 -- a round, a key and an object
 abbrev pub gossip : Form (ℕ × (Key × List Entry))
 gossip = then_form (any_number w16) (λ _. then_form key (λ _. object))
 
+-- a round, a key and a vector
+abbrev pub announced : Form (ℕ × (Key × List Counter))
+announced = then_form (any_number w16) (λ _. then_form key (λ _. vector))
+
+-- a key and an object
+abbrev pub carried : Form (Key × List Entry)
+carried = then_form key (λ _. object)
+
 abbrev pub body : Message → List ℕ
 body (Gossip round k o) = gossip.spell (round, (k, o))
+body (IHave round k v) = announced.spell (round, (k, v))
+body (Graft round k v) = announced.spell (round, (k, v))
 body Prune = []
+body Join = []
+body Disconnect = []
+body (XObject k o) = carried.spell (k, o)
+body (XWant k) = key.spell k
 
 -- the fields of the message have a spelling
 abbrev pub IsMessage : Message → Type 0
 IsMessage (Gossip round k o) = gossip.Fits (round, (k, o))
+IsMessage (IHave round k v) = announced.Fits (round, (k, v))
+IsMessage (Graft round k v) = announced.Fits (round, (k, v))
 IsMessage Prune = Unit {0}
+IsMessage Join = Unit {0}
+IsMessage Disconnect = Unit {0}
+IsMessage (XObject k o) = carried.Fits (k, o)
+IsMessage (XWant k) = key.Fits k
+
+-- a kind, and which bytes are at fault in a body of it
+pub record Row : Type 1 where
+  pub kind : ℕ
+  pub Bad : List ℕ → ℕ → Type 0
+
+-- a body without fields has none at fault
+abbrev pub NoField : List ℕ → ℕ → Type 0
+NoField bytes left = ⊥
+
+abbrev pub rows : List Row
+rows =
+    (record { kind = 1; Bad = gossip.Bad })
+    ∷ (record { kind = 2; Bad = announced.Bad })
+    ∷ (record { kind = 3; Bad = announced.Bad })
+    ∷ (record { kind = 4; Bad = NoField })
+    ∷ (record { kind = 5; Bad = NoField })
+    ∷ (record { kind = 7; Bad = NoField })
+    ∷ (record { kind = 17; Bad = carried.Bad })
+    ∷ (record { kind = 18; Bad = key.Bad })
+    ∷ []
 
 -- a field of a body of this kind is at fault
+abbrev pub BadIn : List Row → ℕ → List ℕ → ℕ → Type 0
+BadIn [] kind bytes left = ⊥
+BadIn (row ∷ others) kind bytes left = ((kind ≡ row.kind) × row.Bad bytes left) ⊎ BadIn others kind bytes left
+
 abbrev pub BadFields : ℕ → List ℕ → ℕ → Type 0
-BadFields kind bytes left = (kind ≡ 1) × gossip.Bad bytes left
+BadFields = BadIn rows
+
+abbrev pub is_in : List Row → ℕ → Bool
+is_in [] kind = false
+is_in (row ∷ others) kind = (kind == row.kind) || is_in others kind
 
 abbrev pub is_kind : ℕ → Bool
-is_kind kind = (kind == 1) || (kind == 4)
+is_kind = is_in rows
 
 -- ---- frames
 

@@ -9,7 +9,7 @@ use Rattle.dvvset.specs.Object.{Entry, Counter}
 use Rattle.meta_frame.specs.Field.{any_count, none, forget, above_counter, above_entry, has_value}
 use Rattle.meta_frame.specs.Frame.{number_in, kind_in, from_in, to_in, header_tests, first_that_applies}
 use Rattle.meta_frame.specs.declared.message.Message.{Message}
-use Rattle.meta_frame.specs.declared.message.Message.TheVariants.{Gossip, Prune}
+use Rattle.meta_frame.specs.declared.message.Message.TheVariants.{Gossip, IHave, Graft, Prune, Join, Disconnect, XObject, XWant}
 use Rattle.meta_frame.specs.declared.message.Frame.{Frame}
 use Rattle.meta_frame.specs.declared.fault.FrameFault.{FrameFault}
 use Rattle.meta_frame.specs.declared.fault.FrameFault.TheVariants as frames
@@ -102,10 +102,22 @@ object_at = ruled_at entries_at has_value
 unfoldable pub gossip_at : Reader Message
 gossip_at = made_at (then_at (number_at w16) (λ _. then_at key_at (λ _. object_at))) (λ p. Gossip p.0 p.1.0 p.1.1)
 
+unfoldable pub announced_at : (ℕ → Key → List Counter → Message) → Reader Message
+announced_at make = made_at (then_at (number_at w16) (λ _. then_at key_at (λ _. vector_at))) (λ p. make p.0 p.1.0 p.1.1)
+
+unfoldable pub carried_at : Reader Message
+carried_at = made_at (then_at key_at (λ _. object_at)) (λ p. XObject p.0 p.1)
+
 unfoldable pub message_at : ℕ → Reader Message
 message_at kind bytes =
     if kind == 1 then gossip_at bytes else (
-    if kind == 4 then Ok (Prune, bytes) else Err (length bytes))
+    if kind == 2 then announced_at IHave bytes else (
+    if kind == 3 then announced_at Graft bytes else (
+    if kind == 4 then Ok (Prune, bytes) else (
+    if kind == 5 then Ok (Join, bytes) else (
+    if kind == 7 then Ok (Disconnect, bytes) else (
+    if kind == 17 then carried_at bytes else (
+    if kind == 18 then made_at key_at (λ k. XWant k) bytes else Err (length bytes))))))))
 
 -- the frame of a header and a message
 abbrev pub framed : List ℕ → Message → Frame

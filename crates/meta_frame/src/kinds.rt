@@ -6,18 +6,24 @@ ghost use Rattle.meta_frame.specs.Frame.{is_kind, kind_of, name_of, body, IsMess
 ghost use Rattle.meta_frame.specs.Reading.{Gives, message_at};
 
 use crate::fault::FieldFault;
-use crate::lawful::{is_key, is_object, is_u16};
-use crate::lengths::{key_len, object_len};
+use crate::lawful::{is_key, is_object, is_u16, is_vector};
+use crate::lengths::{key_len, object_len, vector_len};
 use crate::message::Message;
-use crate::reading::{key_of, object_of, u16_of};
-use crate::writing::{write_key, write_object, write_u16};
+use crate::reading::{key_of, object_of, u16_of, vector_of};
+use crate::writing::{write_key, write_object, write_u16, write_vector};
 use std::alloc::{AllocError, Global};
 
 macro_rules! frame_kinds {
     ($make:ident $with:tt) => {
         $make! { $with
             1 "GOSSIP" Gossip { round: number16, key: key, object: object }
+            2 "IHAVE" IHave { round: number16, key: key, vector: vector }
+            3 "GRAFT" Graft { round: number16, key: key, vector: vector }
             4 "PRUNE" Prune {}
+            5 "JOIN" Join {}
+            7 "DISCONNECT" Disconnect {}
+            17 "XOBJECT" XObject { key: key, object: object }
+            18 "XWANT" XWant { key: key }
         }
     };
 }
@@ -25,6 +31,7 @@ macro_rules! frame_kinds {
 macro_rules! read_field {
     (number16 $alloc:ident $rest:ident) => { u16_of($rest)? };
     (key $alloc:ident $rest:ident) => { key_of($alloc, $rest)? };
+    (vector $alloc:ident $rest:ident) => { vector_of($alloc, $rest)? };
     (object $alloc:ident $rest:ident) => { object_of($alloc, $rest)? };
 }
 
@@ -43,7 +50,7 @@ macro_rules! read_kind {
 }
 
 /// The message of this kind at the front of the bytes.
-#[tactic(auto, unfolding(crate::specs::Reading::message_at, crate::specs::Reading::gossip_at))]
+#[tactic(auto, unfolding(crate::specs::Reading::message_at, crate::specs::Reading::gossip_at, crate::specs::Reading::announced_at, crate::specs::Reading::carried_at))]
 pub(crate) fn message_of(
     alloc: Global,
     kind: u8,
@@ -107,6 +114,9 @@ macro_rules! field_fits {
     (key $field:ident) => {
         is_key($field)
     };
+    (vector $field:ident) => {
+        is_vector($field)
+    };
     (object $field:ident) => {
         is_object($field)
     };
@@ -134,6 +144,9 @@ macro_rules! write_field {
     };
     (key $out:ident $field:ident) => {
         write_key($out, $field)?
+    };
+    (vector $out:ident $field:ident) => {
+        write_vector($out, $field)?
     };
     (object $out:ident $field:ident) => {
         write_object($out, $field)?
@@ -167,6 +180,9 @@ macro_rules! field_len {
     (key $field:ident) => {
         key_len($field)
     };
+    (vector $field:ident) => {
+        vector_len($field)
+    };
     (object $field:ident) => {
         object_len($field)
     };
@@ -195,6 +211,9 @@ macro_rules! copy_field {
         *$field
     };
     (key $field:ident) => {
+        $field.copy()?
+    };
+    (vector $field:ident) => {
         $field.copy()?
     };
     (object $field:ident) => {

@@ -3,14 +3,14 @@
 ghost use Rattle.std.specs.Prelude.{◌≡◌, ◌<◌, ◌^◌, ◌↔◌, IsTrue, All};
 ghost use Rattle.std.specs.Int.{w16};
 ghost use Rattle.meta_frame.specs.Form.{any_number};
-ghost use Rattle.meta_frame.specs.Field.{key, object};
+ghost use Rattle.meta_frame.specs.Field.{key, object, vector};
 ghost use Rattle.meta_frame.specs.Size.{IsShort};
 ghost use Rattle.meta_frame.specs.Frame.{IsLawful};
 
 use crate::kinds::message_fits;
 use crate::message::Frame;
 use crate::reading::all_are_bare;
-use dvvset::{Entries, Entry};
+use dvvset::{Entries, Entry, Vector};
 use meta_types::MetaKey;
 
 /// Always true: what a frame asks of a number of 16 bits its type keeps.
@@ -27,6 +27,14 @@ pub(crate) fn is_key(k: &MetaKey) -> bool
 {
     let _key = k.key();
     true
+}
+
+/// Tells whether a vector has a spelling in frames: it counts some writer.
+pub(crate) fn is_vector(v: &Vector) -> bool
+    ensures { IsTrue result ↔ vector.Fits v.now }
+{
+    let _counters = v.counters();
+    !v.is_empty()
 }
 
 /// Tells whether an object has a spelling in frames: it shows a value, and no entry shows more than

@@ -3,10 +3,10 @@
 ghost use Rattle.std.specs.Prelude.{◌≡◌, ◌+◌, ◌*◌, ◌≤◌, ◌<◌, ◌^◌, length, All};
 ghost use Rattle.std.specs.List.{flat_map};
 ghost use Rattle.meta_frame.specs.Form.{spell_each};
-ghost use Rattle.meta_frame.specs.Field.{key, value, entry, object, none, forget};
+ghost use Rattle.meta_frame.specs.Field.{key, value, entry, object, vector, none, forget};
 ghost use Rattle.meta_frame.specs.Size.{IsShort};
 
-use dvvset::{Entries, Entry};
+use dvvset::{Entries, Entry, Vector};
 use meta_types::{MetaKey, Value};
 
 /// The length of a key's spelling, at most 390 bytes.
@@ -16,6 +16,15 @@ pub(crate) fn key_len(k: &MetaKey) -> usize
 {
     let prefix = k.prefix();
     6 + prefix.prefix().len() + prefix.sub().len() + k.key().len()
+}
+
+/// The length of a vector's spelling.
+pub(crate) fn vector_len(v: &Vector) -> usize
+    requires { vector.Fits v.now }
+    ensures value { result ≡ length (vector.spell v.now) }
+    ensures small { result ≤ 655360 }
+{
+    2 + 10 * v.counters().len()
 }
 
 fn value_len(v: &Value) -> usize

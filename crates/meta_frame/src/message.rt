@@ -1,7 +1,7 @@
 ghost use Rattle.std.specs.Prelude.{◌≡◌, IfOk};
 
 use crate::kinds::copy_message;
-use dvvset::Entries;
+use dvvset::{Entries, Vector};
 use meta_types::{MetaKey, NodeId};
 use std::alloc::AllocError;
 
@@ -14,8 +14,33 @@ pub enum Message {
         key: MetaKey,
         object: Entries,
     },
+    /// 2: an object of this vector is there to be asked for.
+    IHave {
+        round: u16,
+        key: MetaKey,
+        vector: Vector,
+    },
+    /// 3: asks for the object that was announced, and for objects on this link from now on.
+    Graft {
+        round: u16,
+        key: MetaKey,
+        vector: Vector,
+    },
     /// 4: the sender wants no more objects on this link, but their announcements.
     Prune,
+    /// 5: the sender joins at this node.
+    Join,
+    /// 7: the sender takes the addressee out of its active view.
+    Disconnect,
+    /// 17: an object, in an exchange.
+    XObject {
+        key: MetaKey,
+        object: Entries,
+    },
+    /// 18: asks for an object, in an exchange.
+    XWant {
+        key: MetaKey,
+    },
 }
 
 /// A message on its way. The number counts the frames of the sender's life from 1; receivers don't

@@ -2,7 +2,7 @@ use super::*;
 use crate::decode::decode;
 use crate::encode::{encode, put_object};
 use crate::field::{get_key, get_object, get_prefix, get_vector};
-use crate::lawful::{is_lawful, is_object};
+use crate::lawful::{is_lawful, is_object, is_vector};
 use dvvset::{Counter, Entries, Entry, Vector};
 use meta_types::{FullPrefix, MetaKey, NodeId, Value};
 use std::alloc::{AllocError, Global};
@@ -17,6 +17,25 @@ const PRUNE: [u8; 20] = *b"PT\x01\x04\x00\x01\x00\x00\0\0\0\0\0\0\0\x05\0\0\0\0"
 // GOSSIP from 0 to 1, number 1, round 0, of key a/b/k with one value x of node 0.
 const GOSSIP: [u8; 57] = *b"PT\x01\x01\x00\x00\x00\x01\0\0\0\0\0\0\0\x01\0\0\0\x25\
     \0\0\0\x01a\0\x01b\0\x01k\0\x01\0\0\0\0\0\0\0\0\0\x01\0\x01\x01\0\0\0\0\0\0\0\0\0\x01x";
+
+// From 0 to 1, number 2, round 3, of key a/b/k with the vector 0:2,1:1.
+const IHAVE: [u8; 53] = *b"PT\x01\x02\0\0\0\x01\0\0\0\0\0\0\0\x02\0\0\0\x21\
+    \0\x03\0\x01a\0\x01b\0\x01k\0\x02\0\0\0\0\0\0\0\0\0\x02\0\x01\0\0\0\0\0\0\0\x01";
+
+const GRAFT: [u8; 53] = *b"PT\x01\x03\0\0\0\x01\0\0\0\0\0\0\0\x02\0\0\0\x21\
+    \0\x03\0\x01a\0\x01b\0\x01k\0\x02\0\0\0\0\0\0\0\0\0\x02\0\x01\0\0\0\0\0\0\0\x01";
+
+// From 1 to 0, number 1.
+const JOIN: [u8; 20] = *b"PT\x01\x05\0\x01\0\0\0\0\0\0\0\0\0\x01\0\0\0\0";
+
+const DISCONNECT: [u8; 20] = *b"PT\x01\x07\0\x01\0\0\0\0\0\0\0\0\0\x01\0\0\0\0";
+
+// From 0 to 1, number 1, of key a/b/k, the first with one value x of node 0.
+const XOBJECT: [u8; 55] = *b"PT\x01\x11\0\0\0\x01\0\0\0\0\0\0\0\x01\0\0\0\x23\
+    \0\x01a\0\x01b\0\x01k\0\x01\0\0\0\0\0\0\0\0\0\x01\0\x01\x01\0\0\0\0\0\0\0\0\0\x01x";
+
+const XWANT: [u8; 29] = *b"PT\x01\x12\0\0\0\x01\0\0\0\0\0\0\0\x01\0\0\0\x09\
+    \0\x01a\0\x01b\0\x01k";
 
 // Entries of nodes 0 and 1: their ids stand at 2 and 23, the second behind a tombstone of 9 bytes.
 const TWO_ENTRIES: [u8; 35] =
@@ -160,9 +179,63 @@ fn a_gossip_is_read_as_its_parts(rt: HostRuntime) -> Result<(), Fail> {
     Ok(())
 }
 
+/// Tells whether the bytes are read as a frame of that kind, spelled so again, and copied.
+fn is_of_kind(alloc: Global, bytes: &[u8], name: &str) -> bool {
+    match decode(alloc, bytes) {
+        Ok(frame) => {
+            kind_name(&frame.message) == name
+                && is_spelled(alloc, &frame, bytes)
+                && is_copied(&frame)
+        }
+        Err(_) => false,
+    }
+}
+
+#[test]
+fn one_frame_of_each_kind_is_read_and_written(rt: HostRuntime) {
+    let table: [(&[u8], &str); 8] = [
+        (&GOSSIP, "GOSSIP"),
+        (&IHAVE, "IHAVE"),
+        (&GRAFT, "GRAFT"),
+        (&PRUNE, "PRUNE"),
+        (&JOIN, "JOIN"),
+        (&DISCONNECT, "DISCONNECT"),
+        (&XOBJECT, "XOBJECT"),
+        (&XWANT, "XWANT"),
+    ];
+    for (bytes, name) in table {
+        assert!(rt; is_of_kind(rt.alloc(), bytes, name), "{name}");
+    }
+}
+
+#[test]
+fn a_vector_of_no_writer_is_unlawful(rt: HostRuntime) -> Result<(), Fail> {
+    let alloc = rt.alloc();
+    assert!(rt; !is_vector(&Vector::empty(alloc)));
+    assert!(rt; is_refused(alloc, &without_counters(), FrameFault::BadBody { at: 31 }));
+    Ok(())
+}
+
+/// The bytes of IHAVE with a count of 0.
+fn without_counters() -> [u8; 53] {
+    let mut bytes = IHAVE;
+    bytes[32] = 0;
+    bytes
+}
+
 #[test]
 fn each_proper_front_is_short(rt: HostRuntime) {
-    for bytes in [PRUNE.as_slice(), GOSSIP.as_slice()] {
+    let frames: [&[u8]; 8] = [
+        &PRUNE,
+        &GOSSIP,
+        &IHAVE,
+        &GRAFT,
+        &JOIN,
+        &DISCONNECT,
+        &XOBJECT,
+        &XWANT,
+    ];
+    for bytes in frames {
         for len in 0..bytes.len() {
             assert!(rt;
                 is_refused(rt.alloc(), &bytes[..len], FrameFault::Short),

@@ -3,10 +3,10 @@
 ghost use Rattle.std.specs.Prelude.{◌≡◌, ◌++◌, ◌∷◌, [], ◌<◌, ◌≤◌, ◌^◌, List, length, OnOk, All};
 ghost use Rattle.std.specs.Int.{w8, w16, w32, w64, to_be_bytes};
 ghost use Rattle.std.specs.List.{flat_map};
-ghost use Rattle.meta_frame.specs.Field.{name, prefix, key, value, entry, object};
+ghost use Rattle.meta_frame.specs.Field.{name, prefix, key, value, entry, object, counter, vector};
 ghost use Rattle.meta_frame.specs.Size.{IsShort};
 
-use dvvset::{Entries, Entry};
+use dvvset::{Counter, Entries, Entry, Vector};
 use meta_types::{FullPrefix, MetaKey, NodeId, Value};
 use std::alloc::AllocError;
 
@@ -62,6 +62,25 @@ pub(crate) fn write_key(out: &mut Vec<u8>, k: &MetaKey) -> Result<(), AllocError
 {
     write_prefix(out, k.prefix())?;
     write_name(out, k.key())?;
+    Ok(())
+}
+
+fn write_counters(out: &mut Vec<u8>, counters: &[Counter]) -> Result<(), AllocError>
+    ensures { OnOk result (out.new.items ≡ out.old.items ++ flat_map (counter 0).spell counters.now) }
+{
+    for counter in counters {
+        write_node(out, counter.id())?;
+        write_u64(out, counter.count())?;
+    }
+    Ok(())
+}
+
+pub(crate) fn write_vector(out: &mut Vec<u8>, v: &Vector) -> Result<(), AllocError>
+    requires { vector.Fits v.now }
+    ensures { OnOk result (out.new.items ≡ out.old.items ++ vector.spell v.now) }
+{
+    write_u16(out, v.counters().len() as u16)?;
+    write_counters(out, v.counters())?;
     Ok(())
 }
 

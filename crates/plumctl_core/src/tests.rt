@@ -79,6 +79,33 @@ fn two_frames_are_printed(rt: HostRuntime) -> Result<(), Fail> {
 }
 
 #[test]
+fn announcements_and_views_are_printed(rt: HostRuntime) -> Result<(), Fail> {
+    let input = b"50540102 0000 0001 0000000000000002 00000021 0003 000161 000162 00016b \
+        0002 0000 0000000000000002 0001 0000000000000001\n\
+        50540103 0000 0001 0000000000000002 00000021 0003 000161 000162 00016b \
+        0002 0000 0000000000000002 0001 0000000000000001\n\
+        50540105 0001 0000 0000000000000001 00000000\n\
+        50540107 0001 0000 0000000000000001 00000000\n";
+    let text = b"IHAVE from 0 to 1 number 2 round 3 key a/b/k ctx 0:2,1:1\n\
+        GRAFT from 0 to 1 number 2 round 3 key a/b/k ctx 0:2,1:1\n\
+        JOIN from 1 to 0 number 1\n\
+        DISCONNECT from 1 to 0 number 1\n";
+    assert!(rt; prints(&rt, input, text, Ended::AllPrinted));
+    Ok(())
+}
+
+#[test]
+fn an_exchange_is_printed(rt: HostRuntime) -> Result<(), Fail> {
+    let input = b"50540111 0000 0001 0000000000000001 00000023 000161 000162 00016b \
+        0001 0000 0000000000000001 0001 01 0000000000000000 0001 78\n\
+        50540112 0000 0001 0000000000000001 00000009 000161 000162 00016b\n";
+    let text = b"XOBJECT from 0 to 1 number 1 key a/b/k ctx 0:1 values x\n\
+        XWANT from 0 to 1 number 1 key a/b/k\n";
+    assert!(rt; prints(&rt, input, text, Ended::AllPrinted));
+    Ok(())
+}
+
+#[test]
 fn refused_lines_name_their_refusal(rt: HostRuntime) -> Result<(), Fail> {
     let input = b"50540104 0001 0000 0000000000000005 000000\n\
         50540104 0001 0000 0000000000000005 00000000 00\n\

@@ -1,19 +1,25 @@
 -- Printed frames and refusals.
 use Rattle.std.specs.Prelude.{ℕ, List, [], ◌++◌, codes, decimal}
 use Rattle.meta_frame.specs.declared.message.Message.{Message}
-use Rattle.meta_frame.specs.declared.message.Message.TheVariants.{Gossip, Prune}
+use Rattle.meta_frame.specs.declared.message.Message.TheVariants.{Gossip, IHave, Graft, Prune, Join, Disconnect, XObject, XWant}
 use Rattle.meta_frame.specs.declared.message.Frame.{Frame}
 use Rattle.meta_frame.specs.declared.fault.FrameFault.{FrameFault}
 use Rattle.meta_frame.specs.declared.fault.FrameFault.TheVariants.{BadBody}
 use Rattle.meta_frame.specs.Frame.{name_of}
 use Rattle.meta_frame.specs.Fault.{code_of, fault_name}
 use Rattle.printing.specs.Field.{key_text}
-use Rattle.printing.specs.Object.{object_text}
+use Rattle.printing.specs.Object.{vector_text, object_text}
 
 -- the table of kinds: the fields of each, in their order
 unfoldable pub message_text : Message → List ℕ
 message_text (Gossip round k o) = codes " round " ++ decimal round ++ codes " key " ++ key_text k ++ codes " " ++ object_text o
+message_text (IHave round k v) = codes " round " ++ decimal round ++ codes " key " ++ key_text k ++ codes " ctx " ++ vector_text v
+message_text (Graft round k v) = codes " round " ++ decimal round ++ codes " key " ++ key_text k ++ codes " ctx " ++ vector_text v
 message_text Prune = []
+message_text Join = []
+message_text Disconnect = []
+message_text (XObject k o) = codes " key " ++ key_text k ++ codes " " ++ object_text o
+message_text (XWant k) = codes " key " ++ key_text k
 
 -- as `PRUNE from 1 to 0 number 5`
 abbrev pub frame_text : Frame → List ℕ

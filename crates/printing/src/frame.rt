@@ -4,7 +4,7 @@ ghost use Rattle.std.specs.Prelude.{◌≡◌, ◌++◌, OnOk};
 ghost use Rattle.printing.specs.Frame.{message_text, frame_text, offset_text, frame_fault_text};
 
 use crate::field::{put_key, put_number};
-use crate::list::put_object;
+use crate::list::{put_object, put_vector};
 use meta_frame::{Frame, FrameFault, Message, kind_name};
 use std::alloc::AllocError;
 
@@ -12,7 +12,13 @@ macro_rules! printed_kinds {
     ($make:ident $with:tt) => {
         $make! { $with
             Gossip { " round " round: number, " key " key: key, " " object: object }
+            IHave { " round " round: number, " key " key: key, " ctx " vector: vector }
+            Graft { " round " round: number, " key " key: key, " ctx " vector: vector }
             Prune {}
+            Join {}
+            Disconnect {}
+            XObject { " key " key: key, " " object: object }
+            XWant { " key " key: key }
         }
     };
 }
@@ -23,6 +29,9 @@ macro_rules! put_field {
     };
     (key $out:ident $field:ident) => {
         put_key($out, $field)?
+    };
+    (vector $out:ident $field:ident) => {
+        put_vector($out, $field)?
     };
     (object $out:ident $field:ident) => {
         put_object($out, $field)?

@@ -1,5 +1,5 @@
 use super::*;
-use dvvset::{Counter, Entries, Entry, Vector};
+use dvvset::{Counter, Entries, Entry, Vector, join};
 use meta_frame::{Frame, FrameFault, Message};
 use meta_types::{FullPrefix, MetaKey, NodeId, TypeFault, Value};
 use std::alloc::{AllocError, Global};
@@ -154,6 +154,44 @@ fn a_frame_prints_its_fields(rt: HostRuntime) -> Result<(), Fail> {
     assert_eq!(rt;
         out.as_slice(),
         b"GOSSIP from 1 to 0 number 5 round 7 key a/b/k ctx 0:2,3:3 values y,~@5".as_slice()
+    );
+    Ok(())
+}
+
+/// The printed form of a message from 1 to 0, number 5.
+fn printed(alloc: Global, message: Message) -> Result<Vec<u8>, AllocError> {
+    let frame = Frame { message, ..prune() };
+    let mut out = Vec::new(alloc);
+    put_frame(&mut out, &frame)?;
+    Ok(out)
+}
+
+#[test]
+fn announcements_print_their_context(rt: HostRuntime) -> Result<(), Fail> {
+    let alloc = rt.alloc();
+    let object = Entries::from_parts(entries(alloc)?)?;
+    let message = Message::IHave {
+        round: 7,
+        key: key(alloc, b"a", b"b", b"k")?,
+        vector: join(alloc, &object)?,
+    };
+    assert_eq!(rt;
+        printed(alloc, message)?.as_slice(),
+        b"IHAVE from 1 to 0 number 5 round 7 key a/b/k ctx 0:2,3:3".as_slice()
+    );
+    Ok(())
+}
+
+#[test]
+fn frames_without_fields_print_their_names(rt: HostRuntime) -> Result<(), Fail> {
+    let alloc = rt.alloc();
+    assert_eq!(rt;
+        printed(alloc, Message::Join)?.as_slice(),
+        b"JOIN from 1 to 0 number 5".as_slice()
+    );
+    assert_eq!(rt;
+        printed(alloc, Message::Disconnect)?.as_slice(),
+        b"DISCONNECT from 1 to 0 number 5".as_slice()
     );
     Ok(())
 }
