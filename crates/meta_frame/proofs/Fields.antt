@@ -1,11 +1,15 @@
 -- The readers of the fields belong to their forms.
-use Rattle.std.proofs.Common.{◌≡◌, ℕ, zero, suc, ◌≤◌, ◌&&◌, leb, List, [], Option, Some, None, refl, sym, arith}
+use Rattle.std.proofs.Common.{◌≡◌, ℕ, zero, suc, ◌≤◌, ◌&&◌, cond, leb, ap, ◌∙◌, List, [], Option, Some, None, refl, sym, arith}
 use Rattle.std.specs.Int.{Width, w8, w16, w64}
 use Rattle.std.specs.Cmp.{first_so, second_so}
-use Rattle.std.proofs.lemmas.Bool.{leb-true}
+use Rattle.std.proofs.lemmas.Bool.{leb-true, ne_eqb}
+use Rattle.meta_frame.specs.declared.part.Priority.{Priority}
+use Rattle.meta_frame.specs.declared.part.Priority.TheVariants.{Low, High}
+use Rattle.meta_frame.specs.declared.part.Answer.{Answer}
+use Rattle.meta_frame.specs.declared.part.Answer.TheVariants.{No, Yes}
 use Rattle.meta_frame.specs.Form.{Form, any_number, some_bytes, then_form, each}
-use Rattle.meta_frame.specs.Field.{number, node, name, counted_bytes, prefix, prefix_parts, key, key_parts, list, counted, counter, counter_parts, above_counter, vector, any_count, none, forget, tag_of, bytes_or_none, body_form, value, value_parts, entry, entry_parts, above_entry, object, has_value}
-use Rattle.meta_frame.specs.Reading.{Reader, number_at, bytes_at, then_at, made_at, each_at, within_at, node_at, name_at, prefix_at, key_at, counter_at, vector_at, body_of_tag, body_at, value_at, values_at, entry_at, entries_at, object_at}
+use Rattle.meta_frame.specs.Field.{number, node, priority_number, priority, answer_number, answer, name, counted_bytes, prefix, prefix_parts, key, key_parts, list, counted, counter, counter_parts, above_counter, vector, any_count, none, forget, tag_of, bytes_or_none, body_form, value, value_parts, entry, entry_parts, above_entry, object, has_value}
+use Rattle.meta_frame.specs.Reading.{Reader, number_at, bytes_at, then_at, made_at, each_at, within_at, node_at, priority_from, priority_at, answer_from, answer_at, name_at, prefix_at, key_at, counter_at, vector_at, body_of_tag, body_at, value_at, values_at, entry_at, entries_at, object_at}
 use Rattle.meta_frame.proofs.Readers.{Reads, IsWide, wide8, wide16, wide64, number_reads, bytes_reads, nothing_reads, ruled_reads, then_reads, made_reads, each_reads}
 
 -- what a number with a rule keeps
@@ -26,6 +30,36 @@ within_reads w wide low high = ruled_reads (any_number w) (number_at w) (λ n. l
 pub node_reads : Reads node node_at
 unfolding node_at
 node_reads = within_reads w16 wide16 0 15
+
+priority_there : (n : ℕ) → (number w8 0 1).Fits n → priority_number (priority_from n) ≡ n
+priority_there zero fits = refl
+priority_there (suc n) fits =
+    let most = (number_within w8 0 1 (suc n) fits).most in
+    let one : 1 ≡ suc n = omega arith in
+    ap (λ b. priority_number (cond b Low High)) (ne_eqb (suc n) 0 (λ e. absurd (omega arith))) ∙ one
+
+priority_back : (p : Priority) → priority_from (priority_number p) ≡ p
+priority_back Low = refl
+priority_back High = refl
+
+pub priority_reads : Reads priority priority_at
+unfolding priority_at
+priority_reads = made_reads (number w8 0 1) (within_at w8 0 1) priority_number priority_from priority_there priority_back (within_reads w8 wide8 0 1)
+
+answer_there : (n : ℕ) → (number w8 0 1).Fits n → answer_number (answer_from n) ≡ n
+answer_there zero fits = refl
+answer_there (suc n) fits =
+    let most = (number_within w8 0 1 (suc n) fits).most in
+    let one : 1 ≡ suc n = omega arith in
+    ap (λ b. answer_number (cond b No Yes)) (ne_eqb (suc n) 0 (λ e. absurd (omega arith))) ∙ one
+
+answer_back : (a : Answer) → answer_from (answer_number a) ≡ a
+answer_back No = refl
+answer_back Yes = refl
+
+pub answer_reads : Reads answer answer_at
+unfolding answer_at
+answer_reads = made_reads (number w8 0 1) (within_at w8 0 1) answer_number answer_from answer_there answer_back (within_reads w8 wide8 0 1)
 
 pub name_reads : (low high : ℕ) → Reads (name low high) (name_at low high)
 unfolding name_at

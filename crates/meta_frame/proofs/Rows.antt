@@ -1,15 +1,15 @@
 -- The table of kinds: a row for each, with the laws of its reader.
 use Rattle.std.proofs.Common.{◌≡◌, ℕ, ◌^◌, ◌<◌, true, false, cond, eqb, ◌||◌, List, [], ◌∷◌, ◌++◌, length, Ok, Err, refl, sym, ap, subst, ◌∙◌, arith, inl, inr}
-use Rattle.std.specs.Int.{w16}
+use Rattle.std.specs.Int.{w8, w16}
 use Rattle.std.proofs.lemmas.Bool.{eqb-true, eq-eqb, ne_eqb, or_right, false≢true}
 use Rattle.meta_frame.specs.declared.message.Message.{Message}
-use Rattle.meta_frame.specs.declared.message.Message.TheVariants.{Gossip, IHave, Graft, Prune, Join, Disconnect, XObject, XWant}
+use Rattle.meta_frame.specs.declared.message.Message.TheVariants.{Gossip, IHave, Graft, Prune, Join, ForwardJoin, Disconnect, Neighbor, NeighborReply, XObject, XWant}
 use Rattle.meta_frame.specs.Form.{Form, any_number, then_form}
-use Rattle.meta_frame.specs.Field.{key, vector, object}
-use Rattle.meta_frame.specs.Frame.{Row, kind_of, gossip, announced, carried, body, IsMessage, NoField, rows, BadIn, BadFields, is_in, is_kind}
-use Rattle.meta_frame.specs.Reading.{Reader, ◌>>=◌, number_at, then_at, made_at, key_at, vector_at, object_at, gossip_at, announced_at, carried_at, message_at}
-use Rattle.meta_frame.proofs.Readers.{IsBytes, Reads, wide16, number_reads, then_reads, bind_ok, bind_err, ok_is, done}
-use Rattle.meta_frame.proofs.Fields.{key_reads, vector_reads, object_reads}
+use Rattle.meta_frame.specs.Field.{node, priority, answer, key, vector, object}
+use Rattle.meta_frame.specs.Frame.{Row, kind_of, gossip, announced, forwarded, carried, body, IsMessage, NoField, rows, BadIn, BadFields, is_in, is_kind}
+use Rattle.meta_frame.specs.Reading.{Reader, ◌>>=◌, number_at, then_at, made_at, node_at, priority_at, answer_at, key_at, vector_at, object_at, gossip_at, announced_at, forwarded_at, carried_at, message_at}
+use Rattle.meta_frame.proofs.Readers.{IsBytes, Reads, wide8, wide16, number_reads, then_reads, bind_ok, bind_err, ok_is, done}
+use Rattle.meta_frame.proofs.Fields.{node_reads, priority_reads, answer_reads, key_reads, vector_reads, object_reads}
 
 -- what reading a body of one kind took
 pub record Took (kind : ℕ) (bytes : List ℕ) (m : Message) (rest : List ℕ) : Type 0 where
@@ -97,6 +97,21 @@ join_kind = bare_reads Join tt refl
 disconnect_kind : ReadsKind (record { kind = 7; Bad = NoField }) (λ bytes. Ok (Disconnect, bytes))
 disconnect_kind = bare_reads Disconnect tt refl
 
+forwarded_reads : Reads forwarded (then_at node_at (λ _. number_at w8))
+forwarded_reads = then_reads node (λ _. any_number w8) node_at (λ _. number_at w8) node_reads (λ _. number_reads w8 wide8)
+
+forward_join_kind : ReadsKind (record { kind = 6; Bad = forwarded.Bad }) forwarded_at
+unfolding forwarded_at
+forward_join_kind =
+    kind_reads 6 forwarded (then_at node_at (λ _. number_at w8)) (λ p. ForwardJoin p.0 p.1) forwarded_reads
+    (record { kind_is = λ x. refl; fits = λ x fits. fits; spelled = λ x. refl })
+
+neighbor_kind : ReadsKind (record { kind = 8; Bad = priority.Bad }) (made_at priority_at (λ p. Neighbor p))
+neighbor_kind = kind_reads 8 priority priority_at (λ p. Neighbor p) priority_reads (record { kind_is = λ x. refl; fits = λ x fits. fits; spelled = λ x. refl })
+
+neighbor_reply_kind : ReadsKind (record { kind = 9; Bad = answer.Bad }) (made_at answer_at (λ a. NeighborReply a))
+neighbor_reply_kind = kind_reads 9 answer answer_at (λ a. NeighborReply a) answer_reads (record { kind_is = λ x. refl; fits = λ x fits. fits; spelled = λ x. refl })
+
 xobject_kind : ReadsKind (record { kind = 17; Bad = carried.Bad }) carried_at
 unfolding carried_at
 xobject_kind =
@@ -107,13 +122,16 @@ xwant_kind : ReadsKind (record { kind = 18; Bad = key.Bad }) (made_at key_at (λ
 xwant_kind = kind_reads 18 key key_at (λ k. XWant k) key_reads (record { kind_is = λ x. refl; fits = λ x fits. fits; spelled = λ x. refl })
 
 pub message_again : (m : Message) (rest : List ℕ) → IsMessage m → message_at (kind_of m) (body m ++ rest) ≡ Ok (m, rest)
-unfolding message_at gossip_at announced_at carried_at
+unfolding message_at gossip_at announced_at carried_at forwarded_at
 message_again (Gossip round k o) rest fits = rw (gossip_reads.again (round, (k, o)) rest fits) refl
 message_again (IHave round k v) rest fits = rw (announced_reads.again (round, (k, v)) rest fits) refl
 message_again (Graft round k v) rest fits = rw (announced_reads.again (round, (k, v)) rest fits) refl
 message_again Prune rest fits = refl
 message_again Join rest fits = refl
+message_again (ForwardJoin n ttl) rest fits = rw (forwarded_reads.again (n, ttl) rest fits) refl
 message_again Disconnect rest fits = refl
+message_again (Neighbor p) rest fits = rw (priority_reads.again p rest fits) refl
+message_again (NeighborReply a) rest fits = rw (answer_reads.again a rest fits) refl
 message_again (XObject k o) rest fits = rw (carried_reads.again (k, o) rest fits) refl
 message_again (XWant k) rest fits = rw (key_reads.again k rest fits) refl
 
@@ -123,7 +141,10 @@ known_kind (IHave round k v) = refl
 known_kind (Graft round k v) = refl
 known_kind Prune = refl
 known_kind Join = refl
+known_kind (ForwardJoin n ttl) = refl
 known_kind Disconnect = refl
+known_kind (Neighbor p) = refl
+known_kind (NeighborReply a) = refl
 known_kind (XObject k o) = refl
 known_kind (XWant k) = refl
 
@@ -133,7 +154,10 @@ small_kind (IHave round k v) = omega arith
 small_kind (Graft round k v) = omega arith
 small_kind Prune = omega arith
 small_kind Join = omega arith
+small_kind (ForwardJoin n ttl) = omega arith
 small_kind Disconnect = omega arith
+small_kind (Neighbor p) = omega arith
+small_kind (NeighborReply a) = omega arith
 small_kind (XObject k o) = omega arith
 small_kind (XWant k) = omega arith
 
@@ -151,7 +175,10 @@ lines =
     ∷ (record { row = record { kind = 3; Bad = announced.Bad }; read = announced_at Graft; reads = graft_kind })
     ∷ (record { row = record { kind = 4; Bad = NoField }; read = λ bytes. Ok (Prune, bytes); reads = prune_kind })
     ∷ (record { row = record { kind = 5; Bad = NoField }; read = λ bytes. Ok (Join, bytes); reads = join_kind })
+    ∷ (record { row = record { kind = 6; Bad = forwarded.Bad }; read = forwarded_at; reads = forward_join_kind })
     ∷ (record { row = record { kind = 7; Bad = NoField }; read = λ bytes. Ok (Disconnect, bytes); reads = disconnect_kind })
+    ∷ (record { row = record { kind = 8; Bad = priority.Bad }; read = made_at priority_at (λ p. Neighbor p); reads = neighbor_kind })
+    ∷ (record { row = record { kind = 9; Bad = answer.Bad }; read = made_at answer_at (λ a. NeighborReply a); reads = neighbor_reply_kind })
     ∷ (record { row = record { kind = 17; Bad = carried.Bad }; read = carried_at; reads = xobject_kind })
     ∷ (record { row = record { kind = 18; Bad = key.Bad }; read = made_at key_at (λ k. XWant k); reads = xwant_kind })
     ∷ []
@@ -230,5 +257,5 @@ pub message_refuses : (kind : ℕ) (bytes : List ℕ) (left : ℕ) → BadFields
 message_refuses kind bytes left bad =
     by_lines kind bytes
     ∙ refuses_by lines kind bytes left
-    (record { absent = refl }, (record { absent = refl }, (record { absent = refl }, (record { absent = refl }, (record { absent = refl }, (record { absent = refl }, (record { absent = refl }, (record { absent = refl }, tt))))))))
+    (record { absent = refl }, (record { absent = refl }, (record { absent = refl }, (record { absent = refl }, (record { absent = refl }, (record { absent = refl }, (record { absent = refl }, (record { absent = refl }, (record { absent = refl }, (record { absent = refl }, (record { absent = refl }, tt)))))))))))
     bad

@@ -1,10 +1,14 @@
 -- The forms of the fields of frames. Numbers are big-endian.
-use Rattle.std.specs.Prelude.{ℕ, zero, suc, ◌+◌, List, [], length, Option, Some, None, Bool, true, false, ◌&&◌, not, nat_le, ◌==◌}
+use Rattle.std.specs.Prelude.{ℕ, zero, suc, ◌+◌, List, [], length, Option, Some, None, Bool, ◌&&◌, not, nat_le, ◌==◌}
 use Rattle.std.specs.List.{list_all}
 use Rattle.std.specs.Int.{Width, w8, w16, w64}
 use Rattle.meta_types.specs.Name.{Prefix, Key}
 use Rattle.meta_types.specs.Value.{ValueParts}
 use Rattle.dvvset.specs.Object.{Entry, Counter}
+use Rattle.meta_frame.specs.declared.part.Priority.{Priority}
+use Rattle.meta_frame.specs.declared.part.Priority.TheVariants.{Low, High}
+use Rattle.meta_frame.specs.declared.part.Answer.{Answer}
+use Rattle.meta_frame.specs.declared.part.Answer.TheVariants.{No, Yes}
 use Rattle.meta_frame.specs.Form.{Form, any_number, some_bytes, nothing, ruled, then_form, seen_as, each}
 
 -- a number from `low` to `high`
@@ -14,13 +18,19 @@ number w low high = ruled (any_number w) (λ n. nat_le low n && nat_le n high)
 abbrev pub node : Form ℕ
 node = number w16 0 15
 
--- false as 0, true as 1
-abbrev pub flag_number : Bool → ℕ
-flag_number false = 0
-flag_number true = 1
+abbrev pub priority_number : Priority → ℕ
+priority_number Low = 0
+priority_number High = 1
 
-abbrev pub flag : Form Bool
-flag = seen_as (number w8 0 1) flag_number
+abbrev pub priority : Form Priority
+priority = seen_as (number w8 0 1) priority_number
+
+abbrev pub answer_number : Answer → ℕ
+answer_number No = 0
+answer_number Yes = 1
+
+abbrev pub answer : Form Answer
+answer = seen_as (number w8 0 1) answer_number
 
 -- a length and so many bytes: two fields
 abbrev pub counted_bytes : List ℕ → ℕ × List ℕ

@@ -2,12 +2,12 @@
 use Rattle.std.specs.Prelude.{◌≡◌, ℕ, ◌+◌, ◌-◌, ◌<◌, ◌≤◌, ◌^◌, ◌==◌, ◌≢◌, nat_lt, ◌⊎◌, List, [], ◌∷◌, ◌++◌, length, take, drop, Bool, false, not, ◌||◌, Option, Some, None, MatchOption, if◌then◌else◌, codes}
 use Rattle.std.specs.Int.{Width, byte_len, w8, w16, w32, w64, to_be_bytes, from_be_bytes}
 use Rattle.meta_frame.specs.declared.message.Message.{Message}
-use Rattle.meta_frame.specs.declared.message.Message.TheVariants.{Gossip, IHave, Graft, Prune, Join, Disconnect, XObject, XWant}
+use Rattle.meta_frame.specs.declared.message.Message.TheVariants.{Gossip, IHave, Graft, Prune, Join, ForwardJoin, Disconnect, Neighbor, NeighborReply, XObject, XWant}
 use Rattle.meta_frame.specs.declared.message.Frame.{Frame}
 use Rattle.meta_frame.specs.declared.fault.FrameFault.{FrameFault}
 use Rattle.meta_frame.specs.declared.fault.FrameFault.TheVariants.{Short, BadMagic, BadVersion, BadKind, TooLong, BadBody, LeftOver}
 use Rattle.meta_frame.specs.Form.{Form, any_number, then_form}
-use Rattle.meta_frame.specs.Field.{key, vector, object}
+use Rattle.meta_frame.specs.Field.{node, priority, answer, key, vector, object}
 use Rattle.meta_types.specs.Name.{Key}
 use Rattle.dvvset.specs.Object.{Entry, Counter}
 
@@ -19,7 +19,10 @@ kind_of (IHave round k v) = 2
 kind_of (Graft round k v) = 3
 kind_of Prune = 4
 kind_of Join = 5
+kind_of (ForwardJoin n ttl) = 6
 kind_of Disconnect = 7
+kind_of (Neighbor p) = 8
+kind_of (NeighborReply a) = 9
 kind_of (XObject k o) = 17
 kind_of (XWant k) = 18
 
@@ -29,7 +32,10 @@ name_of (IHave round k v) = codes "IHAVE"
 name_of (Graft round k v) = codes "GRAFT"
 name_of Prune = codes "PRUNE"
 name_of Join = codes "JOIN"
+name_of (ForwardJoin n ttl) = codes "FORWARDJOIN"
 name_of Disconnect = codes "DISCONNECT"
+name_of (Neighbor p) = codes "NEIGHBOR"
+name_of (NeighborReply a) = codes "NEIGHBORREPLY"
 name_of (XObject k o) = codes "XOBJECT"
 name_of (XWant k) = codes "XWANT"
 
@@ -41,6 +47,10 @@ gossip = then_form (any_number w16) (λ _. then_form key (λ _. object))
 abbrev pub announced : Form (ℕ × (Key × List Counter))
 announced = then_form (any_number w16) (λ _. then_form key (λ _. vector))
 
+-- a node, and to how many nodes more it is passed on
+abbrev pub forwarded : Form (ℕ × ℕ)
+forwarded = then_form node (λ _. any_number w8)
+
 -- a key and an object
 abbrev pub carried : Form (Key × List Entry)
 carried = then_form key (λ _. object)
@@ -51,7 +61,10 @@ body (IHave round k v) = announced.spell (round, (k, v))
 body (Graft round k v) = announced.spell (round, (k, v))
 body Prune = []
 body Join = []
+body (ForwardJoin n ttl) = forwarded.spell (n, ttl)
 body Disconnect = []
+body (Neighbor p) = priority.spell p
+body (NeighborReply a) = answer.spell a
 body (XObject k o) = carried.spell (k, o)
 body (XWant k) = key.spell k
 
@@ -62,7 +75,10 @@ IsMessage (IHave round k v) = announced.Fits (round, (k, v))
 IsMessage (Graft round k v) = announced.Fits (round, (k, v))
 IsMessage Prune = Unit {0}
 IsMessage Join = Unit {0}
+IsMessage (ForwardJoin n ttl) = forwarded.Fits (n, ttl)
 IsMessage Disconnect = Unit {0}
+IsMessage (Neighbor p) = priority.Fits p
+IsMessage (NeighborReply a) = answer.Fits a
 IsMessage (XObject k o) = carried.Fits (k, o)
 IsMessage (XWant k) = key.Fits k
 
@@ -82,7 +98,10 @@ rows =
     ∷ (record { kind = 3; Bad = announced.Bad })
     ∷ (record { kind = 4; Bad = NoField })
     ∷ (record { kind = 5; Bad = NoField })
+    ∷ (record { kind = 6; Bad = forwarded.Bad })
     ∷ (record { kind = 7; Bad = NoField })
+    ∷ (record { kind = 8; Bad = priority.Bad })
+    ∷ (record { kind = 9; Bad = answer.Bad })
     ∷ (record { kind = 17; Bad = carried.Bad })
     ∷ (record { kind = 18; Bad = key.Bad })
     ∷ []

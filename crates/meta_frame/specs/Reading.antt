@@ -9,8 +9,12 @@ use Rattle.dvvset.specs.Object.{Entry, Counter}
 use Rattle.meta_frame.specs.Field.{any_count, none, forget, above_counter, above_entry, has_value}
 use Rattle.meta_frame.specs.Frame.{number_in, kind_in, from_in, to_in, header_tests, first_that_applies}
 use Rattle.meta_frame.specs.declared.message.Message.{Message}
-use Rattle.meta_frame.specs.declared.message.Message.TheVariants.{Gossip, IHave, Graft, Prune, Join, Disconnect, XObject, XWant}
+use Rattle.meta_frame.specs.declared.message.Message.TheVariants.{Gossip, IHave, Graft, Prune, Join, ForwardJoin, Disconnect, Neighbor, NeighborReply, XObject, XWant}
 use Rattle.meta_frame.specs.declared.message.Frame.{Frame}
+use Rattle.meta_frame.specs.declared.part.Priority.{Priority}
+use Rattle.meta_frame.specs.declared.part.Priority.TheVariants.{Low, High}
+use Rattle.meta_frame.specs.declared.part.Answer.{Answer}
+use Rattle.meta_frame.specs.declared.part.Answer.TheVariants.{No, Yes}
 use Rattle.meta_frame.specs.declared.fault.FrameFault.{FrameFault}
 use Rattle.meta_frame.specs.declared.fault.FrameFault.TheVariants as frames
 use Rattle.meta_frame.specs.declared.fault.FieldFault.{FieldFault}
@@ -57,6 +61,18 @@ within_at w low high = ruled_at (number_at w) (λ n. nat_le low n && nat_le n hi
 
 unfoldable pub node_at : Reader ℕ
 node_at = within_at w16 0 15
+
+abbrev pub priority_from : ℕ → Priority
+priority_from n = if n == 0 then Low else High
+
+unfoldable pub priority_at : Reader Priority
+priority_at = made_at (within_at w8 0 1) priority_from
+
+abbrev pub answer_from : ℕ → Answer
+answer_from n = if n == 0 then No else Yes
+
+unfoldable pub answer_at : Reader Answer
+answer_at = made_at (within_at w8 0 1) answer_from
 
 unfoldable pub name_at : ℕ → ℕ → Reader (List ℕ)
 name_at low high = made_at (then_at (within_at w16 low high) bytes_at) (λ p. p.1)
@@ -105,6 +121,9 @@ gossip_at = made_at (then_at (number_at w16) (λ _. then_at key_at (λ _. object
 unfoldable pub announced_at : (ℕ → Key → List Counter → Message) → Reader Message
 announced_at make = made_at (then_at (number_at w16) (λ _. then_at key_at (λ _. vector_at))) (λ p. make p.0 p.1.0 p.1.1)
 
+unfoldable pub forwarded_at : Reader Message
+forwarded_at = made_at (then_at node_at (λ _. number_at w8)) (λ p. ForwardJoin p.0 p.1)
+
 unfoldable pub carried_at : Reader Message
 carried_at = made_at (then_at key_at (λ _. object_at)) (λ p. XObject p.0 p.1)
 
@@ -115,9 +134,12 @@ message_at kind bytes =
     if kind == 3 then announced_at Graft bytes else (
     if kind == 4 then Ok (Prune, bytes) else (
     if kind == 5 then Ok (Join, bytes) else (
+    if kind == 6 then forwarded_at bytes else (
     if kind == 7 then Ok (Disconnect, bytes) else (
+    if kind == 8 then made_at priority_at (λ p. Neighbor p) bytes else (
+    if kind == 9 then made_at answer_at (λ a. NeighborReply a) bytes else (
     if kind == 17 then carried_at bytes else (
-    if kind == 18 then made_at key_at (λ k. XWant k) bytes else Err (length bytes))))))))
+    if kind == 18 then made_at key_at (λ k. XWant k) bytes else Err (length bytes)))))))))))
 
 -- the frame of a header and a message
 abbrev pub framed : List ℕ → Message → Frame

@@ -6,11 +6,17 @@ ghost use Rattle.meta_frame.specs.Frame.{is_kind, kind_of, name_of, body, IsMess
 ghost use Rattle.meta_frame.specs.Reading.{Gives, message_at};
 
 use crate::fault::FieldFault;
-use crate::lawful::{is_key, is_object, is_u16, is_vector};
+use crate::lawful::{is_answer, is_key, is_node, is_object, is_priority, is_u8, is_u16, is_vector};
 use crate::lengths::{key_len, object_len, vector_len};
 use crate::message::Message;
-use crate::reading::{key_of, object_of, u16_of, vector_of};
-use crate::writing::{write_key, write_object, write_u16, write_vector};
+use crate::reading::{
+    answer_from, key_of, node_from, node_of, object_of, priority_from, u8_of, u8_within, u16_of,
+    vector_of,
+};
+use crate::writing::{
+    write_answer, write_key, write_node, write_object, write_priority, write_u8, write_u16,
+    write_vector,
+};
 use std::alloc::{AllocError, Global};
 
 macro_rules! frame_kinds {
@@ -21,7 +27,10 @@ macro_rules! frame_kinds {
             3 "GRAFT" Graft { round: number16, key: key, vector: vector }
             4 "PRUNE" Prune {}
             5 "JOIN" Join {}
+            6 "FORWARDJOIN" ForwardJoin { node: node, ttl: number8 }
             7 "DISCONNECT" Disconnect {}
+            8 "NEIGHBOR" Neighbor { priority: priority }
+            9 "NEIGHBORREPLY" NeighborReply { answer: answer }
             17 "XOBJECT" XObject { key: key, object: object }
             18 "XWANT" XWant { key: key }
         }
@@ -30,6 +39,19 @@ macro_rules! frame_kinds {
 
 macro_rules! read_field {
     (number16 $alloc:ident $rest:ident) => { u16_of($rest)? };
+    (number8 $alloc:ident $rest:ident) => { u8_of($rest)? };
+    (node $alloc:ident $rest:ident) => {{
+        let (number, rest) = node_of($rest)?;
+        (node_from(number), rest)
+    }};
+    (priority $alloc:ident $rest:ident) => {{
+        let (number, rest) = u8_within(0, 1, $rest)?;
+        (priority_from(number), rest)
+    }};
+    (answer $alloc:ident $rest:ident) => {{
+        let (number, rest) = u8_within(0, 1, $rest)?;
+        (answer_from(number), rest)
+    }};
     (key $alloc:ident $rest:ident) => { key_of($alloc, $rest)? };
     (vector $alloc:ident $rest:ident) => { vector_of($alloc, $rest)? };
     (object $alloc:ident $rest:ident) => { object_of($alloc, $rest)? };
@@ -50,7 +72,7 @@ macro_rules! read_kind {
 }
 
 /// The message of this kind at the front of the bytes.
-#[tactic(auto, unfolding(crate::specs::Reading::message_at, crate::specs::Reading::gossip_at, crate::specs::Reading::announced_at, crate::specs::Reading::carried_at))]
+#[tactic(auto, unfolding(crate::specs::Reading::message_at, crate::specs::Reading::gossip_at, crate::specs::Reading::announced_at, crate::specs::Reading::carried_at, crate::specs::Reading::forwarded_at, crate::specs::Reading::priority_at, crate::specs::Reading::answer_at))]
 pub(crate) fn message_of(
     alloc: Global,
     kind: u8,
@@ -111,6 +133,18 @@ macro_rules! field_fits {
     (number16 $field:ident) => {
         is_u16($field)
     };
+    (number8 $field:ident) => {
+        is_u8($field)
+    };
+    (node $field:ident) => {
+        is_node($field)
+    };
+    (priority $field:ident) => {
+        is_priority($field)
+    };
+    (answer $field:ident) => {
+        is_answer($field)
+    };
     (key $field:ident) => {
         is_key($field)
     };
@@ -141,6 +175,18 @@ pub(crate) fn message_fits(message: &Message) -> bool
 macro_rules! write_field {
     (number16 $out:ident $field:ident) => {
         write_u16($out, *$field)?
+    };
+    (number8 $out:ident $field:ident) => {
+        write_u8($out, *$field)?
+    };
+    (node $out:ident $field:ident) => {
+        write_node($out, *$field)?
+    };
+    (priority $out:ident $field:ident) => {
+        write_priority($out, *$field)?
+    };
+    (answer $out:ident $field:ident) => {
+        write_answer($out, *$field)?
     };
     (key $out:ident $field:ident) => {
         write_key($out, $field)?
@@ -177,6 +223,18 @@ macro_rules! field_len {
     (number16 $field:ident) => {
         2
     };
+    (number8 $field:ident) => {
+        1
+    };
+    (node $field:ident) => {
+        2
+    };
+    (priority $field:ident) => {
+        1
+    };
+    (answer $field:ident) => {
+        1
+    };
     (key $field:ident) => {
         key_len($field)
     };
@@ -208,6 +266,18 @@ pub(crate) fn body_len(message: &Message) -> usize
 
 macro_rules! copy_field {
     (number16 $field:ident) => {
+        *$field
+    };
+    (number8 $field:ident) => {
+        *$field
+    };
+    (node $field:ident) => {
+        *$field
+    };
+    (priority $field:ident) => {
+        *$field
+    };
+    (answer $field:ident) => {
         *$field
     };
     (key $field:ident) => {

@@ -10,6 +10,7 @@ pub mod lawful;
 pub mod laws;
 mod lengths;
 pub mod message;
+pub mod part;
 mod reading;
 #[cfg(test)]
 mod tests;
@@ -18,3 +19,4 @@ mod writing;
 pub use fault::FrameFault;
 pub use kinds::kind_name;
 pub use message::{Frame, Message};
+pub use part::{Answer, Priority};

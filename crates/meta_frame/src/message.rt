@@ -1,6 +1,7 @@
 ghost use Rattle.std.specs.Prelude.{◌≡◌, IfOk};
 
 use crate::kinds::copy_message;
+use crate::part::{Answer, Priority};
 use dvvset::{Entries, Vector};
 use meta_types::{MetaKey, NodeId};
 use std::alloc::AllocError;
@@ -30,8 +31,21 @@ pub enum Message {
     Prune,
     /// 5: the sender joins at this node.
     Join,
+    /// 6: a node has joined, and is passed on to at most so many nodes more.
+    ForwardJoin {
+        node: NodeId,
+        ttl: u8,
+    },
     /// 7: the sender takes the addressee out of its active view.
     Disconnect,
+    /// 8: the sender wants the addressee in its active view.
+    Neighbor {
+        priority: Priority,
+    },
+    /// 9: whether the sender took the addressee into its active view.
+    NeighborReply {
+        answer: Answer,
+    },
     /// 17: an object, in an exchange.
     XObject {
         key: MetaKey,

@@ -5,9 +5,10 @@ ghost use Rattle.std.specs.Int.{w8, w16, w32, w64};
 ghost use Rattle.meta_types.specs.Node.{IsNode};
 ghost use Rattle.std.specs.List.{list_all};
 ghost use Rattle.meta_frame.specs.Field.{is_bare, none, forget, above_entry, above_counter};
-ghost use Rattle.meta_frame.specs.Reading.{Gives, number_at, bytes_at, node_at, within_at, name_at, prefix_at, key_at, value_at, values_at, entry_at, entries_at, object_at, each_at, counter_at, vector_at};
+ghost use Rattle.meta_frame.specs.Reading.{Gives, number_at, answer_from, bytes_at, node_at, priority_from, within_at, name_at, prefix_at, key_at, value_at, values_at, entry_at, entries_at, object_at, each_at, counter_at, vector_at};
 
 use crate::fault::FieldFault;
+use crate::part::{Answer, Priority};
 use dvvset::{Counter, Entries, Entry, Vector};
 use meta_types::{FullPrefix, MetaKey, NodeId, Value};
 use std::alloc::Global;
@@ -57,7 +58,7 @@ pub(crate) fn u64_of(bytes: &[u8]) -> Result<(u64, &[u8]), FieldFault>
 }
 
 #[tactic(auto, unfolding(crate::specs::Reading::within_at))]
-fn u8_within(low: u8, high: u8, bytes: &[u8]) -> Result<(u8, &[u8]), FieldFault>
+pub(crate) fn u8_within(low: u8, high: u8, bytes: &[u8]) -> Result<(u8, &[u8]), FieldFault>
     ensures value { Gives (λ x. (x.0, x.1.now)) result (within_at w8 low high bytes.now) }
     ensures range { IfOk result (λ x. (low ≤ x.0) × (x.0 ≤ high)) }
 {
@@ -115,6 +116,29 @@ pub(crate) fn node_of(bytes: &[u8]) -> Result<(u16, &[u8]), FieldFault>
     ensures range { IfOk result (λ x. IsNode x.0) }
 {
     u16_within(0, 15, bytes)
+}
+
+pub(crate) fn node_from(number: u16) -> NodeId
+    requires { IsNode number }
+    ensures { result ≡ number }
+{
+    NodeId::new(number).unwrap()
+}
+
+pub(crate) fn priority_from(number: u8) -> Priority
+    ensures { result ≡ priority_from number }
+{
+    if number == 0 {
+        Priority::Low
+    } else {
+        Priority::High
+    }
+}
+
+pub(crate) fn answer_from(number: u8) -> Answer
+    ensures { result ≡ answer_from number }
+{
+    if number == 0 { Answer::No } else { Answer::Yes }
 }
 
 #[tactic(auto, unfolding(crate::specs::Reading::prefix_at))]

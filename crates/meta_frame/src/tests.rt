@@ -30,6 +30,14 @@ const JOIN: [u8; 20] = *b"PT\x01\x05\0\x01\0\0\0\0\0\0\0\0\0\x01\0\0\0\0";
 
 const DISCONNECT: [u8; 20] = *b"PT\x01\x07\0\x01\0\0\0\0\0\0\0\0\0\x01\0\0\0\0";
 
+// From 0 to 2, number 7: node 1 joined, ttl 4.
+const FORWARDJOIN: [u8; 23] = *b"PT\x01\x06\0\0\0\x02\0\0\0\0\0\0\0\x07\0\0\0\x03\0\x01\x04";
+
+// From 1 to 2, number 1: priority high, and answer no.
+const NEIGHBOR: [u8; 21] = *b"PT\x01\x08\0\x01\0\x02\0\0\0\0\0\0\0\x01\0\0\0\x01\x01";
+
+const NEIGHBORREPLY: [u8; 21] = *b"PT\x01\x09\0\x01\0\x02\0\0\0\0\0\0\0\x01\0\0\0\x01\0";
+
 // From 0 to 1, number 1, of key a/b/k, the first with one value x of node 0.
 const XOBJECT: [u8; 55] = *b"PT\x01\x11\0\0\0\x01\0\0\0\0\0\0\0\x01\0\0\0\x23\
     \0\x01a\0\x01b\0\x01k\0\x01\0\0\0\0\0\0\0\0\0\x01\0\x01\x01\0\0\0\0\0\0\0\0\0\x01x";
@@ -193,13 +201,16 @@ fn is_of_kind(alloc: Global, bytes: &[u8], name: &str) -> bool {
 
 #[test]
 fn one_frame_of_each_kind_is_read_and_written(rt: HostRuntime) {
-    let table: [(&[u8], &str); 8] = [
+    let table: [(&[u8], &str); 11] = [
         (&GOSSIP, "GOSSIP"),
         (&IHAVE, "IHAVE"),
         (&GRAFT, "GRAFT"),
         (&PRUNE, "PRUNE"),
         (&JOIN, "JOIN"),
+        (&FORWARDJOIN, "FORWARDJOIN"),
         (&DISCONNECT, "DISCONNECT"),
+        (&NEIGHBOR, "NEIGHBOR"),
+        (&NEIGHBORREPLY, "NEIGHBORREPLY"),
         (&XOBJECT, "XOBJECT"),
         (&XWANT, "XWANT"),
     ];
@@ -216,6 +227,29 @@ fn a_vector_of_no_writer_is_unlawful(rt: HostRuntime) -> Result<(), Fail> {
     Ok(())
 }
 
+/// The bytes of NEIGHBOR with this priority.
+fn with_priority(byte: u8) -> [u8; 21] {
+    let mut bytes = NEIGHBOR;
+    bytes[20] = byte;
+    bytes
+}
+
+/// The bytes of FORWARDJOIN with this node.
+fn with_node(byte: u8) -> [u8; 23] {
+    let mut bytes = FORWARDJOIN;
+    bytes[21] = byte;
+    bytes
+}
+
+#[test]
+fn a_priority_is_0_or_1_and_a_node_below_16(rt: HostRuntime) {
+    let alloc = rt.alloc();
+    assert!(rt; is_of_kind(alloc, &with_priority(0), "NEIGHBOR"));
+    assert!(rt; is_refused(alloc, &with_priority(2), FrameFault::BadBody { at: 20 }));
+    assert!(rt; is_of_kind(alloc, &with_node(15), "FORWARDJOIN"));
+    assert!(rt; is_refused(alloc, &with_node(16), FrameFault::BadBody { at: 20 }));
+}
+
 /// The bytes of IHAVE with a count of 0.
 fn without_counters() -> [u8; 53] {
     let mut bytes = IHAVE;
@@ -225,13 +259,16 @@ fn without_counters() -> [u8; 53] {
 
 #[test]
 fn each_proper_front_is_short(rt: HostRuntime) {
-    let frames: [&[u8]; 8] = [
+    let frames: [&[u8]; 11] = [
         &PRUNE,
         &GOSSIP,
         &IHAVE,
         &GRAFT,
         &JOIN,
+        &FORWARDJOIN,
         &DISCONNECT,
+        &NEIGHBOR,
+        &NEIGHBORREPLY,
         &XOBJECT,
         &XWANT,
     ];

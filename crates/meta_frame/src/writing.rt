@@ -3,9 +3,10 @@
 ghost use Rattle.std.specs.Prelude.{◌≡◌, ◌++◌, ◌∷◌, [], ◌<◌, ◌≤◌, ◌^◌, List, length, OnOk, All};
 ghost use Rattle.std.specs.Int.{w8, w16, w32, w64, to_be_bytes};
 ghost use Rattle.std.specs.List.{flat_map};
-ghost use Rattle.meta_frame.specs.Field.{name, prefix, key, value, entry, object, counter, vector};
+ghost use Rattle.meta_frame.specs.Field.{answer, name, prefix, priority, key, value, entry, object, counter, vector};
 ghost use Rattle.meta_frame.specs.Size.{IsShort};
 
+use crate::part::{Answer, Priority};
 use dvvset::{Counter, Entries, Entry, Vector};
 use meta_types::{FullPrefix, MetaKey, NodeId, Value};
 use std::alloc::AllocError;
@@ -38,6 +39,24 @@ pub(crate) fn write_node(out: &mut Vec<u8>, node: NodeId) -> Result<(), AllocErr
     ensures { OnOk result (out.new.items ≡ out.old.items ++ to_be_bytes w16 node) }
 {
     write_u16(out, node.number())
+}
+
+pub(crate) fn write_priority(out: &mut Vec<u8>, p: Priority) -> Result<(), AllocError>
+    ensures { OnOk result (out.new.items ≡ out.old.items ++ priority.spell p) }
+{
+    match p {
+        Priority::Low => write_u8(out, 0),
+        Priority::High => write_u8(out, 1),
+    }
+}
+
+pub(crate) fn write_answer(out: &mut Vec<u8>, a: Answer) -> Result<(), AllocError>
+    ensures { OnOk result (out.new.items ≡ out.old.items ++ answer.spell a) }
+{
+    match a {
+        Answer::No => write_u8(out, 0),
+        Answer::Yes => write_u8(out, 1),
+    }
 }
 
 fn write_name(out: &mut Vec<u8>, bytes: &[u8]) -> Result<(), AllocError>

@@ -84,7 +84,3 @@ object_more ws k S a x below is =
 pub object_stays : (hs more : List Happening) (k : Key) (S : Places) (a : List Entry) → IsObjectOf (writes hs) k S a → IsObjectOf (writes (hs ++ more)) k S a
 object_stays hs more k S a is =
     stays (λ ws. IsObjectOf ws k S a) (λ x ws below p. object_more ws k S a x below p) hs more is
-
-pub closed_stays : (hs more : List Happening) (k : Key) (S : Places) → IsClosed (writes hs) k S → IsClosed (writes (hs ++ more)) k S
-closed_stays hs more k S is =
-    stays (λ ws. IsClosed ws k S) (λ x ws below p. closed_more ws k S x below p) hs more is

@@ -85,11 +85,17 @@ fn announcements_and_views_are_printed(rt: HostRuntime) -> Result<(), Fail> {
         50540103 0000 0001 0000000000000002 00000021 0003 000161 000162 00016b \
         0002 0000 0000000000000002 0001 0000000000000001\n\
         50540105 0001 0000 0000000000000001 00000000\n\
-        50540107 0001 0000 0000000000000001 00000000\n";
+        50540106 0000 0002 0000000000000007 00000003 0001 04\n\
+        50540107 0001 0000 0000000000000001 00000000\n\
+        50540108 0001 0002 0000000000000001 00000001 01\n\
+        50540109 0001 0002 0000000000000001 00000001 00\n";
     let text = b"IHAVE from 0 to 1 number 2 round 3 key a/b/k ctx 0:2,1:1\n\
         GRAFT from 0 to 1 number 2 round 3 key a/b/k ctx 0:2,1:1\n\
         JOIN from 1 to 0 number 1\n\
-        DISCONNECT from 1 to 0 number 1\n";
+        FORWARDJOIN from 0 to 2 number 7 node 1 ttl 4\n\
+        DISCONNECT from 1 to 0 number 1\n\
+        NEIGHBOR from 1 to 2 number 1 priority high\n\
+        NEIGHBORREPLY from 1 to 2 number 1 answer no\n";
     assert!(rt; prints(&rt, input, text, Ended::AllPrinted));
     Ok(())
 }

@@ -1,14 +1,26 @@
 -- Printed frames and refusals.
 use Rattle.std.specs.Prelude.{ℕ, List, [], ◌++◌, codes, decimal}
 use Rattle.meta_frame.specs.declared.message.Message.{Message}
-use Rattle.meta_frame.specs.declared.message.Message.TheVariants.{Gossip, IHave, Graft, Prune, Join, Disconnect, XObject, XWant}
+use Rattle.meta_frame.specs.declared.message.Message.TheVariants.{Gossip, IHave, Graft, Prune, Join, ForwardJoin, Disconnect, Neighbor, NeighborReply, XObject, XWant}
 use Rattle.meta_frame.specs.declared.message.Frame.{Frame}
+use Rattle.meta_frame.specs.declared.part.Priority.{Priority}
+use Rattle.meta_frame.specs.declared.part.Priority.TheVariants.{Low, High}
+use Rattle.meta_frame.specs.declared.part.Answer.{Answer}
+use Rattle.meta_frame.specs.declared.part.Answer.TheVariants.{No, Yes}
 use Rattle.meta_frame.specs.declared.fault.FrameFault.{FrameFault}
 use Rattle.meta_frame.specs.declared.fault.FrameFault.TheVariants.{BadBody}
 use Rattle.meta_frame.specs.Frame.{name_of}
 use Rattle.meta_frame.specs.Fault.{code_of, fault_name}
 use Rattle.printing.specs.Field.{key_text}
 use Rattle.printing.specs.Object.{vector_text, object_text}
+
+abbrev pub priority_text : Priority → List ℕ
+priority_text Low = codes "low"
+priority_text High = codes "high"
+
+abbrev pub answer_text : Answer → List ℕ
+answer_text No = codes "no"
+answer_text Yes = codes "yes"
 
 -- the table of kinds: the fields of each, in their order
 unfoldable pub message_text : Message → List ℕ
@@ -17,7 +29,10 @@ message_text (IHave round k v) = codes " round " ++ decimal round ++ codes " key
 message_text (Graft round k v) = codes " round " ++ decimal round ++ codes " key " ++ key_text k ++ codes " ctx " ++ vector_text v
 message_text Prune = []
 message_text Join = []
+message_text (ForwardJoin n ttl) = codes " node " ++ decimal n ++ codes " ttl " ++ decimal ttl
 message_text Disconnect = []
+message_text (Neighbor p) = codes " priority " ++ priority_text p
+message_text (NeighborReply a) = codes " answer " ++ answer_text a
 message_text (XObject k o) = codes " key " ++ key_text k ++ codes " " ++ object_text o
 message_text (XWant k) = codes " key " ++ key_text k
 

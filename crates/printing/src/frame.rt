@@ -1,11 +1,11 @@
 //! Frames and their refusals, as lines without their line feed.
 
 ghost use Rattle.std.specs.Prelude.{◌≡◌, ◌++◌, OnOk};
-ghost use Rattle.printing.specs.Frame.{message_text, frame_text, offset_text, frame_fault_text};
+ghost use Rattle.printing.specs.Frame.{priority_text, answer_text, message_text, frame_text, offset_text, frame_fault_text};
 
 use crate::field::{put_key, put_number};
 use crate::list::{put_object, put_vector};
-use meta_frame::{Frame, FrameFault, Message, kind_name};
+use meta_frame::{Answer, Frame, FrameFault, Message, Priority, kind_name};
 use std::alloc::AllocError;
 
 macro_rules! printed_kinds {
@@ -16,7 +16,10 @@ macro_rules! printed_kinds {
             Graft { " round " round: number, " key " key: key, " ctx " vector: vector }
             Prune {}
             Join {}
+            ForwardJoin { " node " node: node, " ttl " ttl: number }
             Disconnect {}
+            Neighbor { " priority " priority: priority }
+            NeighborReply { " answer " answer: answer }
             XObject { " key " key: key, " " object: object }
             XWant { " key " key: key }
         }
@@ -30,12 +33,39 @@ macro_rules! put_field {
     (key $out:ident $field:ident) => {
         put_key($out, $field)?
     };
+    (node $out:ident $field:ident) => {
+        put_number($out, u64::from($field.number()))?
+    };
+    (priority $out:ident $field:ident) => {
+        put_priority($out, *$field)?
+    };
+    (answer $out:ident $field:ident) => {
+        put_answer($out, *$field)?
+    };
     (vector $out:ident $field:ident) => {
         put_vector($out, $field)?
     };
     (object $out:ident $field:ident) => {
         put_object($out, $field)?
     };
+}
+
+fn put_priority(out: &mut Vec<u8>, priority: Priority) -> Result<(), AllocError>
+    ensures { OnOk result (out.new.items ≡ out.old.items ++ priority_text priority) }
+{
+    match priority {
+        Priority::Low => out.extend_from_slice(b"low"),
+        Priority::High => out.extend_from_slice(b"high"),
+    }
+}
+
+fn put_answer(out: &mut Vec<u8>, answer: Answer) -> Result<(), AllocError>
+    ensures { OnOk result (out.new.items ≡ out.old.items ++ answer_text answer) }
+{
+    match answer {
+        Answer::No => out.extend_from_slice(b"no"),
+        Answer::Yes => out.extend_from_slice(b"yes"),
+    }
 }
 
 macro_rules! put_kind {
