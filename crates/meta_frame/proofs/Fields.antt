@@ -1,27 +1,16 @@
 -- The readers of the fields belong to their forms.
 use Rattle.std.proofs.Common.{◌≡◌, ℕ, zero, suc, ◌≤◌, ◌&&◌, cond, leb, ap, ◌∙◌, List, [], Option, Some, None, refl, sym, arith}
 use Rattle.std.specs.Int.{Width, w8, w16, w64}
-use Rattle.std.specs.Cmp.{first_so, second_so}
-use Rattle.std.proofs.lemmas.Bool.{leb-true, ne_eqb}
-use Rattle.meta_frame.specs.declared.part.Priority.{Priority}
-use Rattle.meta_frame.specs.declared.part.Priority.TheVariants.{Low, High}
-use Rattle.meta_frame.specs.declared.part.Answer.{Answer}
-use Rattle.meta_frame.specs.declared.part.Answer.TheVariants.{No, Yes}
-use Rattle.meta_frame.specs.Form.{Form, any_number, some_bytes, then_form, each}
-use Rattle.meta_frame.specs.Field.{number, node, priority_number, priority, answer_number, answer, name, counted_bytes, prefix, prefix_parts, key, key_parts, list, counted, counter, counter_parts, above_counter, vector, any_count, none, forget, tag_of, bytes_or_none, body_form, value, value_parts, entry, entry_parts, above_entry, object, has_value}
+use Rattle.std.proofs.lemmas.Bool.{ne_eqb}
+use Rattle.frame_fields.specs.declared.neighbor.Priority.{Priority}
+use Rattle.frame_fields.specs.declared.neighbor.Priority.TheVariants.{Low, High}
+use Rattle.frame_fields.specs.declared.neighbor.Answer.{Answer}
+use Rattle.frame_fields.specs.declared.neighbor.Answer.TheVariants.{No, Yes}
+use Rattle.frame_fields.specs.Form.{Form, any_number, some_bytes, then_form, each}
+use Rattle.frame_fields.specs.Field.{number, node, priority_number, priority, answer_number, answer, name, counted_bytes, prefix, prefix_parts, key, key_parts, list, counted, counter, counter_parts, above_counter, vector, greatest_count, none, forget, tag_of, bytes_or_none, body_form, value, value_parts, entry, entry_parts, above_entry, object, has_value}
 use Rattle.meta_frame.specs.Reading.{Reader, number_at, bytes_at, then_at, made_at, each_at, within_at, node_at, priority_from, priority_at, answer_from, answer_at, name_at, prefix_at, key_at, counter_at, vector_at, body_of_tag, body_at, value_at, values_at, entry_at, entries_at, object_at}
+use Rattle.frame_fields.proofs.Spellable.{number_within}
 use Rattle.meta_frame.proofs.Readers.{Reads, IsWide, wide8, wide16, wide64, number_reads, bytes_reads, nothing_reads, ruled_reads, then_reads, made_reads, each_reads}
-
--- what a number with a rule keeps
-pub record IsWithin (low high n : ℕ) : Type 0 where
-  pub least : low ≤ n
-  pub most : n ≤ high
-
-pub number_within : (w : Width) (low high n : ℕ) → (number w low high).Fits n → IsWithin low high n
-number_within w low high n fits = record {
-  least = leb-true low n (first_so (leb low n) (leb n high) fits.1);
-  most = leb-true n high (second_so (leb low n) (leb n high) fits.1);
-}
 
 pub within_reads : (w : Width) → IsWide w → (low high : ℕ) → Reads (number w low high) (within_at w low high)
 unfolding within_at
@@ -84,7 +73,7 @@ key_reads =
 
 -- ---- lists
 
-list_reads : {S A : Type 0} (low high : ℕ) (form : S → Form A) (read : S → Reader A) (next : A → S) (s : S) → ((s : S) → Reads (form s) (read s)) → Reads (list low high form next s) (made_at (then_at (within_at w16 low high) (each_at read next s)) (λ p. p.1))
+pub list_reads : {S A : Type 0} (low high : ℕ) (form : S → Form A) (read : S → Reader A) (next : A → S) (s : S) → ((s : S) → Reads (form s) (read s)) → Reads (list low high form next s) (made_at (then_at (within_at w16 low high) (each_at read next s)) (λ p. p.1))
 list_reads low high form read next s reads =
     made_reads (then_form (number w16 low high) (each form next s)) (then_at (within_at w16 low high) (each_at read next s)) counted (λ p. p.1)
     (λ x fits i. (fits.1.0 i, x.1)) (λ y. refl)
@@ -95,9 +84,9 @@ list_reads low high form read next s reads =
 pub counter_reads : (low : ℕ) → Reads (counter low) (counter_at low)
 unfolding counter_at
 counter_reads low =
-    made_reads (then_form (number w16 low 15) (λ _. number w64 1 any_count)) (then_at (within_at w16 low 15) (λ _. within_at w64 1 any_count)) counter_parts (λ p. record { id = p.0; count = p.1 })
+    made_reads (then_form (number w16 low 15) (λ _. number w64 1 greatest_count)) (then_at (within_at w16 low 15) (λ _. within_at w64 1 greatest_count)) counter_parts (λ p. record { id = p.0; count = p.1 })
     (λ x fits. refl) (λ y. refl)
-    (then_reads (number w16 low 15) (λ _. number w64 1 any_count) (within_at w16 low 15) (λ _. within_at w64 1 any_count) (within_reads w16 wide16 low 15) (λ _. within_reads w64 wide64 1 any_count))
+    (then_reads (number w16 low 15) (λ _. number w64 1 greatest_count) (within_at w16 low 15) (λ _. within_at w64 1 greatest_count) (within_reads w16 wide16 low 15) (λ _. within_reads w64 wide64 1 greatest_count))
 
 pub vector_reads : Reads vector vector_at
 unfolding vector_at
@@ -134,10 +123,10 @@ values_reads count = list_reads 0 count (λ (_ : ℕ). value) (λ _. value_at) f
 pub entry_reads : (low : ℕ) → Reads (entry low) (entry_at low)
 unfolding entry_at
 entry_reads low =
-    made_reads (then_form (number w16 low 15) (λ _. then_form (number w64 1 any_count) (λ count. list 0 count (λ (_ : ℕ). value) forget none))) (then_at (within_at w16 low 15) (λ _. then_at (within_at w64 1 any_count) values_at)) entry_parts
+    made_reads (then_form (number w16 low 15) (λ _. then_form (number w64 1 greatest_count) (λ count. list 0 count (λ (_ : ℕ). value) forget none))) (then_at (within_at w16 low 15) (λ _. then_at (within_at w64 1 greatest_count) values_at)) entry_parts
     (λ p. record { id = p.0; count = p.1.0; values = p.1.1 }) (λ x fits. refl) (λ y. refl)
-    (then_reads (number w16 low 15) (λ _. then_form (number w64 1 any_count) (λ count. list 0 count (λ (_ : ℕ). value) forget none)) (within_at w16 low 15) (λ _. then_at (within_at w64 1 any_count) values_at) (within_reads w16 wide16 low 15)
-    (λ _. then_reads (number w64 1 any_count) (λ count. list 0 count (λ (_ : ℕ). value) forget none) (within_at w64 1 any_count) values_at (within_reads w64 wide64 1 any_count) values_reads))
+    (then_reads (number w16 low 15) (λ _. then_form (number w64 1 greatest_count) (λ count. list 0 count (λ (_ : ℕ). value) forget none)) (within_at w16 low 15) (λ _. then_at (within_at w64 1 greatest_count) values_at) (within_reads w16 wide16 low 15)
+    (λ _. then_reads (number w64 1 greatest_count) (λ count. list 0 count (λ (_ : ℕ). value) forget none) (within_at w64 1 greatest_count) values_at (within_reads w64 wide64 1 greatest_count) values_reads))
 
 pub entries_reads : Reads (list 1 65535 entry above_entry 0) entries_at
 unfolding entries_at

@@ -4,7 +4,7 @@ use Rattle.meta_frame.specs.declared.fault.FrameFault.{FrameFault}
 use Rattle.meta_frame.specs.declared.fault.FrameFault.TheVariants.{Memory}
 use Rattle.meta_frame.specs.declared.fault.FieldFault.{FieldFault}
 use Rattle.meta_frame.specs.declared.fault.FieldFault.TheVariants as faults
-use Rattle.meta_frame.specs.Form.{Form}
+use Rattle.frame_fields.specs.Form.{Form}
 use Rattle.meta_frame.specs.Front.{Begins, RefusesField, IsUnambiguous}
 use Rattle.meta_frame.specs.Reading.{Reader, Fails, offset_of}
 use Rattle.meta_frame.proofs.Readers.{IsBytes, Reads, ok_is, err_is, done}

@@ -4,13 +4,13 @@ pub mod Readers
 pub mod Loops
 -- the readers of the fields belong to their forms
 pub mod Fields
--- which values, vectors and objects have a spelling
-pub mod Spellable
+-- the same for nodes, digests and rows that rise
+pub mod Listed
+-- what was read keeps the rules of its type
+pub mod Found
 -- the table of kinds, with the laws of each reader
 pub mod Rows
 -- frames: what is read is spelled so, and the refusals are the first that apply
 pub mod Frames
--- what writing fields leaves at the end of bytes
-pub mod Written
 -- what a reader of a field answered, in the words of its form
 pub mod Fronts

@@ -5,7 +5,7 @@ use Rattle.std.specs.Int.{Width, w8, w16, w32, w64, byte_len, from_be_bytes, to_
 use Rattle.std.proofs.lemmas.Bool.{cases_lt, ltb-false, ltb-true, le-ltb, lt-ltb}
 use Rattle.std.proofs.lemmas.List.{take_at, drop_at, take-append-drop, length-append, length-take, get_or-drop, get_or-take, get_or_past}
 use Rattle.std.proofs.lemmas.Nat.{be_bytes_2, be_bytes_4, be_bytes_8, from_be_bytes-to_be_bytes_2, from_be_bytes-to_be_bytes_4, from_be_bytes-to_be_bytes_8}
-use Rattle.meta_frame.specs.Form.{Form, any_number, some_bytes, nothing, ruled, then_form, seen_as, EachFits, spell_each, state_behind, BadAmong, each}
+use Rattle.frame_fields.specs.Form.{Form, any_number, some_bytes, nothing, ruled, then_form, seen_as, EachFits, spell_each, state_behind, BadAmong, each}
 use Rattle.meta_frame.specs.Reading.{Reader, ◌>>=◌, number_at, bytes_at, ruled_at, then_at, made_at, each_at}
 
 abbrev pub IsBytes : List ℕ → Type 0

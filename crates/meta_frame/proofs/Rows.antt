@@ -3,13 +3,14 @@ use Rattle.std.proofs.Common.{◌≡◌, ℕ, ◌^◌, ◌<◌, true, false, con
 use Rattle.std.specs.Int.{w8, w16}
 use Rattle.std.proofs.lemmas.Bool.{eqb-true, eq-eqb, ne_eqb, or_right, false≢true}
 use Rattle.meta_frame.specs.declared.message.Message.{Message}
-use Rattle.meta_frame.specs.declared.message.Message.TheVariants.{Gossip, IHave, Graft, Prune, Join, ForwardJoin, Disconnect, Neighbor, NeighborReply, XObject, XWant}
-use Rattle.meta_frame.specs.Form.{Form, any_number, then_form}
-use Rattle.meta_frame.specs.Field.{node, priority, answer, key, vector, object}
-use Rattle.meta_frame.specs.Frame.{Row, kind_of, gossip, announced, forwarded, carried, body, IsMessage, NoField, rows, BadIn, BadFields, is_in, is_kind}
-use Rattle.meta_frame.specs.Reading.{Reader, ◌>>=◌, number_at, then_at, made_at, node_at, priority_at, answer_at, key_at, vector_at, object_at, gossip_at, announced_at, forwarded_at, carried_at, message_at}
+use Rattle.meta_frame.specs.declared.message.Message.TheVariants.{Gossip, IHave, Graft, Prune, Join, ForwardJoin, Disconnect, Neighbor, NeighborReply, Shuffle, ShuffleReply, XRoot, XPrefixes, XInner, XLeaves, XBucket, XObject, XWant}
+use Rattle.frame_fields.specs.Form.{Form, any_number, then_form}
+use Rattle.frame_fields.specs.Field.{node, nodes, priority, answer, digest, digests, place, prefix, prefixes, keys, key, vector, object}
+use Rattle.meta_frame.specs.Frame.{Row, kind_of, gossip, announced, forwarded, shuffle, inner, leaves, bucket, carried, body, IsMessage, NoField, rows, BadIn, BadFields, is_in, is_kind}
+use Rattle.meta_frame.specs.Reading.{Reader, ◌>>=◌, number_at, then_at, made_at, within_at, node_at, nodes_at, priority_at, answer_at, digest_at, digests_at, prefix_at, prefixes_at, keys_at, key_at, vector_at, object_at, gossip_at, announced_at, forwarded_at, shuffle_at, inner_at, leaves_at, bucket_at, carried_at, message_at}
 use Rattle.meta_frame.proofs.Readers.{IsBytes, Reads, wide8, wide16, number_reads, then_reads, bind_ok, bind_err, ok_is, done}
-use Rattle.meta_frame.proofs.Fields.{node_reads, priority_reads, answer_reads, key_reads, vector_reads, object_reads}
+use Rattle.meta_frame.proofs.Listed.{nodes_reads, digest_reads, digests_reads, prefixes_reads, keys_reads}
+use Rattle.meta_frame.proofs.Fields.{within_reads, prefix_reads, node_reads, priority_reads, answer_reads, key_reads, vector_reads, object_reads}
 
 -- what reading a body of one kind took
 pub record Took (kind : ℕ) (bytes : List ℕ) (m : Message) (rest : List ℕ) : Type 0 where
@@ -112,6 +113,57 @@ neighbor_kind = kind_reads 8 priority priority_at (λ p. Neighbor p) priority_re
 neighbor_reply_kind : ReadsKind (record { kind = 9; Bad = answer.Bad }) (made_at answer_at (λ a. NeighborReply a))
 neighbor_reply_kind = kind_reads 9 answer answer_at (λ a. NeighborReply a) answer_reads (record { kind_is = λ x. refl; fits = λ x fits. fits; spelled = λ x. refl })
 
+shuffle_reads : Reads shuffle (then_at node_at (λ _. then_at (number_at w8) (λ _. nodes_at)))
+shuffle_reads =
+    then_reads node (λ _. then_form (any_number w8) (λ _. nodes)) node_at (λ _. then_at (number_at w8) (λ _. nodes_at)) node_reads
+    (λ _. then_reads (any_number w8) (λ _. nodes) (number_at w8) (λ _. nodes_at) (number_reads w8 wide8) (λ _. nodes_reads))
+
+inner_reads : Reads inner (then_at prefix_at (λ _. digests_at))
+inner_reads = then_reads prefix (λ _. digests) prefix_at (λ _. digests_at) prefix_reads (λ _. digests_reads)
+
+leaves_reads : Reads leaves (then_at prefix_at (λ _. then_at (within_at w8 0 15) (λ _. digests_at)))
+leaves_reads =
+    then_reads prefix (λ _. then_form place (λ _. digests)) prefix_at (λ _. then_at (within_at w8 0 15) (λ _. digests_at)) prefix_reads
+    (λ _. then_reads place (λ _. digests) (within_at w8 0 15) (λ _. digests_at) (within_reads w8 wide8 0 15) (λ _. digests_reads))
+
+bucket_reads : Reads bucket (then_at prefix_at (λ _. then_at (number_at w8) (λ _. keys_at)))
+bucket_reads =
+    then_reads prefix (λ _. then_form (any_number w8) (λ _. keys)) prefix_at (λ _. then_at (number_at w8) (λ _. keys_at)) prefix_reads
+    (λ _. then_reads (any_number w8) (λ _. keys) (number_at w8) (λ _. keys_at) (number_reads w8 wide8) (λ _. keys_reads))
+
+shuffle_kind : ReadsKind (record { kind = 10; Bad = shuffle.Bad }) shuffle_at
+unfolding shuffle_at
+shuffle_kind =
+    kind_reads 10 shuffle (then_at node_at (λ _. then_at (number_at w8) (λ _. nodes_at))) (λ p. Shuffle p.0 p.1.0 p.1.1) shuffle_reads
+    (record { kind_is = λ x. refl; fits = λ x fits. fits; spelled = λ x. refl })
+
+shuffle_reply_kind : ReadsKind (record { kind = 11; Bad = nodes.Bad }) (made_at nodes_at (λ ns. ShuffleReply ns))
+shuffle_reply_kind = kind_reads 11 nodes nodes_at (λ ns. ShuffleReply ns) nodes_reads (record { kind_is = λ x. refl; fits = λ x fits. fits; spelled = λ x. refl })
+
+xroot_kind : ReadsKind (record { kind = 12; Bad = digest.Bad }) (made_at digest_at (λ d. XRoot d))
+xroot_kind = kind_reads 12 digest digest_at (λ d. XRoot d) digest_reads (record { kind_is = λ x. refl; fits = λ x fits. fits; spelled = λ x. refl })
+
+xprefixes_kind : ReadsKind (record { kind = 13; Bad = prefixes.Bad }) (made_at prefixes_at (λ rows. XPrefixes rows))
+xprefixes_kind = kind_reads 13 prefixes prefixes_at (λ rows. XPrefixes rows) prefixes_reads (record { kind_is = λ x. refl; fits = λ x fits. fits; spelled = λ x. refl })
+
+xinner_kind : ReadsKind (record { kind = 14; Bad = inner.Bad }) inner_at
+unfolding inner_at
+xinner_kind =
+    kind_reads 14 inner (then_at prefix_at (λ _. digests_at)) (λ p. XInner p.0 p.1) inner_reads
+    (record { kind_is = λ x. refl; fits = λ x fits. fits; spelled = λ x. refl })
+
+xleaves_kind : ReadsKind (record { kind = 15; Bad = leaves.Bad }) leaves_at
+unfolding leaves_at
+xleaves_kind =
+    kind_reads 15 leaves (then_at prefix_at (λ _. then_at (within_at w8 0 15) (λ _. digests_at))) (λ p. XLeaves p.0 p.1.0 p.1.1) leaves_reads
+    (record { kind_is = λ x. refl; fits = λ x fits. fits; spelled = λ x. refl })
+
+xbucket_kind : ReadsKind (record { kind = 16; Bad = bucket.Bad }) bucket_at
+unfolding bucket_at
+xbucket_kind =
+    kind_reads 16 bucket (then_at prefix_at (λ _. then_at (number_at w8) (λ _. keys_at))) (λ p. XBucket p.0 p.1.0 p.1.1) bucket_reads
+    (record { kind_is = λ x. refl; fits = λ x fits. fits; spelled = λ x. refl })
+
 xobject_kind : ReadsKind (record { kind = 17; Bad = carried.Bad }) carried_at
 unfolding carried_at
 xobject_kind =
@@ -122,7 +174,7 @@ xwant_kind : ReadsKind (record { kind = 18; Bad = key.Bad }) (made_at key_at (λ
 xwant_kind = kind_reads 18 key key_at (λ k. XWant k) key_reads (record { kind_is = λ x. refl; fits = λ x fits. fits; spelled = λ x. refl })
 
 pub message_again : (m : Message) (rest : List ℕ) → IsMessage m → message_at (kind_of m) (body m ++ rest) ≡ Ok (m, rest)
-unfolding message_at gossip_at announced_at carried_at forwarded_at
+unfolding message_at gossip_at announced_at carried_at forwarded_at shuffle_at inner_at leaves_at bucket_at
 message_again (Gossip round k o) rest fits = rw (gossip_reads.again (round, (k, o)) rest fits) refl
 message_again (IHave round k v) rest fits = rw (announced_reads.again (round, (k, v)) rest fits) refl
 message_again (Graft round k v) rest fits = rw (announced_reads.again (round, (k, v)) rest fits) refl
@@ -132,6 +184,13 @@ message_again (ForwardJoin n ttl) rest fits = rw (forwarded_reads.again (n, ttl)
 message_again Disconnect rest fits = refl
 message_again (Neighbor p) rest fits = rw (priority_reads.again p rest fits) refl
 message_again (NeighborReply a) rest fits = rw (answer_reads.again a rest fits) refl
+message_again (Shuffle origin ttl ns) rest fits = rw (shuffle_reads.again (origin, (ttl, ns)) rest fits) refl
+message_again (ShuffleReply ns) rest fits = rw (nodes_reads.again ns rest fits) refl
+message_again (XRoot d) rest fits = rw (digest_reads.again d rest fits) refl
+message_again (XPrefixes rs) rest fits = rw (prefixes_reads.again rs rest fits) refl
+message_again (XInner p ds) rest fits = rw (inner_reads.again (p, ds) rest fits) refl
+message_again (XLeaves p i ds) rest fits = rw (leaves_reads.again (p, (i, ds)) rest fits) refl
+message_again (XBucket p leaf rs) rest fits = rw (bucket_reads.again (p, (leaf, rs)) rest fits) refl
 message_again (XObject k o) rest fits = rw (carried_reads.again (k, o) rest fits) refl
 message_again (XWant k) rest fits = rw (key_reads.again k rest fits) refl
 
@@ -145,6 +204,13 @@ known_kind (ForwardJoin n ttl) = refl
 known_kind Disconnect = refl
 known_kind (Neighbor p) = refl
 known_kind (NeighborReply a) = refl
+known_kind (Shuffle origin ttl ns) = refl
+known_kind (ShuffleReply ns) = refl
+known_kind (XRoot d) = refl
+known_kind (XPrefixes rs) = refl
+known_kind (XInner p ds) = refl
+known_kind (XLeaves p i ds) = refl
+known_kind (XBucket p leaf rs) = refl
 known_kind (XObject k o) = refl
 known_kind (XWant k) = refl
 
@@ -158,6 +224,13 @@ small_kind (ForwardJoin n ttl) = omega arith
 small_kind Disconnect = omega arith
 small_kind (Neighbor p) = omega arith
 small_kind (NeighborReply a) = omega arith
+small_kind (Shuffle origin ttl ns) = omega arith
+small_kind (ShuffleReply ns) = omega arith
+small_kind (XRoot d) = omega arith
+small_kind (XPrefixes rs) = omega arith
+small_kind (XInner p ds) = omega arith
+small_kind (XLeaves p i ds) = omega arith
+small_kind (XBucket p leaf rs) = omega arith
 small_kind (XObject k o) = omega arith
 small_kind (XWant k) = omega arith
 
@@ -179,6 +252,13 @@ lines =
     ∷ (record { row = record { kind = 7; Bad = NoField }; read = λ bytes. Ok (Disconnect, bytes); reads = disconnect_kind })
     ∷ (record { row = record { kind = 8; Bad = priority.Bad }; read = made_at priority_at (λ p. Neighbor p); reads = neighbor_kind })
     ∷ (record { row = record { kind = 9; Bad = answer.Bad }; read = made_at answer_at (λ a. NeighborReply a); reads = neighbor_reply_kind })
+    ∷ (record { row = record { kind = 10; Bad = shuffle.Bad }; read = shuffle_at; reads = shuffle_kind })
+    ∷ (record { row = record { kind = 11; Bad = nodes.Bad }; read = made_at nodes_at (λ ns. ShuffleReply ns); reads = shuffle_reply_kind })
+    ∷ (record { row = record { kind = 12; Bad = digest.Bad }; read = made_at digest_at (λ d. XRoot d); reads = xroot_kind })
+    ∷ (record { row = record { kind = 13; Bad = prefixes.Bad }; read = made_at prefixes_at (λ rows. XPrefixes rows); reads = xprefixes_kind })
+    ∷ (record { row = record { kind = 14; Bad = inner.Bad }; read = inner_at; reads = xinner_kind })
+    ∷ (record { row = record { kind = 15; Bad = leaves.Bad }; read = leaves_at; reads = xleaves_kind })
+    ∷ (record { row = record { kind = 16; Bad = bucket.Bad }; read = bucket_at; reads = xbucket_kind })
     ∷ (record { row = record { kind = 17; Bad = carried.Bad }; read = carried_at; reads = xobject_kind })
     ∷ (record { row = record { kind = 18; Bad = key.Bad }; read = made_at key_at (λ k. XWant k); reads = xwant_kind })
     ∷ []
@@ -257,5 +337,5 @@ pub message_refuses : (kind : ℕ) (bytes : List ℕ) (left : ℕ) → BadFields
 message_refuses kind bytes left bad =
     by_lines kind bytes
     ∙ refuses_by lines kind bytes left
-    (record { absent = refl }, (record { absent = refl }, (record { absent = refl }, (record { absent = refl }, (record { absent = refl }, (record { absent = refl }, (record { absent = refl }, (record { absent = refl }, (record { absent = refl }, (record { absent = refl }, (record { absent = refl }, tt)))))))))))
+    (record { absent = refl }, (record { absent = refl }, (record { absent = refl }, (record { absent = refl }, (record { absent = refl }, (record { absent = refl }, (record { absent = refl }, (record { absent = refl }, (record { absent = refl }, (record { absent = refl }, (record { absent = refl }, (record { absent = refl }, (record { absent = refl }, (record { absent = refl }, (record { absent = refl }, (record { absent = refl }, (record { absent = refl }, (record { absent = refl }, tt))))))))))))))))))
     bad

@@ -2,13 +2,14 @@
 use Rattle.std.specs.Prelude.{◌≡◌, ℕ, ◌+◌, ◌-◌, ◌<◌, ◌≤◌, ◌^◌, ◌==◌, ◌≢◌, nat_lt, ◌⊎◌, List, [], ◌∷◌, ◌++◌, length, take, drop, Bool, false, not, ◌||◌, Option, Some, None, MatchOption, if◌then◌else◌, codes}
 use Rattle.std.specs.Int.{Width, byte_len, w8, w16, w32, w64, to_be_bytes, from_be_bytes}
 use Rattle.meta_frame.specs.declared.message.Message.{Message}
-use Rattle.meta_frame.specs.declared.message.Message.TheVariants.{Gossip, IHave, Graft, Prune, Join, ForwardJoin, Disconnect, Neighbor, NeighborReply, XObject, XWant}
+use Rattle.meta_frame.specs.declared.message.Message.TheVariants.{Gossip, IHave, Graft, Prune, Join, ForwardJoin, Disconnect, Neighbor, NeighborReply, Shuffle, ShuffleReply, XRoot, XPrefixes, XInner, XLeaves, XBucket, XObject, XWant}
 use Rattle.meta_frame.specs.declared.message.Frame.{Frame}
 use Rattle.meta_frame.specs.declared.fault.FrameFault.{FrameFault}
 use Rattle.meta_frame.specs.declared.fault.FrameFault.TheVariants.{Short, BadMagic, BadVersion, BadKind, TooLong, BadBody, LeftOver}
-use Rattle.meta_frame.specs.Form.{Form, any_number, then_form}
-use Rattle.meta_frame.specs.Field.{node, priority, answer, key, vector, object}
-use Rattle.meta_types.specs.Name.{Key}
+use Rattle.frame_fields.specs.declared.keys.KeyDigest.{KeyDigest}
+use Rattle.frame_fields.specs.Form.{Form, any_number, then_form}
+use Rattle.frame_fields.specs.Field.{node, nodes, priority, answer, digest, digests, place, prefix, prefixes, keys, key, vector, object}
+use Rattle.meta_types.specs.Name.{Prefix, Key}
 use Rattle.dvvset.specs.Object.{Entry, Counter}
 
 -- ---- the table of kinds: number, name, and the form of the body
@@ -23,6 +24,13 @@ kind_of (ForwardJoin n ttl) = 6
 kind_of Disconnect = 7
 kind_of (Neighbor p) = 8
 kind_of (NeighborReply a) = 9
+kind_of (Shuffle origin ttl ns) = 10
+kind_of (ShuffleReply ns) = 11
+kind_of (XRoot d) = 12
+kind_of (XPrefixes rs) = 13
+kind_of (XInner p ds) = 14
+kind_of (XLeaves p i ds) = 15
+kind_of (XBucket p leaf rs) = 16
 kind_of (XObject k o) = 17
 kind_of (XWant k) = 18
 
@@ -36,6 +44,13 @@ name_of (ForwardJoin n ttl) = codes "FORWARDJOIN"
 name_of Disconnect = codes "DISCONNECT"
 name_of (Neighbor p) = codes "NEIGHBOR"
 name_of (NeighborReply a) = codes "NEIGHBORREPLY"
+name_of (Shuffle origin ttl ns) = codes "SHUFFLE"
+name_of (ShuffleReply ns) = codes "SHUFFLEREPLY"
+name_of (XRoot d) = codes "XROOT"
+name_of (XPrefixes rs) = codes "XPREFIXES"
+name_of (XInner p ds) = codes "XINNER"
+name_of (XLeaves p i ds) = codes "XLEAVES"
+name_of (XBucket p leaf rs) = codes "XBUCKET"
 name_of (XObject k o) = codes "XOBJECT"
 name_of (XWant k) = codes "XWANT"
 
@@ -47,9 +62,25 @@ gossip = then_form (any_number w16) (λ _. then_form key (λ _. object))
 abbrev pub announced : Form (ℕ × (Key × List Counter))
 announced = then_form (any_number w16) (λ _. then_form key (λ _. vector))
 
--- a node, and to how many nodes more it is passed on
+-- a node and a ttl
 abbrev pub forwarded : Form (ℕ × ℕ)
 forwarded = then_form node (λ _. any_number w8)
+
+-- the node where a walk began, a ttl, and nodes
+abbrev pub shuffle : Form (ℕ × (ℕ × List ℕ))
+shuffle = then_form node (λ _. then_form (any_number w8) (λ _. nodes))
+
+-- a prefix, and the digests of its sixteen inner nodes
+abbrev pub inner : Form (Prefix × List (List ℕ))
+inner = then_form prefix (λ _. digests)
+
+-- a prefix, the number of an inner node, and the digests of its sixteen leaves
+abbrev pub leaves : Form (Prefix × (ℕ × List (List ℕ)))
+leaves = then_form prefix (λ _. then_form place (λ _. digests))
+
+-- a prefix, the number of a leaf, and its keys with their digests
+abbrev pub bucket : Form (Prefix × (ℕ × List KeyDigest))
+bucket = then_form prefix (λ _. then_form (any_number w8) (λ _. keys))
 
 -- a key and an object
 abbrev pub carried : Form (Key × List Entry)
@@ -65,6 +96,13 @@ body (ForwardJoin n ttl) = forwarded.spell (n, ttl)
 body Disconnect = []
 body (Neighbor p) = priority.spell p
 body (NeighborReply a) = answer.spell a
+body (Shuffle origin ttl ns) = shuffle.spell (origin, (ttl, ns))
+body (ShuffleReply ns) = nodes.spell ns
+body (XRoot d) = digest.spell d
+body (XPrefixes rs) = prefixes.spell rs
+body (XInner p ds) = inner.spell (p, ds)
+body (XLeaves p i ds) = leaves.spell (p, (i, ds))
+body (XBucket p leaf rs) = bucket.spell (p, (leaf, rs))
 body (XObject k o) = carried.spell (k, o)
 body (XWant k) = key.spell k
 
@@ -79,10 +117,17 @@ IsMessage (ForwardJoin n ttl) = forwarded.Fits (n, ttl)
 IsMessage Disconnect = Unit {0}
 IsMessage (Neighbor p) = priority.Fits p
 IsMessage (NeighborReply a) = answer.Fits a
+IsMessage (Shuffle origin ttl ns) = shuffle.Fits (origin, (ttl, ns))
+IsMessage (ShuffleReply ns) = nodes.Fits ns
+IsMessage (XRoot d) = digest.Fits d
+IsMessage (XPrefixes rs) = prefixes.Fits rs
+IsMessage (XInner p ds) = inner.Fits (p, ds)
+IsMessage (XLeaves p i ds) = leaves.Fits (p, (i, ds))
+IsMessage (XBucket p leaf rs) = bucket.Fits (p, (leaf, rs))
 IsMessage (XObject k o) = carried.Fits (k, o)
 IsMessage (XWant k) = key.Fits k
 
--- a kind, and which bytes are at fault in a body of it
+-- a kind, and which bytes are at fault in a body of it: in those of the form that `body` gives the kind
 pub record Row : Type 1 where
   pub kind : ℕ
   pub Bad : List ℕ → ℕ → Type 0
@@ -102,6 +147,13 @@ rows =
     ∷ (record { kind = 7; Bad = NoField })
     ∷ (record { kind = 8; Bad = priority.Bad })
     ∷ (record { kind = 9; Bad = answer.Bad })
+    ∷ (record { kind = 10; Bad = shuffle.Bad })
+    ∷ (record { kind = 11; Bad = nodes.Bad })
+    ∷ (record { kind = 12; Bad = digest.Bad })
+    ∷ (record { kind = 13; Bad = prefixes.Bad })
+    ∷ (record { kind = 14; Bad = inner.Bad })
+    ∷ (record { kind = 15; Bad = leaves.Bad })
+    ∷ (record { kind = 16; Bad = bucket.Bad })
     ∷ (record { kind = 17; Bad = carried.Bad })
     ∷ (record { kind = 18; Bad = key.Bad })
     ∷ []
@@ -157,7 +209,7 @@ abbrev pub first_that_applies : {F : Type 0} → List (Bool × F) → Option F
 first_that_applies [] = None
 first_that_applies (test ∷ tests) = if test.0 then Some test.1 else first_that_applies tests
 
--- the number of a width at an offset
+-- the number of a width at an offset, asked only where there are so many bytes
 abbrev pub number_in : Width → ℕ → List ℕ → ℕ
 number_in w at bytes = from_be_bytes w (take (byte_len w) (drop at bytes))
 

@@ -2,7 +2,7 @@
 use Rattle.std.specs.Prelude.{◌≡◌, ℕ, ◌-◌, List, ◌++◌, length}
 use Rattle.meta_frame.specs.declared.fault.FrameFault.{FrameFault}
 use Rattle.meta_frame.specs.declared.fault.FrameFault.TheVariants.{BadBody}
-use Rattle.meta_frame.specs.Form.{Form}
+use Rattle.frame_fields.specs.Form.{Form}
 
 -- the bytes begin with the spelling of the value
 pub record Begins {A : Type 0} (form : Form A) (bytes : List ℕ) (value : A) (rest : List ℕ) : Type 0 where
@@ -19,7 +19,7 @@ abbrev pub RefusesField : {A : Type 0} → Form A → List ℕ → FrameFault �
 RefusesField form bytes (BadBody at) = FaultAt form bytes at
 RefusesField form bytes fault = ⊥
 
--- bytes begin with one value at most, or have one fault, and never both
+-- bytes begin with at most one value of the form, have at most one fault, and never both
 pub record IsUnambiguous {A : Type 0} (form : Form A) : Type 0 where
   pub one_value : (bytes : List ℕ) (x y : A) (rest others : List ℕ) → Begins form bytes x rest → Begins form bytes y others → (x ≡ y) × (rest ≡ others)
   pub one_fault : (bytes : List ℕ) (at other : ℕ) → FaultAt form bytes at → FaultAt form bytes other → at ≡ other

@@ -4,16 +4,14 @@ pub use Rattle.dvvset.specs.Object
 pub use Rattle.meta_types.specs.Node
 pub use Rattle.meta_types.specs.Name
 pub use Rattle.meta_types.specs.Value
--- what a form of a field is, and how forms are put together
-pub mod Form
--- the forms of the fields
-pub mod Field
+-- what a form of a field is, how forms are put together, and the forms of the fields
+pub use Rattle.frame_fields.specs.Form
+pub use Rattle.frame_fields.specs.Field
 -- the kinds of message, frames, and which refusal comes first
 pub mod Frame
 -- a field at the front of bytes
 pub mod Front
 -- the numbers of refusals
 pub mod Fault
--- what private functions alone cite: the forms as readers on lists, and what writing asks of an entry
+-- what private functions alone cite: the forms as readers on lists
 pub mod Reading
-pub mod Size

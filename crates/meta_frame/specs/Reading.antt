@@ -1,20 +1,22 @@
 -- The forms as readers on lists, from left to right. A reader answers the value and the bytes behind it, or
 -- how many bytes were left at the field that is at fault. Private functions are proved against these, and the
 -- readers against the forms; no public contract cites this file.
-use Rattle.std.specs.Prelude.{◌≡◌, ℕ, zero, suc, List, [], ◌∷◌, length, take, drop, Option, Some, None, Result, Ok, Err, Bool, ◌&&◌, nat_lt, nat_le, ◌==◌, ◌-◌, ◌<◌, ◌≤◌, ◌⊎◌, if◌then◌else◌}
+use Rattle.std.specs.Prelude.{◌≡◌, ℕ, zero, suc, List, [], ◌∷◌, length, take, drop, Option, Some, None, Result, Ok, Err, Bool, ◌&&◌, ◌||◌, not, nat_lt, nat_le, ◌==◌, ◌-◌, ◌<◌, ◌≤◌, ◌⊎◌, if◌then◌else◌}
 use Rattle.std.specs.Int.{Width, w8, w16, w64, byte_len, from_be_bytes}
 use Rattle.meta_types.specs.Name.{Prefix, Key}
 use Rattle.meta_types.specs.Value.{ValueParts}
 use Rattle.dvvset.specs.Object.{Entry, Counter}
-use Rattle.meta_frame.specs.Field.{any_count, none, forget, above_counter, above_entry, has_value}
+use Rattle.frame_fields.specs.declared.prefixes.PrefixDigest.{PrefixDigest}
+use Rattle.frame_fields.specs.declared.keys.KeyDigest.{KeyDigest}
+use Rattle.frame_fields.specs.Field.{greatest_count, none, forget, above_counter, above_entry, has_value, is_before, lowest, prefix_of, key_bytes}
 use Rattle.meta_frame.specs.Frame.{number_in, kind_in, from_in, to_in, header_tests, first_that_applies}
 use Rattle.meta_frame.specs.declared.message.Message.{Message}
-use Rattle.meta_frame.specs.declared.message.Message.TheVariants.{Gossip, IHave, Graft, Prune, Join, ForwardJoin, Disconnect, Neighbor, NeighborReply, XObject, XWant}
+use Rattle.meta_frame.specs.declared.message.Message.TheVariants.{Gossip, IHave, Graft, Prune, Join, ForwardJoin, Disconnect, Neighbor, NeighborReply, Shuffle, ShuffleReply, XRoot, XPrefixes, XInner, XLeaves, XBucket, XObject, XWant}
 use Rattle.meta_frame.specs.declared.message.Frame.{Frame}
-use Rattle.meta_frame.specs.declared.part.Priority.{Priority}
-use Rattle.meta_frame.specs.declared.part.Priority.TheVariants.{Low, High}
-use Rattle.meta_frame.specs.declared.part.Answer.{Answer}
-use Rattle.meta_frame.specs.declared.part.Answer.TheVariants.{No, Yes}
+use Rattle.frame_fields.specs.declared.neighbor.Priority.{Priority}
+use Rattle.frame_fields.specs.declared.neighbor.Priority.TheVariants.{Low, High}
+use Rattle.frame_fields.specs.declared.neighbor.Answer.{Answer}
+use Rattle.frame_fields.specs.declared.neighbor.Answer.TheVariants.{No, Yes}
 use Rattle.meta_frame.specs.declared.fault.FrameFault.{FrameFault}
 use Rattle.meta_frame.specs.declared.fault.FrameFault.TheVariants as frames
 use Rattle.meta_frame.specs.declared.fault.FieldFault.{FieldFault}
@@ -84,7 +86,7 @@ unfoldable pub key_at : Reader Key
 key_at = made_at (then_at prefix_at (λ _. name_at 1 256)) (λ p. record { prefix = p.0; key = p.1 })
 
 unfoldable pub counter_at : ℕ → Reader Counter
-counter_at low = made_at (then_at (within_at w16 low 15) (λ _. within_at w64 1 any_count)) (λ p. record { id = p.0; count = p.1 })
+counter_at low = made_at (then_at (within_at w16 low 15) (λ _. within_at w64 1 greatest_count)) (λ p. record { id = p.0; count = p.1 })
 
 unfoldable pub vector_at : Reader (List Counter)
 vector_at = made_at (then_at (within_at w16 1 65535) (each_at counter_at above_counter 0)) (λ p. p.1)
@@ -105,13 +107,51 @@ unfoldable pub values_at : ℕ → Reader (List ValueParts)
 values_at count = made_at (then_at (within_at w16 0 count) (each_at (λ (_ : ℕ). value_at) forget none)) (λ p. p.1)
 
 unfoldable pub entry_at : ℕ → Reader Entry
-entry_at low = made_at (then_at (within_at w16 low 15) (λ _. then_at (within_at w64 1 any_count) values_at)) (λ p. record { id = p.0; count = p.1.0; values = p.1.1 })
+entry_at low = made_at (then_at (within_at w16 low 15) (λ _. then_at (within_at w64 1 greatest_count) values_at)) (λ p. record { id = p.0; count = p.1.0; values = p.1.1 })
 
 unfoldable pub entries_at : Reader (List Entry)
 entries_at = made_at (then_at (within_at w16 1 65535) (each_at entry_at above_entry 0)) (λ p. p.1)
 
 unfoldable pub object_at : Reader (List Entry)
 object_at = ruled_at entries_at has_value
+
+-- ---- nodes, digests and rows that rise
+
+unfoldable pub nodes_at : Reader (List ℕ)
+nodes_at = made_at (then_at (within_at w16 0 16) (each_at (λ (_ : ℕ). node_at) forget none)) (λ p. p.1)
+
+unfoldable pub digest_at : Reader (List ℕ)
+digest_at = bytes_at 32
+
+unfoldable pub digests_at : Reader (List (List ℕ))
+digests_at = each_at (λ (_ : ℕ). digest_at) forget none 16
+
+abbrev pub named_at : ℕ → ℕ → (List ℕ → Bool) → Reader (List ℕ)
+named_at low high rule = made_at (then_at (within_at w16 low high) (λ size. ruled_at (bytes_at size) rule)) (λ p. p.1)
+
+unfoldable pub first_at : List ℕ → Reader (List ℕ)
+first_at low = named_at 1 64 (λ first. not (is_before first low))
+
+unfoldable pub second_at : Prefix → List ℕ → Reader (List ℕ)
+second_at low first = named_at 1 64 (λ sub. is_before low.prefix first || is_before low.sub sub)
+
+unfoldable pub prefix_above_at : Prefix → Reader Prefix
+prefix_above_at low = made_at (then_at (first_at low.prefix) (second_at low)) (λ p. record { prefix = p.0; sub = p.1 })
+
+unfoldable pub prefix_row_at : Prefix → Reader PrefixDigest
+prefix_row_at low = made_at (then_at (prefix_above_at low) (λ _. digest_at)) (λ p. record { prefix = p.0; digest = p.1 })
+
+unfoldable pub prefixes_at : Reader (List PrefixDigest)
+prefixes_at = made_at (then_at (within_at w16 0 8192) (each_at prefix_row_at prefix_of lowest)) (λ p. p.1)
+
+unfoldable pub key_above_at : List ℕ → Reader (List ℕ)
+key_above_at low = named_at 1 256 (is_before low)
+
+unfoldable pub key_row_at : List ℕ → Reader KeyDigest
+key_row_at low = made_at (then_at (key_above_at low) (λ _. digest_at)) (λ p. record { key = p.0; digest = p.1 })
+
+unfoldable pub keys_at : Reader (List KeyDigest)
+keys_at = made_at (then_at (within_at w16 0 8192) (each_at key_row_at key_bytes [])) (λ p. p.1)
 
 -- ---- messages and frames
 
@@ -123,6 +163,18 @@ announced_at make = made_at (then_at (number_at w16) (λ _. then_at key_at (λ _
 
 unfoldable pub forwarded_at : Reader Message
 forwarded_at = made_at (then_at node_at (λ _. number_at w8)) (λ p. ForwardJoin p.0 p.1)
+
+unfoldable pub shuffle_at : Reader Message
+shuffle_at = made_at (then_at node_at (λ _. then_at (number_at w8) (λ _. nodes_at))) (λ p. Shuffle p.0 p.1.0 p.1.1)
+
+unfoldable pub inner_at : Reader Message
+inner_at = made_at (then_at prefix_at (λ _. digests_at)) (λ p. XInner p.0 p.1)
+
+unfoldable pub leaves_at : Reader Message
+leaves_at = made_at (then_at prefix_at (λ _. then_at (within_at w8 0 15) (λ _. digests_at))) (λ p. XLeaves p.0 p.1.0 p.1.1)
+
+unfoldable pub bucket_at : Reader Message
+bucket_at = made_at (then_at prefix_at (λ _. then_at (number_at w8) (λ _. keys_at))) (λ p. XBucket p.0 p.1.0 p.1.1)
 
 unfoldable pub carried_at : Reader Message
 carried_at = made_at (then_at key_at (λ _. object_at)) (λ p. XObject p.0 p.1)
@@ -138,8 +190,15 @@ message_at kind bytes =
     if kind == 7 then Ok (Disconnect, bytes) else (
     if kind == 8 then made_at priority_at (λ p. Neighbor p) bytes else (
     if kind == 9 then made_at answer_at (λ a. NeighborReply a) bytes else (
+    if kind == 10 then shuffle_at bytes else (
+    if kind == 11 then made_at nodes_at (λ ns. ShuffleReply ns) bytes else (
+    if kind == 12 then made_at digest_at (λ d. XRoot d) bytes else (
+    if kind == 13 then made_at prefixes_at (λ rows. XPrefixes rows) bytes else (
+    if kind == 14 then inner_at bytes else (
+    if kind == 15 then leaves_at bytes else (
+    if kind == 16 then bucket_at bytes else (
     if kind == 17 then carried_at bytes else (
-    if kind == 18 then made_at key_at (λ k. XWant k) bytes else Err (length bytes)))))))))))
+    if kind == 18 then made_at key_at (λ k. XWant k) bytes else Err (length bytes))))))))))))))))))
 
 -- the frame of a header and a message
 abbrev pub framed : List ℕ → Message → Frame

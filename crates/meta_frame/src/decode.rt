@@ -15,7 +15,7 @@ use std::alloc::Global;
 pub const MAX_FRAME_LEN: usize = 16_777_216;
 
 /// The bytes of a header.
-pub(crate) const HEADER_LEN: usize = 20;
+pub const HEADER_LEN: usize = 20;
 
 fn u8_at(bytes: &[u8], at: usize) -> u8
     requires { at + 1 ≤ length bytes.now }

@@ -1,16 +1,16 @@
 //! Bytes from frames.
 
 ghost use Rattle.std.specs.Prelude.{◌≡◌, ◌++◌, ◌<◌, ◌⊎◌, length, OnOk, OnErr, IfOk, IfErr};
-ghost use Rattle.meta_frame.specs.Field.{object};
+ghost use Rattle.frame_fields.specs.Field.{object};
 ghost use Rattle.meta_frame.specs.Frame.{IsLawful, Spells, spelling, limit, body};
 
 use crate::decode::{HEADER_LEN, MAX_FRAME_LEN};
 use crate::fault::FrameFault;
 use crate::kinds::{body_len, kind_number, write_message};
-use crate::lengths::object_len;
 use crate::message::Frame;
-use crate::writing::{write_node, write_object, write_u8, write_u16, write_u32, write_u64};
 use dvvset::Entries;
+use frame_fields::lengths::object_len;
+use frame_fields::writing::{write_node, write_object, write_u8, write_u16, write_u32, write_u64};
 use std::alloc::{AllocError, Global};
 
 fn write(out: &mut Vec<u8>, frame: &Frame, len: u32) -> Result<(), AllocError>

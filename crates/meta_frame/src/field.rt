@@ -1,7 +1,7 @@
 //! The fields that other formats are made of too, from the front of bytes.
 
 ghost use Rattle.std.specs.Prelude.{◌≡◌, ◌⊎◌, IfOk, IfErr};
-ghost use Rattle.meta_frame.specs.Field.{prefix, key, vector, object};
+ghost use Rattle.frame_fields.specs.Field.{prefix, key, vector, object};
 ghost use Rattle.meta_frame.specs.Reading.{offset_of};
 ghost use Rattle.meta_frame.specs.Front.{Begins, RefusesField};
 

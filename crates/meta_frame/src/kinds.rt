@@ -6,16 +6,24 @@ ghost use Rattle.meta_frame.specs.Frame.{is_kind, kind_of, name_of, body, IsMess
 ghost use Rattle.meta_frame.specs.Reading.{Gives, message_at};
 
 use crate::fault::FieldFault;
-use crate::lawful::{is_answer, is_key, is_node, is_object, is_priority, is_u8, is_u16, is_vector};
-use crate::lengths::{key_len, object_len, vector_len};
+use crate::listing::{digest_of, digests_of, keys_of, nodes_of, prefixes_of};
 use crate::message::Message;
 use crate::reading::{
-    answer_from, key_of, node_from, node_of, object_of, priority_from, u8_of, u8_within, u16_of,
-    vector_of,
+    answer_of, key_of, node_from, node_of, object_of, place_of, prefix_of, priority_of, u8_of,
+    u16_of, vector_of,
 };
-use crate::writing::{
-    write_answer, write_key, write_node, write_object, write_priority, write_u8, write_u16,
-    write_vector,
+use frame_fields::Digest;
+use frame_fields::digest::DIGEST_LEN;
+use frame_fields::lawful::{
+    is_answer, is_digest, is_digests, is_key, is_keys, is_node, is_nodes, is_object, is_place,
+    is_prefix, is_prefixes, is_priority, is_u8, is_u16, is_vector,
+};
+use frame_fields::lengths::{
+    digests_len, key_len, keys_len, nodes_len, object_len, prefix_len, prefixes_len, vector_len,
+};
+use frame_fields::writing::{
+    write_answer, write_digest, write_digests, write_key, write_keys, write_node, write_nodes,
+    write_object, write_prefix, write_prefixes, write_priority, write_u8, write_u16, write_vector,
 };
 use std::alloc::{AllocError, Global};
 
@@ -31,6 +39,13 @@ macro_rules! frame_kinds {
             7 "DISCONNECT" Disconnect {}
             8 "NEIGHBOR" Neighbor { priority: priority }
             9 "NEIGHBORREPLY" NeighborReply { answer: answer }
+            10 "SHUFFLE" Shuffle { origin: node, ttl: number8, nodes: nodes }
+            11 "SHUFFLEREPLY" ShuffleReply { nodes: nodes }
+            12 "XROOT" XRoot { root: digest }
+            13 "XPREFIXES" XPrefixes { prefixes: prefixes }
+            14 "XINNER" XInner { prefix: prefix, digests: digests }
+            15 "XLEAVES" XLeaves { prefix: prefix, inner: place, digests: digests }
+            16 "XBUCKET" XBucket { prefix: prefix, leaf: number8, keys: keys }
             17 "XOBJECT" XObject { key: key, object: object }
             18 "XWANT" XWant { key: key }
         }
@@ -44,14 +59,18 @@ macro_rules! read_field {
         let (number, rest) = node_of($rest)?;
         (node_from(number), rest)
     }};
-    (priority $alloc:ident $rest:ident) => {{
-        let (number, rest) = u8_within(0, 1, $rest)?;
-        (priority_from(number), rest)
+    (priority $alloc:ident $rest:ident) => { priority_of($rest)? };
+    (answer $alloc:ident $rest:ident) => { answer_of($rest)? };
+    (place $alloc:ident $rest:ident) => { place_of($rest)? };
+    (nodes $alloc:ident $rest:ident) => { nodes_of($alloc, $rest)? };
+    (digest $alloc:ident $rest:ident) => {{
+        let (bytes, rest) = digest_of($rest)?;
+        (Digest::new(bytes), rest)
     }};
-    (answer $alloc:ident $rest:ident) => {{
-        let (number, rest) = u8_within(0, 1, $rest)?;
-        (answer_from(number), rest)
-    }};
+    (digests $alloc:ident $rest:ident) => { digests_of($alloc, $rest)? };
+    (prefix $alloc:ident $rest:ident) => { prefix_of($alloc, $rest)? };
+    (prefixes $alloc:ident $rest:ident) => { prefixes_of($alloc, $rest)? };
+    (keys $alloc:ident $rest:ident) => { keys_of($alloc, $rest)? };
     (key $alloc:ident $rest:ident) => { key_of($alloc, $rest)? };
     (vector $alloc:ident $rest:ident) => { vector_of($alloc, $rest)? };
     (object $alloc:ident $rest:ident) => { object_of($alloc, $rest)? };
@@ -72,7 +91,7 @@ macro_rules! read_kind {
 }
 
 /// The message of this kind at the front of the bytes.
-#[tactic(auto, unfolding(crate::specs::Reading::message_at, crate::specs::Reading::gossip_at, crate::specs::Reading::announced_at, crate::specs::Reading::carried_at, crate::specs::Reading::forwarded_at, crate::specs::Reading::priority_at, crate::specs::Reading::answer_at))]
+#[tactic(auto, unfolding(crate::specs::Reading::message_at, crate::specs::Reading::gossip_at, crate::specs::Reading::announced_at, crate::specs::Reading::carried_at, crate::specs::Reading::forwarded_at, crate::specs::Reading::shuffle_at, crate::specs::Reading::inner_at, crate::specs::Reading::leaves_at, crate::specs::Reading::bucket_at))]
 pub(crate) fn message_of(
     alloc: Global,
     kind: u8,
@@ -145,6 +164,27 @@ macro_rules! field_fits {
     (answer $field:ident) => {
         is_answer($field)
     };
+    (place $field:ident) => {
+        is_place($field)
+    };
+    (nodes $field:ident) => {
+        is_nodes($field)
+    };
+    (digest $field:ident) => {
+        is_digest($field)
+    };
+    (digests $field:ident) => {
+        is_digests($field)
+    };
+    (prefix $field:ident) => {
+        is_prefix($field)
+    };
+    (prefixes $field:ident) => {
+        is_prefixes($field)
+    };
+    (keys $field:ident) => {
+        is_keys($field)
+    };
     (key $field:ident) => {
         is_key($field)
     };
@@ -187,6 +227,27 @@ macro_rules! write_field {
     };
     (answer $out:ident $field:ident) => {
         write_answer($out, *$field)?
+    };
+    (place $out:ident $field:ident) => {
+        write_u8($out, *$field)?
+    };
+    (nodes $out:ident $field:ident) => {
+        write_nodes($out, $field)?
+    };
+    (digest $out:ident $field:ident) => {
+        write_digest($out, $field)?
+    };
+    (digests $out:ident $field:ident) => {
+        write_digests($out, $field)?
+    };
+    (prefix $out:ident $field:ident) => {
+        write_prefix($out, $field)?
+    };
+    (prefixes $out:ident $field:ident) => {
+        write_prefixes($out, $field)?
+    };
+    (keys $out:ident $field:ident) => {
+        write_keys($out, $field)?
     };
     (key $out:ident $field:ident) => {
         write_key($out, $field)?
@@ -235,6 +296,27 @@ macro_rules! field_len {
     (answer $field:ident) => {
         1
     };
+    (place $field:ident) => {
+        1
+    };
+    (digest $field:ident) => {
+        DIGEST_LEN
+    };
+    (nodes $field:ident) => {
+        nodes_len($field)
+    };
+    (digests $field:ident) => {
+        digests_len($field)
+    };
+    (prefix $field:ident) => {
+        prefix_len($field)
+    };
+    (prefixes $field:ident) => {
+        prefixes_len($field)
+    };
+    (keys $field:ident) => {
+        keys_len($field)
+    };
     (key $field:ident) => {
         key_len($field)
     };
@@ -279,6 +361,27 @@ macro_rules! copy_field {
     };
     (answer $field:ident) => {
         *$field
+    };
+    (place $field:ident) => {
+        *$field
+    };
+    (digest $field:ident) => {
+        *$field
+    };
+    (nodes $field:ident) => {
+        $field.copy()?
+    };
+    (digests $field:ident) => {
+        $field.copy()?
+    };
+    (prefix $field:ident) => {
+        $field.copy()?
+    };
+    (prefixes $field:ident) => {
+        $field.copy()?
+    };
+    (keys $field:ident) => {
+        $field.copy()?
     };
     (key $field:ident) => {
         $field.copy()?

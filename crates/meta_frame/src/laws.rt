@@ -1,7 +1,7 @@
 //! Laws of the spelling of frames. Each function does nothing: its contract is the law.
 
 ghost use Rattle.std.specs.Prelude.{◌≡◌, ◌++◌, ◌⊎◌, ◌<◌, [], ℕ, List, All};
-ghost use Rattle.meta_frame.specs.Field.{prefix, key, vector, object};
+ghost use Rattle.frame_fields.specs.Field.{prefix, key, vector, object};
 ghost use Rattle.meta_frame.specs.Front.{IsUnambiguous};
 ghost use Rattle.meta_frame.specs.declared.message.Frame.{Frame};
 ghost use Rattle.meta_frame.specs.declared.fault.FrameFault.{FrameFault as Fault};

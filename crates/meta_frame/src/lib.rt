@@ -3,20 +3,20 @@
 
 pub mod decode;
 pub mod encode;
+#[cfg(test)]
+mod exchange_tests;
 pub mod fault;
 pub mod field;
 mod kinds;
 pub mod lawful;
 pub mod laws;
-mod lengths;
+mod listing;
 pub mod message;
-pub mod part;
 mod reading;
 #[cfg(test)]
 mod tests;
-mod writing;
 
 pub use fault::FrameFault;
+pub use frame_fields::{Answer, Priority};
 pub use kinds::kind_name;
 pub use message::{Frame, Message};
-pub use part::{Answer, Priority};

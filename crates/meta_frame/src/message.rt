@@ -1,9 +1,9 @@
 ghost use Rattle.std.specs.Prelude.{◌≡◌, IfOk};
 
 use crate::kinds::copy_message;
-use crate::part::{Answer, Priority};
 use dvvset::{Entries, Vector};
-use meta_types::{MetaKey, NodeId};
+use frame_fields::{Answer, Digest, Digests, KeyDigests, Nodes, PrefixDigests, Priority};
+use meta_types::{FullPrefix, MetaKey, NodeId};
 use std::alloc::AllocError;
 
 /// What a node tells another: one variant for each kind.
@@ -31,7 +31,7 @@ pub enum Message {
     Prune,
     /// 5: the sender joins at this node.
     Join,
-    /// 6: a node has joined, and is passed on to at most so many nodes more.
+    /// 6: a node has joined; `ttl` bounds how far this is passed on.
     ForwardJoin {
         node: NodeId,
         ttl: u8,
@@ -45,6 +45,41 @@ pub enum Message {
     /// 9: whether the sender took the addressee into its active view.
     NeighborReply {
         answer: Answer,
+    },
+    /// 10: some nodes that `origin` knows, on a walk that `ttl` bounds.
+    Shuffle {
+        origin: NodeId,
+        ttl: u8,
+        nodes: Nodes,
+    },
+    /// 11: some nodes that the sender knows, for those of a walk that ended with it.
+    ShuffleReply {
+        nodes: Nodes,
+    },
+    /// 12: the root of the sender's tree, which opens an exchange.
+    XRoot {
+        root: Digest,
+    },
+    /// 13: the prefixes under which the sender holds keys, with their roots.
+    XPrefixes {
+        prefixes: PrefixDigests,
+    },
+    /// 14: the sixteen inner nodes of a prefix.
+    XInner {
+        prefix: FullPrefix,
+        digests: Digests,
+    },
+    /// 15: the sixteen leaves under an inner node, which is numbered from 0 to 15.
+    XLeaves {
+        prefix: FullPrefix,
+        inner: u8,
+        digests: Digests,
+    },
+    /// 16: the keys of a leaf, which is numbered from 0 to 255 in its prefix, with their objects' digests.
+    XBucket {
+        prefix: FullPrefix,
+        leaf: u8,
+        keys: KeyDigests,
     },
     /// 17: an object, in an exchange.
     XObject {

@@ -3,13 +3,13 @@
 ghost use Rattle.std.specs.Prelude.{◌≡◌, ◌+◌, ◌≤◌, ◌<◌, List, length, Ok, IfOk, IsTrue, ◌↔◌};
 ghost use Rattle.std.specs.Int.{w8, w16, w32, w64};
 ghost use Rattle.meta_types.specs.Node.{IsNode};
-ghost use Rattle.std.specs.List.{list_all};
-ghost use Rattle.meta_frame.specs.Field.{is_bare, none, forget, above_entry, above_counter};
-ghost use Rattle.meta_frame.specs.Reading.{Gives, number_at, answer_from, bytes_at, node_at, priority_from, within_at, name_at, prefix_at, key_at, value_at, values_at, entry_at, entries_at, object_at, each_at, counter_at, vector_at};
+ghost use Rattle.frame_fields.specs.Field.{none, forget, above_entry, above_counter};
+ghost use Rattle.meta_frame.specs.Reading.{Gives, number_at, answer_at, answer_from, bytes_at, node_at, priority_at, priority_from, within_at, name_at, prefix_at, key_at, value_at, values_at, entry_at, entries_at, object_at, each_at, counter_at, vector_at};
 
 use crate::fault::FieldFault;
-use crate::part::{Answer, Priority};
 use dvvset::{Counter, Entries, Entry, Vector};
+use frame_fields::lawful::all_are_bare;
+use frame_fields::{Answer, Priority};
 use meta_types::{FullPrefix, MetaKey, NodeId, Value};
 use std::alloc::Global;
 
@@ -58,7 +58,7 @@ pub(crate) fn u64_of(bytes: &[u8]) -> Result<(u64, &[u8]), FieldFault>
 }
 
 #[tactic(auto, unfolding(crate::specs::Reading::within_at))]
-pub(crate) fn u8_within(low: u8, high: u8, bytes: &[u8]) -> Result<(u8, &[u8]), FieldFault>
+fn u8_within(low: u8, high: u8, bytes: &[u8]) -> Result<(u8, &[u8]), FieldFault>
     ensures value { Gives (λ x. (x.0, x.1.now)) result (within_at w8 low high bytes.now) }
     ensures range { IfOk result (λ x. (low ≤ x.0) × (x.0 ≤ high)) }
 {
@@ -71,7 +71,7 @@ pub(crate) fn u8_within(low: u8, high: u8, bytes: &[u8]) -> Result<(u8, &[u8]), 
 }
 
 #[tactic(auto, unfolding(crate::specs::Reading::within_at))]
-fn u16_within(low: u16, high: u64, bytes: &[u8]) -> Result<(u16, &[u8]), FieldFault>
+pub(crate) fn u16_within(low: u16, high: u64, bytes: &[u8]) -> Result<(u16, &[u8]), FieldFault>
     ensures value { Gives (λ x. (x.0, x.1.now)) result (within_at w16 low high bytes.now) }
     ensures range { IfOk result (λ x. (low ≤ x.0) × (x.0 ≤ high)) }
 {
@@ -96,17 +96,23 @@ fn u64_within(low: u64, high: u64, bytes: &[u8]) -> Result<(u64, &[u8]), FieldFa
     }
 }
 
+/// So many bytes, where they are.
+pub(crate) fn bytes_of(len: usize, bytes: &[u8]) -> Result<(&[u8], &[u8]), FieldFault>
+    ensures { Gives (λ x. (x.0.now, x.1.now)) result (bytes_at len bytes.now) }
+{
+    if bytes.len() < len {
+        return Err(FieldFault::Left(bytes.len()));
+    }
+    Ok(bytes.split_at(len))
+}
+
 #[tactic(auto, unfolding(crate::specs::Reading::name_at))]
 fn name_of(alloc: Global, low: u16, high: u64, bytes: &[u8]) -> Result<(Vec<u8>, &[u8]), FieldFault>
     ensures value { Gives (λ x. (x.0.items, x.1.now)) result (name_at low high bytes.now) }
     ensures range { IfOk result (λ x. (low ≤ length x.0.items) × (length x.0.items ≤ high)) }
 {
     let (len, rest) = u16_within(low, high, bytes)?;
-    let len = usize::from(len);
-    if rest.len() < len {
-        return Err(FieldFault::Left(rest.len()));
-    }
-    let (name, rest) = rest.split_at(len);
+    let (name, rest) = bytes_of(usize::from(len), rest)?;
     Ok((Vec::from_slice(alloc, name)?, rest))
 }
 
@@ -125,7 +131,7 @@ pub(crate) fn node_from(number: u16) -> NodeId
     NodeId::new(number).unwrap()
 }
 
-pub(crate) fn priority_from(number: u8) -> Priority
+fn priority_from(number: u8) -> Priority
     ensures { result ≡ priority_from number }
 {
     if number == 0 {
@@ -135,10 +141,33 @@ pub(crate) fn priority_from(number: u8) -> Priority
     }
 }
 
-pub(crate) fn answer_from(number: u8) -> Answer
+#[tactic(auto, unfolding(crate::specs::Reading::priority_at))]
+pub(crate) fn priority_of(bytes: &[u8]) -> Result<(Priority, &[u8]), FieldFault>
+    ensures { Gives (λ x. (x.0, x.1.now)) result (priority_at bytes.now) }
+{
+    let (number, rest) = u8_within(0, 1, bytes)?;
+    Ok((priority_from(number), rest))
+}
+
+fn answer_from(number: u8) -> Answer
     ensures { result ≡ answer_from number }
 {
     if number == 0 { Answer::No } else { Answer::Yes }
+}
+
+#[tactic(auto, unfolding(crate::specs::Reading::answer_at))]
+pub(crate) fn answer_of(bytes: &[u8]) -> Result<(Answer, &[u8]), FieldFault>
+    ensures { Gives (λ x. (x.0, x.1.now)) result (answer_at bytes.now) }
+{
+    let (answer, rest) = u8_within(0, 1, bytes)?;
+    Ok((answer_from(answer), rest))
+}
+
+/// The number of one of sixteen.
+pub(crate) fn place_of(bytes: &[u8]) -> Result<(u8, &[u8]), FieldFault>
+    ensures { Gives (λ x. (x.0, x.1.now)) result (within_at w8 0 15 bytes.now) }
+{
+    u8_within(0, 15, bytes)
 }
 
 #[tactic(auto, unfolding(crate::specs::Reading::prefix_at))]
@@ -238,13 +267,6 @@ fn each_entry(alloc: Global, len: u16, bytes: &[u8]) -> Result<(Vec<Entry>, &[u8
         rest = after;
     }
     Ok((entries, rest))
-}
-
-/// Tells whether no entry shows a value.
-pub(crate) fn all_are_bare(entries: &[Entry]) -> bool
-    ensures { result ≡ list_all is_bare entries.now }
-{
-    entries.iter().all(|entry| entry.values().is_empty())
 }
 
 #[tactic(auto, unfolding(crate::specs::Reading::object_at))]

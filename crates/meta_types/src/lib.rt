@@ -4,7 +4,7 @@
 //! refusal for what is out of range, and `copy` is the only call that takes memory.
 #![tactic(auto)]
 
-mod bytes;
+pub mod bytes;
 pub mod fault;
 pub mod key;
 pub mod node;
@@ -13,6 +13,7 @@ pub mod prefix;
 mod tests;
 pub mod value;
 
+pub use bytes::ByteString;
 pub use fault::TypeFault;
 pub use key::MetaKey;
 pub use node::NodeId;

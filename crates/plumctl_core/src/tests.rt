@@ -1,4 +1,8 @@
 use super::*;
+use meta_frame::decode::decode;
+use meta_frame::encode::encode;
+use meta_frame::lawful::is_lawful;
+use std::alloc::{AllocError, Global};
 use std::io::{self, ErrorKind, Read, Write};
 use std::test::Fail;
 use streams::{MayFail, StreamFault};
@@ -68,10 +72,45 @@ fn prints(rt: &HostRuntime, input: &[u8], text: &[u8], ended: Ended) -> bool {
     frame_lines(rt.alloc(), &mut reader, &mut out) == Ok(ended) && out.as_slice() == text
 }
 
+fn without_spaces(alloc: Global, line: &[u8]) -> Result<Vec<u8>, AllocError> {
+    let mut digits = Vec::new(alloc);
+    for digit in line {
+        if *digit != b' ' {
+            digits.push(*digit)?;
+        }
+    }
+    Ok(digits)
+}
+
+/// Tells whether a line spells a lawful frame that is written as the same bytes again.
+fn is_written_again(alloc: Global, line: &[u8]) -> bool {
+    let Ok(digits) = without_spaces(alloc, line) else {
+        return false;
+    };
+    let Ok(bytes) = hex::decode(alloc, digits.as_slice()) else {
+        return false;
+    };
+    let Ok(frame) = decode(alloc, bytes.as_slice()) else {
+        return false;
+    };
+    is_lawful(&frame)
+        && matches!(encode(alloc, &frame), Ok(again) if again.as_slice() == bytes.as_slice())
+}
+
+/// Tells whether `frame_lines` prints just this text for this input, and the frame of each line is written
+/// as the same bytes again.
+fn prints_and_writes(rt: &HostRuntime, input: &[u8], text: &[u8]) -> bool {
+    let alloc = rt.alloc();
+    prints(rt, input, text, Ended::AllPrinted)
+        && input
+            .split(|byte| *byte == b'\n')
+            .all(|line| line.is_empty() || is_written_again(alloc, line))
+}
+
 #[test]
 fn two_frames_are_printed(rt: HostRuntime) -> Result<(), Fail> {
-    assert!(rt; prints(&rt, PRUNE, PRUNE_TEXT, Ended::AllPrinted));
-    assert!(rt; prints(&rt, GOSSIP, GOSSIP_TEXT, Ended::AllPrinted));
+    assert!(rt; prints_and_writes(&rt, PRUNE, PRUNE_TEXT));
+    assert!(rt; prints_and_writes(&rt, GOSSIP, GOSSIP_TEXT));
     let input = [PRUNE, GOSSIP].concat(rt.alloc())?;
     let text = [PRUNE_TEXT, GOSSIP_TEXT].concat(rt.alloc())?;
     assert!(rt; prints(&rt, &input, &text, Ended::AllPrinted));
@@ -96,7 +135,7 @@ fn announcements_and_views_are_printed(rt: HostRuntime) -> Result<(), Fail> {
         DISCONNECT from 1 to 0 number 1\n\
         NEIGHBOR from 1 to 2 number 1 priority high\n\
         NEIGHBORREPLY from 1 to 2 number 1 answer no\n";
-    assert!(rt; prints(&rt, input, text, Ended::AllPrinted));
+    assert!(rt; prints_and_writes(&rt, input, text));
     Ok(())
 }
 
@@ -107,7 +146,93 @@ fn an_exchange_is_printed(rt: HostRuntime) -> Result<(), Fail> {
         50540112 0000 0001 0000000000000001 00000009 000161 000162 00016b\n";
     let text = b"XOBJECT from 0 to 1 number 1 key a/b/k ctx 0:1 values x\n\
         XWANT from 0 to 1 number 1 key a/b/k\n";
-    assert!(rt; prints(&rt, input, text, Ended::AllPrinted));
+    assert!(rt; prints_and_writes(&rt, input, text));
+    Ok(())
+}
+
+#[test]
+fn walks_are_printed(rt: HostRuntime) -> Result<(), Fail> {
+    let input = b"5054010a 0000 0001 0000000000000002 00000005 0000 03 0000\n\
+        5054010a 0001 0000 0000000000000001 00000009 000f ff 0002 0007 0002\n\
+        5054010b 0001 0000 0000000000000001 00000002 0000\n\
+        5054010b 0001 0000 0000000000000001 00000004 0001 0003\n";
+    let text = b"SHUFFLE from 0 to 1 number 2 origin 0 ttl 3 nodes -\n\
+        SHUFFLE from 1 to 0 number 1 origin 15 ttl 255 nodes 7,2\n\
+        SHUFFLEREPLY from 1 to 0 number 1 nodes -\n\
+        SHUFFLEREPLY from 1 to 0 number 1 nodes 3\n";
+    assert!(rt; prints_and_writes(&rt, input, text));
+    Ok(())
+}
+
+#[test]
+fn digests_are_printed(rt: HostRuntime) -> Result<(), Fail> {
+    let input = b"5054010c 0001 0000 0000000000000001 00000020 \
+        00112233445566778899aabbccddeeff00112233445566778899AABBCCDDEEFF\n\
+        5054010d 0001 0000 0000000000000001 00000002 0000\n\
+        5054010d 0001 0000 0000000000000001 00000028 0001 000161 00012f \
+        00112233445566778899aabbccddeeff00112233445566778899aabbccddeeff\n";
+    let text = b"XROOT from 1 to 0 number 1 root \
+        00112233445566778899aabbccddeeff00112233445566778899aabbccddeeff\n\
+        XPREFIXES from 1 to 0 number 1 prefixes -\n\
+        XPREFIXES from 1 to 0 number 1 prefixes a/hex:2f=\
+        00112233445566778899aabbccddeeff00112233445566778899aabbccddeeff\n";
+    assert!(rt; prints_and_writes(&rt, input, text));
+    Ok(())
+}
+
+const DIGEST: &[u8] = b"00112233445566778899aabbccddeeff00112233445566778899aabbccddeeff";
+
+/// Sixteen digests, with or without commas between them.
+fn sixteen(alloc: Global, comma: &[u8]) -> Result<Vec<u8>, AllocError> {
+    let mut digits = DIGEST.to_vec(alloc)?;
+    for _ in 1..16_u8 {
+        digits.extend_from_slice(comma)?;
+        digits.extend_from_slice(DIGEST)?;
+    }
+    Ok(digits)
+}
+
+#[test]
+fn sixteen_digests_are_printed(rt: HostRuntime) -> Result<(), Fail> {
+    let (digits, texts) = (sixteen(rt.alloc(), b"")?, sixteen(rt.alloc(), b",")?);
+    let header: &[u8] = b"5054010e 0001 0000 0000000000000001 00000206 000161 000162 ";
+    let inner = [header, digits.as_slice(), b"\n"].concat(rt.alloc())?;
+    let label: &[u8] = b"XINNER from 1 to 0 number 1 prefix a/b digests ";
+    let text = [label, texts.as_slice(), b"\n"].concat(rt.alloc())?;
+    assert!(rt; prints_and_writes(&rt, &inner, &text));
+    let header: &[u8] = b"5054010f 0001 0000 0000000000000001 00000207 000161 000162 0f ";
+    let leaves = [header, digits.as_slice(), b"\n"].concat(rt.alloc())?;
+    let label: &[u8] = b"XLEAVES from 1 to 0 number 1 prefix a/b inner 15 digests ";
+    let text = [label, texts.as_slice(), b"\n"].concat(rt.alloc())?;
+    assert!(rt; prints_and_writes(&rt, &leaves, &text));
+    Ok(())
+}
+
+#[test]
+fn buckets_are_printed(rt: HostRuntime) -> Result<(), Fail> {
+    let input = b"50540110 0001 0000 0000000000000001 00000009 000161 000162 ca 0000\n\
+        50540110 0001 0000 0000000000000001 0000004f 000161 000162 ca 0002 \
+        000161 00112233445566778899aabbccddeeff00112233445566778899aabbccddeeff \
+        000162 ffeeddccbbaa99887766554433221100ffeeddccbbaa99887766554433221100\n";
+    let text = b"XBUCKET from 1 to 0 number 1 prefix a/b leaf 202 keys -\n\
+        XBUCKET from 1 to 0 number 1 prefix a/b leaf 202 keys \
+        a=00112233445566778899aabbccddeeff00112233445566778899aabbccddeeff,\
+        b=ffeeddccbbaa99887766554433221100ffeeddccbbaa99887766554433221100\n";
+    assert!(rt; prints_and_writes(&rt, input, text));
+    Ok(())
+}
+
+#[test]
+fn bad_fields_are_named_by_their_offset(rt: HostRuntime) -> Result<(), Fail> {
+    let input = b"50540108 0001 0002 0000000000000001 00000001 02\n\
+        50540100 0001 0002 0000000000000001 00000000\n\
+        50540113 0001 0002 0000000000000001 00000000\n\
+        50540110 0001 0000 0000000000000001 0000004f 000161 000162 ca 0002 \
+        000162 00112233445566778899aabbccddeeff00112233445566778899aabbccddeeff \
+        000161 ffeeddccbbaa99887766554433221100ffeeddccbbaa99887766554433221100\n";
+    let text =
+        b"error 15 BadBody at 20\nerror 13 BadKind\nerror 13 BadKind\nerror 15 BadBody at 66\n";
+    assert!(rt; prints(&rt, input, text, Ended::SomeRefused));
     Ok(())
 }
 

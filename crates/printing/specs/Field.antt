@@ -1,4 +1,4 @@
--- Printed forms of numbers, names and values: a rule of this project, the same for every command.
+-- Printed forms of names and values: a rule of this project, the same for every command.
 use Rattle.std.specs.Prelude.{ℕ, ◌==◌, ◌&&◌, ◌||◌, nat_le, Bool, not, if◌then◌else◌, List, [], ◌++◌, length, Option, Some, None, codes, decimal}
 use Rattle.std.specs.List.{list_all}
 use Rattle.hex.specs.Hex.{encode_lower}

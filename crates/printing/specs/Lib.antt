@@ -4,5 +4,7 @@ pub mod Field
 pub mod Joined
 -- contexts and objects as text
 pub mod Object
+-- node numbers, digests and rows
+pub mod Row
 -- frames and refusals as text
 pub mod Frame

@@ -1,4 +1,4 @@
--- Printed contexts and objects.
+-- Printed vectors and objects.
 use Rattle.std.specs.Prelude.{ℕ, List, ◌++◌, map, codes, decimal}
 use Rattle.dvvset.specs.Object.{Entry, Counter}
 use Rattle.dvvset.specs.Clock.{join, values_of}
@@ -9,7 +9,7 @@ use Rattle.printing.specs.Joined.{joined}
 unfoldable pub counter_text : Counter → List ℕ
 counter_text c = decimal c.id ++ codes ":" ++ decimal c.count
 
--- a context, as `0:2,1:1`
+-- a vector, as `0:2,1:1`
 abbrev pub vector_text : List Counter → List ℕ
 vector_text cs = joined (map counter_text cs)
 

@@ -4,7 +4,7 @@ ghost use Rattle.std.specs.Prelude.{◌≡◌, ◌++◌, OnOk, decimal};
 ghost use Rattle.printing.specs.Field.{is_plain, are_plain, bytes_text, prefix_text, key_text, stamp_text, value_text};
 
 use itoa::Buffer;
-use meta_types::{FullPrefix, MetaKey, Value};
+use meta_types::{FullPrefix, MetaKey, NodeId, Value};
 use std::alloc::AllocError;
 
 /// Adds a number in decimal digits.
@@ -13,6 +13,13 @@ pub fn put_number(out: &mut Vec<u8>, number: u64) -> Result<(), AllocError>
 {
     let mut buffer = Buffer::new();
     out.extend_from_slice(buffer.format(number).as_bytes())
+}
+
+/// Adds the number of a node.
+pub fn put_node(out: &mut Vec<u8>, node: NodeId) -> Result<(), AllocError>
+    ensures { OnOk result (out.new.items ≡ out.old.items ++ decimal node) }
+{
+    put_number(out, u64::from(node.number()))
 }
 
 fn is_plain(byte: u8) -> bool

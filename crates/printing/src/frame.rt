@@ -3,8 +3,9 @@
 ghost use Rattle.std.specs.Prelude.{◌≡◌, ◌++◌, OnOk};
 ghost use Rattle.printing.specs.Frame.{priority_text, answer_text, message_text, frame_text, offset_text, frame_fault_text};
 
-use crate::field::{put_key, put_number};
+use crate::field::{put_key, put_node, put_number, put_prefix};
 use crate::list::{put_object, put_vector};
+use crate::row::{put_digest, put_digests, put_keys, put_nodes, put_prefixes};
 use meta_frame::{Answer, Frame, FrameFault, Message, Priority, kind_name};
 use std::alloc::AllocError;
 
@@ -20,6 +21,13 @@ macro_rules! printed_kinds {
             Disconnect {}
             Neighbor { " priority " priority: priority }
             NeighborReply { " answer " answer: answer }
+            Shuffle { " origin " origin: node, " ttl " ttl: number, " nodes " nodes: nodes }
+            ShuffleReply { " nodes " nodes: nodes }
+            XRoot { " root " root: digest }
+            XPrefixes { " prefixes " prefixes: prefixes }
+            XInner { " prefix " prefix: prefix, " digests " digests: digests }
+            XLeaves { " prefix " prefix: prefix, " inner " inner: number, " digests " digests: digests }
+            XBucket { " prefix " prefix: prefix, " leaf " leaf: number, " keys " keys: keys }
             XObject { " key " key: key, " " object: object }
             XWant { " key " key: key }
         }
@@ -34,13 +42,31 @@ macro_rules! put_field {
         put_key($out, $field)?
     };
     (node $out:ident $field:ident) => {
-        put_number($out, u64::from($field.number()))?
+        put_node($out, *$field)?
     };
     (priority $out:ident $field:ident) => {
         put_priority($out, *$field)?
     };
     (answer $out:ident $field:ident) => {
         put_answer($out, *$field)?
+    };
+    (nodes $out:ident $field:ident) => {
+        put_nodes($out, $field)?
+    };
+    (digest $out:ident $field:ident) => {
+        put_digest($out, $field)?
+    };
+    (digests $out:ident $field:ident) => {
+        put_digests($out, $field)?
+    };
+    (prefix $out:ident $field:ident) => {
+        put_prefix($out, $field)?
+    };
+    (prefixes $out:ident $field:ident) => {
+        put_prefixes($out, $field)?
+    };
+    (keys $out:ident $field:ident) => {
+        put_keys($out, $field)?
     };
     (vector $out:ident $field:ident) => {
         put_vector($out, $field)?
@@ -98,9 +124,9 @@ pub fn put_frame(out: &mut Vec<u8>, frame: &Frame) -> Result<(), AllocError>
 {
     out.extend_from_slice(kind_name(&frame.message).as_bytes())?;
     out.extend_from_slice(b" from ")?;
-    put_number(out, u64::from(frame.from.number()))?;
+    put_node(out, frame.from)?;
     out.extend_from_slice(b" to ")?;
-    put_number(out, u64::from(frame.to.number()))?;
+    put_node(out, frame.to)?;
     out.extend_from_slice(b" number ")?;
     put_number(out, frame.number)?;
     put_message(out, &frame.message)

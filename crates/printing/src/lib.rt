@@ -5,9 +5,11 @@
 mod field;
 mod frame;
 mod list;
+mod row;
 #[cfg(test)]
 mod tests;
 
-pub use field::{put_bytes, put_key, put_number, put_prefix, put_value};
+pub use field::{put_bytes, put_key, put_node, put_number, put_prefix, put_value};
 pub use frame::{put_frame, put_frame_fault};
 pub use list::{put_object, put_vector};
+pub use row::{put_digest, put_digests, put_keys, put_nodes, put_prefixes};

@@ -6,13 +6,13 @@ ghost use Rattle.printing.specs.Field.{value_text};
 ghost use Rattle.printing.specs.Joined.{separated, PutsTexts};
 ghost use Rattle.printing.specs.Object.{counter_text, vector_text, values_text, object_text};
 
-use crate::field::{put_number, put_value};
+use crate::field::{put_node, put_number, put_value};
 use dvvset::{Counter, Entries, Entry, Vector, join};
 use meta_types::Value;
 use std::alloc::AllocError;
 
 /// Adds the comma before a text of a list, unless it stands first.
-fn put_comma(out: &mut Vec<u8>, first: bool) -> Result<(), AllocError>
+pub(crate) fn put_comma(out: &mut Vec<u8>, first: bool) -> Result<(), AllocError>
     ensures { OnOk result (out.new.items ≡ out.old.items ++ (if first then [] else 44 ∷ [])) }
 {
     if first {
@@ -26,7 +26,7 @@ fn put_comma(out: &mut Vec<u8>, first: bool) -> Result<(), AllocError>
 fn put_counter(out: &mut Vec<u8>, counter: Counter) -> Result<(), AllocError>
     ensures { OnOk result (out.new.items ≡ out.old.items ++ counter_text counter) }
 {
-    put_number(out, u64::from(counter.id().number()))?;
+    put_node(out, counter.id())?;
     out.push(b':')?;
     put_number(out, counter.count())
 }

@@ -1,5 +1,5 @@
 use Rattle.std.proofs.Common.{arith}
-use Rattle.meta_frame.specs.Field.{key}
+use Rattle.frame_fields.specs.Field.{key}
 use Rattle.meta_frame.specs.Reading.{key_at}
 use Rattle.meta_frame.proofs.Fields.{key_reads}
 use Rattle.meta_frame.proofs.Fronts.{begins, refuses_field}

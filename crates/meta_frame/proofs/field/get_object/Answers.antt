@@ -1,5 +1,5 @@
 use Rattle.std.proofs.Common.{arith}
-use Rattle.meta_frame.specs.Field.{object}
+use Rattle.frame_fields.specs.Field.{object}
 use Rattle.meta_frame.specs.Reading.{object_at}
 use Rattle.meta_frame.proofs.Fields.{object_reads}
 use Rattle.meta_frame.proofs.Fronts.{begins, refuses_field}

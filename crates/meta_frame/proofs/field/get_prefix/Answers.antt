@@ -1,5 +1,5 @@
 use Rattle.std.proofs.Common.{arith}
-use Rattle.meta_frame.specs.Field.{prefix}
+use Rattle.frame_fields.specs.Field.{prefix}
 use Rattle.meta_frame.specs.Reading.{prefix_at}
 use Rattle.meta_frame.proofs.Fields.{prefix_reads}
 use Rattle.meta_frame.proofs.Fronts.{begins, refuses_field}

@@ -1,5 +1,5 @@
 use Rattle.std.proofs.Common.{arith}
-use Rattle.meta_frame.specs.Field.{vector}
+use Rattle.frame_fields.specs.Field.{vector}
 use Rattle.meta_frame.specs.Reading.{vector_at}
 use Rattle.meta_frame.proofs.Fields.{vector_reads}
 use Rattle.meta_frame.proofs.Fronts.{begins, refuses_field}

@@ -1,5 +1,5 @@
 use Rattle.std.proofs.lemmas.Result.{err_from_is_err_and}
-use Rattle.meta_frame.specs.Field.{above_counter}
+use Rattle.frame_fields.specs.Field.{above_counter}
 use Rattle.meta_frame.specs.Reading.{counter_at, each_at}
 use Rattle.meta_frame.proofs.Loops.{goes_on, ends, is_done}
 use Rattle.meta_frame.proofs.reading.each_counter.Goals as goal

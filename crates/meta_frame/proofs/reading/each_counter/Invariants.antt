@@ -1,5 +1,5 @@
 use Rattle.std.proofs.Common.{◌≡◌, ◌-◌}
-use Rattle.meta_frame.specs.Field.{above_counter}
+use Rattle.frame_fields.specs.Field.{above_counter}
 use Rattle.meta_frame.specs.Reading.{counter_at, each_at}
 use Rattle.meta_frame.proofs.Loops.{with_front}
 use Rattle.meta_frame.proofs.reading.each_counter.Given as goal

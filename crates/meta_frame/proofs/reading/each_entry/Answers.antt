@@ -1,5 +1,5 @@
 use Rattle.std.proofs.lemmas.Result.{err_from_is_err_and}
-use Rattle.meta_frame.specs.Field.{above_entry}
+use Rattle.frame_fields.specs.Field.{above_entry}
 use Rattle.meta_frame.specs.Reading.{entry_at, each_at}
 use Rattle.meta_frame.proofs.Loops.{goes_on, ends, is_done}
 use Rattle.meta_frame.proofs.reading.each_entry.Goals as goal

@@ -1,5 +1,5 @@
 use Rattle.std.proofs.Common.{◌≡◌, ◌-◌}
-use Rattle.meta_frame.specs.Field.{above_entry}
+use Rattle.frame_fields.specs.Field.{above_entry}
 use Rattle.meta_frame.specs.Reading.{entry_at, each_at}
 use Rattle.meta_frame.proofs.Loops.{with_front}
 use Rattle.meta_frame.proofs.reading.each_entry.Given as goal

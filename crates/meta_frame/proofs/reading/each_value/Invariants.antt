@@ -1,5 +1,5 @@
 use Rattle.std.proofs.Common.{◌≡◌, ◌-◌}
-use Rattle.meta_frame.specs.Field.{none, forget}
+use Rattle.frame_fields.specs.Field.{none, forget}
 use Rattle.meta_frame.specs.Reading.{value_at, each_at}
 use Rattle.meta_frame.proofs.Loops.{with_front}
 use Rattle.meta_frame.proofs.reading.each_value.Given as goal

@@ -1,5 +1,5 @@
 use Rattle.std.proofs.Common.{arith}
-use Rattle.meta_frame.proofs.Spellable.{object_from_entries}
+use Rattle.meta_frame.proofs.Found.{object_from_entries}
 use Rattle.meta_frame.proofs.reading.object_of.Goals as goal
 
 pub new-requires : goal.new-requires

@@ -1,5 +1,5 @@
 use Rattle.std.proofs.Common.{arith}
-use Rattle.meta_frame.proofs.Spellable.{vector_from_counters}
+use Rattle.meta_frame.proofs.Found.{vector_from_counters}
 use Rattle.meta_frame.proofs.reading.vector_of.Goals as goal
 
 pub new-requires : goal.new-requires

@@ -1,0 +1,5 @@
+use Rattle.frame_fields.proofs.Written.{written_nodes}
+use Rattle.frame_fields.proofs.writing.write_nodes.Goals as goal
+
+pub returns : goal.returns
+returns c = rw (c.in_ok-write_each_node.ensures, c.in_ok-write_u16.ensures, c.as_slice-2.ensures.value, c.as_slice.ensures.value) (written_nodes _ c.args.n.now)

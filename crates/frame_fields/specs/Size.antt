@@ -1,0 +1,11 @@
+use Rattle.std.specs.Prelude.{◌≤◌, ◌<◌, ◌^◌, length}
+use Rattle.dvvset.specs.Object.{Entry}
+use Rattle.frame_fields.specs.declared.keys.KeyDigest.{KeyDigest}
+
+-- the number of an entry's values fits its field
+abbrev pub IsShort : Entry → Type 0
+IsShort e = length e.values < 2 ^ 16
+
+-- a key has at most 256 bytes
+abbrev pub IsShortKey : KeyDigest → Type 0
+IsShortKey row = length row.key ≤ 256

@@ -1,0 +1,70 @@
+use crate::digest::Digest;
+use std::alloc::AllocError;
+use std::marker::Model;
+
+/// The digests of the sixteen parts of something, in their order.
+#[derive(Debug, Drop)]
+pub struct Digests {
+    parts: Vec<Digest>,
+}
+
+impl Model for Digests {
+    ghost use Rattle.std.specs.Prelude.{ℕ, List};
+    ghost use Rattle.frame_fields.specs.Field.{digests};
+
+    ghost Value = { List (List ℕ) };
+
+    ghost view = { λ d. d.parts.items };
+
+    ghost invariant = { λ d. digests.Fits d.parts.items };
+}
+
+impl Digests {
+    ghost use Rattle.std.specs.Prelude.{◌≡◌, IfOk};
+    ghost use Rattle.frame_fields.specs.Field.{digests};
+
+    /// These digests, which must be sixteen.
+    pub fn new(parts: Vec<Digest>) -> Self
+        requires { digests.Fits parts.items }
+        ensures { result ≡ parts.items }
+    {
+        Digests { parts }
+    }
+
+    pub fn as_slice(&self) -> &[Digest]
+        ensures value { result.now ≡ self.now }
+        ensures lawful { digests.Fits self.now }
+    {
+        self.parts.as_slice()
+    }
+
+    pub fn copy(&self) -> Result<Self, AllocError>
+        ensures { IfOk result (λ copy. copy ≡ self.now) }
+    {
+        let parts = self.parts.clone()?;
+        Ok(Digests { parts })
+    }
+}
+
+impl PartialEq for Digests {
+    ghost use Rattle.std.specs.Prelude.{◌≡◌, ◌↔◌, IsTrue};
+    ghost use Rattle.std.specs.Cmp.{partial_equiv_from_equiv};
+    ghost use Rattle.frame_fields.specs.Equal.{digests_eq, digests_equivalence};
+
+    ghost eq = { digests_eq };
+
+    ghost laws = { partial_equiv_from_equiv digests_equivalence };
+
+    fn eq(&self, other: &Digests) -> bool
+        ensures value { result ≡ digests_eq self.now other.now }
+        ensures same { IsTrue result ↔ (self.now ≡ other.now) }
+    {
+        self.parts.as_slice() == other.parts.as_slice()
+    }
+}
+
+impl Eq for Digests {
+    ghost use Rattle.frame_fields.specs.Equal.{digests_equivalence};
+
+    ghost laws = { digests_equivalence };
+}

@@ -1,0 +1,103 @@
+ghost use Rattle.std.specs.Prelude.{◌≡◌, ◌++◌, IfOk, OnOk};
+
+use crate::digest::Digest;
+use meta_types::ByteString;
+use std::alloc::AllocError;
+use std::marker::Model;
+
+/// The bytes of a key under a prefix that is known from elsewhere, and a digest.
+#[derive(Debug, Drop, PartialEq, Eq)]
+pub struct KeyDigest {
+    pub key: ByteString,
+    pub digest: Digest,
+}
+
+impl KeyDigest {
+    pub fn copy(&self) -> Result<Self, AllocError>
+        ensures { IfOk result (λ copy. copy ≡ self.now) }
+    {
+        Ok(KeyDigest {
+            key: self.key.copy()?,
+            digest: self.digest,
+        })
+    }
+}
+
+/// Bytes of keys under one prefix, in strictly rising order, at most 8,192, each with a digest.
+#[derive(Debug, Drop)]
+pub struct KeyDigests {
+    rows: Vec<KeyDigest>,
+}
+
+impl Model for KeyDigests {
+    ghost use Rattle.std.specs.Prelude.{List};
+    ghost use Rattle.frame_fields.specs.declared.keys.KeyDigest.{KeyDigest};
+    ghost use Rattle.frame_fields.specs.Field.{keys};
+
+    ghost Value = { List KeyDigest };
+
+    ghost view = { λ r. r.rows.items };
+
+    ghost invariant = { λ r. keys.Fits r.rows.items };
+}
+
+impl KeyDigests {
+    ghost use Rattle.std.specs.Prelude.{◌≡◌, IfOk};
+    ghost use Rattle.frame_fields.specs.Field.{keys};
+
+    /// These rows, which must rise: at most 8,192.
+    pub fn new(rows: Vec<KeyDigest>) -> Self
+        requires { keys.Fits rows.items }
+        ensures { result ≡ rows.items }
+    {
+        KeyDigests { rows }
+    }
+
+    pub fn as_slice(&self) -> &[KeyDigest]
+        ensures value { result.now ≡ self.now }
+        ensures lawful { keys.Fits self.now }
+    {
+        self.rows.as_slice()
+    }
+
+    pub fn copy(&self) -> Result<Self, AllocError>
+        ensures { IfOk result (λ copy. copy ≡ self.now) }
+    {
+        let mut rows = Vec::with_capacity(*self.rows.allocator(), self.rows.len())?;
+        push_copies(&mut rows, self.rows.as_slice())?;
+        Ok(KeyDigests { rows })
+    }
+}
+
+/// Adds copies of rows at the end.
+fn push_copies(copies: &mut Vec<KeyDigest>, rows: &[KeyDigest]) -> Result<(), AllocError>
+    ensures { OnOk result (copies.new.items ≡ copies.old.items ++ rows.now) }
+{
+    for row in rows {
+        copies.push(row.copy()?)?;
+    }
+    Ok(())
+}
+
+impl PartialEq for KeyDigests {
+    ghost use Rattle.std.specs.Prelude.{◌≡◌, ◌↔◌, IsTrue};
+    ghost use Rattle.std.specs.Cmp.{partial_equiv_from_equiv};
+    ghost use Rattle.frame_fields.specs.Equal.{keys_eq, keys_equivalence};
+
+    ghost eq = { keys_eq };
+
+    ghost laws = { partial_equiv_from_equiv keys_equivalence };
+
+    fn eq(&self, other: &KeyDigests) -> bool
+        ensures value { result ≡ keys_eq self.now other.now }
+        ensures same { IsTrue result ↔ (self.now ≡ other.now) }
+    {
+        self.rows.as_slice() == other.rows.as_slice()
+    }
+}
+
+impl Eq for KeyDigests {
+    ghost use Rattle.frame_fields.specs.Equal.{keys_equivalence};
+
+    ghost laws = { keys_equivalence };
+}

@@ -1,0 +1,20 @@
+//! The fields that frames are made of: their forms, which values have a spelling, how long it is, and
+//! how it is written. What reads them is `meta_frame`.
+#![tactic(auto)]
+
+pub mod digest;
+pub mod digests;
+pub mod keys;
+pub mod lawful;
+pub mod lengths;
+pub mod neighbor;
+pub mod nodes;
+pub mod prefixes;
+pub mod writing;
+
+pub use digest::Digest;
+pub use digests::Digests;
+pub use keys::{KeyDigest, KeyDigests};
+pub use neighbor::{Answer, Priority};
+pub use nodes::Nodes;
+pub use prefixes::{PrefixDigest, PrefixDigests};

@@ -1,0 +1,103 @@
+ghost use Rattle.std.specs.Prelude.{◌≡◌, ◌++◌, IfOk, OnOk};
+
+use crate::digest::Digest;
+use meta_types::FullPrefix;
+use std::alloc::AllocError;
+use std::marker::Model;
+
+/// A full prefix, and the digest of what stands under it.
+#[derive(Debug, Drop, PartialEq, Eq)]
+pub struct PrefixDigest {
+    pub prefix: FullPrefix,
+    pub digest: Digest,
+}
+
+impl PrefixDigest {
+    pub fn copy(&self) -> Result<Self, AllocError>
+        ensures { IfOk result (λ copy. copy ≡ self.now) }
+    {
+        Ok(PrefixDigest {
+            prefix: self.prefix.copy()?,
+            digest: self.digest,
+        })
+    }
+}
+
+/// Full prefixes in strictly rising order, at most 8,192, each with a digest.
+#[derive(Debug, Drop)]
+pub struct PrefixDigests {
+    rows: Vec<PrefixDigest>,
+}
+
+impl Model for PrefixDigests {
+    ghost use Rattle.std.specs.Prelude.{List};
+    ghost use Rattle.frame_fields.specs.declared.prefixes.PrefixDigest.{PrefixDigest};
+    ghost use Rattle.frame_fields.specs.Field.{prefixes};
+
+    ghost Value = { List PrefixDigest };
+
+    ghost view = { λ r. r.rows.items };
+
+    ghost invariant = { λ r. prefixes.Fits r.rows.items };
+}
+
+impl PrefixDigests {
+    ghost use Rattle.std.specs.Prelude.{◌≡◌, IfOk};
+    ghost use Rattle.frame_fields.specs.Field.{prefixes};
+
+    /// These rows, which must rise: at most 8,192.
+    pub fn new(rows: Vec<PrefixDigest>) -> Self
+        requires { prefixes.Fits rows.items }
+        ensures { result ≡ rows.items }
+    {
+        PrefixDigests { rows }
+    }
+
+    pub fn as_slice(&self) -> &[PrefixDigest]
+        ensures value { result.now ≡ self.now }
+        ensures lawful { prefixes.Fits self.now }
+    {
+        self.rows.as_slice()
+    }
+
+    pub fn copy(&self) -> Result<Self, AllocError>
+        ensures { IfOk result (λ copy. copy ≡ self.now) }
+    {
+        let mut rows = Vec::with_capacity(*self.rows.allocator(), self.rows.len())?;
+        push_copies(&mut rows, self.rows.as_slice())?;
+        Ok(PrefixDigests { rows })
+    }
+}
+
+/// Adds copies of rows at the end.
+fn push_copies(copies: &mut Vec<PrefixDigest>, rows: &[PrefixDigest]) -> Result<(), AllocError>
+    ensures { OnOk result (copies.new.items ≡ copies.old.items ++ rows.now) }
+{
+    for row in rows {
+        copies.push(row.copy()?)?;
+    }
+    Ok(())
+}
+
+impl PartialEq for PrefixDigests {
+    ghost use Rattle.std.specs.Prelude.{◌≡◌, ◌↔◌, IsTrue};
+    ghost use Rattle.std.specs.Cmp.{partial_equiv_from_equiv};
+    ghost use Rattle.frame_fields.specs.Equal.{prefixes_eq, prefixes_equivalence};
+
+    ghost eq = { prefixes_eq };
+
+    ghost laws = { partial_equiv_from_equiv prefixes_equivalence };
+
+    fn eq(&self, other: &PrefixDigests) -> bool
+        ensures value { result ≡ prefixes_eq self.now other.now }
+        ensures same { IsTrue result ↔ (self.now ≡ other.now) }
+    {
+        self.rows.as_slice() == other.rows.as_slice()
+    }
+}
+
+impl Eq for PrefixDigests {
+    ghost use Rattle.frame_fields.specs.Equal.{prefixes_equivalence};
+
+    ghost laws = { prefixes_equivalence };
+}

@@ -1,5 +1,0 @@
-use Rattle.meta_frame.proofs.Spellable.{some_vector}
-use Rattle.meta_frame.proofs.lawful.is_vector.Goals as goal
-
-pub returns : goal.returns
-returns c = some_vector c.args.v.now c.is_empty.result c.counters-counters.ensures.lawful c.is_empty.ensures

@@ -1,7 +1,0 @@
-use Rattle.std.proofs.Common.{◌≡◌, ◌++◌, take}
-use Rattle.std.specs.List.{flat_map}
-use Rattle.meta_frame.specs.Field.{counter}
-use Rattle.meta_frame.proofs.writing.write_counters.Given as goal
-
-abbrev pub invariant-loop-counter : goal.invariant-loop-counter
-invariant-loop-counter l = l.out.items ≡ l.fn.out.items ++ flat_map (counter 0).spell (take l.counter-index l.counters)

@@ -1,7 +1,0 @@
-use Rattle.meta_frame.proofs.Written.{written_entry}
-use Rattle.meta_frame.proofs.writing.write_entry.Goals as goal
-
-pub returns : goal.returns
-returns c =
-    rw (c.in_ok-write_values.ensures, c.in_ok-write_u16.ensures, c.in_ok-write_u64.ensures, c.in_ok-write_node.ensures, c.values-2.ensures, c.values.ensures, c.count.ensures, c.id.ensures)
-    (written_entry _ c.args.e.now)
