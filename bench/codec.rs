@@ -7,7 +7,7 @@ use plumbase::sample::{Sampler, KINDS};
 use std::hint::black_box;
 
 extern "C" {
-    fn codec_bench_decode(bytes: *const u8, len: usize, rounds: u32) -> u64;
+    fn codec_bench_decode(bytes: *const u8, len: usize) -> u64;
     fn codec_bench_encode(bytes: *const u8, len: usize, rounds: u32) -> u64;
 }
 
@@ -16,8 +16,8 @@ const SEED: u64 = 1;
 /// How often frames are written for one reading of them.
 const ROUNDS: u32 = 8;
 
-fn read(bytes: &[u8], rounds: u32) -> u64 {
-    unsafe { codec_bench_decode(bytes.as_ptr(), bytes.len(), rounds) }
+fn read(bytes: &[u8]) -> u64 {
+    unsafe { codec_bench_decode(bytes.as_ptr(), bytes.len()) }
 }
 
 fn written(bytes: &[u8], rounds: u32) -> u64 {
@@ -27,14 +27,14 @@ fn written(bytes: &[u8], rounds: u32) -> u64 {
 fn both(name: &str, frames: &[Vec<u8>]) {
     let bytes = frames.concat();
     let (count, size) = (frames.len() as f64, bytes.len() as f64);
-    assert_eq!(read(&bytes, 1), frames.len() as u64, "each frame is read");
+    assert_eq!(read(&bytes), frames.len() as u64, "each frame is read");
     assert_eq!(written(&bytes, 1), bytes.len() as u64, "each frame is written again");
     let show = |call: &str, taken: f64| {
         report(&format!("{call}_{name}"), count / taken, "frames/s");
         report(&format!("{call}_{name}_bytes"), size / taken / 1e6, "MB/s");
     };
     show("decode", time(|| {
-        black_box(read(black_box(&bytes), 1));
+        black_box(read(black_box(&bytes)));
     }));
     let with_writing = time(|| {
         black_box(written(black_box(&bytes), ROUNDS));

@@ -2,3 +2,7 @@
 pub mod Spellable
 -- what writing fields leaves at the end of bytes
 pub mod Written
+-- a test that goes along values
+pub mod Tested
+-- rows fit their field where they rise
+pub mod Ordered

@@ -11,6 +11,8 @@ pub mod Digest
 pub mod Form
 -- the forms of the fields
 pub mod Field
+-- rows that rise
+pub mod Rising
 -- lemmas, which stand here since impls cite them: the comparisons decide equality of all parts
 pub mod Equal
 -- what writing asks of an entry

@@ -1,6 +1,12 @@
+ghost use Rattle.std.specs.Prelude.{◌≡◌, ◌↔◌, IsTrue};
+ghost use Rattle.frame_fields.specs.Field.{digests};
+
 use crate::digest::Digest;
 use std::alloc::AllocError;
 use std::marker::Model;
+
+/// How many digests there are.
+const PARTS: usize = 16;
 
 /// The digests of the sixteen parts of something, in their order.
 #[derive(Debug, Drop)]
@@ -20,7 +26,7 @@ impl Model for Digests {
 }
 
 impl Digests {
-    ghost use Rattle.std.specs.Prelude.{◌≡◌, IfOk};
+    ghost use Rattle.std.specs.Prelude.{◌≡◌, ◌↔◌, IfOk, IfSome, IsSome};
     ghost use Rattle.frame_fields.specs.Field.{digests};
 
     /// These digests, which must be sixteen.
@@ -29,6 +35,19 @@ impl Digests {
         ensures { result ≡ parts.items }
     {
         Digests { parts }
+    }
+
+    /// These digests, or `None` where they are not sixteen, and only then. What was handed in is
+    /// dropped with a `None`.
+    pub fn from_parts(parts: Vec<Digest>) -> Option<Self>
+        ensures range { IsSome result ↔ digests.Fits parts.items }
+        ensures value { IfSome result (λ digests. digests ≡ parts.items) }
+    {
+        if are_digests(parts.as_slice()) {
+            Some(Digests { parts })
+        } else {
+            None
+        }
     }
 
     pub fn as_slice(&self) -> &[Digest]
@@ -44,6 +63,16 @@ impl Digests {
         let parts = self.parts.clone()?;
         Ok(Digests { parts })
     }
+}
+
+/// Tells whether digests are sixteen. What is asked of each digest its type keeps, as for node numbers.
+fn are_digests(parts: &[Digest]) -> bool
+    ensures { IsTrue result ↔ digests.Fits parts.now }
+{
+    for digest in parts {
+        let _ = digest.bytes();
+    }
+    parts.len() == PARTS
 }
 
 impl PartialEq for Digests {

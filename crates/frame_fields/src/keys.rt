@@ -1,7 +1,10 @@
-ghost use Rattle.std.specs.Prelude.{◌≡◌, ◌++◌, IfOk, OnOk};
+ghost use Rattle.std.specs.Prelude.{◌≡◌, ◌++◌, ◌↔◌, IfOk, IsTrue, OnOk};
+ghost use Rattle.frame_fields.specs.Field.{key_row, keys};
 
 use crate::digest::Digest;
+use crate::rows::{MAX_ROWS, is_before};
 use meta_types::ByteString;
+use meta_types::key::MAX_KEY_LEN;
 use std::alloc::AllocError;
 use std::marker::Model;
 
@@ -42,7 +45,7 @@ impl Model for KeyDigests {
 }
 
 impl KeyDigests {
-    ghost use Rattle.std.specs.Prelude.{◌≡◌, IfOk};
+    ghost use Rattle.std.specs.Prelude.{◌≡◌, ◌↔◌, IfOk, IfSome, IsSome};
     ghost use Rattle.frame_fields.specs.Field.{keys};
 
     /// These rows, which must rise: at most 8,192.
@@ -51,6 +54,19 @@ impl KeyDigests {
         ensures { result ≡ rows.items }
     {
         KeyDigests { rows }
+    }
+
+    /// These rows, or `None` where they are more than 8,192, a key has no byte or more than 256, or
+    /// keys don't rise strictly, and only then. What was handed in is dropped with a `None`.
+    pub fn from_parts(rows: Vec<KeyDigest>) -> Option<Self>
+        ensures range { IsSome result ↔ keys.Fits rows.items }
+        ensures value { IfSome result (λ keys. keys ≡ rows.items) }
+    {
+        if are_rows(rows.as_slice()) {
+            Some(KeyDigests { rows })
+        } else {
+            None
+        }
     }
 
     pub fn as_slice(&self) -> &[KeyDigest]
@@ -77,6 +93,33 @@ fn push_copies(copies: &mut Vec<KeyDigest>, rows: &[KeyDigest]) -> Result<(), Al
         copies.push(row.copy()?)?;
     }
     Ok(())
+}
+
+/// Tells whether rows rise strictly, have keys of lawful lengths, and are few enough.
+fn are_rows(rows: &[KeyDigest]) -> bool
+    ensures { IsTrue result ↔ keys.Fits rows.now }
+{
+    if rows.len() > MAX_ROWS {
+        return false;
+    }
+    let mut low: &[u8] = &[];
+    for row in rows {
+        if !is_row_above(low, row) {
+            return false;
+        }
+        low = row.key.as_slice();
+    }
+    true
+}
+
+/// Tells whether the key of a row has a lawful length and stands behind these bytes. What is asked of
+/// its digest the digest's type keeps.
+fn is_row_above(low: &[u8], row: &KeyDigest) -> bool
+    ensures { IsTrue result ↔ (key_row low.now).Fits row.now }
+{
+    let _ = row.digest.bytes();
+    let key = row.key.as_slice();
+    !key.is_empty() && key.len() <= MAX_KEY_LEN && is_before(low, key)
 }
 
 impl PartialEq for KeyDigests {

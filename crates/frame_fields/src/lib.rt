@@ -6,10 +6,14 @@ pub mod digest;
 pub mod digests;
 pub mod keys;
 pub mod lawful;
+pub mod laws;
 pub mod lengths;
 pub mod neighbor;
 pub mod nodes;
 pub mod prefixes;
+mod rows;
+#[cfg(test)]
+mod tests;
 pub mod writing;
 
 pub use digest::Digest;

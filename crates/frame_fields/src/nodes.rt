@@ -1,8 +1,12 @@
-ghost use Rattle.std.specs.Prelude.{◌≡◌, IfOk};
+ghost use Rattle.std.specs.Prelude.{◌≡◌, ◌↔◌, IfOk, IsTrue};
+ghost use Rattle.frame_fields.specs.Field.{nodes};
 
 use meta_types::NodeId;
 use std::alloc::AllocError;
 use std::marker::Model;
+
+/// The most node numbers of a list.
+const MAX_NUMBERS: usize = 16;
 
 /// Node numbers in any order, repeats too: at most 16.
 #[derive(Debug, Drop)]
@@ -22,7 +26,7 @@ impl Model for Nodes {
 }
 
 impl Nodes {
-    ghost use Rattle.std.specs.Prelude.{◌≡◌, IfOk};
+    ghost use Rattle.std.specs.Prelude.{◌≡◌, ◌↔◌, IfOk, IfSome, IsSome};
     ghost use Rattle.frame_fields.specs.Field.{nodes};
 
     /// These nodes, at most 16.
@@ -31,6 +35,19 @@ impl Nodes {
         ensures { result ≡ numbers.items }
     {
         Nodes { numbers }
+    }
+
+    /// These nodes, or `None` where they are more than 16, and only then. What was handed in is
+    /// dropped with a `None`.
+    pub fn from_parts(numbers: Vec<NodeId>) -> Option<Self>
+        ensures range { IsSome result ↔ nodes.Fits numbers.items }
+        ensures value { IfSome result (λ nodes. nodes ≡ numbers.items) }
+    {
+        if are_nodes(numbers.as_slice()) {
+            Some(Nodes { numbers })
+        } else {
+            None
+        }
     }
 
     pub fn as_slice(&self) -> &[NodeId]
@@ -46,6 +63,17 @@ impl Nodes {
         let numbers = self.numbers.clone()?;
         Ok(Nodes { numbers })
     }
+}
+
+/// Tells whether node numbers are at most 16. What is asked of each number its type keeps; it is asked
+/// here so that the list can say it of all its numbers.
+fn are_nodes(numbers: &[NodeId]) -> bool
+    ensures { IsTrue result ↔ nodes.Fits numbers.now }
+{
+    for node in numbers {
+        let _ = node.number();
+    }
+    numbers.len() <= MAX_NUMBERS
 }
 
 impl PartialEq for Nodes {

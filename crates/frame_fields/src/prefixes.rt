@@ -1,6 +1,8 @@
-ghost use Rattle.std.specs.Prelude.{◌≡◌, ◌++◌, IfOk, OnOk};
+ghost use Rattle.std.specs.Prelude.{◌≡◌, ◌++◌, ◌↔◌, IfOk, IsTrue, OnOk};
+ghost use Rattle.frame_fields.specs.Field.{prefix_above, prefix_row, prefixes};
 
 use crate::digest::Digest;
+use crate::rows::{MAX_ROWS, is_before};
 use meta_types::FullPrefix;
 use std::alloc::AllocError;
 use std::marker::Model;
@@ -42,7 +44,7 @@ impl Model for PrefixDigests {
 }
 
 impl PrefixDigests {
-    ghost use Rattle.std.specs.Prelude.{◌≡◌, IfOk};
+    ghost use Rattle.std.specs.Prelude.{◌≡◌, ◌↔◌, IfOk, IfSome, IsSome};
     ghost use Rattle.frame_fields.specs.Field.{prefixes};
 
     /// These rows, which must rise: at most 8,192.
@@ -51,6 +53,19 @@ impl PrefixDigests {
         ensures { result ≡ rows.items }
     {
         PrefixDigests { rows }
+    }
+
+    /// These rows, or `None` where they are more than 8,192 or don't rise strictly, and only then.
+    /// What was handed in is dropped with a `None`.
+    pub fn from_parts(rows: Vec<PrefixDigest>) -> Option<Self>
+        ensures range { IsSome result ↔ prefixes.Fits rows.items }
+        ensures value { IfSome result (λ prefixes. prefixes ≡ rows.items) }
+    {
+        if are_rows(rows.as_slice()) {
+            Some(PrefixDigests { rows })
+        } else {
+            None
+        }
     }
 
     pub fn as_slice(&self) -> &[PrefixDigest]
@@ -77,6 +92,42 @@ fn push_copies(copies: &mut Vec<PrefixDigest>, rows: &[PrefixDigest]) -> Result<
         copies.push(row.copy()?)?;
     }
     Ok(())
+}
+
+/// Tells whether rows rise strictly and are few enough.
+fn are_rows(rows: &[PrefixDigest]) -> bool
+    ensures { IsTrue result ↔ prefixes.Fits rows.now }
+{
+    if rows.len() > MAX_ROWS {
+        return false;
+    }
+    let mut low: &[u8] = &[];
+    let mut low_sub: &[u8] = &[];
+    for row in rows {
+        if !is_row_above(low, low_sub, row) {
+            return false;
+        }
+        low = row.prefix.prefix();
+        low_sub = row.prefix.sub();
+    }
+    true
+}
+
+/// Tells whether the prefix of a row stands behind these two parts. What is asked of its digest the
+/// digest's type keeps.
+fn is_row_above(low: &[u8], low_sub: &[u8], row: &PrefixDigest) -> bool
+    ensures { IsTrue result ↔ (prefix_row (record { prefix = low.now; sub = low_sub.now })).Fits row.now }
+{
+    let _ = row.digest.bytes();
+    is_above(low, low_sub, &row.prefix)
+}
+
+/// Tells whether a prefix stands behind these two parts.
+fn is_above(low: &[u8], low_sub: &[u8], p: &FullPrefix) -> bool
+    ensures { IsTrue result ↔ (prefix_above (record { prefix = low.now; sub = low_sub.now })).Fits p.now }
+{
+    let first = p.prefix();
+    !is_before(first, low) && (is_before(low, first) || is_before(low_sub, p.sub()))
 }
 
 impl PartialEq for PrefixDigests {

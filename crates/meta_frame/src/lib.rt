@@ -1,10 +1,8 @@
-//! Frames: what nodes send each other, as bytes and back.
+//! Frames: what nodes send each other, as bytes and back. Their tests are the crate `frame_tests`.
 #![tactic(auto)]
 
 pub mod decode;
 pub mod encode;
-#[cfg(test)]
-mod exchange_tests;
 pub mod fault;
 pub mod field;
 mod kinds;
@@ -13,8 +11,6 @@ pub mod laws;
 mod listing;
 pub mod message;
 mod reading;
-#[cfg(test)]
-mod tests;
 
 pub use fault::FrameFault;
 pub use frame_fields::{Answer, Priority};

@@ -28,7 +28,7 @@ keeps_before hs more keeps =
     }
 
 -- a node knows all its own writes, so it counts them all
-own_counted : (s : Past) → Sound s → (n : ℕ) (k : Key) → count_in s.writes (s.known n k) n ≡ length (writes_of s.writes k n)
+pub own_counted : (s : Past) → Sound s → (n : ℕ) (k : Key) → count_in s.writes (s.known n k) n ≡ length (writes_of s.writes k n)
 own_counted s sound n k =
     count_in-own s.writes k (s.known n k) n sound.placed.ordered.falling (sound.reached.known n k)
     ∙ all_kept (in_set (s.known n k)) (is_of k n) s.writes

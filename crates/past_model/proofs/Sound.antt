@@ -163,10 +163,10 @@ Sound-start =
 pub record KeepsFrom (s : Past) (hs : List Happening) : Type 0 where
   pub keeps : (before after : List Happening) (n j : ℕ) → hs ≡ before ++ Restarted n j ∷ after → KnowsOwn (happens (run s before) (Restarted n j)) n
 
-KeepsFrom-first : (s : Past) (h : Happening) (hs : List Happening) → KeepsFrom s (h ∷ hs) → IsLawful s h
+pub KeepsFrom-first : (s : Past) (h : Happening) (hs : List Happening) → KeepsFrom s (h ∷ hs) → IsLawful s h
 KeepsFrom-first s h hs from = record { restart = λ n j e. from.keeps [] hs n j (ap (λ g. g ∷ hs) e) }
 
-KeepsFrom-rest : (s : Past) (h : Happening) (hs : List Happening) → KeepsFrom s (h ∷ hs) → KeepsFrom (happens s h) hs
+pub KeepsFrom-rest : (s : Past) (h : Happening) (hs : List Happening) → KeepsFrom s (h ∷ hs) → KeepsFrom (happens s h) hs
 KeepsFrom-rest s h hs from = record { keeps = λ before after n j e. from.keeps (h ∷ before) after n j (ap (λ l. h ∷ l) e) }
 
 pub Sound-run : (s : Past) (hs : List Happening) → Sound s → KeepsFrom s hs → Sound (run s hs)

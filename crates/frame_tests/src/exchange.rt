@@ -1,54 +1,9 @@
-//! Frames of node numbers, digests and rows that rise.
+//! Frames of an exchange: kinds 12 to 18, with digests and rows that rise.
 
-use super::*;
-use crate::decode::decode;
-use crate::encode::encode;
-use crate::lawful::is_lawful;
+use crate::checks::{framed, fronts_are_short, is_bad_at, is_of_kind, is_read};
+use crate::samples::{XBUCKET, XOBJECT, XPREFIXES, XWANT};
 use std::alloc::{AllocError, Global};
 use std::test::Fail;
-
-/// The bytes of a frame from 0 to 1, number 1, of this kind and body.
-fn framed(alloc: Global, kind: u8, body: &[u8]) -> Result<Vec<u8>, AllocError> {
-    let mut bytes = b"PT\x01".to_vec(alloc)?;
-    bytes.push(kind)?;
-    bytes.extend_from_slice(b"\0\x00\0\x01\0\0\0\0\0\0\0\x01")?;
-    bytes.extend_from_slice(&u32::try_from(body.len()).unwrap_or(u32::MAX).to_be_bytes())?;
-    bytes.extend_from_slice(body)?;
-    Ok(bytes)
-}
-
-/// Tells whether the bytes are read as a lawful frame of that kind, spelled so again, and copied.
-fn is_of_kind(alloc: Global, bytes: &[u8], name: &str) -> bool {
-    match decode(alloc, bytes) {
-        Ok(frame) => {
-            kind_name(&frame.message) == name
-                && is_lawful(&frame)
-                && matches!(encode(alloc, &frame), Ok(found) if found.as_slice() == bytes)
-                && matches!(frame.copy(), Ok(copy) if copy == frame)
-        }
-        Err(_) => false,
-    }
-}
-
-fn is_read(alloc: Global, kind: u8, body: &[u8], name: &str) -> bool {
-    matches!(framed(alloc, kind, body), Ok(bytes) if is_of_kind(alloc, bytes.as_slice(), name))
-}
-
-/// Tells whether a body is refused for the field at this offset of the frame.
-fn is_bad_at(alloc: Global, kind: u8, body: &[u8], at: usize) -> bool {
-    match framed(alloc, kind, body) {
-        Ok(bytes) => matches!(
-            decode(alloc, bytes.as_slice()),
-            Err(FrameFault::BadBody { at: found }) if found == at
-        ),
-        Err(_) => false,
-    }
-}
-
-/// Tells whether each proper front of a frame is refused as short.
-fn fronts_are_short(alloc: Global, bytes: &[u8]) -> bool {
-    (0..bytes.len()).all(|len| matches!(decode(alloc, &bytes[..len]), Err(FrameFault::Short)))
-}
 
 fn count(len: usize) -> u16 {
     u16::try_from(len).unwrap_or(u16::MAX)
@@ -113,15 +68,6 @@ fn leaves(alloc: Global, place: u8) -> Result<Vec<u8>, AllocError> {
 }
 
 #[test]
-fn shuffles_are_read_and_written(rt: HostRuntime) {
-    let alloc = rt.alloc();
-    assert!(rt; is_read(alloc, 10, b"\0\x00\x03\0\x00", "SHUFFLE"));
-    assert!(rt; is_read(alloc, 10, b"\0\x0f\xff\0\x03\0\x0f\0\x02\0\x0f", "SHUFFLE"));
-    assert!(rt; is_read(alloc, 11, b"\0\x00", "SHUFFLEREPLY"));
-    assert!(rt; is_read(alloc, 11, b"\0\x01\0\x07", "SHUFFLEREPLY"));
-}
-
-#[test]
 fn an_exchange_is_read_and_written(rt: HostRuntime) -> Result<(), Fail> {
     let alloc = rt.alloc();
     assert!(rt; is_read(alloc, 12, &[7; 32], "XROOT"));
@@ -134,7 +80,33 @@ fn an_exchange_is_read_and_written(rt: HostRuntime) -> Result<(), Fail> {
 }
 
 #[test]
-fn rows_are_read_and_written(rt: HostRuntime) -> Result<(), Fail> {
+fn rows_objects_and_wants_are_read_and_written(rt: HostRuntime) {
+    let table: [(&[u8], &str); 4] = [
+        (&XPREFIXES, "XPREFIXES"),
+        (&XBUCKET, "XBUCKET"),
+        (&XOBJECT, "XOBJECT"),
+        (&XWANT, "XWANT"),
+    ];
+    for (bytes, name) in table {
+        assert!(rt; is_of_kind(rt.alloc(), bytes, name), "{name}");
+    }
+}
+
+#[test]
+fn each_proper_front_is_short(rt: HostRuntime) {
+    let table: [(&[u8], &str); 4] = [
+        (&XPREFIXES, "XPREFIXES"),
+        (&XBUCKET, "XBUCKET"),
+        (&XOBJECT, "XOBJECT"),
+        (&XWANT, "XWANT"),
+    ];
+    for (bytes, name) in table {
+        assert!(rt; fronts_are_short(rt.alloc(), bytes), "{name}");
+    }
+}
+
+#[test]
+fn rows_of_any_number_are_read_and_written(rt: HostRuntime) -> Result<(), Fail> {
     let alloc = rt.alloc();
     let none = bucket(alloc, 255, &[])?;
     assert!(rt; is_read(alloc, 16, none.as_slice(), "XBUCKET"));
@@ -149,14 +121,9 @@ fn rows_are_read_and_written(rt: HostRuntime) -> Result<(), Fail> {
 }
 
 #[test]
-fn each_proper_front_is_short(rt: HostRuntime) -> Result<(), Fail> {
-    let alloc = rt.alloc();
-    let shuffle = framed(alloc, 10, b"\0\x00\x03\0\x01\0\x02")?;
-    assert!(rt; fronts_are_short(alloc, shuffle.as_slice()));
-    let reply = framed(alloc, 11, b"\0\x01\0\x02")?;
-    assert!(rt; fronts_are_short(alloc, reply.as_slice()));
-    let root = framed(alloc, 12, &[7; 32])?;
-    assert!(rt; fronts_are_short(alloc, root.as_slice()));
+fn each_proper_front_of_a_root_is_short(rt: HostRuntime) -> Result<(), Fail> {
+    let root = framed(rt.alloc(), 12, &[7; 32])?;
+    assert!(rt; fronts_are_short(rt.alloc(), root.as_slice()));
     Ok(())
 }
 
@@ -167,20 +134,6 @@ fn each_proper_front_of_digests_is_short(rt: HostRuntime) -> Result<(), Fail> {
     assert!(rt; fronts_are_short(alloc, inner.as_slice()));
     let leaves = framed(alloc, 15, leaves(alloc, 0)?.as_slice())?;
     assert!(rt; fronts_are_short(alloc, leaves.as_slice()));
-    Ok(())
-}
-
-#[test]
-fn each_proper_front_of_rows_is_short(rt: HostRuntime) -> Result<(), Fail> {
-    let alloc = rt.alloc();
-    let prefixes = framed(
-        alloc,
-        13,
-        prefixes(alloc, &[(b"a", b"b"), (b"a", b"c")])?.as_slice(),
-    )?;
-    assert!(rt; fronts_are_short(alloc, prefixes.as_slice()));
-    let bucket = framed(alloc, 16, bucket(alloc, 1, &[b"a", b"b"])?.as_slice())?;
-    assert!(rt; fronts_are_short(alloc, bucket.as_slice()));
     Ok(())
 }
 
@@ -234,21 +187,6 @@ fn a_part_of_a_prefix_has_1_to_64_bytes(rt: HostRuntime) -> Result<(), Fail> {
     assert!(rt; is_bad_at(alloc, 13, second_too_long.as_slice(), 25));
     let empty = prefixes(alloc, &[(b"a", &[])])?;
     assert!(rt; is_bad_at(alloc, 13, empty.as_slice(), 25));
-    Ok(())
-}
-
-#[test]
-fn nodes_are_at_most_16_below_16(rt: HostRuntime) -> Result<(), Fail> {
-    let alloc = rt.alloc();
-    let mut body = b"\0\x10".to_vec(alloc)?;
-    body.extend_from_slice(&[0; 32])?;
-    assert!(rt; is_read(alloc, 11, body.as_slice(), "SHUFFLEREPLY"));
-    body.extend_from_slice(&[0; 2])?;
-    body[1] = 17;
-    assert!(rt; is_bad_at(alloc, 11, body.as_slice(), 20));
-    assert!(rt; is_bad_at(alloc, 11, b"\0\x02\0\x0f\0\x10", 24));
-    assert!(rt; is_bad_at(alloc, 10, b"\0\x10\x03\0\x00", 20));
-    assert!(rt; is_bad_at(alloc, 10, b"\0\x00\x03\0\x01\0", 25));
     Ok(())
 }
 

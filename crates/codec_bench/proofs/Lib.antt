@@ -1,0 +1,2 @@
+-- the steps of a loop that reads frames one after another
+pub mod Steps

@@ -1,0 +1,89 @@
+//! What is asked of frames and bytes.
+
+use meta_frame::decode::decode;
+use meta_frame::encode::encode;
+use meta_frame::lawful::is_lawful;
+use meta_frame::{Frame, FrameFault, kind_name};
+use std::alloc::{AllocError, Global};
+
+/// Tells whether a frame is this one. It takes the frame whole, as the functions below do that are handed
+/// one behind a `match`: a loan of it there is dear to prove.
+pub(crate) fn is_equal(found: Frame, frame: &Frame) -> bool {
+    found == *frame
+}
+
+pub(crate) fn is_refused(alloc: Global, bytes: &[u8], fault: FrameFault) -> bool {
+    match decode(alloc, bytes) {
+        Ok(_) => false,
+        Err(found) => found == fault,
+    }
+}
+
+pub(crate) fn is_read_as(alloc: Global, bytes: &[u8], frame: &Frame) -> bool {
+    match decode(alloc, bytes) {
+        Ok(found) => is_equal(found, frame),
+        Err(_) => false,
+    }
+}
+
+/// Tells whether a frame is lawful, and spelled by just these bytes.
+pub(crate) fn is_spelled(alloc: Global, frame: &Frame, bytes: &[u8]) -> bool {
+    is_lawful(frame) && matches!(encode(alloc, frame), Ok(found) if found.as_slice() == bytes)
+}
+
+pub(crate) fn is_copied(frame: &Frame) -> bool {
+    match frame.copy() {
+        Ok(copy) => is_equal(copy, frame),
+        Err(_) => false,
+    }
+}
+
+/// As `is_spelled`, of a frame that it takes.
+pub(crate) fn is_written_as(alloc: Global, frame: Frame, bytes: &[u8]) -> bool {
+    is_spelled(alloc, &frame, bytes)
+}
+
+fn is_kept(alloc: Global, frame: &Frame, bytes: &[u8], name: &str) -> bool {
+    kind_name(&frame.message) == name && is_spelled(alloc, frame, bytes) && is_copied(frame)
+}
+
+/// Tells whether a frame is of that kind, spelled by just these bytes, and copied.
+fn has_kind(alloc: Global, frame: Frame, bytes: &[u8], name: &str) -> bool {
+    is_kept(alloc, &frame, bytes, name)
+}
+
+/// Tells whether the bytes are read as a frame of that kind, spelled so again, and copied.
+pub(crate) fn is_of_kind(alloc: Global, bytes: &[u8], name: &str) -> bool {
+    match decode(alloc, bytes) {
+        Ok(frame) => has_kind(alloc, frame, bytes, name),
+        Err(_) => false,
+    }
+}
+
+/// Tells whether each proper front of a frame is refused as short.
+pub(crate) fn fronts_are_short(alloc: Global, bytes: &[u8]) -> bool {
+    (0..bytes.len()).all(|len| is_refused(alloc, &bytes[..len], FrameFault::Short))
+}
+
+/// The bytes of a frame from 0 to 1, number 1, of this kind and body.
+pub(crate) fn framed(alloc: Global, kind: u8, body: &[u8]) -> Result<Vec<u8>, AllocError> {
+    let mut bytes = b"PT\x01".to_vec(alloc)?;
+    bytes.push(kind)?;
+    bytes.extend_from_slice(b"\0\x00\0\x01\0\0\0\0\0\0\0\x01")?;
+    bytes.extend_from_slice(&u32::try_from(body.len()).unwrap_or(u32::MAX).to_be_bytes())?;
+    bytes.extend_from_slice(body)?;
+    Ok(bytes)
+}
+
+/// Tells whether the frame of this body is read as a frame of that kind, spelled so again, and copied.
+pub(crate) fn is_read(alloc: Global, kind: u8, body: &[u8], name: &str) -> bool {
+    matches!(framed(alloc, kind, body), Ok(bytes) if is_of_kind(alloc, bytes.as_slice(), name))
+}
+
+/// Tells whether a body is refused for the field at this offset of the frame.
+pub(crate) fn is_bad_at(alloc: Global, kind: u8, body: &[u8], at: usize) -> bool {
+    match framed(alloc, kind, body) {
+        Ok(bytes) => is_refused(alloc, bytes.as_slice(), FrameFault::BadBody { at }),
+        Err(_) => false,
+    }
+}

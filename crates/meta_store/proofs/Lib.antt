@@ -1,0 +1,12 @@
+-- the order of keys
+mod Keys
+-- where a key stands in a table
+mod Places
+-- a table after an object was put there
+mod Tables
+-- objects within a length
+mod Sizes
+-- what entries have read
+mod Reading
+-- a merge holds the object of the union
+mod Unions

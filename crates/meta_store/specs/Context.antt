@@ -1,0 +1,16 @@
+-- What a read hands out, for a later write that has read it.
+use Rattle.std.specs.Prelude.{List, [], Option, Some, None}
+use Rattle.meta_types.specs.Name.{Key}
+use Rattle.dvvset.specs.Object.{Counter}
+use Rattle.meta_store.specs.declared.source.Source.{Source}
+
+-- the key that was read, the vector of the object there, and who read
+pub record Reading : Type 0 where
+  pub key : Key
+  pub vector : List Counter
+  pub source : Source
+
+-- the vector that a write has read: that of its context, or none
+abbrev pub vector_read : Option Reading → List Counter
+vector_read None = []
+vector_read (Some context) = context.vector

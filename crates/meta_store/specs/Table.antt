@@ -1,0 +1,66 @@
+-- A table: what one node holds. The rule is our own.
+use Rattle.std.specs.Prelude.{◌≡◌, ℕ, ◌≤◌, nat_le, Bool, true, ◌&&◌, List, [], length, All}
+use Rattle.std.specs.List.{list_all}
+use Rattle.std.specs.Option.{unwrap_or}
+use Rattle.std.specs.FinMap.{find, put, is_sorted}
+use Rattle.meta_types.specs.Name.{Key, IsKey}
+use Rattle.meta_types.specs.Order.{key_cmp}
+use Rattle.dvvset.specs.Object.{Entry, Counter, IsObject}
+use Rattle.dvvset.specs.Clock.{join, descends}
+use Rattle.frame_fields.specs.Field.{object, has_value}
+
+-- keys, each with the object held under it
+abbrev pub Table : Type 0
+Table = List (Key × List Entry)
+
+-- the object under a key; the empty list is the absent one
+abbrev pub object_at : Table → Key → List Entry
+object_at table key = unwrap_or (find key_cmp key table) []
+
+-- the table with this object under the key, and all else as before
+abbrev pub with_object : Key → List Entry → Table → Table
+with_object key object table = put key_cmp key object table
+
+-- the vector of what is held has read all that the other has read
+abbrev pub is_stale : Table → Key → List Counter → Bool
+is_stale table key vector = descends (join (object_at table key)) vector
+
+-- ---- limits
+
+-- of the keys of a table
+abbrev pub most_keys : ℕ
+most_keys = 8192
+
+-- of the values of one writer that an object shows
+abbrev pub most_values : ℕ
+most_values = 65535
+
+-- of the bytes of an object, as a field of a frame, after a write and after a merge
+abbrev pub most_written : ℕ
+most_written = 1048576
+
+abbrev pub most_merged : ℕ
+most_merged = 16000000
+
+-- the entry shows few enough values
+abbrev pub has_few_values : Entry → Bool
+has_few_values e = nat_le (length e.values) most_values
+
+-- each entry shows few enough values, and as a field of a frame the object has at most so many bytes
+abbrev pub is_small_enough : ℕ → List Entry → Bool
+is_small_enough most es = list_all has_few_values es && nat_le (length (object.spell es)) most
+
+-- ---- tables
+
+-- an object that may be held: it shows a value, and is as small as a merge must leave it
+pub record IsHeld (es : List Entry) : Type 0 where
+  pub lawful : IsObject es
+  pub shows : has_value es ≡ true
+  pub small : is_small_enough most_merged es ≡ true
+
+-- the keys rise strictly, each is one, and they are few enough; each object may be held
+pub record IsTable (table : Table) : Type 0 where
+  pub rising : is_sorted key_cmp table ≡ true
+  pub keys : All (λ row. IsKey row.0) table
+  pub few : length table ≤ most_keys
+  pub held : All (λ row. IsHeld row.1) table

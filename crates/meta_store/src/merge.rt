@@ -1,0 +1,88 @@
+//! Merges.
+
+ghost use Rattle.std.specs.Prelude.{◌≡◌, ◌≢◌, ◌⊎◌, if◌then◌else◌, true, false, List, Ok, Some, None, IfOk, IfErr, OnOk, OnErr};
+ghost use Rattle.meta_types.specs.Name.{Key};
+ghost use Rattle.dvvset.specs.Clock.{join};
+ghost use Rattle.past_model.specs.declared.happening.Happening.{Happening};
+ghost use Rattle.past_model.specs.Sets.{Places, union};
+ghost use Rattle.past_model.specs.Past.{writes};
+ghost use Rattle.past_model.specs.History.{RestartsKeepOwnWrites};
+ghost use Rattle.past_model.specs.Shown.{IsObjectOf};
+ghost use Rattle.meta_store.specs.Table.{IsHeld, is_stale, object_at};
+ghost use Rattle.meta_store.specs.Step.{after_merge, answer_of_merge, merge_of, refusal_of_merge};
+ghost use Rattle.meta_store.specs.declared.fault.StoreFault.TheVariants.{Memory};
+ghost use Rattle.meta_store.specs.declared.merge.Merged.TheVariants.{Stale};
+
+use crate::fault::StoreFault;
+use crate::size::is_small_enough;
+use crate::store::Store;
+use dvvset::{Entries, sync};
+use frame_fields::lawful::all_are_bare;
+use meta_types::MetaKey;
+
+/// The most bytes of an object after a merge, as its field of a frame.
+pub const MAX_MERGED_LEN: usize = 16_000_000;
+
+/// What a merge did.
+#[derive(Clone, Copy, Debug, PartialEq, Eq)]
+pub enum Merged {
+    /// What came counts a write that was not known: the merge is held now.
+    Fresh,
+    /// What came counts no write that was not known: nothing changed.
+    Stale,
+}
+
+impl Store {
+    /// Merges an object that came from another store into what is held under the key. Where it counts no write
+    /// that isn't known the answer is `Stale`, and nothing changes; that takes no memory and is never refused.
+    /// Nothing changes under other keys.
+    ///
+    /// What isn't stale is refused, in this order, with 21 `BadEntries` where the merge would show no value,
+    /// as only forged objects give, 25 `StoreFull` for a new key where 8,192 are held, and 27 `ObjectTooLarge`
+    /// where the merge would have more than 16,000,000 bytes as its field of a frame, or more than 65,535
+    /// values of one writer; 99 `Memory` may stand in place of any answer. Then nothing changes. Key and object
+    /// are dropped with a refusal.
+    pub fn merge(&mut self, key: MetaKey, object: Entries) -> Result<Merged, StoreFault>
+        ensures stale { is_stale self.old key (join object) ≡ true → result ≡ Ok Stale }
+        ensures value { OnOk result (self.new ≡ after_merge self.old key object) }
+        ensures answer { IfOk result (λ answer. answer ≡ answer_of_merge self.old key object) }
+        ensures here { OnOk result (object_at self.new key ≡ (if is_stale self.old key (join object) then object_at self.old key else merge_of self.old key object)) }
+        ensures elsewhere { OnOk result ((other : Key) → other ≢ key → object_at self.new other ≡ object_at self.old other) }
+        ensures union { OnOk result ((hs : List Happening) → RestartsKeepOwnWrites hs → (S T : Places)
+            → IsObjectOf (writes hs) key S (object_at self.old key) → IsObjectOf (writes hs) key T object
+            → IsObjectOf (writes hs) key (union S T) (object_at self.new key)) }
+        ensures no_refusal { OnOk result (refusal_of_merge self.old key object ≡ None) }
+        ensures fault { IfErr result (λ fault. (fault ≡ Memory) ⊎ (refusal_of_merge self.old key object ≡ Some fault)) }
+        ensures same { OnErr result (self.new ≡ self.old) }
+    {
+        if self.knows(&key, &object) {
+            return Ok(Merged::Stale);
+        }
+        let merged = self.merged(&key, &object)?;
+        self.hold(key, merged)?;
+        Ok(Merged::Fresh)
+    }
+
+    /// The merge of what is held under the key and what came, which isn't stale.
+    fn merged(&self, key: &MetaKey, came: &Entries) -> Result<Entries, StoreFault>
+        requires { is_stale self.now key.now (join came.now) ≡ false }
+        ensures value { IfOk result (λ object. object ≡ merge_of self.now key.now came.now) }
+        ensures held { IfOk result IsHeld }
+        ensures no_refusal { OnOk result (refusal_of_merge self.now key.now came.now ≡ None) }
+        ensures fault { IfErr result (λ fault. (fault ≡ Memory) ⊎ (refusal_of_merge self.now key.now came.now ≡ Some fault)) }
+    {
+        let alloc = self.allocator();
+        let absent = Entries::empty(alloc);
+        let merged = sync(alloc, self.object_or(key, &absent), came)?;
+        if all_are_bare(merged.entries()) {
+            return Err(StoreFault::BadEntries);
+        }
+        if self.is_full_for(key) {
+            return Err(StoreFault::StoreFull);
+        }
+        if !is_small_enough(&merged, MAX_MERGED_LEN) {
+            return Err(StoreFault::ObjectTooLarge);
+        }
+        Ok(merged)
+    }
+}

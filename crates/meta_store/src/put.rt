@@ -1,0 +1,78 @@
+//! Writes.
+
+ghost use Rattle.std.specs.Prelude.{◌≡◌, ◌≢◌, ◌⊎◌, Some, None, IfOk, IfErr, OnOk, OnErr};
+ghost use Rattle.std.specs.Option.{option_copied};
+ghost use Rattle.meta_types.specs.Name.{Key};
+ghost use Rattle.meta_store.specs.Table.{IsHeld, object_at, with_object};
+ghost use Rattle.meta_store.specs.Step.{refusal_of_put, written};
+ghost use Rattle.meta_store.specs.declared.fault.StoreFault.TheVariants.{Memory};
+
+use crate::context::Context;
+use crate::fault::StoreFault;
+use crate::size::is_small_enough;
+use crate::store::Store;
+use dvvset::{Entries, Vector, update};
+use meta_types::{MetaKey, NodeId, Value};
+
+/// The most bytes of an object after a write, as its field of a frame.
+pub const MAX_WRITTEN_LEN: usize = 1_048_576;
+
+impl Store {
+    /// The object that `put` would hold, by the same rules and with the same refusals. Nothing changes. The value
+    /// is dropped with a refusal.
+    pub fn preview_put(
+        &self,
+        id: NodeId,
+        key: &MetaKey,
+        value: Value,
+        context: Option<&Context>,
+    ) -> Result<Entries, StoreFault>
+        ensures value { IfOk result (λ object. object ≡ written self.now id key.now value (option_copied context.entry)) }
+        ensures held { IfOk result IsHeld }
+        ensures no_refusal { OnOk result (refusal_of_put self.now id key.now value (option_copied context.entry) ≡ None) }
+        ensures fault { IfErr result (λ fault. (fault ≡ Memory) ⊎ (refusal_of_put self.now id key.now value (option_copied context.entry) ≡ Some fault)) }
+    {
+        if context.is_some_and(|context| context.key() != key) {
+            return Err(StoreFault::WrongKey);
+        }
+        if self.is_full_for(key) {
+            return Err(StoreFault::StoreFull);
+        }
+        let alloc = self.allocator();
+        let (nothing, absent) = (Vector::empty(alloc), Entries::empty(alloc));
+        let read = context.map_or(&nothing, |context| context.vector());
+        let object = update(alloc, read, self.object_or(key, &absent), id, value)?;
+        if !is_small_enough(&object, MAX_WRITTEN_LEN) {
+            return Err(StoreFault::ObjectTooLarge);
+        }
+        Ok(object)
+    }
+
+    /// A write by `id`, which has read what its context says, or without one nothing: the values that were
+    /// read are no longer shown, the others stay beside the new one as siblings. The context counts also
+    /// where nothing is held, or less than it has read. Nothing changes under other keys.
+    ///
+    /// Refused, in this order, with 26 `WrongKey` where the context is of another key, 25 `StoreFull` for a
+    /// new key where 8,192 are held, 20 `CounterSpent` where the writer's counter, in what is held or in what
+    /// was read, is 18,446,744,073,709,551,615, and 27 `ObjectTooLarge` where the object would have more than
+    /// 1,048,576 bytes as its field of a frame, or more than 65,535 values of one writer; 99 `Memory` may stand
+    /// in place of any answer. Then nothing changes. Key and value are dropped with a refusal.
+    pub fn put(
+        &mut self,
+        id: NodeId,
+        key: MetaKey,
+        value: Value,
+        context: Option<&Context>,
+    ) -> Result<(), StoreFault>
+        ensures value { OnOk result (self.new ≡ with_object key (written self.old id key value (option_copied context.entry)) self.old) }
+        ensures here { OnOk result (object_at self.new key ≡ written self.old id key value (option_copied context.entry)) }
+        ensures elsewhere { OnOk result ((other : Key) → other ≢ key → object_at self.new other ≡ object_at self.old other) }
+        ensures no_refusal { OnOk result (refusal_of_put self.old id key value (option_copied context.entry) ≡ None) }
+        ensures fault { IfErr result (λ fault. (fault ≡ Memory) ⊎ (refusal_of_put self.old id key value (option_copied context.entry) ≡ Some fault)) }
+        ensures same { OnErr result (self.new ≡ self.old) }
+    {
+        let object = self.preview_put(id, &key, value, context)?;
+        self.hold(key, object)?;
+        Ok(())
+    }
+}

@@ -1,0 +1,168 @@
+ghost use Rattle.std.specs.Prelude.{◌≡◌, [], length, IfOk, IfErr, OnOk, OnErr, IfSome, false, IsTrue, ◌↔◌};
+ghost use Rattle.std.specs.Option.{option_copied};
+ghost use Rattle.std.specs.FinMap.{find};
+ghost use Rattle.meta_types.specs.Order.{key_cmp};
+ghost use Rattle.dvvset.specs.Clock.{join, values_of};
+ghost use Rattle.meta_store.specs.Table.{IsHeld, IsTable, is_stale, object_at, with_object};
+ghost use Rattle.meta_store.specs.Step.{is_full_for};
+ghost use Rattle.meta_store.specs.Place.{IsAt, IsGap};
+ghost use Rattle.meta_store.specs.declared.fault.StoreFault.TheVariants.{Memory};
+
+use crate::context::Context;
+use crate::fault::StoreFault;
+use crate::source::Source;
+use crate::stale::{has_read, knows};
+use dvvset::{Entries, Entry, Vector, join, values};
+use meta_types::{MetaKey, Value};
+use std::alloc::{AllocError, Global};
+use std::marker::Model;
+
+/// The most keys of a store.
+pub const MAX_KEYS: usize = 8_192;
+
+/// What one node holds: a map from key to object. Each object held shows a value; a key without an object
+/// is read as one with the absent object.
+#[derive(Debug, Drop)]
+pub struct Store {
+    rows: Vec<(MetaKey, Entries)>,
+}
+
+impl Model for Store {
+    ghost use Rattle.meta_store.specs.Table.{Table, IsTable};
+
+    ghost Value = { Table };
+
+    ghost view = { λ s. s.rows.items };
+
+    ghost invariant = { λ s. IsTable s.rows.items };
+}
+
+impl Store {
+    /// A store that holds nothing. It takes no memory; what is held will be taken from the allocator.
+    pub fn new(alloc: Global) -> Self
+        ensures { result ≡ [] }
+    {
+        Store {
+            rows: Vec::new(alloc),
+        }
+    }
+
+    /// How many keys are held, at most 8,192.
+    pub fn len(&self) -> usize
+        ensures value { result ≡ length self.now }
+        ensures is_table { IsTable self.now }
+    {
+        self.rows.len()
+    }
+
+    /// Tells whether no key is held.
+    pub fn is_empty(&self) -> bool
+        ensures { IsTrue result ↔ (self.now ≡ []) }
+    {
+        self.rows.is_empty()
+    }
+
+    /// Where the key stands, or else where it would.
+    fn place(&self, key: &MetaKey) -> Result<usize, usize>
+        ensures found { IfOk result (IsAt self.now key.now) }
+        ensures absent { IfErr result (IsGap self.now key.now) }
+    {
+        self.rows.binary_search_by(|row| row.0.cmp(key))
+    }
+
+    /// The object that is held under the key.
+    pub fn object(&self, key: &MetaKey) -> Option<&Entries>
+        ensures value { option_copied result ≡ find key_cmp key.now self.now }
+        ensures lawful { IfSome result (λ object. IsHeld object.now) }
+    {
+        match self.place(key) {
+            Ok(at) => Some(&self.rows[at].1),
+            Err(_) => None,
+        }
+    }
+
+    /// The values under the key, which are siblings if there are several, by writer and of each the newest first,
+    /// and the vector of their object; both are empty where nothing is held. They are copies, and take memory,
+    /// with the refusal of which alone it is refused.
+    pub fn get(&self, key: &MetaKey) -> Result<(Vec<Value>, Vector), AllocError>
+        ensures values { IfOk result (λ read. read.0.items ≡ values_of (object_at self.now key.now)) }
+        ensures vector { IfOk result (λ read. read.1 ≡ join (object_at self.now key.now)) }
+    {
+        let alloc = *self.rows.allocator();
+        match self.object(key) {
+            Some(object) => Ok((values(alloc, object)?, join(alloc, object)?)),
+            None => Ok((Vec::new(alloc), Vector::empty(alloc))),
+        }
+    }
+
+    /// The values under the key, as `get` has them, and a context for a later write that has read them; where
+    /// nothing is held its vector has read nothing. `source` says who reads. It takes memory, with the refusal
+    /// of which alone it is refused.
+    pub fn look(&self, key: &MetaKey, source: Source) -> Result<(Vec<Value>, Context), AllocError>
+        ensures values { IfOk result (λ read. read.0.items ≡ values_of (object_at self.now key.now)) }
+        ensures context { IfOk result (λ read. read.1 ≡ record { key = key.now; vector = join (object_at self.now key.now); source = source }) }
+    {
+        let (values, vector) = self.get(key)?;
+        Ok((values, Context::new(key.copy()?, vector, source)))
+    }
+
+    /// Tells whether the object under the key has read all that the vector has. It takes no memory.
+    pub fn is_stale(&self, key: &MetaKey, vector: &Vector) -> bool
+        ensures { result ≡ is_stale self.now key.now vector.now }
+    {
+        has_read(self.entries_under(key), vector.counters())
+    }
+
+    /// Tells whether the object under the key knows each event that the other knows. It takes no memory.
+    pub(crate) fn knows(&self, key: &MetaKey, other: &Entries) -> bool
+        ensures { result ≡ is_stale self.now key.now (join other.now) }
+    {
+        knows(self.entries_under(key), other.entries())
+    }
+
+    /// The entries of the object under the key, none where nothing is held.
+    fn entries_under(&self, key: &MetaKey) -> &[Entry]
+        ensures { result.now ≡ object_at self.now key.now }
+    {
+        match self.object(key) {
+            Some(object) => object.entries(),
+            None => &[],
+        }
+    }
+
+    /// Holds the object under the key, in place of what is held there.
+    pub(crate) fn hold(&mut self, key: MetaKey, object: Entries) -> Result<(), StoreFault>
+        requires held { IsHeld object }
+        requires room { is_full_for self.old key ≡ false }
+        ensures value { OnOk result (self.new ≡ with_object key object self.old) }
+        ensures fault { IfErr result (λ fault. fault ≡ Memory) }
+        ensures same { OnErr result (self.new ≡ self.old) }
+    {
+        // Read for what it tells: the key is in range.
+        let _ = key.key();
+        match self.place(&key) {
+            Ok(at) => self.rows[at] = (key, object),
+            Err(at) => self.rows.insert(at, (key, object))?,
+        }
+        Ok(())
+    }
+
+    /// Tells whether the key would be one too many.
+    pub(crate) fn is_full_for(&self, key: &MetaKey) -> bool
+        ensures { result ≡ is_full_for self.now key.now }
+    {
+        MAX_KEYS <= self.rows.len() && self.object(key).is_none()
+    }
+
+    /// The object under the key, the absent one where nothing is held. `absent` is lent for it.
+    pub(crate) fn object_or<'a>(&'a self, key: &MetaKey, absent: &'a Entries) -> &'a Entries
+        requires { absent.now ≡ [] }
+        ensures { result.now ≡ object_at self.now key.now }
+    {
+        self.object(key).unwrap_or(absent)
+    }
+
+    pub(crate) fn allocator(&self) -> Global {
+        *self.rows.allocator()
+    }
+}
