@@ -1,6 +1,6 @@
 use super::*;
-use dvvset::{Counter, Entries, Entry, Vector, join};
-use meta_frame::{Frame, FrameFault, Message};
+use dvvset::{Counter, Entries, Entry, Vector};
+use meta_frame::FrameFault;
 use meta_types::{FullPrefix, MetaKey, NodeId, TypeFault, Value};
 use std::alloc::{AllocError, Global};
 use std::test::Fail;
@@ -121,80 +121,7 @@ fn an_object_prints_its_context_and_its_values(rt: HostRuntime) -> Result<(), Fa
     Ok(())
 }
 
-fn prune() -> Frame {
-    Frame {
-        from: NodeId::new(1).unwrap(),
-        to: NodeId::new(0).unwrap(),
-        number: 5,
-        message: Message::Prune,
-    }
-}
-
-#[test]
-fn a_frame_prints_its_header(rt: HostRuntime) -> Result<(), Fail> {
-    let mut out = Vec::new(rt.alloc());
-    put_frame(&mut out, &prune())?;
-    assert_eq!(rt; out.as_slice(), b"PRUNE from 1 to 0 number 5".as_slice());
-    Ok(())
-}
-
-#[test]
-fn a_frame_prints_its_fields(rt: HostRuntime) -> Result<(), Fail> {
-    let alloc = rt.alloc();
-    let frame = Frame {
-        message: Message::Gossip {
-            round: 7,
-            key: key(alloc, b"a", b"b", b"k")?,
-            object: Entries::from_parts(entries(alloc)?)?,
-        },
-        ..prune()
-    };
-    let mut out = Vec::new(alloc);
-    put_frame(&mut out, &frame)?;
-    assert_eq!(rt;
-        out.as_slice(),
-        b"GOSSIP from 1 to 0 number 5 round 7 key a/b/k ctx 0:2,3:3 values y,~@5".as_slice()
-    );
-    Ok(())
-}
-
-/// The printed form of a message from 1 to 0, number 5.
-fn printed(alloc: Global, message: Message) -> Result<Vec<u8>, AllocError> {
-    let frame = Frame { message, ..prune() };
-    let mut out = Vec::new(alloc);
-    put_frame(&mut out, &frame)?;
-    Ok(out)
-}
-
-#[test]
-fn announcements_print_their_context(rt: HostRuntime) -> Result<(), Fail> {
-    let alloc = rt.alloc();
-    let object = Entries::from_parts(entries(alloc)?)?;
-    let message = Message::IHave {
-        round: 7,
-        key: key(alloc, b"a", b"b", b"k")?,
-        vector: join(alloc, &object)?,
-    };
-    assert_eq!(rt;
-        printed(alloc, message)?.as_slice(),
-        b"IHAVE from 1 to 0 number 5 round 7 key a/b/k ctx 0:2,3:3".as_slice()
-    );
-    Ok(())
-}
-
-#[test]
-fn frames_without_fields_print_their_names(rt: HostRuntime) -> Result<(), Fail> {
-    let alloc = rt.alloc();
-    assert_eq!(rt;
-        printed(alloc, Message::Join)?.as_slice(),
-        b"JOIN from 1 to 0 number 5".as_slice()
-    );
-    assert_eq!(rt;
-        printed(alloc, Message::Disconnect)?.as_slice(),
-        b"DISCONNECT from 1 to 0 number 5".as_slice()
-    );
-    Ok(())
-}
+// Whole frames of each kind are printed in the tests of `plumctl_core`, from their bytes.
 
 #[test]
 fn refusals_print_their_number_name_and_offset(rt: HostRuntime) -> Result<(), Fail> {
