@@ -8,3 +8,7 @@ pub mod Changes
 pub mod Deliveries
 -- what a restart keeps
 pub mod Restarting
+-- what images have, read from the newest down
+pub mod Chains
+-- how many keys a table has
+pub mod Bounded

@@ -12,5 +12,7 @@ pub use Rattle.past_model.specs.History
 pub use Rattle.past_model.specs.Shown
 -- what the nodes hold: the happenings of the past over objects
 pub mod Objects
+-- images as they are kept
+pub mod Images
 -- what one more happening changes
 pub mod Laws

@@ -3,4 +3,5 @@
 //! nodes hold, by objects, over the same happenings as the past, and the laws that tie it to the past.
 #![tactic(auto)]
 
+pub mod image;
 pub mod laws;

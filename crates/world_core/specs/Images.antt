@@ -1,0 +1,46 @@
+-- The images of one node as they are kept: a list, oldest first, each with the number of the image that it changes and
+-- what it changes there. Image 0 is the empty one and stands in no list. The rule is our own.
+use Rattle.std.specs.Prelude.{◌≡◌, ℕ, ◌+◌, ◌<◌, ◌≤◌, List, [], ◌∷◌, length, get_or, Option, Some, None, if◌then◌else◌}
+use Rattle.meta_types.specs.Name.{Key}
+use Rattle.dvvset.specs.Object.{Entry}
+use Rattle.past_model.specs.Sets.{put, key_eq}
+use Rattle.meta_store.specs.Table.{Table, IsHeld, IsTable, object_at}
+use Rattle.world_core.specs.Objects.{Holding, nothing, with_held}
+
+-- the image that is changed, and the object that stands under a key instead; none where nothing is changed
+pub record Image : Type 0 where
+  pub base : ℕ
+  pub change : Option (Key × List Entry)
+
+-- the object of a change may be held
+abbrev pub IsChange : Option (Key × List Entry) → Type 0
+IsChange None = Unit {0}
+IsChange (Some change) = IsHeld change.1
+
+-- what there is after a change
+abbrev pub changed : Holding → Option (Key × List Entry) → Holding
+changed there None = there
+changed there (Some change) = with_held there change.0 change.1
+
+-- what stands under the key instead, where the change is of that key
+abbrev pub instead : Option (Key × List Entry) → Key → Option (List Entry)
+instead None k = None
+instead (Some change) k = if key_eq k change.0 then Some change.1 else None
+
+-- what the images have, by number: the next one has what its base has, but for its change
+abbrev pub holdings_from : (ℕ → Holding) → ℕ → List Image → ℕ → Holding
+holdings_from there last [] = there
+holdings_from there last (image ∷ later) = holdings_from (put there (last + 1) (changed (there image.base) image.change)) (last + 1) later
+
+abbrev pub holdings : List Image → ℕ → Holding
+holdings images = holdings_from (λ j. nothing) 0 images
+
+-- each image changes an earlier one
+pub record ChangeEarlier (images : List Image) : Type 0 where
+  pub earlier : (at : ℕ) (d : Image) → at < length images → (get_or images at d).base ≤ at
+
+-- a table has just these objects
+pub record IsTabled (there : Holding) : Type 0 where
+  pub table : Table
+  pub is_table : IsTable table
+  pub same : (k : Key) → object_at table k ≡ there k
