@@ -1,13 +1,26 @@
-//! Comparing clocks. These calls take no memory and always succeed.
+//! Comparing clocks, and asking them for a writer. These calls take no memory and always succeed.
 
 ghost use Rattle.std.specs.Prelude.{◌≡◌, ◌≤◌, ◌↔◌, ◌∷◌, [], ℕ, IsTrue};
 ghost use Rattle.dvvset.specs.Object.{IsVector};
 ghost use Rattle.dvvset.specs.Clock.{counter, descends, same};
-ghost use Rattle.dvvset.specs.Writer.{shapes};
+ghost use Rattle.dvvset.specs.Writer.{count_of, shapes};
 
 use crate::entries::Entries;
 use crate::entry::Entry;
 use crate::vector::{Counter, Vector};
+use meta_types::NodeId;
+
+/// How many events of the writer the entries know: 0 where it has no entry. Takes no memory.
+pub fn count_of(entries: &[Entry], id: NodeId) -> u64
+    ensures { result ≡ count_of entries.now id }
+{
+    for entry in entries {
+        if entry.id() == id {
+            return entry.count();
+        }
+    }
+    0
+}
 
 /// Tells whether each counter of the second is at most that of the first, so that whoever has read the
 /// first has read all that the second has. An absent counter is 0. One pass over both.

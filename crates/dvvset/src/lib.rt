@@ -15,7 +15,7 @@ mod tests;
 pub mod vector;
 pub mod write;
 
-pub use compare::{descends, same};
+pub use compare::{count_of, descends, same};
 pub use entries::{Entries, values};
 pub use entry::Entry;
 pub use fault::ClockFault;

@@ -374,6 +374,27 @@ fn a_vector_descends_what_it_has_read(rt: HostRuntime) -> Result<(), Fail> {
 }
 
 #[test]
+fn a_writer_without_an_entry_has_count_0(rt: HostRuntime) -> Result<(), Fail> {
+    let table: [(&[Parts], u16, u64); 6] = [
+        (&[], 0, 0),
+        (&[(0, 2, b"yx")], 0, 2),
+        (&[(0, 2, b"yx")], 1, 0),
+        (&[(1, 5, b"z"), (3, 4, b"")], 1, 5),
+        (&[(1, 5, b"z"), (3, 4, b"")], 2, 0),
+        (&[(1, 5, b"z"), (3, 4, b"")], 3, 4),
+    ];
+    for (parts, id, count) in table {
+        let object = object(rt.alloc(), parts)?;
+        assert_eq!(rt;
+            count_of(object.entries(), NodeId::new(id)?),
+            count,
+            "{parts:?} {id}"
+        );
+    }
+    Ok(())
+}
+
+#[test]
 fn objects_of_one_shape_are_the_same(rt: HostRuntime) -> Result<(), Fail> {
     let table: [(&[Parts], &[Parts], bool); 6] = [
         (&[], &[], true),

@@ -5,11 +5,12 @@ use Rattle.std.specs.Prelude.{IfOk, IfErr, MatchOption}
 use Rattle.std.specs.Int.{Width, byte_len, w8, w16, w32, w64, to_be_bytes}
 use Rattle.std.proofs.lemmas.Bool.{eqb-true, eqb-false, ne_eqb, ltb-true, ltb-false, le-ltb, lt-ltb, cases_lt}
 use Rattle.std.proofs.lemmas.List.{append-nil, nil_from_length, length-append, length-take, length-drop, take-append-drop, drop-drop, get_or_past}
+use Rattle.meta_types.specs.First.{first_that_applies}
 use Rattle.meta_frame.specs.declared.message.Message.{Message}
 use Rattle.meta_frame.specs.declared.message.Frame.{Frame}
 use Rattle.meta_frame.specs.declared.fault.FrameFault.{FrameFault}
 use Rattle.meta_frame.specs.declared.fault.FrameFault.TheVariants.{Short, BadMagic, BadVersion, BadKind, TooLong, BadBody, LeftOver, Memory}
-use Rattle.meta_frame.specs.Frame.{kind_of, body, is_kind, limit, header, spelling, IsLawful, Spells, first_that_applies, number_in, kind_in, from_in, to_in, len_in, header_tests, IsBodyFault, Refuses}
+use Rattle.meta_frame.specs.Frame.{kind_of, body, is_kind, limit, header, spelling, IsLawful, Spells, number_in, kind_in, from_in, to_in, len_in, header_tests, IsBodyFault, Refuses}
 use Rattle.meta_frame.specs.Reading.{message_at, framed, whole, checked, decode_of, Decodes}
 use Rattle.meta_frame.proofs.Readers.{IsBytes, IsBytes-drop, IsBytes-take, IsWide, wide8, wide16, wide32, wide64}
 use Rattle.meta_frame.proofs.Rows.{message_again, message_refuses, message_takes, message_faulty, known_kind, small_kind}

@@ -1,5 +1,5 @@
 -- Frames: a header of 20 bytes, and a body for each kind of message.
-use Rattle.std.specs.Prelude.{◌≡◌, ℕ, ◌+◌, ◌-◌, ◌<◌, ◌≤◌, ◌^◌, ◌==◌, ◌≢◌, nat_lt, ◌⊎◌, List, [], ◌∷◌, ◌++◌, length, take, drop, Bool, false, not, ◌||◌, Option, Some, None, MatchOption, if◌then◌else◌, codes}
+use Rattle.std.specs.Prelude.{◌≡◌, ℕ, ◌+◌, ◌-◌, ◌<◌, ◌≤◌, ◌^◌, ◌==◌, ◌≢◌, nat_lt, ◌⊎◌, List, [], ◌∷◌, ◌++◌, length, take, drop, Bool, false, not, ◌||◌, MatchOption, codes}
 use Rattle.std.specs.Int.{Width, byte_len, w8, w16, w32, w64, to_be_bytes, from_be_bytes}
 use Rattle.meta_frame.specs.declared.message.Message.{Message}
 use Rattle.meta_frame.specs.declared.message.Message.TheVariants.{Gossip, IHave, Graft, Prune, Join, ForwardJoin, Disconnect, Neighbor, NeighborReply, Shuffle, ShuffleReply, XRoot, XPrefixes, XInner, XLeaves, XBucket, XObject, XWant}
@@ -10,6 +10,7 @@ use Rattle.frame_fields.specs.declared.keys.KeyDigest.{KeyDigest}
 use Rattle.frame_fields.specs.Form.{Form, any_number, then_form}
 use Rattle.frame_fields.specs.Field.{node, nodes, priority, answer, digest, digests, place, prefix, prefixes, keys, key, vector, object}
 use Rattle.meta_types.specs.Name.{Prefix, Key}
+use Rattle.meta_types.specs.First.{first_that_applies}
 use Rattle.dvvset.specs.Object.{Entry, Counter}
 
 -- ---- the table of kinds: number, name, and the form of the body
@@ -203,11 +204,6 @@ pub record Spells (f : Frame) (bytes : List ℕ) : Type 0 where
   pub short : length bytes ≤ limit
 
 -- ---- which refusal comes first
-
--- the refusal of the first test that applies
-abbrev pub first_that_applies : {F : Type 0} → List (Bool × F) → Option F
-first_that_applies [] = None
-first_that_applies (test ∷ tests) = if test.0 then Some test.1 else first_that_applies tests
 
 -- the number of a width at an offset, asked only where there are so many bytes
 abbrev pub number_in : Width → ℕ → List ℕ → ℕ

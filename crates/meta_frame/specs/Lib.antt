@@ -1,9 +1,10 @@
 -- What must be believed of frames, in the order in which to read it.
--- what an object and a vector are, names and values
+-- what an object and a vector are, names and values, and the first refusal that applies
 pub use Rattle.dvvset.specs.Object
 pub use Rattle.meta_types.specs.Node
 pub use Rattle.meta_types.specs.Name
 pub use Rattle.meta_types.specs.Value
+pub use Rattle.meta_types.specs.First
 -- what a form of a field is, how forms are put together, and the forms of the fields
 pub use Rattle.frame_fields.specs.Form
 pub use Rattle.frame_fields.specs.Field

@@ -5,11 +5,12 @@ use Rattle.std.specs.Prelude.{◌≡◌, ℕ, zero, suc, List, [], ◌∷◌, le
 use Rattle.std.specs.Int.{Width, w8, w16, w64, byte_len, from_be_bytes}
 use Rattle.meta_types.specs.Name.{Prefix, Key}
 use Rattle.meta_types.specs.Value.{ValueParts}
+use Rattle.meta_types.specs.First.{first_that_applies}
 use Rattle.dvvset.specs.Object.{Entry, Counter}
 use Rattle.frame_fields.specs.declared.prefixes.PrefixDigest.{PrefixDigest}
 use Rattle.frame_fields.specs.declared.keys.KeyDigest.{KeyDigest}
 use Rattle.frame_fields.specs.Field.{greatest_count, none, forget, above_counter, above_entry, has_value, is_before, lowest, prefix_of, key_bytes}
-use Rattle.meta_frame.specs.Frame.{number_in, kind_in, from_in, to_in, header_tests, first_that_applies}
+use Rattle.meta_frame.specs.Frame.{number_in, kind_in, from_in, to_in, header_tests}
 use Rattle.meta_frame.specs.declared.message.Message.{Message}
 use Rattle.meta_frame.specs.declared.message.Message.TheVariants.{Gossip, IHave, Graft, Prune, Join, ForwardJoin, Disconnect, Neighbor, NeighborReply, Shuffle, ShuffleReply, XRoot, XPrefixes, XInner, XLeaves, XBucket, XObject, XWant}
 use Rattle.meta_frame.specs.declared.message.Frame.{Frame}

@@ -2,7 +2,8 @@
 
 ghost use Rattle.std.specs.Prelude.{◌≡◌, ◌≢◌, ◌⊎◌, ◌≤◌, ◌<◌, ◌+◌, List, ℕ, length, take, drop, IfOk, IfErr, IfNone, MatchResult};
 ghost use Rattle.std.specs.Int.{w8, w16, w32, w64};
-ghost use Rattle.meta_frame.specs.Frame.{number_in, first_that_applies, header_tests, Spells, Refuses};
+ghost use Rattle.meta_types.specs.First.{first_that_applies};
+ghost use Rattle.meta_frame.specs.Frame.{number_in, header_tests, Spells, Refuses};
 ghost use Rattle.meta_frame.specs.Reading.{Decodes, decode_of, IsHeader, framed};
 
 use crate::fault::{FieldFault, FrameFault};

@@ -6,7 +6,5 @@ mod Places
 mod Tables
 -- objects within a length
 mod Sizes
--- what entries have read
-mod Reading
 -- a merge holds the object of the union
 mod Unions

@@ -1,9 +1,10 @@
 -- What must be believed of a store, in the order in which to read it.
--- names, values and clocks, the length of an object in a frame, and the past, which the contracts of this crate speak of
--- too
+-- names, values, the first refusal that applies, clocks, the length of an object in a frame, and the past, which the
+-- contracts of this crate speak of too
 pub use Rattle.meta_types.specs.Name
 pub use Rattle.meta_types.specs.Value
 pub use Rattle.meta_types.specs.Order
+pub use Rattle.meta_types.specs.First
 pub use Rattle.dvvset.specs.Object
 pub use Rattle.dvvset.specs.Clock
 pub use Rattle.dvvset.specs.Writer
@@ -17,8 +18,6 @@ pub use Rattle.past_model.specs.Shown
 pub mod Table
 -- what a read hands out for a later write
 pub mod Context
--- the first refusal that applies
-pub mod First
 -- what a write and a merge make of a table, and when they are refused
 pub mod Step
 -- the numbers of refusals

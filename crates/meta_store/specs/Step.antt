@@ -4,6 +4,7 @@ use Rattle.std.specs.FinMap.{find}
 use Rattle.meta_types.specs.Name.{Key}
 use Rattle.meta_types.specs.Value.{ValueParts}
 use Rattle.meta_types.specs.Order.{key_cmp}
+use Rattle.meta_types.specs.First.{first_that_applies}
 use Rattle.dvvset.specs.Object.{Entry}
 use Rattle.dvvset.specs.Clock.{counter, join, sync, update}
 use Rattle.dvvset.specs.Writer.{count_of}
@@ -11,7 +12,6 @@ use Rattle.frame_fields.specs.Field.{has_value, greatest_count}
 use Rattle.past_model.specs.Sets.{key_eq}
 use Rattle.meta_store.specs.Table.{Table, object_at, with_object, is_stale, is_small_enough, most_keys, most_written, most_merged}
 use Rattle.meta_store.specs.Context.{Reading, vector_read}
-use Rattle.meta_store.specs.First.{first}
 use Rattle.meta_store.specs.declared.fault.StoreFault.{StoreFault}
 use Rattle.meta_store.specs.declared.fault.StoreFault.TheVariants.{CounterSpent, BadEntries, StoreFull, WrongKey, ObjectTooLarge}
 use Rattle.meta_store.specs.declared.merge.Merged.{Merged}
@@ -37,7 +37,7 @@ abbrev pub is_spent : Table → ℕ → Key → Option Reading → Bool
 is_spent table id key context = max (counter (vector_read context) id) (count_of (object_at table key) id) == greatest_count
 
 abbrev pub refusal_of_put : Table → ℕ → Key → ValueParts → Option Reading → Option StoreFault
-refusal_of_put table id key value context = first (
+refusal_of_put table id key value context = first_that_applies (
     (is_of_another_key key context, WrongKey)
     ∷ (is_full_for table key, StoreFull)
     ∷ (is_spent table id key context, CounterSpent)
@@ -58,7 +58,7 @@ abbrev pub answer_of_merge : Table → Key → List Entry → Merged
 answer_of_merge table key came = if is_stale table key (join came) then Stale else Fresh
 
 abbrev pub refusal_of_merge : Table → Key → List Entry → Option StoreFault
-refusal_of_merge table key came = if is_stale table key (join came) then None else first (
+refusal_of_merge table key came = if is_stale table key (join came) then None else first_that_applies (
     (not (has_value (merge_of table key came)), BadEntries)
     ∷ (is_full_for table key, StoreFull)
     ∷ (not (is_small_enough most_merged (merge_of table key came)), ObjectTooLarge)

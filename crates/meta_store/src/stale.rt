@@ -2,22 +2,8 @@
 
 ghost use Rattle.std.specs.Prelude.{◌≡◌};
 ghost use Rattle.dvvset.specs.Clock.{descends, join};
-ghost use Rattle.dvvset.specs.Writer.{count_of};
 
-use dvvset::{Counter, Entry};
-use meta_types::NodeId;
-
-/// How many events of the writer the entries know.
-fn count_of(entries: &[Entry], id: NodeId) -> u64
-    ensures { result ≡ count_of entries.now id }
-{
-    for entry in entries {
-        if entry.id() == id {
-            return entry.count();
-        }
-    }
-    0
-}
+use dvvset::{Counter, Entry, count_of};
 
 /// Tells whether the entries know each event that is counted.
 pub(crate) fn has_read(entries: &[Entry], counters: &[Counter]) -> bool

@@ -84,17 +84,17 @@ bytes_cmp-same [] = refl
 bytes_cmp-same (x ∷ xs) =
     ap (λ o. ordering_then o (bytes_cmp xs xs)) (sym (nat_cmp_is x x Equal refl)) ∙ bytes_cmp-same xs
 
-same_bytes : (xs ys : List ℕ) → bytes_cmp xs ys ≡ Equal → xs ≡ ys
+pub same_bytes : (xs ys : List ℕ) → bytes_cmp xs ys ≡ Equal → xs ≡ ys
 same_bytes = slice_cmp-IsAntisymmetric nat_cmp-IsAntisymmetric
 
 -- ---- prefixes and keys
 
-equal_from_then : (o p : Ordering) → ordering_then o p ≡ Equal → (o ≡ Equal) × (p ≡ Equal)
+pub equal_from_then : (o p : Ordering) → ordering_then o p ≡ Equal → (o ≡ Equal) × (p ≡ Equal)
 equal_from_then Less p h = cc
 equal_from_then Equal p h = (refl, h)
 equal_from_then Greater p h = cc
 
-same_prefix : (p q : Prefix) → prefix_cmp p q ≡ Equal → p ≡ q
+pub same_prefix : (p q : Prefix) → prefix_cmp p q ≡ Equal → p ≡ q
 same_prefix p q h =
     let both = equal_from_then (bytes_cmp p.prefix q.prefix) (bytes_cmp p.sub q.sub) h in
     λ i. record { prefix = same_bytes p.prefix q.prefix both.0 i; sub = same_bytes p.sub q.sub both.1 i }

@@ -9,5 +9,7 @@ pub mod Value
 pub mod Order
 -- a lemma, which stands here since impls cite it: two values tie exactly where they are equal
 pub mod Ties
+-- which of several refusals comes first
+pub mod First
 -- the numbers of refusals
 pub mod Fault
