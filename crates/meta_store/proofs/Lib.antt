@@ -1,10 +1,12 @@
 -- the order of keys
-mod Keys
+pub mod Keys
 -- where a key stands in a table
 mod Places
 -- a table after an object was put there
-mod Tables
+pub mod Tables
 -- objects within a length
 mod Sizes
 -- a merge holds the object of the union
 mod Unions
+-- counts of a writer, row by row
+mod Counts

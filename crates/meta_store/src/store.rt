@@ -1,8 +1,10 @@
-ghost use Rattle.std.specs.Prelude.{◌≡◌, [], length, IfOk, IfErr, OnOk, OnErr, IfSome, false, IsTrue, ◌↔◌};
+ghost use Rattle.std.specs.Prelude.{◌≡◌, [], length, IfOk, IfErr, OnOk, OnErr, IfSome, true, false, IsTrue, ◌↔◌, ◌≤◌};
 ghost use Rattle.std.specs.Option.{option_copied};
-ghost use Rattle.std.specs.FinMap.{find};
+ghost use Rattle.std.specs.FinMap.{find, is_sorted};
+ghost use Rattle.meta_types.specs.Name.{Key};
 ghost use Rattle.meta_types.specs.Order.{key_cmp};
 ghost use Rattle.dvvset.specs.Clock.{join, values_of};
+ghost use Rattle.dvvset.specs.Writer.{count_of};
 ghost use Rattle.meta_store.specs.Table.{IsHeld, IsTable, is_stale, object_at, with_object};
 ghost use Rattle.meta_store.specs.Step.{is_full_for};
 ghost use Rattle.meta_store.specs.Place.{IsAt, IsGap};
@@ -12,8 +14,8 @@ use crate::context::Context;
 use crate::fault::StoreFault;
 use crate::source::Source;
 use crate::stale::{has_read, knows};
-use dvvset::{Entries, Entry, Vector, join, values};
-use meta_types::{MetaKey, Value};
+use dvvset::{Entries, Entry, Vector, count_of, join, values};
+use meta_types::{MetaKey, NodeId, Value};
 use std::alloc::{AllocError, Global};
 use std::marker::Model;
 
@@ -120,6 +122,27 @@ impl Store {
         knows(self.entries_under(key), other.entries())
     }
 
+    /// Tells whether this store counts, under each key, at least as many events of the writer as the other does.
+    /// It takes no memory.
+    pub fn counts_as_many(&self, other: &Store, writer: NodeId) -> bool
+        ensures { IsTrue result ↔ ((key : Key) → count_of (object_at other.now key) writer ≤ count_of (object_at self.now key) writer) }
+    {
+        self.counts_rows(other.rows.as_slice(), writer)
+    }
+
+    /// As `counts_as_many`, of rows whose keys rise.
+    fn counts_rows(&self, rows: &[(MetaKey, Entries)], writer: NodeId) -> bool
+        requires { is_sorted key_cmp rows.now ≡ true }
+        ensures { IsTrue result ↔ ((key : Key) → count_of (object_at rows.now key) writer ≤ count_of (object_at self.now key) writer) }
+    {
+        for (key, object) in rows {
+            if count_of(self.entries_under(key), writer) < count_of(object.entries(), writer) {
+                return false;
+            }
+        }
+        true
+    }
+
     /// The entries of the object under the key, none where nothing is held.
     fn entries_under(&self, key: &MetaKey) -> &[Entry]
         ensures { result.now ≡ object_at self.now key.now }
@@ -130,8 +153,9 @@ impl Store {
         }
     }
 
-    /// Holds the object under the key, in place of what is held there.
-    pub(crate) fn hold(&mut self, key: MetaKey, object: Entries) -> Result<(), StoreFault>
+    /// Holds the object under the key, in place of what is held there, as a store is filled from what another
+    /// one has held. It takes memory for a new key, and is refused with 99 `Memory` alone; then nothing changes.
+    pub fn hold(&mut self, key: MetaKey, object: Entries) -> Result<(), StoreFault>
         requires held { IsHeld object }
         requires room { is_full_for self.old key ≡ false }
         ensures value { OnOk result (self.new ≡ with_object key object self.old) }

@@ -1,6 +1,7 @@
 //! The world: all nodes, their frames and their images under any schedule of writes, reads, sendings,
-//! deliveries and restarts. Today only the machine that its invariant will speak of stands here: what the
-//! nodes hold, by objects, over the same happenings as the past, and the laws that tie it to the past.
+//! deliveries and restarts. Today the machine that its invariant will speak of stands here: what the
+//! nodes hold, by objects, over the same happenings as the past, with the laws that tie it to the past; and
+//! the images of a node.
 #![tactic(auto)]
 
 pub mod image;
