@@ -1,5 +1,6 @@
 //! The tests of the codec, over the public calls of `meta_frame`, apart from it: a crate is proved once
-//! more with its tests, and for the codec that takes long. There is nothing here to call.
+//! more with its tests, and for the codec that takes long. The tests alone call `checks`, which is proved
+//! to ask what it says.
 #![tactic(auto)]
 
 // A test is proved before it is run, and that takes long for a long one, most of all for each `?` beside
@@ -7,8 +8,7 @@
 
 #[cfg(test)]
 mod broadcast_and_views;
-#[cfg(test)]
-mod checks;
+pub mod checks;
 #[cfg(test)]
 mod exchange;
 #[cfg(test)]
