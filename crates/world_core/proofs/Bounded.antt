@@ -64,8 +64,8 @@ no_longer_by (suc n) (row ∷ rows) other short rising up w =
     let here : 1 + length (where_key key_cmp (others k) (row ∷ rows)) ≡ length (row ∷ rows) = one_less k (row ∷ rows) rising found in
     let there : 1 + length (where_key key_cmp (others k) other) ≡ length other = one_less k other up (w.within k found) in
     let rest : length (where_key key_cmp (others k) (row ∷ rows)) ≤ length (where_key key_cmp (others k) other) =
-        no_longer_by n (where_key key_cmp (others k) (row ∷ rows)) (where_key key_cmp (others k) other) (omega (arith, here, short))
-        (rising-others k (row ∷ rows) rising) (rising-others k other up) (within-others k (row ∷ rows) other w) in
+    no_longer_by n (where_key key_cmp (others k) (row ∷ rows)) (where_key key_cmp (others k) other) (omega (arith, here, short))
+    (rising-others k (row ∷ rows) rising) (rising-others k other up) (within-others k (row ∷ rows) other w) in
     omega (arith, here, there, rest)
 
 pub no_longer : (table other : Table) → is_sorted key_cmp table ≡ true → is_sorted key_cmp other ≡ true → KeysWithin table other → length table ≤ length other

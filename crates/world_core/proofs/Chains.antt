@@ -92,5 +92,5 @@ down images at number image k o low most earlier is e now =
     let base : (get_or images (at - 1) image).base ≤ at - 1 = earlier.earlier (at - 1) image place in
     let same : (get_or images (at - 1) image).base ≡ image.base = ap (λ i. i.base) (sym is) in
     let read : holdings images (at - 1 + 1) k ≡ unwrap_or o (holdings images (get_or images (at - 1) image).base k) =
-        here images (at - 1) image k o place earlier (e ∙ ap (λ i. instead i.change k) is) in
+    here images (at - 1) image k o place earlier (e ∙ ap (λ i. instead i.change k) is) in
     (omega arith, ap (λ b. unwrap_or o (holdings images b k)) (sym same) ∙ sym read ∙ ap (λ n. holdings images n k) number-of ∙ now)
