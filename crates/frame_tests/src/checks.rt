@@ -1,5 +1,5 @@
-//! What is asked of frames and bytes. Each check that says yes is right: its contract says of what.
-//! What a check finds where memory is refused is no.
+//! What is asked of frames and bytes. Where a check says yes, what its contract says holds; a no may come
+//! of refused memory.
 
 ghost use Rattle.std.specs.Prelude.{◌≡◌, ◌≢◌, ◌↔◌, IsTrue, IfOk};
 ghost use Rattle.meta_frame.specs.Frame.{Spells, Refuses, name_of};
