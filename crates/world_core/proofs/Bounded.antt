@@ -1,5 +1,5 @@
 -- A table whose keys another has holds no more than that.
-use Rattle.std.proofs.Common.{◌≡◌, ℕ, zero, suc, ◌+◌, ◌≤◌, Bool, true, false, not, cond, T, List, [], ◌∷◌, length, Option, Some, None, is_some, refl, sym, ap, subst, ◌∙◌, arith}
+use Rattle.std.proofs.Common.{◌≡◌, ℕ, zero, suc, ◌+◌, ◌≤◌, Bool, true, false, not, cond, T, List, [], ◌∷◌, length, Option, Some, None, is_some, refl, sym, ap, ◌∙◌, arith}
 use Rattle.std.specs.Bool.{passes}
 use Rattle.std.specs.declared.cmp.Ordering.TheVariants.{Equal}
 use Rattle.std.specs.Ordering.{eq_by_cmp, is_eq}
@@ -17,7 +17,7 @@ pub record KeysWithin (table other : Table) : Type 0 where
   pub within : (k : Key) → is_some (find key_cmp k table) ≡ true → is_some (find key_cmp k other) ≡ true
 
 -- not the key
-others : Key → Key → Bool
+abbrev others : Key → Key → Bool
 others k l = not (eq_by_cmp key_cmp k l)
 
 alike : (k l m : Key) → key_cmp l m ≡ Equal → others k m ≡ others k l

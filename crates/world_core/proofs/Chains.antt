@@ -1,6 +1,5 @@
 -- What the images of a node have, read one by one from the newest down.
 use Rattle.std.proofs.Common.{◌≡◌, ℕ, zero, suc, ◌+◌, ◌-◌, ◌<◌, ◌≤◌, List, [], ◌∷◌, ◌++◌, length, get_or, Bool, true, false, cond, Option, Some, None, refl, sym, ap, ◌∙◌, arith}
-use Rattle.std.specs.Prelude.{◌≢◌}
 use Rattle.meta_types.specs.Name.{Key}
 use Rattle.std.specs.Option.{unwrap_or}
 use Rattle.dvvset.specs.Object.{Entry}
