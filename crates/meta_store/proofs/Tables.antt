@@ -18,13 +18,13 @@ use Rattle.meta_store.specs.Table.{Table, object_at, with_object, IsHeld, IsTabl
 use Rattle.meta_store.specs.Step.{is_full_for}
 use Rattle.meta_store.proofs.Keys.{key_total, same_key}
 
-abbrev Row : Type 0
+abbrev pub Row : Type 0
 Row = Key × List Entry
 
-abbrev Held : Row → Type 0
+abbrev pub Held : Row → Type 0
 Held row = IsHeld row.1
 
-abbrev Keyed : Row → Type 0
+abbrev pub Keyed : Row → Type 0
 Keyed row = IsKey row.0
 
 from_T : (b : Bool) → T b → b ≡ true
@@ -78,9 +78,9 @@ object_at-elsewhere k o table l other =
 -- ---- look-ups determine a table
 
 -- what is found is the object of a row, and its key is that row's
-record IsRow (k : Key) (o : List Entry) : Type 0 where
-  held : IsHeld o
-  key : IsKey k
+pub record IsRow (k : Key) (o : List Entry) : Type 0 where
+  pub held : IsHeld o
+  pub key : IsKey k
 
 here_or_later : (k : Key) (row : Row) (o : List Entry) (c : Ordering) (rest : Option (List Entry)) → key_cmp k row.0 ≡ c → Held row → Keyed row → (rest ≡ Some o → IsRow k o) → cond (is_eq c) (Some row.1) rest ≡ Some o → IsRow k o
 here_or_later k row o Less rest is held key later e = later e
@@ -90,14 +90,14 @@ here_or_later k row o Equal rest is held key later e = record {
 }
 here_or_later k row o Greater rest is held key later e = later e
 
-found_row : (k : Key) (table : Table) (o : List Entry) → All Held table → All Keyed table → find key_cmp k table ≡ Some o → IsRow k o
+pub found_row : (k : Key) (table : Table) (o : List Entry) → All Held table → All Keyed table → find key_cmp k table ≡ Some o → IsRow k o
 found_row k [] o all keys e = cc
 found_row k (row ∷ rows) o all keys e =
     here_or_later k row o (key_cmp k row.0) (find key_cmp k rows) refl (All-head Held row rows all) (All-head Keyed row rows keys)
     (found_row k rows o (All-tail Held row rows all) (All-tail Keyed row rows keys)) e
 
 -- an object that may be held isn't the absent one
-not_absent : (o : List Entry) → IsHeld o → o ≡ [] → ⊥
+pub not_absent : (o : List Entry) → IsHeld o → o ≡ [] → ⊥
 not_absent o is e = let no : has_value [] ≡ true = subst (λ es. has_value es ≡ true) e is.shows in cc
 
 same_found : (k : Key) (a b : Option (List Entry)) → ((o : List Entry) → a ≡ Some o → IsRow k o) → ((o : List Entry) → b ≡ Some o → IsRow k o) → (IsKey k → unwrap_or a [] ≡ unwrap_or b []) → a ≡ b

@@ -12,3 +12,5 @@ pub mod Restarting
 pub mod Chains
 -- how many keys a table has
 pub mod Bounded
+-- a store filled from an image
+pub mod Restoring

@@ -1,16 +1,12 @@
 //! The images of one node, which share what they can: each is an earlier one with one object in place of
 //! what stands there under its key.
 
-ghost use Rattle.std.specs.Prelude.{◌≡◌, ◌≤◌, [], length, IfOk};
+ghost use Rattle.std.specs.Prelude.{◌≡◌, ◌≤◌, [], length};
 ghost use Rattle.std.specs.Option.{option_copied, unwrap_or};
-ghost use Rattle.meta_types.specs.Name.{Key};
-ghost use Rattle.meta_store.specs.Table.{object_at};
-ghost use Rattle.world_core.specs.Images.{ChangeEarlier, IsTabled, holdings};
+ghost use Rattle.world_core.specs.Images.{ChangeEarlier, holdings};
 
 use dvvset::Entries;
-use meta_store::Store;
 use meta_types::MetaKey;
-use std::alloc::{AllocError, Global};
 use std::marker::Model;
 
 /// One image of a node: what is there instead of what the image of the number `base` has. Images are

@@ -6,3 +6,4 @@
 
 pub mod image;
 pub mod laws;
+pub mod restore;
