@@ -14,3 +14,5 @@ pub mod Chains
 pub mod Bounded
 -- a store filled from an image
 pub mod Restoring
+-- what each change of a node keeps
+pub mod Noding

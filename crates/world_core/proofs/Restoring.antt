@@ -1,14 +1,12 @@
 -- A store is filled from an image: from the newest change down, each where nothing is held yet under its key.
-use Rattle.std.proofs.Common.{◌≡◌, ℕ, ◌+◌, ◌-◌, ◌<◌, ◌≤◌, Bool, true, false, cond, ◌&&◌, List, [], length, get_or, Option, Some, None, is_some, is_none, T, refl, sym, ap, subst, ◌∙◌, arith, leb}
-use Rattle.std.specs.Bool.{passes}
+use Rattle.std.proofs.Common.{◌≡◌, ℕ, ◌-◌, ◌<◌, ◌≤◌, Bool, true, false, cond, ◌&&◌, List, [], length, get_or, Option, Some, None, is_some, is_none, refl, sym, ap, subst, ◌∙◌, arith, leb}
 use Rattle.std.specs.Option.{unwrap_or}
 use Rattle.std.specs.Ordering.{is_eq}
 use Rattle.std.specs.declared.cmp.Ordering.{Ordering}
 use Rattle.std.specs.declared.cmp.Ordering.TheVariants.{Less, Equal, Greater}
 use Rattle.std.specs.Cmp.{tied_itself}
-use Rattle.std.specs.FinMap.{find, put, is_sorted}
-use Rattle.std.specs.FinMap.Entries.{find-put, length-put, is_sorted-put}
-use Rattle.std.proofs.lemmas.Bool.{leb-true}
+use Rattle.std.specs.FinMap.{find}
+use Rattle.std.specs.FinMap.Entries.{find-put}
 use Rattle.meta_types.specs.Name.{Key}
 use Rattle.meta_types.specs.Order.{key_cmp}
 use Rattle.dvvset.specs.Object.{Entry}
@@ -18,7 +16,7 @@ use Rattle.meta_store.specs.Table.{Table, IsHeld, IsTable, object_at, with_objec
 use Rattle.meta_store.proofs.Keys.{key_total, same_key}
 use Rattle.meta_store.proofs.Tables.{found_row, not_absent}
 use Rattle.world_core.specs.Images.{Image, ChangeEarlier, HasRoom, IsChange, IsTabled, filled, holdings, instead}
-use Rattle.world_core.proofs.Bounded.{KeysWithin, no_longer}
+use Rattle.world_core.proofs.Bounded.{KeysWithin, room_within}
 use Rattle.world_core.proofs.Chains.{down, none}
 
 -- what the store has, and under other keys what the image has that comes next, is what the image asked for has
@@ -39,17 +37,6 @@ next images at image low most earlier is = record {
 }
 
 -- ---- small steps
-
-from_T : (b : Bool) → T b → b ≡ true
-from_T true t = refl
-from_T false t = absurd t
-
-by_test : (m n : ℕ) (b : Bool) → leb m n ≡ b → n < m → b ≡ false
-by_test m n true e less = let low : m ≤ n = leb-true m n e in absurd (omega (arith, low, less))
-by_test m n false e less = refl
-
-not_leb : (m n : ℕ) → n < m → leb m n ≡ false
-not_leb m n less = by_test m n (leb m n) refl less
 
 tied : (k : Key) → key_cmp k k ≡ Equal
 tied k = tied_itself key_total k
@@ -78,35 +65,23 @@ change_within : (images : List Image) (number at : ℕ) (store : Table) (tabled 
 change_within images number at store tabled f image is change e held found =
     let k : Key = change.0 in
     let there : holdings images number k ≡ change.1 =
-        f.has k ∙ ap (λ o. unwrap_or o (holdings images at k)) found ∙ is.has k
-        ∙ ap (λ c. unwrap_or (instead c k) (holdings images image.base k)) e
-        ∙ ap (λ b. unwrap_or (cond b (Some change.1) None) (holdings images image.base k)) (key_eq-self k) in
+    f.has k ∙ ap (λ o. unwrap_or o (holdings images at k)) found ∙ is.has k
+    ∙ ap (λ c. unwrap_or (instead c k) (holdings images image.base k)) e
+    ∙ ap (λ b. unwrap_or (cond b (Some change.1) None) (holdings images image.base k)) (key_eq-self k) in
     absent_by (find key_cmp k tabled.table) change.1 (tabled.same k ∙ there) (not_absent change.1 held)
 
--- the key of the change, or one that the store has
-either : (k l : Key) (o : List Entry) (found : Option (List Entry)) (table : Table) (c : Ordering) → key_cmp l k ≡ c → is_some (find key_cmp k table) ≡ true
-    → ((p : List Entry) → found ≡ Some p → is_some (find key_cmp l table) ≡ true) → is_some (cond (is_eq c) (Some o) found) ≡ true → is_some (find key_cmp l table) ≡ true
-either k l o found table Equal e here there some = subst (λ m. is_some (find key_cmp m table) ≡ true) (sym (same_key l k e)) here
-either k l o None table Less e here there some = cc
-either k l o (Some p) table Less e here there some = there p refl
-either k l o None table Greater e here there some = cc
-either k l o (Some p) table Greater e here there some = there p refl
+found_in : (images : List Image) (number at : ℕ) (store : Table) (tabled : IsTabled (holdings images number)) (f : Filling images number at store) (k : Key)
+    (found : Option (List Entry)) → find key_cmp k store ≡ found → is_some found ≡ true → is_some (find key_cmp k tabled.table) ≡ true
+found_in images number at store tabled f k None e some = cc
+found_in images number at store tabled f k (Some p) e some = store_within images number at store tabled f k p e
 
 room_by : (images : List Image) (number at : ℕ) (store : Table) (tabled : IsTabled (holdings images number)) (f : Filling images number at store) (image : Image) (is : IsNext images at image)
     (change : Key × List Entry) → image.change ≡ Some change → IsHeld change.1 → (found : Option (List Entry)) → find key_cmp change.0 store ≡ found → is_none found && leb 8192 (length store) ≡ false
 room_by images number at store tabled f image is change e held (Some p) found = refl
 room_by images number at store tabled f image is change e held None found =
-    let k : Key = change.0 in
-    let sorted = passes (is_sorted key_cmp store) f.is_table.rising in
-    let more : Table = put key_cmp k change.1 store in
-    let longer : length more ≡ length store + 1 = length-put key_cmp key_total k change.1 store sorted ∙ ap (λ o. cond (is_some o) (length store) (length store + 1)) found in
-    let within : KeysWithin more tabled.table = record {
-      within = λ l some.
-          either k l change.1 (find key_cmp l store) tabled.table (key_cmp l k) refl (change_within images number at store tabled f image is change e held found)
-          (store_within images number at store tabled f l) (sym (ap is_some (find-put key_cmp key_total l k change.1 store)) ∙ some);
-    } in
-    let few : length more ≤ length tabled.table = no_longer more tabled.table (from_T (is_sorted key_cmp more) (is_sorted-put key_cmp key_total k change.1 store sorted)) tabled.is_table.rising within in
-    not_leb 8192 (length store) (omega (arith, longer, few, tabled.is_table.few))
+    let within : KeysWithin store tabled.table = record { within = λ l some. found_in images number at store tabled f l (find key_cmp l store) refl some } in
+    ap (λ o. is_none o && leb 8192 (length store)) (sym found)
+    ∙ room_within change.0 store tabled.table f.is_table tabled.is_table within (change_within images number at store tabled f image is change e held found)
 
 room_of : (images : List Image) (number at : ℕ) (store : Table) (tabled : IsTabled (holdings images number)) (f : Filling images number at store) (image : Image) (is : IsNext images at image)
     (change : Option (Key × List Entry)) → image.change ≡ change → IsChange change → HasRoom store change
@@ -150,12 +125,12 @@ step_by : (images : List Image) (number at : ℕ) (store : Table) → Filling im
     → (l : Key) → holdings images number l ≡ unwrap_or (find key_cmp l (cond (is_none found) (with_object change.0 change.1 store) store)) (holdings images image.base l)
 step_by images number at store f image is change e (Some p) found l =
     let now : holdings images number l ≡ unwrap_or (find key_cmp l store) (unwrap_or (instead (Some change) l) (holdings images image.base l)) =
-        f.has l ∙ ap (λ h. unwrap_or (find key_cmp l store) h) (is.has l ∙ ap (λ c. unwrap_or (instead c l) (holdings images image.base l)) e) in
+    f.has l ∙ ap (λ h. unwrap_or (find key_cmp l store) h) (is.has l ∙ ap (λ c. unwrap_or (instead c l) (holdings images image.base l)) e) in
     passed (key_eq l change.0) (find key_cmp l store) change.1 (holdings images image.base l) (holdings images number l)
     (λ same nothing. let no : Some p ≡ None = sym found ∙ ap (λ k. find key_cmp k store) (sym (key_eq-true l change.0 same)) ∙ nothing in cc) now
 step_by images number at store f image is change e None found l =
     let now : holdings images number l ≡ unwrap_or (find key_cmp l store) (unwrap_or (instead (Some change) l) (holdings images image.base l)) =
-        f.has l ∙ ap (λ h. unwrap_or (find key_cmp l store) h) (is.has l ∙ ap (λ c. unwrap_or (instead c l) (holdings images image.base l)) e) in
+    f.has l ∙ ap (λ h. unwrap_or (find key_cmp l store) h) (is.has l ∙ ap (λ c. unwrap_or (instead c l) (holdings images image.base l)) e) in
     taken (key_cmp l change.0) (key_eq l change.0) (find key_cmp l store) change.1 (holdings images image.base l) (holdings images number l)
     (λ same. ap (λ k. find key_cmp k store) (equal_keys l change.0 (key_cmp l change.0) refl same) ∙ found)
     (same_tests l change.0 (key_cmp l change.0) (key_eq l change.0) refl refl) now

@@ -20,6 +20,11 @@ abbrev pub IsChange : Option (Key × List Entry) → Type 0
 IsChange None = Unit {0}
 IsChange (Some change) = IsHeld change.1
 
+-- the change that an object under a key makes, if there is one
+abbrev pub change_of : Key → Option (List Entry) → Option (Key × List Entry)
+change_of key None = None
+change_of key (Some object) = Some (key, object)
+
 -- what there is after a change
 abbrev pub changed : Holding → Option (Key × List Entry) → Holding
 changed there None = there

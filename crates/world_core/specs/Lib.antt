@@ -14,5 +14,7 @@ pub use Rattle.past_model.specs.Shown
 pub mod Objects
 -- images as they are kept
 pub mod Images
+-- what the world keeps of one node
+pub mod Node
 -- what one more happening changes
 pub mod Laws

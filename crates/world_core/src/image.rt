@@ -32,6 +32,14 @@ impl Image {
     ghost use Rattle.std.specs.Option.{option_copied};
     ghost use Rattle.world_core.specs.Images.{IsChange, instead};
 
+    /// An image that changes the one of the number `base`.
+    pub(crate) fn new(base: usize, change: Option<(MetaKey, Entries)>) -> Self
+        requires { IsChange change }
+        ensures { result ≡ record { base = base; change = change } }
+    {
+        Image { base, change }
+    }
+
     /// The number of the image that this one changes.
     pub fn base(&self) -> usize
         ensures { result ≡ self.now.base }

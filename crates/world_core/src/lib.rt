@@ -6,4 +6,5 @@
 
 pub mod image;
 pub mod laws;
+pub mod node;
 pub mod restore;
