@@ -18,3 +18,7 @@ pub mod Images
 pub mod Node
 -- what one more happening changes
 pub mod Laws
+-- the refusals
+pub mod Fault
+-- lists of values compared
+pub mod Equal

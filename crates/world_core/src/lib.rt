@@ -4,6 +4,9 @@
 //! the images of a node.
 #![tactic(auto)]
 
+pub mod answer;
+pub mod event;
+pub mod fault;
 pub mod image;
 pub mod laws;
 pub mod node;
