@@ -16,3 +16,5 @@ pub mod Bounded
 pub mod Restoring
 -- what each change of a node keeps
 pub mod Noding
+-- a node after one more happening
+pub mod Following

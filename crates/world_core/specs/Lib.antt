@@ -18,6 +18,10 @@ pub mod Images
 pub mod Node
 -- what one more happening changes
 pub mod Laws
+-- where a node stands after a history
+pub mod Follows
+-- how accepted events tell a history
+pub mod Tells
 -- the refusals
 pub mod Fault
 -- lists of values compared

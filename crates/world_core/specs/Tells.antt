@@ -1,0 +1,138 @@
+-- How accepted events with their answers tell a history: each event adds its happenings in their order, and each frame that
+-- it sends with an object one Sent. A function of the events, their answers and the frames. The rule is our own.
+use Rattle.std.specs.Prelude.{◌≡◌, ℕ, zero, suc, List, [], ◌∷◌, ◌++◌, length, slice_get, Option, Some, None}
+use Rattle.meta_types.specs.Name.{Key}
+use Rattle.meta_frame.specs.Frame.{Spells}
+use Rattle.meta_frame.specs.declared.message.Frame.{Frame}
+use Rattle.meta_frame.specs.declared.message.Message.{Message}
+use Rattle.meta_frame.specs.declared.message.Message.TheVariants.{Gossip, IHave, Graft, Prune, Join, ForwardJoin, Disconnect, Neighbor, NeighborReply, Shuffle, ShuffleReply, XRoot, XPrefixes, XInner, XLeaves, XBucket, XObject, XWant}
+use Rattle.past_model.specs.declared.happening.Happening.{Happening}
+use Rattle.past_model.specs.declared.happening.Happening.TheVariants.{Wrote, Looked, Sent, Got, Kept, Restarted}
+use Rattle.world_core.specs.declared.answer.Accepted.{Accepted}
+use Rattle.world_core.specs.declared.event.Event.{Event}
+use Rattle.world_core.specs.declared.event.Event.TheVariants.{Put, Get, PutOver, Send, Deliver, Junk, Keep, Restart}
+
+-- what was told so far: the history; of each read, by its number from 1, the place of its Looked; of each frame, by its
+-- number from 1, the place of its Sent, or none where it carries no object
+pub record Told : Type 0 where
+  pub history : List Happening
+  pub looks : List ℕ
+  pub sendings : List (Option ℕ)
+
+abbrev pub nothing_told : Told
+nothing_told = record { history = []; looks = []; sendings = [] }
+
+-- what has this number, where the first has number 1
+abbrev pub numbered : {A : Type 0} → List A → ℕ → Option A
+numbered xs zero = None
+numbered xs (suc before) = slice_get xs before
+
+abbrev pub joined : {A : Type 0} → Option (Option A) → Option A
+joined None = None
+joined (Some o) = o
+
+-- ---- happenings
+
+abbrev pub tell : Happening → Told → Told
+tell h t = record t { history = t.history ++ h ∷ [] }
+
+-- a read, which has the next read number
+abbrev pub tell_look : ℕ → Key → Told → Told
+tell_look n k t = record t { history = t.history ++ Looked n k ∷ []; looks = t.looks ++ length t.history ∷ [] }
+
+-- the place of the Looked that a read number names
+abbrev pub look_of : Told → Option ℕ → Option ℕ
+look_of t None = None
+look_of t (Some read) = numbered t.looks read
+
+-- the place of the Sent that a frame number names, if that frame carries an object
+abbrev pub sending_of : Told → ℕ → Option ℕ
+sending_of t frame = joined (numbered t.sendings frame)
+
+abbrev pub tell_got : ℕ → Option ℕ → Told → Told
+tell_got n None t = t
+tell_got n (Some place) t = tell (Got n place) t
+
+-- ---- events and frames
+
+-- what an event tells, before what it sends; junk is never accepted
+abbrev pub tell_event : Event → Told → Told
+tell_event (Put n k v read) t = tell (Wrote n k v (look_of t read)) t
+tell_event (Get n k) t = tell_look n k t
+tell_event (PutOver n k v) t = tell (Wrote n k v (Some (length t.history))) (tell_look n k t)
+tell_event (Send n k to) t = t
+tell_event (Deliver frame n word) t = tell_got n (sending_of t frame) t
+tell_event (Junk n bytes) t = t
+tell_event (Keep n k) t = tell (Kept n k) t
+tell_event (Restart n image) t = tell (Restarted n image) t
+
+-- the node of an event
+abbrev pub node_of : Event → ℕ
+node_of (Put n k v read) = n
+node_of (Get n k) = n
+node_of (PutOver n k v) = n
+node_of (Send n k to) = n
+node_of (Deliver frame n word) = n
+node_of (Junk n bytes) = n
+node_of (Keep n k) = n
+node_of (Restart n image) = n
+
+-- the key of the object that a message carries
+abbrev pub carried_key : Message → Option Key
+carried_key (Gossip round k o) = Some k
+carried_key (IHave round k v) = None
+carried_key (Graft round k v) = None
+carried_key Prune = None
+carried_key Join = None
+carried_key (ForwardJoin n ttl) = None
+carried_key Disconnect = None
+carried_key (Neighbor p) = None
+carried_key (NeighborReply a) = None
+carried_key (Shuffle origin ttl ns) = None
+carried_key (ShuffleReply ns) = None
+carried_key (XRoot d) = None
+carried_key (XPrefixes rs) = None
+carried_key (XInner p ds) = None
+carried_key (XLeaves p i ds) = None
+carried_key (XBucket p leaf rs) = None
+carried_key (XObject k o) = Some k
+carried_key (XWant k) = None
+
+-- a frame of the node: a Sent, where it carries an object
+abbrev pub tell_sending : ℕ → Option Key → Told → Told
+tell_sending n None t = record t { sendings = t.sendings ++ None ∷ [] }
+tell_sending n (Some k) t = record t { history = t.history ++ Sent n k ∷ []; sendings = t.sendings ++ Some (length t.history) ∷ [] }
+
+abbrev pub tell_numbered : ℕ → Option Frame → Told → Told
+tell_numbered n None t = t
+tell_numbered n (Some frame) t = tell_sending n (carried_key frame.message) t
+
+-- the frames of these numbers, in their order
+abbrev pub tell_frames : List Frame → ℕ → List ℕ → Told → Told
+tell_frames frames n [] t = t
+tell_frames frames n (number ∷ numbers) t = tell_frames frames n numbers (tell_numbered n (numbered frames number) t)
+
+-- ---- accepted events
+
+abbrev pub tell_accepted : List Frame → Accepted → Told → Told
+tell_accepted frames accepted t = tell_frames frames (node_of accepted.event) accepted.answer.sent (tell_event accepted.event t)
+
+abbrev pub told_after : List Frame → List Accepted → Told → Told
+told_after frames [] t = t
+told_after frames (first ∷ later) t = told_after frames later (tell_accepted frames first t)
+
+abbrev pub told : List Frame → List Accepted → Told
+told frames accepted = told_after frames accepted nothing_told
+
+-- bytes spell frames, one by one
+abbrev pub AreSpelled : List Frame → List (List ℕ) → Type 0
+AreSpelled [] [] = Unit {0}
+AreSpelled [] (bytes ∷ later) = ⊥
+AreSpelled (frame ∷ frames) [] = ⊥
+AreSpelled (frame ∷ frames) (bytes ∷ later) = Spells frame bytes × AreSpelled frames later
+
+-- the accepted events tell the history, by the frames that the bytes spell
+pub record Tells (accepted : List Accepted) (frames : List (List ℕ)) (history : List Happening) : Type 0 where
+  pub sent : List Frame
+  pub spelled : AreSpelled sent frames
+  pub tells : (told sent accepted).history ≡ history
