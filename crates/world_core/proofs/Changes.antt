@@ -17,7 +17,7 @@ use Rattle.world_core.specs.Laws.{Stays, Becomes, Gains, MakesNoImage, MakesImag
 
 -- ---- lists in two parts
 
-run_append : (o : Objects) (hs more : List Happening) → run o (hs ++ more) ≡ run (run o hs) more
+pub run_append : (o : Objects) (hs more : List Happening) → run o (hs ++ more) ≡ run (run o hs) more
 run_append o [] more = refl
 run_append o (h ∷ hs) more = run_append (happens o h) hs more
 

@@ -1,5 +1,6 @@
 -- A node that stands where a history left it stands, after one more happening, where that leaves it.
 use Rattle.std.proofs.Common.{◌≡◌, ◌≢◌, ℕ, ◌+◌, ◌<◌, ◌≤◌, Bool, true, false, cond, List, [], ◌∷◌, ◌++◌, length, Option, Some, None, refl, sym, ap, subst, ◌∙◌, arith, leb}
+use Rattle.std.specs.Prelude.{slice_get}
 use Rattle.std.specs.Option.{unwrap_or}
 use Rattle.std.specs.FinMap.{find}
 use Rattle.std.proofs.lemmas.Bool.{leb-true, leb-false}
@@ -8,21 +9,24 @@ use Rattle.meta_types.specs.Name.{Key}
 use Rattle.meta_types.specs.Value.{ValueParts}
 use Rattle.meta_types.specs.Order.{key_cmp}
 use Rattle.dvvset.specs.Object.{Entry}
-use Rattle.dvvset.specs.Clock.{join, sync, update}
+use Rattle.dvvset.specs.Clock.{descends, join, sync, update}
 use Rattle.past_model.specs.declared.happening.Happening.{Happening}
 use Rattle.past_model.specs.declared.happening.Happening.TheVariants.{Wrote, Looked, Sent, Got, Kept, Restarted}
 use Rattle.past_model.specs.Sets.{key_eq}
+use Rattle.past_model.specs.History.{RestartsKeepOwnWrites}
 use Rattle.past_model.proofs.Keys.{key_eq-true, key_eq-self}
 use Rattle.meta_store.specs.Context.{Reading, vector_read}
-use Rattle.meta_store.specs.Table.{Table, IsTable, object_at, with_object}
-use Rattle.meta_store.specs.Step.{after_merge, written}
+use Rattle.meta_store.specs.Table.{Table, is_stale, object_at, with_object}
+use Rattle.meta_store.specs.Step.{after_merge, merge_of, written}
 use Rattle.meta_store.proofs.Tables.{object_at-elsewhere, object_at-here}
-use Rattle.world_core.specs.Objects.{held, image_object, last_image, read_object, sent_object, standing_object, writer}
-use Rattle.world_core.specs.Laws.{MakesImage, MakesNoImage}
-use Rattle.world_core.specs.Images.{Image, change_of, changed, holdings}
+use Rattle.world_core.specs.Objects.{held, image_object, last_image, read_object, sent_object, standing_object}
+use Rattle.world_core.specs.Laws.{MakesImage}
+use Rattle.world_core.specs.Images.{change_of, changed, holdings}
 use Rattle.world_core.specs.Node.{Node, IsNode, change_at, with_image, with_kept, with_merge, with_write}
 use Rattle.world_core.specs.Follows.{Follows}
 use Rattle.world_core.proofs.Changes.{after_write, after_look, after_sending, after_delivery, after_keeping, after_restart}
+use Rattle.world_core.proofs.Deliveries.{stale_unchanged}
+use Rattle.world_core.proofs.Standing.{sent_under}
 use Rattle.world_core.proofs.Noding.{reads_before, reads_new}
 
 -- ---- where nothing changes for the node
@@ -144,9 +148,9 @@ write_by hs n k v r context node f read l true e =
     let a = after_write hs n k v r in
     subst (λ m. object_at (with_object k (written node.table n k v context) node.table) m ≡ held (hs ++ Wrote n k v r ∷ []) n m) (sym (key_eq-true l k e))
     (object_at-here k (written node.table n k v context) node.table
-        ∙ ap (λ vector. update vector (object_at node.table k) n v) read
-        ∙ ap (λ o. update (join (read_object hs k r)) o n v) (f.holds k)
-        ∙ sym a.holds.here)
+    ∙ ap (λ vector. update vector (object_at node.table k) n v) read
+    ∙ ap (λ o. update (join (read_object hs k r)) o n v) (f.holds k)
+    ∙ sym a.holds.here)
 write_by hs n k v r context node f read l false e =
     let a = after_write hs n k v r in
     let ne : l ≢ k = λ same. let t : key_eq l k ≡ true = ap (λ m. key_eq l m) (sym same) ∙ key_eq-self l in let no : true ≡ false = sym t ∙ e in cc in
@@ -174,4 +178,49 @@ follows_restart hs n j node table f low restored =
       number = f.number ∙ sym (a.image.numbers n);
       images = λ i within k. f.images i within k ∙ sym ((a.image.images n).same i k);
       standing = λ k. f.images j low k ∙ sym (a.standing.here k);
+    }
+
+-- ---- a delivery
+
+sync-absent : (es : List Entry) → sync es [] ≡ es
+sync-absent [] = refl
+sync-absent (e ∷ es) = ap (λ rest. e ∷ rest) (sync-absent es)
+
+take_here_by : (hs : List Happening) (n i : ℕ) (k : Key) (came : List Entry) (node : Node) → RestartsKeepOwnWrites hs → Follows hs n node → came ≡ sent_object hs i k
+    → (b : Bool) → is_stale node.table k (join came) ≡ b → object_at (cond b node.table (with_object k (merge_of node.table k came) node.table)) k ≡ sync (held hs n k) (sent_object hs i k)
+take_here_by hs n i k came node keeps f is true stale =
+    f.holds k
+    ∙ sym (stale_unchanged hs keeps n i k (ap (λ o. descends (join o) (join (sent_object hs i k))) (sym (f.holds k)) ∙ ap (λ c. descends (join (object_at node.table k)) (join c)) (sym is) ∙ stale))
+take_here_by hs n i k came node keeps f is false fresh =
+    object_at-here k (merge_of node.table k came) node.table ∙ ap (λ o. sync o came) (f.holds k) ∙ ap (λ c. sync (held hs n k) c) is
+
+take_there_by : (node : Node) (k l : Key) (came : List Entry) → l ≢ k → (b : Bool) → object_at (cond b node.table (with_object k (merge_of node.table k came) node.table)) l ≡ object_at node.table l
+take_there_by node k l came ne true = refl
+take_there_by node k l came ne false = object_at-elsewhere k (merge_of node.table k came) node.table l ne
+
+take_by : (hs : List Happening) (n i m : ℕ) (k : Key) (came : List Entry) (node : Node) → RestartsKeepOwnWrites hs → Follows hs n node → slice_get hs i ≡ Some (Sent m k) → came ≡ sent_object hs i k
+    → (l : Key) (b : Bool) → key_eq l k ≡ b → object_at (after_merge node.table k came) l ≡ held (hs ++ Got n i ∷ []) n l
+take_by hs n i m k came node keeps f at is l true e =
+    let a = after_delivery hs n i in
+    subst (λ j. object_at (after_merge node.table k came) j ≡ held (hs ++ Got n i ∷ []) n j) (sym (key_eq-true l k e))
+    (take_here_by hs n i k came node keeps f is (is_stale node.table k (join came)) refl ∙ sym (a.holds.here k))
+take_by hs n i m k came node keeps f at is l false e =
+    let a = after_delivery hs n i in
+    let ne : l ≢ k = λ same. let t : key_eq l k ≡ true = ap (λ j. key_eq l j) (sym same) ∙ key_eq-self l in let no : true ≡ false = sym t ∙ e in cc in
+    take_there_by node k l came ne (is_stale node.table k (join came))
+    ∙ f.holds l
+    ∙ sym (sync-absent (held hs n l))
+    ∙ ap (λ c. sync (held hs n l) c) (sym (sent_under hs i m k l at ne))
+    ∙ sym (a.holds.here l)
+
+-- what the Sent at place i has sent was taken, stale or fresh
+pub follows_take : (hs : List Happening) (n i m : ℕ) (k : Key) (came : List Entry) (node : Node) → RestartsKeepOwnWrites hs → Follows hs n node → slice_get hs i ≡ Some (Sent m k) → came ≡ sent_object hs i k
+    → Follows (hs ++ Got n i ∷ []) n (with_merge k came node)
+follows_take hs n i m k came node keeps f at is =
+    let a = after_delivery hs n i in
+    record {
+      holds = λ l. take_by hs n i m k came node keeps f at is l (key_eq l k) refl;
+      number = f.number ∙ sym (a.image.numbers n);
+      images = λ j within l. f.images j within l ∙ sym ((a.image.images n).same j l);
+      standing = λ l. f.standing l ∙ sym (a.standing.same n l);
     }

@@ -18,3 +18,5 @@ pub mod Restoring
 pub mod Noding
 -- a node after one more happening
 pub mod Following
+-- what stands at a place
+pub mod Standing
