@@ -11,3 +11,5 @@ pub mod image;
 pub mod laws;
 pub mod node;
 pub mod restore;
+#[cfg(test)]
+mod tests;
