@@ -20,3 +20,7 @@ pub mod Noding
 pub mod Following
 -- what stands at a place
 pub mod Standing
+-- histories with one more happening
+pub mod Histories
+-- what accepted events tell
+pub mod Telling

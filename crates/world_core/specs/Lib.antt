@@ -22,6 +22,8 @@ pub mod Laws
 pub mod Follows
 -- how accepted events tell a history
 pub mod Tells
+-- a world, and what it keeps to
+pub mod World
 -- the refusals
 pub mod Fault
 -- lists of values compared

@@ -2,6 +2,7 @@
 -- it sends with an object one Sent. A function of the events, their answers and the frames. The rule is our own.
 use Rattle.std.specs.Prelude.{◌≡◌, ℕ, zero, suc, List, [], ◌∷◌, ◌++◌, length, slice_get, Option, Some, None}
 use Rattle.meta_types.specs.Name.{Key}
+use Rattle.dvvset.specs.Object.{Entry}
 use Rattle.meta_frame.specs.Frame.{Spells}
 use Rattle.meta_frame.specs.declared.message.Frame.{Frame}
 use Rattle.meta_frame.specs.declared.message.Message.{Message}
@@ -77,35 +78,35 @@ node_of (Junk n bytes) = n
 node_of (Keep n k) = n
 node_of (Restart n image) = n
 
--- the key of the object that a message carries
-abbrev pub carried_key : Message → Option Key
-carried_key (Gossip round k o) = Some k
-carried_key (IHave round k v) = None
-carried_key (Graft round k v) = None
-carried_key Prune = None
-carried_key Join = None
-carried_key (ForwardJoin n ttl) = None
-carried_key Disconnect = None
-carried_key (Neighbor p) = None
-carried_key (NeighborReply a) = None
-carried_key (Shuffle origin ttl ns) = None
-carried_key (ShuffleReply ns) = None
-carried_key (XRoot d) = None
-carried_key (XPrefixes rs) = None
-carried_key (XInner p ds) = None
-carried_key (XLeaves p i ds) = None
-carried_key (XBucket p leaf rs) = None
-carried_key (XObject k o) = Some k
-carried_key (XWant k) = None
+-- the object that a message carries, with its key
+abbrev pub carried : Message → Option (Key × List Entry)
+carried (Gossip round k o) = Some (k, o)
+carried (IHave round k v) = None
+carried (Graft round k v) = None
+carried Prune = None
+carried Join = None
+carried (ForwardJoin n ttl) = None
+carried Disconnect = None
+carried (Neighbor p) = None
+carried (NeighborReply a) = None
+carried (Shuffle origin ttl ns) = None
+carried (ShuffleReply ns) = None
+carried (XRoot d) = None
+carried (XPrefixes rs) = None
+carried (XInner p ds) = None
+carried (XLeaves p i ds) = None
+carried (XBucket p leaf rs) = None
+carried (XObject k o) = Some (k, o)
+carried (XWant k) = None
 
 -- a frame of the node: a Sent, where it carries an object
-abbrev pub tell_sending : ℕ → Option Key → Told → Told
+abbrev pub tell_sending : ℕ → Option (Key × List Entry) → Told → Told
 tell_sending n None t = record t { sendings = t.sendings ++ None ∷ [] }
-tell_sending n (Some k) t = record t { history = t.history ++ Sent n k ∷ []; sendings = t.sendings ++ Some (length t.history) ∷ [] }
+tell_sending n (Some object) t = record t { history = t.history ++ Sent n object.0 ∷ []; sendings = t.sendings ++ Some (length t.history) ∷ [] }
 
 abbrev pub tell_numbered : ℕ → Option Frame → Told → Told
 tell_numbered n None t = t
-tell_numbered n (Some frame) t = tell_sending n (carried_key frame.message) t
+tell_numbered n (Some frame) t = tell_sending n (carried frame.message) t
 
 -- the frames of these numbers, in their order
 abbrev pub tell_frames : List Frame → ℕ → List ℕ → Told → Told
@@ -124,15 +125,15 @@ told_after frames (first ∷ later) t = told_after frames later (tell_accepted f
 abbrev pub told : List Frame → List Accepted → Told
 told frames accepted = told_after frames accepted nothing_told
 
--- bytes spell frames, one by one
-abbrev pub AreSpelled : List Frame → List (List ℕ) → Type 0
-AreSpelled [] [] = Unit {0}
-AreSpelled [] (bytes ∷ later) = ⊥
-AreSpelled (frame ∷ frames) [] = ⊥
-AreSpelled (frame ∷ frames) (bytes ∷ later) = Spells frame bytes × AreSpelled frames later
+-- the lists are as long, and the relation holds one by one
+abbrev pub Pairwise : {A B : Type 0} → (A → B → Type 0) → List A → List B → Type 0
+Pairwise P [] [] = Unit {0}
+Pairwise P [] (y ∷ ys) = ⊥
+Pairwise P (x ∷ xs) [] = ⊥
+Pairwise P (x ∷ xs) (y ∷ ys) = P x y × Pairwise P xs ys
 
 -- the accepted events tell the history, by the frames that the bytes spell
 pub record Tells (accepted : List Accepted) (frames : List (List ℕ)) (history : List Happening) : Type 0 where
   pub sent : List Frame
-  pub spelled : AreSpelled sent frames
+  pub spelled : Pairwise Spells sent frames
   pub tells : (told sent accepted).history ≡ history

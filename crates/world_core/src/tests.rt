@@ -70,9 +70,7 @@ fn restart(node: &mut Node, image: usize) -> bool {
 }
 
 fn is_letter(value: &Value, letter: u8) -> bool {
-    value
-        .body()
-        .is_some_and(|body| body == [letter].as_slice())
+    value.body().is_some_and(|body| body == [letter].as_slice())
 }
 
 fn are_letters(values: &[Value], letters: &[u8]) -> bool {

@@ -1,0 +1,67 @@
+-- A world: its nodes, what it has accepted and sent, the contexts of its reads, and what all that tells. The rule is our
+-- own.
+use Rattle.std.specs.Prelude.{◌≡◌, ℕ, ◌<◌, ◌≤◌, List, [], ◌∷◌, length, get_or, slice_get, Option, Some, None}
+use Rattle.meta_types.specs.Name.{Key}
+use Rattle.dvvset.specs.Clock.{join}
+use Rattle.meta_frame.specs.Frame.{Spells}
+use Rattle.meta_frame.specs.declared.message.Frame.{Frame}
+use Rattle.meta_store.specs.Context.{Reading}
+use Rattle.past_model.specs.declared.happening.Happening.{Happening}
+use Rattle.past_model.specs.declared.happening.Happening.TheVariants.{Looked, Sent}
+use Rattle.past_model.specs.History.{IsHistory, RestartsKeepOwnWrites}
+use Rattle.world_core.specs.declared.answer.Accepted.{Accepted}
+use Rattle.world_core.specs.Objects.{seen_object, sent_object}
+use Rattle.world_core.specs.Node.{Node}
+use Rattle.world_core.specs.Follows.{Follows}
+use Rattle.world_core.specs.Tells.{Told, Pairwise, carried, told}
+
+-- contexts by the number of their read, and the bytes of frames by their number, both from 1
+pub record World : Type 0 where
+  pub nodes : List Node
+  pub accepted : List Accepted
+  pub frames : List (List ℕ)
+  pub contexts : List Reading
+  pub told : Told
+
+-- ---- what a world keeps to
+
+-- the context is of the key and the vector of what the Looked at the place saw
+pub record IsRead (hs : List Happening) (place : ℕ) (context : Reading) : Type 0 where
+  pub node : ℕ
+  pub looked : slice_get hs place ≡ Some (Looked node context.key)
+  pub vector : context.vector ≡ join (seen_object hs place context.key)
+
+-- the frame carries, under the key of the Sent at the place, the object that it sent
+pub record IsSending (hs : List Happening) (frame : Frame) (place : ℕ) : Type 0 where
+  pub key : Key
+  pub sent : slice_get hs place ≡ Some (Sent frame.from key)
+  pub carries : carried frame.message ≡ Some (key, sent_object hs place key)
+
+-- a frame was told as a Sent where it carries an object, and only there
+abbrev pub IsTold : List Happening → Frame → Option ℕ → Type 0
+IsTold hs frame None = carried frame.message ≡ None
+IsTold hs frame (Some place) = IsSending hs frame place
+
+-- the frames that accepted events have sent are among the first so many
+abbrev pub AreBelow : ℕ → List ℕ → Type 0
+AreBelow most [] = Unit {0}
+AreBelow most (number ∷ numbers) = (number ≤ most) × AreBelow most numbers
+
+abbrev pub SentBelow : ℕ → List Accepted → Type 0
+SentBelow most [] = Unit {0}
+SentBelow most (first ∷ later) = AreBelow most first.answer.sent × SentBelow most later
+
+-- the frames spell `sent`, with which the accepted events tell the history; that is one, and keeps the restart premise;
+-- each node stands where it left it; each read's context and each frame's object is what was seen and sent there
+pub record IsWorld (w : World) : Type 0 where
+  pub sent : List Frame
+  pub spelled : Pairwise Spells sent w.frames
+  pub tells : told sent w.accepted ≡ w.told
+  pub below : SentBelow (length sent) w.accepted
+  pub is_history : IsHistory w.told.history
+  pub keeps : RestartsKeepOwnWrites w.told.history
+  pub some : 1 ≤ length w.nodes
+  pub few : length w.nodes ≤ 16
+  pub nodes : (n : ℕ) (d : Node) → n < length w.nodes → Follows w.told.history n (get_or w.nodes n d)
+  pub reads : Pairwise (IsRead w.told.history) w.told.looks w.contexts
+  pub sendings : Pairwise (IsTold w.told.history) sent w.told.sendings
