@@ -24,3 +24,5 @@ pub mod Standing
 pub mod Histories
 -- what accepted events tell
 pub mod Telling
+-- what a world keeps to, happening by happening
+pub mod Worlds

@@ -14,7 +14,8 @@ told_after_append frames (a ∷ accepted) more t = told_after_append frames acce
 pub told_snoc : (frames : List Frame) (accepted : List Accepted) (a : Accepted) → told frames (accepted ++ a ∷ []) ≡ tell_accepted frames a (told frames accepted)
 told_snoc frames accepted a = told_after_append frames accepted (a ∷ []) nothing_told
 
-slice_get_more : (frames more : List Frame) (at : ℕ) → at < length frames → slice_get (frames ++ more) at ≡ slice_get frames at
+-- what stands in a list stands there too where more follows
+pub slice_get_more : {X : Type 0} (frames more : List X) (at : ℕ) → at < length frames → slice_get (frames ++ more) at ≡ slice_get frames at
 slice_get_more [] more at low = absurd (let no : at < 0 = low in omega (arith, no))
 slice_get_more (frame ∷ frames) more zero low = refl
 slice_get_more (frame ∷ frames) more (suc at) low = slice_get_more frames more at (omega (arith, low))

@@ -51,17 +51,21 @@ abbrev pub SentBelow : ℕ → List Accepted → Type 0
 SentBelow most [] = Unit {0}
 SentBelow most (first ∷ later) = AreBelow most first.answer.sent × SentBelow most later
 
--- the frames spell `sent`, with which the accepted events tell the history; that is one, and keeps the restart premise;
--- each node stands where it left it; each read's context and each frame's object is what was seen and sent there
+-- the history is one and keeps the restart premise; each node stands where it left it; each read's context and each frame's
+-- object is what was seen and sent there
+pub record IsState (ns : List Node) (contexts : List Reading) (sent : List Frame) (t : Told) : Type 0 where
+  pub is_history : IsHistory t.history
+  pub keeps : RestartsKeepOwnWrites t.history
+  pub nodes : (n : ℕ) (d : Node) → n < length ns → Follows t.history n (get_or ns n d)
+  pub reads : Pairwise (IsRead t.history) t.looks contexts
+  pub sendings : Pairwise (IsTold t.history) sent t.sendings
+
+-- the bytes spell frames, with which the accepted events tell what is told
 pub record IsWorld (w : World) : Type 0 where
   pub sent : List Frame
   pub spelled : Pairwise Spells sent w.frames
   pub tells : told sent w.accepted ≡ w.told
   pub below : SentBelow (length sent) w.accepted
-  pub is_history : IsHistory w.told.history
-  pub keeps : RestartsKeepOwnWrites w.told.history
+  pub state : IsState w.nodes w.contexts sent w.told
   pub some : 1 ≤ length w.nodes
   pub few : length w.nodes ≤ 16
-  pub nodes : (n : ℕ) (d : Node) → n < length w.nodes → Follows w.told.history n (get_or w.nodes n d)
-  pub reads : Pairwise (IsRead w.told.history) w.told.looks w.contexts
-  pub sendings : Pairwise (IsTold w.told.history) sent w.told.sendings
