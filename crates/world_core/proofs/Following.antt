@@ -22,7 +22,7 @@ use Rattle.meta_store.proofs.Tables.{object_at-elsewhere, object_at-here}
 use Rattle.world_core.specs.Objects.{held, image_object, last_image, read_object, sent_object, standing_object}
 use Rattle.world_core.specs.Laws.{MakesImage}
 use Rattle.world_core.specs.Images.{change_of, changed, holdings}
-use Rattle.world_core.specs.Node.{Node, IsNode, change_at, with_image, with_kept, with_merge, with_write}
+use Rattle.world_core.specs.Node.{Node, IsNode, change_at, with_image, with_kept, with_merge, with_restart, with_write}
 use Rattle.world_core.specs.Follows.{Follows}
 use Rattle.world_core.proofs.Changes.{after_write, after_look, after_sending, after_delivery, after_keeping, after_restart}
 use Rattle.world_core.proofs.Deliveries.{stale_unchanged}
@@ -170,7 +170,7 @@ follows_keep hs n k node is f =
     imaged hs (Kept n k) n k node node.table a.image (record { is = is; grows = λ l some. some; before = f; now = λ l. f.holds l ∙ sym (a.holds.same n l) })
 
 pub follows_restart : (hs : List Happening) (n j : ℕ) (node : Node) (table : Table) → Follows hs n node → j ≤ length node.images → ((k : Key) → object_at table k ≡ holdings node.images j k)
-    → Follows (hs ++ Restarted n j ∷ []) n (record { table = table; images = node.images; standing = j })
+    → Follows (hs ++ Restarted n j ∷ []) n (with_restart table j node)
 follows_restart hs n j node table f low restored =
     let a = after_restart hs n j in
     record {

@@ -17,7 +17,7 @@ use Rattle.past_model.specs.declared.happening.Happening.TheVariants.{Wrote, Loo
 use Rattle.past_model.specs.History.{Fits, RestartsKeepOwnWrites}
 use Rattle.world_core.specs.Objects.{held, read_object, seen_object, sent_object}
 use Rattle.world_core.specs.Images.{holdings}
-use Rattle.world_core.specs.Node.{Node, IsNode, with_kept, with_merge, with_write}
+use Rattle.world_core.specs.Node.{Node, IsNode, with_kept, with_merge, with_restart, with_write}
 use Rattle.world_core.specs.Follows.{Follows}
 use Rattle.world_core.specs.Tells.{Told, Pairwise, carried, tell, tell_look, tell_sending}
 use Rattle.world_core.specs.World.{IsRead, IsSending, IsState, IsTold}
@@ -125,10 +125,10 @@ state_take nodes contexts sent t n i m k came node s low at there is =
 pub state_restart : (nodes : List Node) (contexts : List Reading) (sent : List Frame) (t : Told) (n j : ℕ) (table : Table) (node : Node)
     → IsState nodes contexts sent t → n < length nodes → node ≡ get_or nodes n node → j ≤ length node.images → ((k : Key) → object_at table k ≡ holdings node.images j k)
     → Fits t.history (Restarted n j) → RestartsKeepOwnWrites (t.history ++ Restarted n j ∷ [])
-    → IsState (slice_set nodes n (record { table = table; images = node.images; standing = j })) contexts sent (tell (Restarted n j) t)
+    → IsState (slice_set nodes n (with_restart table j node)) contexts sent (tell (Restarted n j) t)
 state_restart nodes contexts sent t n j table node s low at image restored fits keeps =
-    state_next nodes (slice_set nodes n (record { table = table; images = node.images; standing = j })) contexts sent t (Restarted n j) s fits keeps
-    (set_node (t.history ++ Restarted n j ∷ []) nodes n (record { table = table; images = node.images; standing = j }) low
+    state_next nodes (slice_set nodes n (with_restart table j node)) contexts sent t (Restarted n j) s fits keeps
+    (set_node (t.history ++ Restarted n j ∷ []) nodes n (with_restart table j node) low
     (follows_restart t.history n j node table (subst (Follows t.history n) (sym at) (s.nodes n node low)) image restored)
     (λ m d within ne. restart_elsewhere t.history n j m (get_or nodes m d) ne (s.nodes m d within)))
 

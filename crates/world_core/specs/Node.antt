@@ -49,3 +49,7 @@ with_kept key node = with_image node.table key node
 -- after a delivery
 abbrev pub with_merge : Key → List Entry → Node → Node
 with_merge key came node = record node { table = after_merge node.table key came }
+
+-- after a restart from the image of that number, with its table
+abbrev pub with_restart : Table → ℕ → Node → Node
+with_restart table number node = record { table = table; images = node.images; standing = number }

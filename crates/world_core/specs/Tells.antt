@@ -1,6 +1,7 @@
 -- How accepted events with their answers tell a history: each event adds its happenings in their order, and each frame that
 -- it sends with an object one Sent. A function of the events, their answers and the frames. The rule is our own.
-use Rattle.std.specs.Prelude.{◌≡◌, ℕ, zero, suc, List, [], ◌∷◌, ◌++◌, length, slice_get, Option, Some, None}
+use Rattle.std.specs.Prelude.{◌≡◌, ℕ, zero, suc, ◌+◌, List, [], ◌∷◌, ◌++◌, length, slice_get, Option, Some, None}
+use Rattle.std.specs.Option.{option_flatten}
 use Rattle.meta_types.specs.Name.{Key}
 use Rattle.dvvset.specs.Object.{Entry}
 use Rattle.meta_frame.specs.Frame.{Spells}
@@ -28,10 +29,6 @@ abbrev pub numbered : {A : Type 0} → List A → ℕ → Option A
 numbered xs zero = None
 numbered xs (suc before) = slice_get xs before
 
-abbrev pub joined : {A : Type 0} → Option (Option A) → Option A
-joined None = None
-joined (Some o) = o
-
 -- ---- happenings
 
 abbrev pub tell : Happening → Told → Told
@@ -48,7 +45,7 @@ look_of t (Some read) = numbered t.looks read
 
 -- the place of the Sent that a frame number names, if that frame carries an object
 abbrev pub sending_of : Told → ℕ → Option ℕ
-sending_of t frame = joined (numbered t.sendings frame)
+sending_of t frame = option_flatten (numbered t.sendings frame)
 
 abbrev pub tell_got : ℕ → Option ℕ → Told → Told
 tell_got n None t = t
@@ -132,8 +129,19 @@ Pairwise P [] (y ∷ ys) = ⊥
 Pairwise P (x ∷ xs) [] = ⊥
 Pairwise P (x ∷ xs) (y ∷ ys) = P x y × Pairwise P xs ys
 
--- the accepted events tell the history, by the frames that the bytes spell
-pub record Tells (accepted : List Accepted) (frames : List (List ℕ)) (history : List Happening) : Type 0 where
-  pub sent : List Frame
-  pub spelled : Pairwise Spells sent frames
-  pub tells : (told sent accepted).history ≡ history
+-- the numbers of the frames that accepted events sent, in their order
+abbrev pub sent_numbers : List Accepted → List ℕ
+sent_numbers [] = []
+sent_numbers (first ∷ later) = first.answer.sent ++ sent_numbers later
+
+-- the numbers of a list whose first has this one
+abbrev pub numbers_from : {A : Type 0} → ℕ → List A → List ℕ
+numbers_from first [] = []
+numbers_from first (x ∷ xs) = first ∷ numbers_from (first + 1) xs
+
+-- the accepted events tell the history, by the frames that are spelled; each frame is sent once, in the order of its number
+pub record Tells (accepted : List Accepted) (spellings : List (List ℕ)) (history : List Happening) : Type 0 where
+  pub frames : List Frame
+  pub spelled : Pairwise Spells frames spellings
+  pub numbered : sent_numbers accepted ≡ numbers_from 1 frames
+  pub tells : (told frames accepted).history ≡ history

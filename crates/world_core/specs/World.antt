@@ -13,7 +13,7 @@ use Rattle.world_core.specs.declared.answer.Accepted.{Accepted}
 use Rattle.world_core.specs.Objects.{seen_object, sent_object}
 use Rattle.world_core.specs.Node.{Node}
 use Rattle.world_core.specs.Follows.{Follows}
-use Rattle.world_core.specs.Tells.{Told, Pairwise, carried, told}
+use Rattle.world_core.specs.Tells.{Told, Pairwise, carried, numbers_from, sent_numbers, told}
 
 -- contexts by the number of their read, and the bytes of frames by their number, both from 1
 pub record World : Type 0 where
@@ -64,6 +64,7 @@ pub record IsState (ns : List Node) (contexts : List Reading) (sent : List Frame
 pub record IsWorld (w : World) : Type 0 where
   pub sent : List Frame
   pub spelled : Pairwise Spells sent w.frames
+  pub numbered : sent_numbers w.accepted ≡ numbers_from 1 sent
   pub tells : told sent w.accepted ≡ w.told
   pub below : SentBelow (length sent) w.accepted
   pub state : IsState w.nodes w.contexts sent w.told

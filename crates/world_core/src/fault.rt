@@ -28,11 +28,11 @@ pub enum WorldFault {
     LooksLikeFrame,
     /// 46: the node has no image of this number.
     NoSuchImage,
-    /// 20, 21, 25, 26 or 27: what the node's store answers. It is never 99.
+    /// 20, 25, 26 or 27: what the node's store answers. It is never 99.
     Store(StoreFault),
     /// 10 to 16: why the junk is no frame. It is never 99.
     Frame(FrameFault),
-    /// 99: an allocation was refused. It may stand in place of any other refusal.
+    /// 99: an allocation was refused. It may stand in place of any other answer.
     Memory,
 }
 

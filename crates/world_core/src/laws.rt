@@ -1,17 +1,24 @@
 //! The laws of the object machine, over histories. Each function does nothing: its contract is the law.
 
-ghost use Rattle.std.specs.Prelude.{◌≡◌, ◌≢◌, ◌≤◌, ◌↔◌, ◌∷◌, ◌++◌, [], ℕ, true, List, Option, length};
+ghost use Rattle.std.specs.Prelude.{◌≡◌, ◌≢◌, ◌≤◌, ◌↔◌, ◌∷◌, ◌++◌, [], ℕ, true, List, Option, None, Some, length};
 ghost use Rattle.meta_types.specs.Name.{Key};
 ghost use Rattle.meta_types.specs.Value.{ValueParts};
+ghost use Rattle.dvvset.specs.Object.{Entry};
 ghost use Rattle.dvvset.specs.Clock.{descends, join, sync, values_of};
 ghost use Rattle.dvvset.specs.Writer.{count_of};
 ghost use Rattle.past_model.specs.declared.happening.Happening.{Happening as H};
-ghost use Rattle.past_model.specs.declared.happening.Happening.TheVariants.{Restarted};
+ghost use Rattle.past_model.specs.declared.happening.Happening.TheVariants.{Got, Looked, Restarted, Sent, Wrote};
 ghost use Rattle.past_model.specs.Sets.{IsSubset};
 ghost use Rattle.past_model.specs.Past.{known, load, image, past, seen, writer_of, writes};
 ghost use Rattle.past_model.specs.History.{RestartsKeepOwnWrites};
 ghost use Rattle.past_model.specs.Shown.{IsObjectOf};
 ghost use Rattle.world_core.specs.Objects.{happens, held, image_object, last_image, objects, seen_object, sent_object, start, writer};
+ghost use Rattle.meta_frame.specs.declared.message.Frame.{Frame};
+ghost use Rattle.meta_frame.specs.declared.message.Message.TheVariants.{Gossip};
+ghost use Rattle.world_core.specs.declared.answer.Accepted.{Accepted};
+ghost use Rattle.world_core.specs.declared.answer.Reply.{Reply};
+ghost use Rattle.world_core.specs.declared.event.Event.TheVariants.{Deliver, Get, Put, PutOver, Send};
+ghost use Rattle.world_core.specs.Tells.{nothing_told, tell_accepted, told};
 ghost use Rattle.world_core.specs.Laws.{AfterDelivery, AfterKeeping, AfterLook, AfterRestart, AfterSending, AfterWrite};
 
 /// What a node holds, what a read saw, what was sent, and what an image has are the objects of the sets of
@@ -73,4 +80,26 @@ pub fn a_restart_keeps_own_writes_exactly_where_own_counters_stay()
     ensures first { RestartsKeepOwnWrites [] }
     ensures others { (hs : List H) (h : H) → RestartsKeepOwnWrites hs
         → ((n j : ℕ) → h ≢ Restarted n j) → RestartsKeepOwnWrites (hs ++ h ∷ []) }
+{}
+
+/// A history is told event by event. `reads` and `frames` are two worlds: a write that has read what another node's
+/// read saw, and a write over what stands; two frames that are delivered the other way round.
+pub fn a_history_is_told_event_by_event()
+    ensures first { (frames : List Frame) → told frames [] ≡ nothing_told }
+    ensures next { (frames : List Frame) (accepted : List Accepted) (a : Accepted)
+        → told frames (accepted ++ a ∷ []) ≡ tell_accepted frames a (told frames accepted) }
+    ensures reads { (frames : List Frame) (k : Key) (x y z : ValueParts) (reply : Reply)
+        → (told frames (
+        (record { event = Put 0 k x None; answer = record { reply = reply; read = None; sent = [] } })
+        ∷ (record { event = Get 0 k; answer = record { reply = reply; read = Some 1; sent = [] } })
+        ∷ (record { event = Put 1 k z (Some 1); answer = record { reply = reply; read = None; sent = [] } })
+        ∷ (record { event = PutOver 0 k y; answer = record { reply = reply; read = Some 2; sent = [] } }) ∷ [])).history
+        ≡ Wrote 0 k x None ∷ Looked 0 k ∷ Wrote 1 k z (Some 1) ∷ Looked 0 k ∷ Wrote 0 k y (Some 3) ∷ [] }
+    ensures frames { (k l : Key) (o p : List Entry) (reply : Reply)
+        → (told ((record { from = 0; to = 1; number = 1; message = Gossip 0 k o }) ∷ (record { from = 0; to = 1; number = 2; message = Gossip 0 l p }) ∷ []) (
+        (record { event = Send 0 k 1; answer = record { reply = reply; read = None; sent = 1 ∷ [] } })
+        ∷ (record { event = Send 0 l 1; answer = record { reply = reply; read = None; sent = 2 ∷ [] } })
+        ∷ (record { event = Deliver 2 1 0; answer = record { reply = reply; read = None; sent = [] } })
+        ∷ (record { event = Deliver 1 1 0; answer = record { reply = reply; read = None; sent = [] } }) ∷ [])).history
+        ≡ Sent 0 k ∷ Sent 0 l ∷ Got 1 1 ∷ Got 1 0 ∷ [] }
 {}

@@ -1,14 +1,15 @@
 //! What the world keeps of one node.
 
-ghost use Rattle.std.specs.Prelude.{◌≡◌, ◌≤◌, ◌⊎◌, ◌∷◌, [], length, Some, None, IfOk, IfErr, OnOk, OnErr};
+ghost use Rattle.std.specs.Prelude.{◌≡◌, ◌≤◌, ◌⊎◌, ◌∷◌, [], length, true, Ok, Some, None, IfOk, IfErr, OnOk, OnErr};
 ghost use Rattle.std.specs.Option.{option_copied};
 ghost use Rattle.meta_types.specs.Name.{Key};
 ghost use Rattle.dvvset.specs.Clock.{join};
-ghost use Rattle.meta_store.specs.Table.{IsTable, object_at};
+ghost use Rattle.meta_store.specs.Table.{IsTable, is_stale, object_at};
 ghost use Rattle.meta_store.specs.Step.{answer_of_merge, refusal_of_merge, refusal_of_put, written};
 ghost use Rattle.meta_store.specs.declared.fault.StoreFault.TheVariants.{Memory};
+ghost use Rattle.meta_store.specs.declared.merge.Merged.TheVariants.{Stale};
 ghost use Rattle.world_core.specs.Images.{IsChange, holdings};
-ghost use Rattle.world_core.specs.Node.{IsNode, change_at, empty, with_kept, with_merge, with_write};
+ghost use Rattle.world_core.specs.Node.{IsNode, change_at, empty, with_kept, with_merge, with_restart, with_write};
 
 use crate::image::Image;
 use crate::restore::restore;
@@ -122,6 +123,7 @@ impl Node {
     /// A delivery: merges what came, as `Store::merge` does, with its refusals. No image is made.
     pub fn take(&mut self, key: MetaKey, object: Entries) -> Result<Merged, StoreFault>
         ensures value { OnOk result (self.new ≡ with_merge key object self.old) }
+        ensures stale { is_stale self.old.table key (join object) ≡ true → result ≡ Ok Stale }
         ensures answer { IfOk result (λ answer. answer ≡ answer_of_merge self.old.table key object) }
         ensures no_refusal { OnOk result (refusal_of_merge self.old.table key object ≡ None) }
         ensures fault { IfErr result (λ fault. (fault ≡ Memory) ⊎ (refusal_of_merge self.old.table key object ≡ Some fault)) }
@@ -145,7 +147,7 @@ impl Node {
     pub fn restart(&mut self, store: Store, number: usize)
         requires number { number ≤ length self.old.images }
         requires restored { (key : Key) → object_at store key ≡ holdings self.old.images number key }
-        ensures { self.new ≡ record { table = store; images = self.old.images; standing = number } }
+        ensures { self.new ≡ with_restart store number self.old }
     {
         self.store = store;
         self.standing = number;
