@@ -1,8 +1,8 @@
 -- What a world keeps to, happening by happening.
-use Rattle.std.proofs.Common.{◌≡◌, ◌≢◌, ℕ, ◌<◌, ◌≤◌, Bool, true, false, List, [], ◌∷◌, ◌++◌, length, get_or, Option, Some, None, refl, sym, ap, subst, ◌∙◌, arith, eqb}
+use Rattle.std.proofs.Common.{◌≡◌, ◌≢◌, ℕ, ◌<◌, ◌≤◌, Bool, true, false, List, [], ◌∷◌, ◌++◌, length, get_or, replicate, Option, Some, None, refl, sym, ap, subst, ◌∙◌, arith, eqb}
 use Rattle.std.specs.Prelude.{slice_get, slice_set}
 use Rattle.std.proofs.lemmas.Bool.{eqb-true, eqb-false}
-use Rattle.std.proofs.lemmas.List.{get_or-set_same, get_or-set_other, length-set}
+use Rattle.std.proofs.lemmas.List.{get_or-set_same, get_or-set_other, length-set, get_or-replicate, length-replicate}
 use Rattle.std.proofs.lemmas.Option.{slice_get_within}
 use Rattle.meta_types.specs.Name.{Key}
 use Rattle.meta_types.specs.Value.{ValueParts}
@@ -17,12 +17,12 @@ use Rattle.past_model.specs.declared.happening.Happening.TheVariants.{Wrote, Loo
 use Rattle.past_model.specs.History.{Fits, RestartsKeepOwnWrites}
 use Rattle.world_core.specs.Objects.{held, read_object, seen_object, sent_object}
 use Rattle.world_core.specs.Images.{holdings}
-use Rattle.world_core.specs.Node.{Node, IsNode, with_kept, with_merge, with_restart, with_write}
+use Rattle.world_core.specs.Node.{Node, empty, IsNode, with_kept, with_merge, with_restart, with_write}
 use Rattle.world_core.specs.Follows.{Follows}
-use Rattle.world_core.specs.Tells.{Told, Pairwise, carried, tell, tell_look, tell_sending}
-use Rattle.world_core.specs.World.{IsRead, IsSending, IsState, IsTold}
+use Rattle.world_core.specs.Tells.{Told, nothing_told, Pairwise, carried, tell, tell_look, tell_sending}
+use Rattle.world_core.specs.World.{IsRead, IsSending, IsState, IsTold, IsWorld, new_world}
 use Rattle.world_core.proofs.Changes.{after_look, after_sending}
-use Rattle.world_core.proofs.Restarting.{others_keep}
+use Rattle.world_core.proofs.Restarting.{others_keep, start_keeps}
 use Rattle.world_core.proofs.Histories.{history_snoc}
 use Rattle.world_core.proofs.Standing.{seen_later, sent_later}
 use Rattle.world_core.proofs.Telling.{slice_get_more}
@@ -175,3 +175,38 @@ state_sending nodes contexts sent t n k o frame s from carries is =
       reads = next.reads;
       sendings = pairwise_snoc (IsTold more) sent t.sendings frame (Some (length hs)) next.sendings sending;
     }
+
+-- ---- the first world
+
+follows_nothing : (n : ℕ) → Follows [] n empty
+follows_nothing n = record {
+  holds = λ k. refl;
+  number = refl;
+  images = λ j low k. refl;
+  standing = λ k. refl;
+}
+
+nothing_happened : (before after : List Happening) (h : Happening) → [] ≡ before ++ h ∷ after → ⊥
+nothing_happened [] after h e = cc
+nothing_happened (x ∷ before) after h e = cc
+
+pub state_new : (count : ℕ) → IsState (replicate count empty) [] [] nothing_told
+state_new count = record {
+  is_history = record { fits = λ before after h e. absurd (nothing_happened before after h e) };
+  keeps = start_keeps;
+  nodes = λ n d low. subst (Follows [] n) (sym (get_or-replicate count n empty d (subst (λ m. n < m) (length-replicate count empty) low))) (follows_nothing n);
+  reads = tt;
+  sendings = tt;
+}
+
+pub world_new : (count : ℕ) → 1 ≤ count → count ≤ 16 → IsWorld (new_world count)
+world_new count some few = record {
+  sent = [];
+  spelled = tt;
+  numbered = refl;
+  tells = refl;
+  below = tt;
+  state = state_new count;
+  some = subst (λ m. 1 ≤ m) (sym (length-replicate count empty)) some;
+  few = subst (λ m. m ≤ 16) (sym (length-replicate count empty)) few;
+}

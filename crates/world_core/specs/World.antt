@@ -1,6 +1,6 @@
 -- A world: its nodes, what it has accepted and sent, the contexts of its reads, and what all that tells. The rule is our
 -- own.
-use Rattle.std.specs.Prelude.{◌≡◌, ℕ, ◌<◌, ◌≤◌, List, [], ◌∷◌, length, get_or, slice_get, Option, Some, None}
+use Rattle.std.specs.Prelude.{◌≡◌, ℕ, ◌<◌, ◌≤◌, List, [], ◌∷◌, length, get_or, replicate, slice_get, Option, Some, None}
 use Rattle.meta_types.specs.Name.{Key}
 use Rattle.dvvset.specs.Clock.{join}
 use Rattle.meta_frame.specs.Frame.{Spells}
@@ -11,9 +11,9 @@ use Rattle.past_model.specs.declared.happening.Happening.TheVariants.{Looked, Se
 use Rattle.past_model.specs.History.{IsHistory, RestartsKeepOwnWrites}
 use Rattle.world_core.specs.declared.answer.Accepted.{Accepted}
 use Rattle.world_core.specs.Objects.{seen_object, sent_object}
-use Rattle.world_core.specs.Node.{Node}
+use Rattle.world_core.specs.Node.{Node, empty}
 use Rattle.world_core.specs.Follows.{Follows}
-use Rattle.world_core.specs.Tells.{Told, Pairwise, carried, numbers_from, sent_numbers, told}
+use Rattle.world_core.specs.Tells.{Told, Pairwise, carried, numbers_from, nothing_told, sent_numbers, told}
 
 -- contexts by the number of their read, and the bytes of frames by their number, both from 1
 pub record World : Type 0 where
@@ -70,3 +70,7 @@ pub record IsWorld (w : World) : Type 0 where
   pub state : IsState w.nodes w.contexts sent w.told
   pub some : 1 ≤ length w.nodes
   pub few : length w.nodes ≤ 16
+
+-- a world of so many nodes to which nothing has happened
+abbrev pub new_world : ℕ → World
+new_world count = record { nodes = replicate count empty; accepted = []; frames = []; contexts = []; told = nothing_told }

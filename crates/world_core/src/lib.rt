@@ -13,3 +13,4 @@ pub mod node;
 pub mod restore;
 #[cfg(test)]
 mod tests;
+pub mod world;

@@ -1,0 +1,6 @@
+use Rattle.std.proofs.Common.{◌≡◌, ◌≤◌, replicate}
+use Rattle.world_core.specs.Node.{empty}
+use Rattle.world_core.proofs.world.empty_nodes.Given as goal
+
+abbrev pub invariant-loop : goal.invariant-loop
+invariant-loop l = (l.counter ≤ l.count) × (l.nodes.items ≡ replicate l.counter empty)
