@@ -14,16 +14,19 @@ use Rattle.meta_store.specs.Table.{Table, object_at, with_object}
 use Rattle.meta_store.specs.Step.{written}
 use Rattle.past_model.specs.declared.happening.Happening.{Happening}
 use Rattle.past_model.specs.declared.happening.Happening.TheVariants.{Wrote, Looked, Sent, Got, Kept, Restarted}
+use Rattle.past_model.specs.Past.{known, writes}
+use Rattle.past_model.specs.Shown.{IsObjectOf}
 use Rattle.past_model.specs.History.{Fits, RestartsKeepOwnWrites}
 use Rattle.world_core.specs.Objects.{held, read_object, seen_object, sent_object}
 use Rattle.world_core.specs.Images.{holdings}
 use Rattle.world_core.specs.Node.{Node, empty, IsNode, with_kept, with_merge, with_restart, with_write}
 use Rattle.world_core.specs.Follows.{Follows}
 use Rattle.world_core.specs.Tells.{Told, nothing_told, Pairwise, carried, tell, tell_look, tell_sending}
-use Rattle.world_core.specs.World.{IsRead, IsSending, IsState, IsTold, IsWorld, new_world}
+use Rattle.world_core.specs.World.{World, IsRead, IsSending, IsState, IsTold, IsWorld, new_world}
 use Rattle.world_core.proofs.Changes.{after_look, after_sending}
 use Rattle.world_core.proofs.Restarting.{others_keep, start_keeps}
 use Rattle.world_core.proofs.Histories.{history_snoc}
+use Rattle.world_core.proofs.Matching.{matches}
 use Rattle.world_core.proofs.Standing.{seen_later, sent_later}
 use Rattle.world_core.proofs.Telling.{slice_get_more}
 use Rattle.world_core.proofs.Following.{follows_look, follows_sending, follows_write, follows_keep, follows_take, follows_restart, write_elsewhere, keeping_elsewhere, delivery_elsewhere, restart_elsewhere}
@@ -210,3 +213,13 @@ world_new count some few = record {
   some = subst (λ m. 1 ≤ m) (sym (length-replicate count empty)) some;
   few = subst (λ m. m ≤ 16) (sym (length-replicate count empty)) few;
 }
+
+-- ---- what a node shows
+
+-- what the node holds is the object of what it knows
+pub shows : (w : World) → IsWorld w → (n : ℕ) (node : Node) → n < length w.nodes → node ≡ get_or w.nodes n node → (table : Table) → table ≡ node.table
+    → (k : Key) → IsObjectOf (writes w.told.history) k (known w.told.history n k) (object_at table k)
+shows w is n node low at table same k =
+    let hs = w.told.history in
+    let stands : Follows hs n node = subst (Follows hs n) (sym at) (is.state.nodes n node low) in
+    subst (IsObjectOf (writes hs) k (known hs n k)) (sym (ap (λ t. object_at t k) same ∙ stands.holds k)) ((matches hs is.state.keeps).known n k)

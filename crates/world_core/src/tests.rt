@@ -2,6 +2,7 @@ use crate::answer::{Answer, FrameNumbers, Reply, Values};
 use crate::event::Event;
 use crate::fault::WorldFault;
 use crate::node::Node;
+use crate::world::World;
 use dvvset::{Entries, Entry, Vector};
 use meta_frame::FrameFault;
 use meta_store::{Source, Store, StoreFault};
@@ -261,5 +262,36 @@ fn answers_equal_their_copies(rt: HostRuntime) -> Result<(), Fail> {
     assert!(rt; is_copied_whole(answer(alloc, wrote)?));
     assert!(rt; is_copied_whole(answer(alloc, Reply::TookStale)?));
     assert!(rt; Reply::TookFresh != Reply::TookStale && Reply::Done != Reply::Took);
+    Ok(())
+}
+
+/// Tells whether a world of so many nodes is made, has just these, and nothing has happened to it.
+fn is_new(alloc: Global, nodes: u64) -> bool {
+    match World::new(alloc, nodes) {
+        Ok(world) => {
+            world.state(nodes - 1).is_some_and(|store| store.is_empty())
+                && world.state(nodes).is_none()
+                && world.history().is_empty()
+                && world.accepted().is_empty()
+                && world.frames().is_empty()
+        }
+        Err(_) => false,
+    }
+}
+
+fn code_of_new(alloc: Global, nodes: u64) -> u16 {
+    match World::new(alloc, nodes) {
+        Ok(_) => 0,
+        Err(fault) => fault.code(),
+    }
+}
+
+#[test]
+fn a_world_has_1_to_16_nodes(rt: HostRuntime) -> Result<(), Fail> {
+    let alloc = rt.alloc();
+    assert!(rt; is_new(alloc, 1) && is_new(alloc, 16));
+    assert_eq!(rt; code_of_new(alloc, 0), 44);
+    assert_eq!(rt; code_of_new(alloc, 17), 44);
+    assert_eq!(rt; code_of_new(alloc, 18_446_744_073_709_551_615), 44);
     Ok(())
 }

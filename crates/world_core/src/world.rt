@@ -1,6 +1,10 @@
 //! All nodes of a cluster, in one value.
 
-ghost use Rattle.std.specs.Prelude.{◌≡◌, ◌≤◌, ◌<◌, ◌⊎◌, [], replicate, IfOk, IfErr};
+ghost use Rattle.std.specs.Prelude.{◌≡◌, ◌≤◌, ◌<◌, ◌⊎◌, [], ◌↔◌, length, replicate, IfOk, IfErr, IfSome, IsNone};
+ghost use Rattle.meta_types.specs.Name.{Key};
+ghost use Rattle.meta_store.specs.Table.{object_at};
+ghost use Rattle.past_model.specs.Past.{known, writes};
+ghost use Rattle.past_model.specs.Shown.{IsObjectOf};
 ghost use Rattle.past_model.specs.History.{IsHistory, RestartsKeepOwnWrites};
 ghost use Rattle.world_core.specs.Node.{empty};
 ghost use Rattle.world_core.specs.Tells.{Tells};
@@ -10,7 +14,7 @@ ghost use Rattle.world_core.specs.declared.fault.WorldFault.TheVariants.{Memory,
 use crate::answer::Accepted;
 use crate::fault::WorldFault;
 use crate::node::Node;
-use meta_store::Context;
+use meta_store::{Context, Store};
 use meta_types::ByteString;
 use past_model::Happening;
 use std::alloc::{AllocError, Global};
@@ -85,6 +89,18 @@ impl World {
         ensures premise { RestartsKeepOwnWrites self.now.told.history }
     {
         self.history.as_slice()
+    }
+
+    /// What the node holds; `None` for a node that the world doesn't have, and only then. Under each key that is
+    /// the object of the writes that the node knows: exactly those of them that none of them had read.
+    pub fn state(&self, node: u64) -> Option<&Store>
+        ensures node { IsNone result ↔ (length self.now.nodes ≤ node) }
+        ensures shows { IfSome result (λ store. (key : Key) → IsObjectOf (writes self.now.told.history) key (known self.now.told.history node key) (object_at store.now key)) }
+    {
+        match usize::try_from(node) {
+            Ok(at) if at < self.nodes.len() => Some(self.nodes[at].store()),
+            _ => None,
+        }
     }
 }
 

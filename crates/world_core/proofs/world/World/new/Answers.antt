@@ -16,11 +16,11 @@ invariant_of-result c =
       contexts = c.new-3.result.items;
       told = record { history = c.new-4.result.items; looks = c.new-5.result.items; sendings = c.new-6.result.items };
     }) ≡ new_world c.args.nodes =
-        λ i. record {
-          nodes = nodes i;
-          accepted = c.new.ensures.items i;
-          frames = c.new-2.ensures.items i;
-          contexts = c.new-3.ensures.items i;
-          told = record { history = c.new-4.ensures.items i; looks = c.new-5.ensures.items i; sendings = c.new-6.ensures.items i };
-        } in
+    λ i. record {
+      nodes = nodes i;
+      accepted = c.new.ensures.items i;
+      frames = c.new-2.ensures.items i;
+      contexts = c.new-3.ensures.items i;
+      told = record { history = c.new-4.ensures.items i; looks = c.new-5.ensures.items i; sendings = c.new-6.ensures.items i };
+    } in
     subst IsWorld (sym whole) (world_new c.args.nodes some few)
