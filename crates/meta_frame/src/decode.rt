@@ -6,8 +6,9 @@ ghost use Rattle.meta_types.specs.First.{first_that_applies};
 ghost use Rattle.meta_frame.specs.Frame.{number_in, header_tests, Spells, Refuses};
 ghost use Rattle.meta_frame.specs.Reading.{Decodes, decode_of, IsHeader, framed};
 
+use crate::bodies::message_of;
 use crate::fault::{FieldFault, FrameFault};
-use crate::kinds::{is_known, message_of};
+use crate::kinds::is_known;
 use crate::message::{Frame, Message};
 use meta_types::NodeId;
 use std::alloc::Global;

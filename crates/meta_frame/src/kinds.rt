@@ -3,16 +3,9 @@
 
 ghost use Rattle.std.specs.Prelude.{◌≡◌, ◌++◌, ◌<◌, ◌^◌, ◌↔◌, length, Ok, IfOk, OnOk, IsTrue};
 ghost use Rattle.meta_frame.specs.Frame.{is_kind, kind_of, name_of, body, IsMessage};
-ghost use Rattle.meta_frame.specs.Reading.{Gives, message_at};
 
-use crate::fault::FieldFault;
-use crate::listing::{digest_of, digests_of, keys_of, nodes_of, prefixes_of};
+use crate::copies::{copy_announced, copy_carried, copy_digests, copy_keys};
 use crate::message::Message;
-use crate::reading::{
-    answer_of, key_of, node_from, node_of, object_of, place_of, prefix_of, priority_of, u8_of,
-    u16_of, vector_of,
-};
-use frame_fields::Digest;
 use frame_fields::digest::DIGEST_LEN;
 use frame_fields::lawful::{
     is_answer, is_digest, is_digests, is_key, is_keys, is_node, is_nodes, is_object, is_place,
@@ -25,7 +18,7 @@ use frame_fields::writing::{
     write_answer, write_digest, write_digests, write_key, write_keys, write_node, write_nodes,
     write_object, write_prefix, write_prefixes, write_priority, write_u8, write_u16, write_vector,
 };
-use std::alloc::{AllocError, Global};
+use std::alloc::AllocError;
 
 macro_rules! frame_kinds {
     ($make:ident $with:tt) => {
@@ -50,56 +43,6 @@ macro_rules! frame_kinds {
             18 "XWANT" XWant { key: key }
         }
     };
-}
-
-macro_rules! read_field {
-    (number16 $alloc:ident $rest:ident) => { u16_of($rest)? };
-    (number8 $alloc:ident $rest:ident) => { u8_of($rest)? };
-    (node $alloc:ident $rest:ident) => {{
-        let (number, rest) = node_of($rest)?;
-        (node_from(number), rest)
-    }};
-    (priority $alloc:ident $rest:ident) => { priority_of($rest)? };
-    (answer $alloc:ident $rest:ident) => { answer_of($rest)? };
-    (place $alloc:ident $rest:ident) => { place_of($rest)? };
-    (nodes $alloc:ident $rest:ident) => { nodes_of($alloc, $rest)? };
-    (digest $alloc:ident $rest:ident) => {{
-        let (bytes, rest) = digest_of($rest)?;
-        (Digest::new(bytes), rest)
-    }};
-    (digests $alloc:ident $rest:ident) => { digests_of($alloc, $rest)? };
-    (prefix $alloc:ident $rest:ident) => { prefix_of($alloc, $rest)? };
-    (prefixes $alloc:ident $rest:ident) => { prefixes_of($alloc, $rest)? };
-    (keys $alloc:ident $rest:ident) => { keys_of($alloc, $rest)? };
-    (key $alloc:ident $rest:ident) => { key_of($alloc, $rest)? };
-    (vector $alloc:ident $rest:ident) => { vector_of($alloc, $rest)? };
-    (object $alloc:ident $rest:ident) => { object_of($alloc, $rest)? };
-}
-
-macro_rules! read_kind {
-    (($kind:ident $alloc:ident $bytes:ident)
-     $($number:literal $name:literal $variant:ident { $($field:ident : $form:ident),* })*) => {
-        match $kind {
-            $($number => {
-                let rest = $bytes;
-                $(let ($field, rest) = read_field!($form $alloc rest);)*
-                Ok((Message::$variant { $($field),* }, rest))
-            })*
-            _ => Err(FieldFault::Left($bytes.len())),
-        }
-    };
-}
-
-/// The message of this kind at the front of the bytes.
-#[tactic(auto, unfolding(crate::specs::Reading::message_at, crate::specs::Reading::gossip_at, crate::specs::Reading::announced_at, crate::specs::Reading::carried_at, crate::specs::Reading::forwarded_at, crate::specs::Reading::shuffle_at, crate::specs::Reading::inner_at, crate::specs::Reading::leaves_at, crate::specs::Reading::bucket_at))]
-pub(crate) fn message_of(
-    alloc: Global,
-    kind: u8,
-    bytes: &[u8],
-) -> Result<(Message, &[u8]), FieldFault>
-    ensures { Gives (λ x. (x.0, x.1.now)) result (message_at kind bytes.now) }
-{
-    frame_kinds!(read_kind (kind alloc bytes))
 }
 
 macro_rules! known_kind {
@@ -394,13 +337,41 @@ macro_rules! copy_field {
     };
 }
 
+macro_rules! copy_body {
+    ($variant:ident { $key:ident: key, $object:ident: object }) => {{
+        let ($key, $object) = copy_carried($key, $object)?;
+        Message::$variant { $key, $object }
+    }};
+    ($variant:ident { $round:ident: number16, $key:ident: key, $object:ident: object }) => {{
+        let ($key, $object) = copy_carried($key, $object)?;
+        Message::$variant { $round: *$round, $key, $object }
+    }};
+    ($variant:ident { $round:ident: number16, $key:ident: key, $vector:ident: vector }) => {{
+        let ($key, $vector) = copy_announced($key, $vector)?;
+        Message::$variant { $round: *$round, $key, $vector }
+    }};
+    ($variant:ident { $prefix:ident: prefix, $digests:ident: digests }) => {{
+        let ($prefix, $digests) = copy_digests($prefix, $digests)?;
+        Message::$variant { $prefix, $digests }
+    }};
+    ($variant:ident { $prefix:ident: prefix, $inner:ident: place, $digests:ident: digests }) => {{
+        let ($prefix, $digests) = copy_digests($prefix, $digests)?;
+        Message::$variant { $prefix, $inner: *$inner, $digests }
+    }};
+    ($variant:ident { $prefix:ident: prefix, $leaf:ident: number8, $keys:ident: keys }) => {{
+        let ($prefix, $keys) = copy_keys($prefix, $keys)?;
+        Message::$variant { $prefix, $leaf: *$leaf, $keys }
+    }};
+    ($variant:ident { $($field:ident: $form:ident),* }) => {
+        Message::$variant { $($field: copy_field!($form $field)),* }
+    };
+}
+
 macro_rules! copy_kind {
     (($message:ident)
      $($number:literal $name:literal $variant:ident { $($field:ident : $form:ident),* })*) => {
         match $message {
-            $(Message::$variant { $($field),* } => Message::$variant {
-                $($field: copy_field!($form $field)),*
-            },)*
+            $(Message::$variant { $($field),* } => copy_body!($variant { $($field: $form),* }),)*
         }
     };
 }

@@ -1,6 +1,8 @@
 //! Frames: what nodes send each other, as bytes and back. Their tests are the crate `frame_tests`.
 #![tactic(auto)]
 
+mod bodies;
+mod copies;
 pub mod decode;
 pub mod encode;
 pub mod fault;
