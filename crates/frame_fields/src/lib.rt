@@ -1,5 +1,5 @@
 //! The fields that frames are made of: their forms, which values have a spelling, how long it is, and
-//! how it is written. What reads them is `meta_frame`.
+//! how it is written. What reads them is `field_readers`.
 #![tactic(auto)]
 
 pub mod digest;

@@ -12,7 +12,7 @@ use Rattle.meta_frame.specs.declared.fault.FrameFault.{FrameFault}
 use Rattle.meta_frame.specs.declared.fault.FrameFault.TheVariants.{Short, BadMagic, BadVersion, BadKind, TooLong, BadBody, LeftOver, Memory}
 use Rattle.meta_frame.specs.Frame.{kind_of, body, is_kind, limit, header, spelling, IsLawful, Spells, number_in, kind_in, from_in, to_in, len_in, header_tests, IsBodyFault, Refuses}
 use Rattle.meta_frame.specs.Reading.{message_at, framed, whole, checked, decode_of, Decodes}
-use Rattle.meta_frame.proofs.Readers.{IsBytes, IsBytes-drop, IsBytes-take, IsWide, wide8, wide16, wide32, wide64}
+use Rattle.field_readers.proofs.Readers.{IsBytes, IsBytes-drop, IsBytes-take, IsWide, wide8, wide16, wide32, wide64}
 use Rattle.meta_frame.proofs.Rows.{message_again, message_refuses, message_takes, message_faulty, known_kind, small_kind}
 
 chosen : {A : Type 0} (b : Bool) (x y z : A) → cond b x y ≡ z → ((b ≡ true) × (x ≡ z)) ⊎ ((b ≡ false) × (y ≡ z))

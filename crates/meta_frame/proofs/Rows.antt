@@ -7,10 +7,11 @@ use Rattle.meta_frame.specs.declared.message.Message.TheVariants.{Gossip, IHave,
 use Rattle.frame_fields.specs.Form.{Form, any_number, then_form}
 use Rattle.frame_fields.specs.Field.{node, nodes, priority, answer, digest, digests, place, prefix, prefixes, keys, key, vector, object}
 use Rattle.meta_frame.specs.Frame.{Row, kind_of, gossip, announced, forwarded, shuffle, inner, leaves, bucket, carried, body, IsMessage, NoField, rows, BadIn, BadFields, is_in, is_kind}
-use Rattle.meta_frame.specs.Reading.{Reader, ◌>>=◌, number_at, then_at, made_at, within_at, node_at, nodes_at, priority_at, answer_at, digest_at, digests_at, prefix_at, prefixes_at, keys_at, key_at, vector_at, object_at, gossip_at, announced_at, forwarded_at, shuffle_at, inner_at, leaves_at, bucket_at, carried_at, message_at}
-use Rattle.meta_frame.proofs.Readers.{IsBytes, Reads, wide8, wide16, number_reads, then_reads, bind_ok, bind_err, ok_is, done}
-use Rattle.meta_frame.proofs.Listed.{nodes_reads, digest_reads, digests_reads, prefixes_reads, keys_reads}
-use Rattle.meta_frame.proofs.Fields.{within_reads, prefix_reads, node_reads, priority_reads, answer_reads, key_reads, vector_reads, object_reads}
+use Rattle.field_readers.specs.Reader.{Reader, ◌>>=◌, number_at, then_at, made_at, within_at, node_at, nodes_at, priority_at, answer_at, digest_at, digests_at, prefix_at, prefixes_at, keys_at, key_at, vector_at, object_at}
+use Rattle.meta_frame.specs.Reading.{gossip_at, announced_at, forwarded_at, shuffle_at, inner_at, leaves_at, bucket_at, carried_at, message_at}
+use Rattle.field_readers.proofs.Readers.{IsBytes, Reads, wide8, wide16, number_reads, then_reads, bind_ok, bind_err, ok_is, done}
+use Rattle.field_readers.proofs.Listed.{nodes_reads, digest_reads, digests_reads, prefixes_reads, keys_reads}
+use Rattle.field_readers.proofs.Fields.{within_reads, prefix_reads, node_reads, priority_reads, answer_reads, key_reads, vector_reads, object_reads}
 
 -- what reading a body of one kind took
 pub record Took (kind : ℕ) (bytes : List ℕ) (m : Message) (rest : List ℕ) : Type 0 where

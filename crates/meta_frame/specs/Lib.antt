@@ -14,5 +14,6 @@ pub mod Frame
 pub mod Front
 -- the numbers of refusals
 pub mod Fault
--- what private functions alone cite: the forms as readers on lists
+-- what private functions alone cite: the forms of the fields as readers on lists, and those of frames
+pub use Rattle.field_readers.specs.Reader
 pub mod Reading

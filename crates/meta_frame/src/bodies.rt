@@ -3,12 +3,13 @@
 
 ghost use Rattle.std.specs.Prelude.{◌≡◌};
 ghost use Rattle.meta_frame.specs.declared.message.Message.TheVariants.{IHave, Graft, Neighbor, NeighborReply, ShuffleReply, XRoot, XPrefixes, XWant};
-ghost use Rattle.meta_frame.specs.Reading.{Gives, made_at, message_at, priority_at, answer_at, nodes_at, digest_at, prefixes_at, key_at, gossip_at, announced_at, forwarded_at, shuffle_at, inner_at, leaves_at, bucket_at, carried_at};
+ghost use Rattle.field_readers.specs.Reader.{Gives, made_at, priority_at, answer_at, nodes_at, digest_at, prefixes_at, key_at};
+ghost use Rattle.meta_frame.specs.Reading.{message_at, gossip_at, announced_at, forwarded_at, shuffle_at, inner_at, leaves_at, bucket_at, carried_at};
 
-use crate::fault::FieldFault;
-use crate::listing::{digest_of, digests_of, keys_of, nodes_of, prefixes_of};
 use crate::message::Message;
-use crate::reading::{
+use field_readers::FieldFault;
+use field_readers::listing::{digest_of, digests_of, keys_of, nodes_of, prefixes_of};
+use field_readers::reading::{
     answer_of, key_of, node_from, node_of, object_of, place_of, prefix_of, priority_of, u8_of,
     u16_of, vector_of,
 };

@@ -7,9 +7,10 @@ ghost use Rattle.meta_frame.specs.Frame.{number_in, header_tests, Spells, Refuse
 ghost use Rattle.meta_frame.specs.Reading.{Decodes, decode_of, IsHeader, framed};
 
 use crate::bodies::message_of;
-use crate::fault::{FieldFault, FrameFault};
+use crate::fault::FrameFault;
 use crate::kinds::is_known;
 use crate::message::{Frame, Message};
+use field_readers::FieldFault;
 use meta_types::NodeId;
 use std::alloc::Global;
 

@@ -1,7 +1,6 @@
 ghost use Rattle.std.specs.Prelude.{◌≡◌};
 ghost use Rattle.meta_frame.specs.Fault.{code_of, fault_name};
 ghost use Rattle.meta_frame.specs.declared.fault.FrameFault.TheVariants.{Memory};
-ghost use Rattle.meta_frame.specs.declared.fault.FieldFault.TheVariants as fields;
 
 use meta_types::TypeFault;
 use std::alloc::{AllocError, AllocFailed};
@@ -76,29 +75,5 @@ impl<T: Drop> From<AllocFailed<T>> for FrameFault {
 
     fn from(_error: AllocFailed<T>) -> FrameFault {
         FrameFault::Memory
-    }
-}
-
-/// Why a field was not read.
-#[derive(Debug, Drop)]
-pub(crate) enum FieldFault {
-    Memory,
-    /// The field is cut, or breaks its rule; so many bytes were left at its first byte.
-    Left(usize),
-}
-
-impl From<AllocError> for FieldFault {
-    ghost from_gives = { λ _ fault. fault ≡ fields.Memory };
-
-    fn from(_error: AllocError) -> FieldFault {
-        FieldFault::Memory
-    }
-}
-
-impl<T: Drop> From<AllocFailed<T>> for FieldFault {
-    ghost from_gives = { λ _ fault. fault ≡ fields.Memory };
-
-    fn from(_error: AllocFailed<T>) -> FieldFault {
-        FieldFault::Memory
     }
 }

@@ -5,9 +5,10 @@ ghost use Rattle.frame_fields.specs.Field.{prefix, key, vector, object};
 ghost use Rattle.meta_frame.specs.Reading.{offset_of};
 ghost use Rattle.meta_frame.specs.Front.{Begins, RefusesField};
 
-use crate::fault::{FieldFault, FrameFault};
-use crate::reading::{key_of, object_of, prefix_of, vector_of};
+use crate::fault::FrameFault;
 use dvvset::{Entries, Vector};
+use field_readers::FieldFault;
+use field_readers::reading::{key_of, object_of, prefix_of, vector_of};
 use meta_types::{FullPrefix, MetaKey};
 use std::alloc::Global;
 

@@ -10,9 +10,7 @@ pub mod field;
 mod kinds;
 pub mod lawful;
 pub mod laws;
-mod listing;
 pub mod message;
-mod reading;
 
 pub use fault::FrameFault;
 pub use frame_fields::{Answer, Priority};

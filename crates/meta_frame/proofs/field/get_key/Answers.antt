@@ -1,7 +1,7 @@
 use Rattle.std.proofs.Common.{arith}
 use Rattle.frame_fields.specs.Field.{key}
-use Rattle.meta_frame.specs.Reading.{key_at}
-use Rattle.meta_frame.proofs.Fields.{key_reads}
+use Rattle.field_readers.specs.Reader.{key_at}
+use Rattle.field_readers.proofs.Fields.{key_reads}
 use Rattle.meta_frame.proofs.Fronts.{begins, refuses_field}
 use Rattle.meta_frame.proofs.field.get_key.Goals as goal
 

@@ -1,7 +1,7 @@
 use Rattle.std.proofs.Common.{arith}
 use Rattle.frame_fields.specs.Field.{object}
-use Rattle.meta_frame.specs.Reading.{object_at}
-use Rattle.meta_frame.proofs.Fields.{object_reads}
+use Rattle.field_readers.specs.Reader.{object_at}
+use Rattle.field_readers.proofs.Fields.{object_reads}
 use Rattle.meta_frame.proofs.Fronts.{begins, refuses_field}
 use Rattle.meta_frame.proofs.field.get_object.Goals as goal
 

@@ -1,7 +1,7 @@
 use Rattle.std.proofs.Common.{arith}
 use Rattle.frame_fields.specs.Field.{prefix}
-use Rattle.meta_frame.specs.Reading.{prefix_at}
-use Rattle.meta_frame.proofs.Fields.{prefix_reads}
+use Rattle.field_readers.specs.Reader.{prefix_at}
+use Rattle.field_readers.proofs.Fields.{prefix_reads}
 use Rattle.meta_frame.proofs.Fronts.{begins, refuses_field}
 use Rattle.meta_frame.proofs.field.get_prefix.Goals as goal
 

@@ -1,7 +1,7 @@
 use Rattle.std.proofs.Common.{arith}
 use Rattle.frame_fields.specs.Field.{vector}
-use Rattle.meta_frame.specs.Reading.{vector_at}
-use Rattle.meta_frame.proofs.Fields.{vector_reads}
+use Rattle.field_readers.specs.Reader.{vector_at}
+use Rattle.field_readers.proofs.Fields.{vector_reads}
 use Rattle.meta_frame.proofs.Fronts.{begins, refuses_field}
 use Rattle.meta_frame.proofs.field.get_vector.Goals as goal
 

@@ -1,6 +1,6 @@
 use Rattle.frame_fields.specs.Field.{prefix, key, vector, object}
-use Rattle.meta_frame.specs.Reading.{prefix_at, key_at, vector_at, object_at}
-use Rattle.meta_frame.proofs.Fields.{prefix_reads, key_reads, vector_reads, object_reads}
+use Rattle.field_readers.specs.Reader.{prefix_at, key_at, vector_at, object_at}
+use Rattle.field_readers.proofs.Fields.{prefix_reads, key_reads, vector_reads, object_reads}
 use Rattle.meta_frame.proofs.Fronts.{unambiguous}
 use Rattle.meta_frame.proofs.laws.fields_are_unambiguous.Goals as goal
 
