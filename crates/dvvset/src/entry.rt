@@ -109,8 +109,9 @@ impl Entry {
     }
 }
 
-/// Adds copies of values at the end.
-pub(crate) fn push_copies(copies: &mut Vec<Value>, values: &[Value]) -> Result<(), AllocError>
+/// Adds copies of values at the end, in their order. It takes memory, with the refusal of which alone it is
+/// refused; some of them may have been added then.
+pub fn push_copies(copies: &mut Vec<Value>, values: &[Value]) -> Result<(), AllocError>
     ensures { OnOk result (copies.new.items ≡ copies.old.items ++ values.now) }
 {
     for value in values {
