@@ -6,7 +6,8 @@ use Rattle.dvvset.specs.Object.{Entry}
 use Rattle.dvvset.specs.Clock.{sync, sync_from, sync_entry}
 use Rattle.dvvset.proofs.Rising.{drop_is}
 
-sync-nil : (xs : List Entry) → sync xs [] ≡ xs
+-- a merge with the absent object changes nothing
+pub sync-nil : (xs : List Entry) → sync xs [] ≡ xs
 sync-nil [] = refl
 sync-nil (x ∷ xs) = ap (λ l. x ∷ l) (sync-nil xs)
 
