@@ -1,4 +1,4 @@
-ghost use Rattle.std.specs.Prelude.{◌≡◌, [], length, IfOk, IfErr, OnOk, OnErr, IfSome, true, false, IsTrue, ◌↔◌, ◌≤◌};
+ghost use Rattle.std.specs.Prelude.{◌≡◌, [], length, None, IfOk, IfErr, OnOk, OnErr, IfSome, true, false, IsTrue, ◌↔◌, ◌≤◌};
 ghost use Rattle.std.specs.Option.{option_copied};
 ghost use Rattle.std.specs.FinMap.{find, is_sorted};
 ghost use Rattle.meta_types.specs.Name.{Key};
@@ -8,10 +8,8 @@ ghost use Rattle.dvvset.specs.Writer.{count_of};
 ghost use Rattle.meta_store.specs.Table.{IsHeld, IsTable, is_stale, object_at, with_object};
 ghost use Rattle.meta_store.specs.Step.{is_full_for};
 ghost use Rattle.meta_store.specs.Place.{IsAt, IsGap};
-ghost use Rattle.meta_store.specs.declared.fault.StoreFault.TheVariants.{Memory};
 
 use crate::context::Context;
-use crate::fault::StoreFault;
 use crate::source::Source;
 use crate::stale::{has_read, knows};
 use dvvset::{Entries, Entry, Vector, count_of, join, values};
@@ -154,12 +152,13 @@ impl Store {
     }
 
     /// Holds the object under the key, in place of what is held there, as a store is filled from what another
-    /// one has held. It takes memory for a new key, and is refused with 99 `Memory` alone; then nothing changes.
-    pub fn hold(&mut self, key: MetaKey, object: Entries) -> Result<(), StoreFault>
+    /// one has held. For a new key it may take memory, with the refusal of which alone it is refused; then nothing
+    /// changes. A key that is held is never refused.
+    pub fn hold(&mut self, key: MetaKey, object: Entries) -> Result<(), AllocError>
         requires held { IsHeld object }
         requires room { is_full_for self.old key ≡ false }
         ensures value { OnOk result (self.new ≡ with_object key object self.old) }
-        ensures fault { IfErr result (λ fault. fault ≡ Memory) }
+        ensures absent { OnErr result (find key_cmp key self.old ≡ None) }
         ensures same { OnErr result (self.new ≡ self.old) }
     {
         // Read for what it tells: the key is in range.

@@ -1,6 +1,6 @@
-use Rattle.std.proofs.Common.{sym, subst, ◌∙◌}
+use Rattle.std.proofs.Common.{sym, subst, ◌∙◌, Result, Ok, Err, OnErr}
 use Rattle.meta_store.specs.Table.{IsTable}
-use Rattle.meta_store.proofs.Places.{put_at, put_gap}
+use Rattle.meta_store.proofs.Places.{find_gap, put_at, put_gap}
 use Rattle.meta_store.proofs.Tables.{table_put}
 use Rattle.meta_store.proofs.store.Store.hold.Goals as goal
 
@@ -24,3 +24,10 @@ invariant_of-self-in-Continue-1 c =
 pub returns-in_ok-insert-in-Err-clause-value : goal.returns-in_ok-insert-in-Err-clause-value
 returns-in_ok-insert-in-Err-clause-value c =
     c.in_ok-insert-in-Err.ensures.items ∙ rw c.self.view_is (sym (put_gap c.args.self.now c.args.key c.args.object c.in-Err.at c.in-Err.ensures.absent))
+
+always : {T E P : Type 0} (r : Result T E) → P → OnErr r P
+always (Ok x) p = tt
+always (Err e) p = p
+
+pub returns-in_err-insert-in-Err-clause-absent : goal.returns-in_err-insert-in-Err-clause-absent
+returns-in_err-insert-in-Err-clause-absent c = always c.from_residual.result (find_gap c.args.self.now c.args.key c.in-Err.at c.in-Err.ensures.absent)
