@@ -33,7 +33,7 @@ vector_from_rest cs rest = record {
 
 -- ---- the vector of an object
 
-ids_counted-join : (es : List Entry) → ids_counted (join es) ≡ ids_of es
+pub ids_counted-join : (es : List Entry) → ids_counted (join es) ≡ ids_of es
 ids_counted-join [] = refl
 ids_counted-join (e ∷ es) = ap (λ ns. e.id ∷ ns) (ids_counted-join es)
 

@@ -1,14 +1,11 @@
 -- Objects of the same shape.
-use Rattle.std.proofs.Common.{◌≡◌, suc, ◌==◌, ◌&&◌, Bool, true, false, List, [], ◌∷◌, length, refl, ap}
+use Rattle.std.proofs.Common.{◌≡◌, suc, ◌==◌, ◌&&◌, true, false, List, [], ◌∷◌, length, refl, ap}
 use Rattle.std.specs.Bool.{Decides}
+use Rattle.std.proofs.Math.Bool.{and-false}
 use Rattle.std.proofs.lemmas.Bool.{eqb-true, eq-eqb, and_parts}
 use Rattle.dvvset.specs.Object.{Entry}
 use Rattle.dvvset.specs.Clock.{same}
 use Rattle.dvvset.specs.Writer.{Shape, shape_of, shapes}
-
-and-false : (b : Bool) → (b && false) ≡ false
-and-false true = refl
-and-false false = refl
 
 -- lists of other lengths are not the same
 pub same_lengths : (a b : List Entry) → (length a ≡ length b → ⊥) → same a b ≡ false

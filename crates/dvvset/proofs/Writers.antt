@@ -10,6 +10,7 @@ use Rattle.dvvset.specs.Object.{Entry, Counter, RisesFrom, ids_of, ids_counted, 
 use Rattle.dvvset.specs.Clock.{join, cover, cut, counter, sync_entry, sync_from, sync, blanks, raise, update, values_of}
 use Rattle.dvvset.specs.Writer.{entry_of, count_of, IsMerged, MergesAt, unread, shown, IsWritten}
 use Rattle.dvvset.proofs.Objects.{object_from_rest}
+use Rattle.dvvset.proofs.Showing.{back_none}
 
 abbrev pub Rises : ℕ → List Entry → Type 0
 Rises low es = RisesFrom low (ids_of es)
@@ -388,7 +389,7 @@ written_writers read object id v left right =
 
 -- ---- what is written is an object that shows a value
 
-Rises-raise : (id : ℕ) (v : ValueParts) (es : List Entry) (low : ℕ) → low ≤ id → Rises low es → Rises low (raise id v es)
+pub Rises-raise : (id : ℕ) (v : ValueParts) (es : List Entry) (low : ℕ) → low ≤ id → Rises low es → Rises low (raise id v es)
 Rises-raise id v [] low le rises = (le, tt)
 Rises-raise id v (x ∷ xs) low le rises =
     elim (ltb id x.id) as (λ b. ltb id x.id ≡ b → Rises low (cond b (raised id v None ∷ (x ∷ xs)) (cond (eqb x.id id) (grown x v ∷ xs) (x ∷ raise id v xs)))) [
@@ -439,10 +440,6 @@ pub IsObject-raise : (id : ℕ) (v : ValueParts) (es : List Entry) → IsNode id
 IsObject-raise id v es node value is room =
     object_from_rest (raise id v es) (record { rising = Rises-raise id v es 0 (omega arith) is.rising; lawful = All-raise id v es node value is.entries room })
 
-none_behind : {A : Type 0} (xs ys : List A) → xs ++ ys ≡ [] → ys ≡ []
-none_behind [] ys e = e
-none_behind (x ∷ xs) ys e = cc e
-
 pub raise_shows : (id : ℕ) (v : ValueParts) (es : List Entry) → values_of (raise id v es) ≡ [] → ⊥
 raise_shows id v [] e = cc (sym (flat_map-cons (λ (x : Entry). x.values) (raised id v None) []) ∙ e)
 raise_shows id v (x ∷ xs) e =
@@ -451,7 +448,7 @@ raise_shows id v (x ∷ xs) e =
       | false ↦
           elim (eqb x.id id) as (λ d. values_of (cond d (grown x v ∷ xs) (x ∷ raise id v xs)) ≡ [] → ⊥) [
             | true ↦ λ e. cc (sym (flat_map-cons (λ (y : Entry). y.values) (grown x v) xs) ∙ e)
-            | false ↦ λ e. raise_shows id v xs (none_behind x.values (values_of (raise id v xs)) (sym (flat_map-cons (λ (y : Entry). y.values) x (raise id v xs)) ∙ e))
+            | false ↦ λ e. raise_shows id v xs (back_none x.values (values_of (raise id v xs)) (sym (flat_map-cons (λ (y : Entry). y.values) x (raise id v xs)) ∙ e))
           ]
     ] e
 

@@ -5,9 +5,10 @@ use Rattle.std.proofs.lemmas.Bool.{cases_eq, cases_lt, eqb-true, eq-eqb, ne_eqb,
 use Rattle.std.proofs.lemmas.List.Elements.{All-nil, All-cons, All-head, All-tail}
 use Rattle.meta_types.specs.Name.{Key}
 use Rattle.meta_types.specs.Value.{ValueParts}
-use Rattle.dvvset.specs.Object.{Entry, Counter, RisesFrom, ids_of, ids_counted}
+use Rattle.dvvset.specs.Object.{Entry, Counter, RisesFrom, ids_counted}
 use Rattle.dvvset.specs.Clock.{join, counter}
 use Rattle.dvvset.specs.Writer.{entry_of, shown}
+use Rattle.dvvset.proofs.Objects.{ids_counted-join}
 use Rattle.dvvset.proofs.Writers.{Rises, entry_of-low, count_at, count_of-entry}
 use Rattle.past_model.specs.Sets.{Places}
 use Rattle.past_model.specs.Past.{Write}
@@ -103,10 +104,6 @@ same_shown (x ∷ xs) (y ∷ ys) low left right vector same =
 
 -- ---- an object of a set by its entries
 
-pub join-ids : (es : List Entry) → ids_counted (join es) ≡ ids_of es
-join-ids [] = refl
-join-ids (e ∷ es) = ap (λ ns. e.id ∷ ns) (join-ids es)
-
 -- the ids rise, and each writer's entry is that of the set
 pub record HasEntries (ws : List Write) (S : Places) (es : List Entry) : Type 0 where
   pub rises : Rises 0 es
@@ -171,7 +168,7 @@ entry_is (x ∷ xs) w e held h =
 
 pub entries_of_object : (ws : List Write) (k : Key) (S : Places) (es : List Entry) → IsObjectOf ws k S es → HasEntries ws S es
 entries_of_object ws k S es object = record {
-  rises = subst (λ ns. RisesFrom 0 ns) (join-ids es) object.context.rising;
+  rises = subst (λ ns. RisesFrom 0 ns) (ids_counted-join es) object.context.rising;
   entries = λ w.
       entry_by_parts (entry_of es w) w (count_in ws S w) (siblings_by ws S w) (λ e h. entry_is es w e object.context.held h)
       (sym (count_of-entry es w) ∙ object.context.counts w) (object.siblings w);
@@ -194,7 +191,7 @@ pub object_from_entries : (ws : List Write) (k : Key) (S : Places) (es : List En
 object_from_entries ws k S es closed has = record {
   closed = closed;
   context = record {
-    rising = subst (λ ns. RisesFrom 0 ns) (sym (join-ids es)) has.rises;
+    rising = subst (λ ns. RisesFrom 0 ns) (sym (ids_counted-join es)) has.rises;
     counts = λ w. count_of-entry es w ∙ ap count_at (has.entries w) ∙ entry_with-count w (count_in ws S w) (siblings_by ws S w);
     held = held_from es 0 has.rises (λ w e h. entry_with-held w (count_in ws S w) (siblings_by ws S w) e (sym (has.entries w) ∙ h));
   };
@@ -207,5 +204,5 @@ one_context ws S cs ds left right = same_counters cs ds 0 left.rising right.risi
 
 pub one_object : (ws : List Write) (k : Key) (S : Places) (a b : List Entry) → IsObjectOf ws k S a → IsObjectOf ws k S b → a ≡ b
 one_object ws k S a b left right =
-    same_shown a b 0 (subst (λ ns. RisesFrom 0 ns) (join-ids a) left.context.rising) (subst (λ ns. RisesFrom 0 ns) (join-ids b) right.context.rising)
+    same_shown a b 0 (subst (λ ns. RisesFrom 0 ns) (ids_counted-join a) left.context.rising) (subst (λ ns. RisesFrom 0 ns) (ids_counted-join b) right.context.rising)
     (one_context ws S (join a) (join b) left.context right.context) (λ w. left.siblings w ∙ sym (right.siblings w))

@@ -2,6 +2,7 @@
 use Rattle.std.proofs.Common.{◌≡◌, ℕ, ◌+◌, ◌<◌, ◌≤◌, Bool, true, false, cond, zero, suc, List, [], ◌∷◌, ◌++◌, length, map, take, get_or, All, sym, ap, refl, subst, ◌∙◌, arith, ⊎_elim, inl, inr, eqb, Some, add-one, append_assoc}
 use Rattle.std.specs.Prelude.{slice_get, ◌&&◌, ◌||◌, not, filter}
 use Rattle.std.specs.List.{list_any}
+use Rattle.std.proofs.Math.Bool.{or-false, and-false, and-true}
 use Rattle.std.proofs.Math.Seq.{take-length}
 use Rattle.std.proofs.lemmas.Bool.{cases_eq, cases_lt, eqb-true, eq-eqb, ne_eqb, and_parts, and_from}
 use Rattle.std.proofs.lemmas.List.{append-nil, map-append}
@@ -238,25 +239,13 @@ places_rise S (suc n) =
       | false ↦ subst (Rise (suc n)) (sym (append-nil (places_to S n))) (rise_same n (places_to S n) (places_rise S n))
     ]
 
-or_none : (b : Bool) → (b || false) ≡ b
-or_none true = refl
-or_none false = refl
-
-and_none : (b : Bool) → (b && false) ≡ false
-and_none true = refl
-and_none false = refl
-
-and_all : (b : Bool) → (b && true) ≡ b
-and_all true = refl
-and_all false = refl
-
 -- whether the place is the next one of the set
 last_place : (S : Places) (n p : ℕ) → list_any (λ q. eqb q p) (places_to S (suc n)) ≡ (list_any (λ q. eqb q p) (places_to S n) || (S n && eqb n p))
 last_place S n p =
     list_any-append (λ q. eqb q p) (places_to S n) (cond (S n) (n ∷ []) [])
     ∙ ap (λ b. list_any (λ q. eqb q p) (places_to S n) || b)
     (elim (S n) as (λ b. list_any (λ q. eqb q p) (cond b (n ∷ []) []) ≡ (b && eqb n p)) [
-      | true ↦ or_none (eqb n p)
+      | true ↦ or-false (eqb n p)
       | false ↦ refl
     ])
 
@@ -267,7 +256,7 @@ places_past S (suc n) p le =
     last_place S n p
     ∙ ap (λ b. b || (S n && eqb n p)) (places_past S n p (omega arith))
     ∙ ap (λ b. S n && b) (ne_eqb n p other)
-    ∙ and_none (S n)
+    ∙ and-false (S n)
 
 places_in : (S : Places) (n p : ℕ) → p < n → list_any (λ q. eqb q p) (places_to S n) ≡ S p
 places_in S zero p lt = absurd (omega arith)
@@ -275,11 +264,11 @@ places_in S (suc n) p lt =
     last_place S n p
     ∙ ⊎_elim
     (λ (same : n ≡ p).
-    ap (λ b. b || (S n && eqb n p)) (places_past S n p (omega arith)) ∙ ap (λ b. S n && b) (eq-eqb n p same) ∙ and_all (S n) ∙ ap S same)
+    ap (λ b. b || (S n && eqb n p)) (places_past S n p (omega arith)) ∙ ap (λ b. S n && b) (eq-eqb n p same) ∙ and-true (S n) ∙ ap S same)
     (λ ne.
     ap (λ b. list_any (λ q. eqb q p) (places_to S n) || (S n && b)) (ne_eqb n p ne)
-    ∙ ap (λ b. list_any (λ q. eqb q p) (places_to S n) || b) (and_none (S n))
-    ∙ or_none (list_any (λ q. eqb q p) (places_to S n))
+    ∙ ap (λ b. list_any (λ q. eqb q p) (places_to S n) || b) (and-false (S n))
+    ∙ or-false (list_any (λ q. eqb q p) (places_to S n))
     ∙ places_in S n p (omega arith))
     (cases_eq n p)
 

@@ -1,22 +1,16 @@
 -- A writer's entry after one more event, and that of a vector.
 use Rattle.std.proofs.Common.{◌≡◌, ℕ, ◌+◌, ◌<◌, ◌≤◌, true, false, cond, List, [], ◌∷◌, sym, ap, refl, ◌∙◌, arith, Option, Some, None, eqb, ltb}
-use Rattle.std.proofs.lemmas.Bool.{eqb-true, eqb-false, ne_eqb, ltb-true, ltb-false}
+use Rattle.std.proofs.lemmas.Bool.{eqb-true, eqb-false, ne_eqb, ltb-true}
 use Rattle.meta_types.specs.Value.{ValueParts}
 use Rattle.dvvset.specs.Object.{Entry}
 use Rattle.dvvset.specs.Clock.{join, blanks, raise}
 use Rattle.dvvset.specs.Writer.{entry_of}
-use Rattle.dvvset.proofs.Writers.{Rises, entry_of-low}
+use Rattle.dvvset.proofs.Writers.{Rises, entry_of-low, first, grown}
 
--- the first event of a writer, and one more
-abbrev pub first : ℕ → ValueParts → Entry
-first w v = record { id = w; count = 1; values = v ∷ [] }
-
-abbrev pub grown : ValueParts → Entry → Entry
-grown v x = record { id = x.id; count = x.count + 1; values = v ∷ x.values }
-
+-- one more event of a writer, the first if it has none
 abbrev pub raised : ℕ → ValueParts → Option Entry → Option Entry
 raised w v None = Some (first w v)
-raised w v (Some x) = Some (grown v x)
+raised w v (Some x) = Some (grown x v)
 
 pub entry_of-raise : (w : ℕ) (v : ValueParts) (xs : List Entry) (low u : ℕ) → Rises low xs → entry_of (raise w v xs) u ≡ cond (eqb w u) (raised u v (entry_of xs u)) (entry_of xs u)
 entry_of-raise w v [] low u rises =
@@ -25,7 +19,7 @@ entry_of-raise w v [] low u rises =
       | false ↦ λ e. refl
     ] refl
 entry_of-raise w v (x ∷ xs) low u rises =
-    elim (ltb w x.id) as (λ b. ltb w x.id ≡ b → entry_of (cond b (first w v ∷ (x ∷ xs)) (cond (eqb x.id w) (grown v x ∷ xs) (x ∷ raise w v xs))) u ≡ cond (eqb w u) (raised u v (entry_of (x ∷ xs) u)) (entry_of (x ∷ xs) u)) [
+    elim (ltb w x.id) as (λ b. ltb w x.id ≡ b → entry_of (cond b (first w v ∷ (x ∷ xs)) (cond (eqb x.id w) (grown x v ∷ xs) (x ∷ raise w v xs))) u ≡ cond (eqb w u) (raised u v (entry_of (x ∷ xs) u)) (entry_of (x ∷ xs) u)) [
       | true ↦ λ lt.
           elim (eqb w u) as (λ c. eqb w u ≡ c → cond c (Some (first w v)) (entry_of (x ∷ xs) u) ≡ cond c (raised u v (entry_of (x ∷ xs) u)) (entry_of (x ∷ xs) u)) [
             | true ↦ λ e.
@@ -36,9 +30,9 @@ entry_of-raise w v (x ∷ xs) low u rises =
             | false ↦ λ e. refl
           ] refl
       | false ↦ λ ge.
-          elim (eqb x.id w) as (λ d. eqb x.id w ≡ d → entry_of (cond d (grown v x ∷ xs) (x ∷ raise w v xs)) u ≡ cond (eqb w u) (raised u v (entry_of (x ∷ xs) u)) (entry_of (x ∷ xs) u)) [
+          elim (eqb x.id w) as (λ d. eqb x.id w ≡ d → entry_of (cond d (grown x v ∷ xs) (x ∷ raise w v xs)) u ≡ cond (eqb w u) (raised u v (entry_of (x ∷ xs) u)) (entry_of (x ∷ xs) u)) [
             | true ↦ λ e.
-                elim (eqb x.id u) as (λ c. cond c (Some (grown v x)) (entry_of xs u) ≡ cond c (raised u v (cond c (Some x) (entry_of xs u))) (cond c (Some x) (entry_of xs u))) [ true ↦ refl | false ↦ refl ]
+                elim (eqb x.id u) as (λ c. cond c (Some (grown x v)) (entry_of xs u) ≡ cond c (raised u v (cond c (Some x) (entry_of xs u))) (cond c (Some x) (entry_of xs u))) [ true ↦ refl | false ↦ refl ]
                 ∙ ap (λ i. cond (eqb i u) (raised u v (entry_of (x ∷ xs) u)) (entry_of (x ∷ xs) u)) (eqb-true x.id w e)
             | false ↦ λ e.
                 ap (λ o. cond (eqb x.id u) (Some x) o) (entry_of-raise w v xs (x.id + 1) u rises.1)
@@ -46,22 +40,9 @@ entry_of-raise w v (x ∷ xs) low u rises =
                   | true ↦ λ f.
                       let here : x.id ≡ u = eqb-true x.id u f in
                       let other : (w ≡ u → ⊥) = λ h. eqb-false x.id w e (here ∙ sym h) in
-                      sym (ap (λ b. cond b (Some (grown v x)) (Some x)) (ne_eqb w u other))
+                      sym (ap (λ b. cond b (Some (grown x v)) (Some x)) (ne_eqb w u other))
                   | false ↦ λ f. refl
                 ] refl
-          ] refl
-    ] refl
-
-pub Rises-raise : (w : ℕ) (v : ValueParts) (xs : List Entry) (low : ℕ) → low ≤ w → Rises low xs → Rises low (raise w v xs)
-Rises-raise w v [] low le rises = (le, tt)
-Rises-raise w v (x ∷ xs) low le rises =
-    elim (ltb w x.id) as (λ b. ltb w x.id ≡ b → Rises low (cond b (first w v ∷ (x ∷ xs)) (cond (eqb x.id w) (grown v x ∷ xs) (x ∷ raise w v xs)))) [
-      | true ↦ λ lt. let below : w < x.id = ltb-true w x.id lt in (le, (omega arith, rises.1))
-      | false ↦ λ ge.
-          let above : x.id ≤ w = ltb-false w x.id ge in
-          elim (eqb x.id w) as (λ d. eqb x.id w ≡ d → Rises low (cond d (grown v x ∷ xs) (x ∷ raise w v xs))) [
-            | true ↦ λ e. rises
-            | false ↦ λ e. let other = eqb-false x.id w e in (rises.0, Rises-raise w v xs (x.id + 1) (omega (arith, other)) rises.1)
           ] refl
     ] refl
 

@@ -6,7 +6,7 @@ use Rattle.meta_types.specs.Value.{ValueParts}
 use Rattle.dvvset.specs.Object.{Entry}
 use Rattle.dvvset.specs.Clock.{join, blanks, sync, update}
 use Rattle.dvvset.specs.Writer.{entry_of}
-use Rattle.dvvset.proofs.Writers.{Rises, sync_at, entry_of-sync, Rises-sync, Rises-blanks}
+use Rattle.dvvset.proofs.Writers.{Rises, sync_at, entry_of-sync, Rises-sync, Rises-blanks, Rises-raise}
 use Rattle.past_model.specs.Sets.{Places, union, singleton}
 use Rattle.past_model.specs.Past.{Write, In}
 use Rattle.past_model.specs.Shown.{IsClosed, was_read, is_sibling, IsObjectOf}
@@ -17,7 +17,7 @@ use Rattle.past_model.proofs.Members.{any-cong, filter-cong}
 use Rattle.past_model.proofs.Closed.{in_set, read_in, writes_of, in_set-older, key_of, was_read-within, was_read-older, was_read-union, filter-own, own_count, cover_of, count_in-own, cover-le, IsClosed-union, entry_in, entry_in-rendered}
 use Rattle.past_model.proofs.Staying.{not_in}
 use Rattle.past_model.proofs.Entries.{HasEntries, entries_of_object, object_from_entries}
-use Rattle.past_model.proofs.Raised.{raised, entry_of-raise, Rises-raise, blank, entry_of-blanks}
+use Rattle.past_model.proofs.Raised.{raised, entry_of-raise, blank, entry_of-blanks}
 
 -- the set with what the write had read, and the write
 abbrev pub with_write : Places → Write → Places
