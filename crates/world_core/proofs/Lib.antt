@@ -1,28 +1,26 @@
--- what holds of each set that a past has and the object in its place
-pub mod Paired
--- after every list that keeps the restart premise each object is that of its set
-pub mod Matching
--- what one more happening changes
-pub mod Changes
--- stale deliveries, and values shown
-pub mod Deliveries
--- what a restart keeps
-pub mod Restarting
--- what images have, read from the newest down
-pub mod Chains
--- how many keys a table has
-pub mod Bounded
--- a store filled from an image
-pub mod Restoring
--- what each change of a node keeps
-pub mod Noding
--- a node after one more happening
-pub mod Following
--- what stands at a place
-pub mod Standing
--- histories with one more happening
-pub mod Histories
 -- what accepted events tell
 pub mod Telling
 -- what a world keeps to, happening by happening
 pub mod Worlds
+-- one more accepted event
+pub mod Applying
+-- causes of refusals that don't apply
+pub mod Refusing
+-- what a read number names
+pub mod Named
+-- writes and reads
+pub mod Putting
+-- outcomes
+pub mod Outcomes
+-- restarts
+pub mod Restarts
+-- sendings
+pub mod Sending
+-- deliveries
+pub mod Delivering
+-- events one after the other
+pub mod Running
+-- what a world lends
+pub mod Lent
+-- fresh and stale deliveries
+pub mod Fresh

@@ -17,19 +17,19 @@ use Rattle.past_model.specs.declared.happening.Happening.TheVariants.{Wrote, Loo
 use Rattle.past_model.specs.Past.{known, writes}
 use Rattle.past_model.specs.Shown.{IsObjectOf}
 use Rattle.past_model.specs.History.{Fits, RestartsKeepOwnWrites}
-use Rattle.world_core.specs.Objects.{held, read_object, seen_object, sent_object}
-use Rattle.world_core.specs.Images.{holdings}
-use Rattle.world_core.specs.Node.{Node, empty, IsNode, with_kept, with_merge, with_restart, with_write}
-use Rattle.world_core.specs.Follows.{Follows}
+use Rattle.object_machine.specs.Objects.{held, read_object, seen_object, sent_object}
+use Rattle.node_images.specs.Images.{holdings}
+use Rattle.node_images.specs.Node.{Node, empty, IsNode, with_kept, with_merge, with_restart, with_write}
+use Rattle.node_images.specs.Follows.{Follows}
 use Rattle.world_core.specs.Tells.{Told, nothing_told, Pairwise, carried, tell, tell_look, tell_sending}
 use Rattle.world_core.specs.World.{World, IsRead, IsSending, IsState, IsTold, IsWorld, new_world}
-use Rattle.world_core.proofs.Changes.{after_look, after_sending}
-use Rattle.world_core.proofs.Restarting.{others_keep, start_keeps}
-use Rattle.world_core.proofs.Histories.{history_snoc}
-use Rattle.world_core.proofs.Matching.{matches}
-use Rattle.world_core.proofs.Standing.{seen_later, sent_later}
+use Rattle.object_machine.proofs.Changes.{after_look, after_sending}
+use Rattle.object_machine.proofs.Restarting.{others_keep, start_keeps}
+use Rattle.object_machine.proofs.Histories.{history_snoc}
+use Rattle.object_machine.proofs.Matching.{matches}
+use Rattle.object_machine.proofs.Standing.{seen_later, sent_later}
 use Rattle.world_core.proofs.Telling.{slice_get_more}
-use Rattle.world_core.proofs.Following.{follows_look, follows_sending, follows_write, follows_keep, follows_take, follows_restart, write_elsewhere, keeping_elsewhere, delivery_elsewhere, restart_elsewhere}
+use Rattle.node_images.proofs.Following.{follows_look, follows_sending, follows_write, follows_keep, follows_take, follows_restart, write_elsewhere, keeping_elsewhere, delivery_elsewhere, restart_elsewhere}
 
 -- ---- lists side by side
 
@@ -135,7 +135,7 @@ state_restart nodes contexts sent t n j table node s low at image restored fits 
     (follows_restart t.history n j node table (subst (Follows t.history n) (sym at) (s.nodes n node low)) image restored)
     (λ m d within ne. restart_elsewhere t.history n j m (get_or nodes m d) ne (s.nodes m d within)))
 
-slice_get_end : (hs : List Happening) (h : Happening) → slice_get (hs ++ h ∷ []) (length hs) ≡ Some h
+pub slice_get_end : (hs : List Happening) (h : Happening) → slice_get (hs ++ h ∷ []) (length hs) ≡ Some h
 slice_get_end [] h = refl
 slice_get_end (g ∷ hs) h = slice_get_end hs h
 

@@ -1,6 +1,5 @@
--- What must be believed of the world, in the order in which to read it. Today that is the machine that its invariant
--- will speak of.
--- names, values, clocks and the past, which the contracts of this crate speak of too
+-- What must be believed of the world, in the order in which to read it.
+-- names, values, clocks, the past, frames, stores and images, which the contracts of this crate speak of too
 pub use Rattle.meta_types.specs.Name
 pub use Rattle.meta_types.specs.Value
 pub use Rattle.dvvset.specs.Object
@@ -10,21 +9,30 @@ pub use Rattle.past_model.specs.Sets
 pub use Rattle.past_model.specs.Past
 pub use Rattle.past_model.specs.History
 pub use Rattle.past_model.specs.Shown
--- what the nodes hold: the happenings of the past over objects
-pub mod Objects
--- images as they are kept
-pub mod Images
--- what the world keeps of one node
-pub mod Node
--- what one more happening changes
-pub mod Laws
--- where a node stands after a history
-pub mod Follows
+pub use Rattle.meta_frame.specs.Frame
+pub use Rattle.meta_store.specs.Table
+pub use Rattle.meta_store.specs.Step
+pub use Rattle.object_machine.specs.Objects
+pub use Rattle.node_images.specs.Images
+pub use Rattle.node_images.specs.Node
+pub use Rattle.node_images.specs.Follows
 -- how accepted events tell a history
 pub mod Tells
 -- a world, and what it keeps to
 pub mod World
 -- the refusals
 pub mod Fault
+-- which refusal an event meets
+pub mod Refusal
+-- what a world answers, and what it then is
+pub mod Outcome
+-- what private functions alone cite: what the steps of an event hand on
+pub mod Steps
+-- what private functions alone cite: the lists of a world
+pub mod Chronicle
+-- what private functions alone cite: what a write and a read leave
+pub mod Plan
+-- what contexts and frames carry
+pub mod Knowledge
 -- lists of values compared
 pub mod Equal

@@ -10,9 +10,9 @@ use Rattle.past_model.specs.declared.happening.Happening.{Happening}
 use Rattle.past_model.specs.declared.happening.Happening.TheVariants.{Looked, Sent}
 use Rattle.past_model.specs.History.{IsHistory, RestartsKeepOwnWrites}
 use Rattle.world_core.specs.declared.answer.Accepted.{Accepted}
-use Rattle.world_core.specs.Objects.{seen_object, sent_object}
-use Rattle.world_core.specs.Node.{Node, empty}
-use Rattle.world_core.specs.Follows.{Follows}
+use Rattle.object_machine.specs.Objects.{seen_object, sent_object}
+use Rattle.node_images.specs.Node.{Node, empty}
+use Rattle.node_images.specs.Follows.{Follows}
 use Rattle.world_core.specs.Tells.{Told, Pairwise, carried, numbers_from, nothing_told, sent_numbers, told}
 
 -- contexts by the number of their read, and the bytes of frames by their number, both from 1
@@ -70,6 +70,10 @@ pub record IsWorld (w : World) : Type 0 where
   pub state : IsState w.nodes w.contexts sent w.told
   pub some : 1 ≤ length w.nodes
   pub few : length w.nodes ≤ 16
+
+-- the same as one word, into which proofs do not look by themselves
+unfoldable pub IsKept : World → Type 0
+IsKept w = IsWorld w
 
 -- a world of so many nodes to which nothing has happened
 abbrev pub new_world : ℕ → World

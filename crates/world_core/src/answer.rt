@@ -1,12 +1,13 @@
 //! What a world answers to an event.
 
-ghost use Rattle.std.specs.Prelude.{◌≡◌, ◌++◌, IfOk, OnOk};
+ghost use Rattle.std.specs.Prelude.{◌≡◌, ◌∷◌, [], IfOk};
+ghost use Rattle.world_core.specs.Outcome.{replied};
 
 use crate::event::Event;
-use dvvset::Vector;
+use dvvset::{Vector, push_copies};
 use meta_store::Context;
 use meta_types::Value;
-use std::alloc::AllocError;
+use std::alloc::{AllocError, Global};
 use std::marker::Model;
 
 /// Values that a read has shown, in their order.
@@ -45,16 +46,6 @@ impl Values {
         push_copies(&mut values, self.values.as_slice())?;
         Ok(Values { values })
     }
-}
-
-/// Adds copies of values at the end.
-fn push_copies(copies: &mut Vec<Value>, values: &[Value]) -> Result<(), AllocError>
-    ensures { OnOk result (copies.new.items ≡ copies.old.items ++ values.now) }
-{
-    for value in values {
-        copies.push(value.copy()?)?;
-    }
-    Ok(())
 }
 
 impl PartialEq for Values {
@@ -100,6 +91,22 @@ impl FrameNumbers {
         ensures { result ≡ numbers.items }
     {
         FrameNumbers { numbers }
+    }
+
+    pub(crate) fn none(alloc: Global) -> Self
+        ensures { result ≡ [] }
+    {
+        FrameNumbers {
+            numbers: Vec::new(alloc),
+        }
+    }
+
+    pub(crate) fn one(alloc: Global, number: u64) -> Result<Self, AllocError>
+        ensures { IfOk result (λ numbers. numbers ≡ number ∷ []) }
+    {
+        Ok(FrameNumbers {
+            numbers: [number].to_vec(alloc)?,
+        })
     }
 
     pub fn as_slice(&self) -> &[u64]
@@ -188,6 +195,17 @@ pub struct Answer {
 }
 
 impl Answer {
+    /// A reply of an event that is no read and sends nothing.
+    pub(crate) fn replied(alloc: Global, reply: Reply) -> Self
+        ensures { result ≡ replied reply }
+    {
+        Answer {
+            reply,
+            read: None,
+            sent: FrameNumbers::none(alloc),
+        }
+    }
+
     /// It takes memory, with the refusal of which alone it is refused.
     pub fn copy(&self) -> Result<Self, AllocError>
         ensures { IfOk result (λ copy. copy ≡ self.now) }

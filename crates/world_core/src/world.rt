@@ -1,22 +1,29 @@
 //! All nodes of a cluster, in one value.
 
-ghost use Rattle.std.specs.Prelude.{◌≡◌, ◌≤◌, ◌<◌, ◌⊎◌, [], ◌↔◌, length, replicate, IfOk, IfErr, IfSome, IsNone};
+ghost use Rattle.std.specs.Prelude.{◌≡◌, ◌≤◌, ◌<◌, ◌⊎◌, ◌↔◌, ℕ, List, Some, length, replicate, IfOk, IfErr, OnOk, IfSome, IsNone};
 ghost use Rattle.meta_types.specs.Name.{Key};
 ghost use Rattle.meta_store.specs.Table.{object_at};
-ghost use Rattle.past_model.specs.Past.{known, writes};
-ghost use Rattle.past_model.specs.Shown.{IsObjectOf};
+ghost use Rattle.past_model.specs.Past.{image, known, past, writes};
+ghost use Rattle.past_model.specs.Shown.{ArePlaces, IsObjectOf};
+ghost use Rattle.node_images.specs.Images.{ChangeEarlier, holdings};
 ghost use Rattle.past_model.specs.History.{IsHistory, RestartsKeepOwnWrites};
-ghost use Rattle.world_core.specs.Node.{empty};
-ghost use Rattle.world_core.specs.Tells.{Tells};
+ghost use Rattle.node_images.specs.Node.{empty};
+ghost use Rattle.dvvset.specs.Object.{Entry};
+ghost use Rattle.meta_frame.specs.declared.message.Frame.{Frame as F};
+ghost use Rattle.meta_store.specs.Context.{Reading};
+ghost use Rattle.world_core.specs.Tells.{Tells, carried, numbered};
+ghost use Rattle.world_core.specs.Refusal.{IsFrameOf};
+ghost use Rattle.world_core.specs.Knowledge.{CarriesLoad, CountsSeen};
 ghost use Rattle.world_core.specs.World.{new_world};
 ghost use Rattle.world_core.specs.declared.fault.WorldFault.TheVariants.{Memory, NoSuchNode};
 
 use crate::answer::Accepted;
+use crate::chronicle::Chronicle;
 use crate::fault::WorldFault;
-use crate::node::Node;
-use meta_store::{Context, Store};
-use meta_types::ByteString;
-use past_model::Happening;
+use meta_store::Store;
+use meta_types::{ByteString, MetaKey};
+use node_images::{Image, Node};
+use past_model::{Happening, Plain};
 use std::alloc::{AllocError, Global};
 use std::marker::Model;
 
@@ -26,23 +33,19 @@ pub const MAX_NODES: u64 = 16;
 /// Nodes, with all that was accepted and sent, and the history that it tells. It keeps each of these whole.
 #[derive(Debug, Drop)]
 pub struct World {
-    nodes: Vec<Node>,
-    accepted: Vec<Accepted>,
-    frames: Vec<ByteString>,
-    contexts: Vec<Context>,
-    history: Vec<Happening>,
-    looks: Vec<usize>,
-    sendings: Vec<Option<usize>>,
+    pub(crate) nodes: Vec<Node>,
+    pub(crate) chronicle: Chronicle,
 }
 
 impl Model for World {
-    ghost use Rattle.world_core.specs.World.{World as Parts, IsWorld};
+    ghost use Rattle.world_core.specs.World.{World as Parts, IsKept};
+    ghost use Rattle.world_core.specs.Chronicle.{told_so_far};
 
     ghost Value = { Parts };
 
-    ghost view = { λ w. record { nodes = w.nodes.items; accepted = w.accepted.items; frames = w.frames.items; contexts = w.contexts.items; told = record { history = w.history.items; looks = w.looks.items; sendings = w.sendings.items } } };
+    ghost view = { λ w. record { nodes = w.nodes.items; accepted = w.chronicle.accepted.items; frames = w.chronicle.frames.items; contexts = w.chronicle.contexts.items; told = told_so_far w.chronicle } };
 
-    ghost invariant = { λ w. IsWorld (record { nodes = w.nodes.items; accepted = w.accepted.items; frames = w.frames.items; contexts = w.contexts.items; told = record { history = w.history.items; looks = w.looks.items; sendings = w.sendings.items } }) };
+    ghost invariant = { λ w. IsKept (record { nodes = w.nodes.items; accepted = w.chronicle.accepted.items; frames = w.chronicle.frames.items; contexts = w.chronicle.contexts.items; told = told_so_far w.chronicle }) };
 }
 
 impl World {
@@ -58,37 +61,68 @@ impl World {
         }
         Ok(World {
             nodes: empty_nodes(alloc, nodes)?,
-            accepted: Vec::new(alloc),
-            frames: Vec::new(alloc),
-            contexts: Vec::new(alloc),
-            history: Vec::new(alloc),
-            looks: Vec::new(alloc),
-            sendings: Vec::new(alloc),
+            chronicle: Chronicle::new(alloc),
         })
+    }
+
+    pub(crate) fn alloc(&self) -> Global {
+        *self.chronicle.accepted.allocator()
     }
 
     /// The accepted events with their answers, in their order.
     pub fn accepted(&self) -> &[Accepted]
         ensures { result.now ≡ self.now.accepted }
     {
-        self.accepted.as_slice()
+        self.chronicle.accepted.as_slice()
     }
 
-    /// The bytes of all frames that were sent, in the order of their numbers; the first has number 1.
+    /// The bytes of all frames that were sent, in the order of their numbers; the first has number 1. The object of
+    /// each is that of what its sender knew when it was sent.
     pub fn frames(&self) -> &[ByteString]
-        ensures { result.now ≡ self.now.frames }
+        ensures value { result.now ≡ self.now.frames }
+        ensures carries { (number : ℕ) (frame : F) (key : Key) (object : List Entry) → IsFrameOf self.now number frame → carried frame.message ≡ Some (key, object) → CarriesLoad self.now.told number frame.from key object }
     {
-        self.frames.as_slice()
+        self.chronicle.frames.as_slice()
     }
 
-    /// What has happened, as the accepted events tell it.
+    /// What has happened, as the accepted events tell it. The context of each read is that of what its node knew
+    /// then.
     pub fn history(&self) -> &[Happening]
         ensures value { result.now ≡ self.now.told.history }
         ensures tells { Tells self.now.accepted self.now.frames self.now.told.history }
         ensures is_history { IsHistory self.now.told.history }
         ensures premise { RestartsKeepOwnWrites self.now.told.history }
+        ensures reads { (read : ℕ) (context : Reading) → numbered self.now.contexts read ≡ Some context → CountsSeen self.now.told read context }
     {
-        self.history.as_slice()
+        self.chronicle.history.as_slice()
+    }
+
+    /// The places, in `history`, of the writes that the node knows under the key, rising. Refused with 44
+    /// `NoSuchNode` and 99 `Memory`. It is told from the history alone, by sets of places, and takes memory and
+    /// time with the square of the history's length.
+    pub fn known(&self, alloc: Global, node: u64, key: &MetaKey) -> Result<Vec<usize>, WorldFault>
+        ensures places { IfOk result (λ places. ArePlaces (known self.now.told.history node key.now) places.items) }
+        ensures node { OnOk result (node < length self.now.nodes) }
+        ensures fault { IfErr result (λ fault. (fault ≡ Memory) ⊎ ((fault ≡ NoSuchNode) × (length self.now.nodes ≤ node))) }
+    {
+        let id = self.node_id(node)?;
+        let plain = Plain::replay(alloc, self.history())?;
+        Ok(plain.known(alloc, id, key)?)
+    }
+
+    /// The images of the node, but for image 0, which is empty; `None` for a node that the world doesn't have, and
+    /// only then. What one has under a key is read by `object_in`, and is the object of the writes that the history
+    /// has there.
+    pub fn images(&self, node: u64) -> Option<&[Image]>
+        ensures node { IsNone result ↔ (length self.now.nodes ≤ node) }
+        ensures number { IfSome result (λ images. length images.now ≡ (past self.now.told.history).last node) }
+        ensures objects { IfSome result (λ images. (number : ℕ) → number ≤ length images.now → (key : Key) → IsObjectOf (writes self.now.told.history) key (image self.now.told.history node number key) (holdings images.now number key)) }
+        ensures earlier { IfSome result (λ images. ChangeEarlier images.now) }
+    {
+        match usize::try_from(node) {
+            Ok(at) if at < self.nodes.len() => Some(self.nodes[at].images()),
+            _ => None,
+        }
     }
 
     /// What the node holds; `None` for a node that the world doesn't have, and only then. Under each key that is

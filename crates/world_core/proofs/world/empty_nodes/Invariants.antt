@@ -1,5 +1,5 @@
 use Rattle.std.proofs.Common.{◌≡◌, ◌≤◌, replicate}
-use Rattle.world_core.specs.Node.{empty}
+use Rattle.node_images.specs.Node.{empty}
 use Rattle.world_core.proofs.world.empty_nodes.Given as goal
 
 abbrev pub invariant-loop : goal.invariant-loop

@@ -4,21 +4,17 @@ use Rattle.meta_store.specs.Table.{object_at}
 use Rattle.past_model.specs.Past.{known, writes}
 use Rattle.past_model.specs.Shown.{IsObjectOf}
 use Rattle.world_core.specs.World.{World}
+use Rattle.world_core.specs.contracts.world.World.{the_view}
+use Rattle.world_core.proofs.Outcomes.{world_of}
 use Rattle.world_core.proofs.Worlds.{shows}
 use Rattle.world_core.proofs.world.World.state.Goals as goal
 
 pub returns-in-Ok-clause-shows : goal.returns-in-Ok-clause-shows
 returns-in-Ok-clause-shows c =
-    let inside : World = record {
-      nodes = c.self.inside.nodes.items;
-      accepted = c.self.inside.accepted.items;
-      frames = c.self.inside.frames.items;
-      contexts = c.self.inside.contexts.items;
-      told = record { history = c.self.inside.history.items; looks = c.self.inside.looks.items; sendings = c.self.inside.sendings.items };
-    } in
+    let inside : World = the_view c.self.inside in
     let low : c.in-Ok.at < length c.self.inside.nodes.items = search rules in
     let number : c.in-Ok.at ≡ c.args.node = search rules in
     let here : (k : Key) → IsObjectOf (writes inside.told.history) k (known inside.told.history c.in-Ok.at k) (object_at c.store.result.now k) =
-    shows inside c.self.invariant c.in-Ok.at c.index.result.now low c.index.ensures c.store.result.now c.store.ensures in
+    shows inside (world_of inside c.self.invariant) c.in-Ok.at c.index.result.now low c.index.ensures c.store.result.now c.store.ensures in
     subst (λ (w : World). (k : Key) → IsObjectOf (writes w.told.history) k (known w.told.history c.args.node k) (object_at c.store.result.now k)) c.self.view_is
     (subst (λ (n : ℕ). (k : Key) → IsObjectOf (writes inside.told.history) k (known inside.told.history n k) (object_at c.store.result.now k)) number here)

@@ -1,0 +1,15 @@
+-- What must be believed of a node with its images, in the order in which to read it.
+-- names, values, clocks and the store, which the contracts of this crate speak of too
+pub use Rattle.meta_types.specs.Name
+pub use Rattle.meta_types.specs.Value
+pub use Rattle.dvvset.specs.Object
+pub use Rattle.dvvset.specs.Clock
+pub use Rattle.meta_store.specs.Table
+pub use Rattle.meta_store.specs.Step
+pub use Rattle.object_machine.specs.Objects
+-- images as they are kept
+pub mod Images
+-- what is kept of one node
+pub mod Node
+-- what proofs alone cite: where a node stands after a history
+pub mod Follows

@@ -1,0 +1,44 @@
+//! A store from an image.
+
+ghost use Rattle.std.specs.Prelude.{◌≡◌, ◌≤◌, length, IfOk, OnOk};
+ghost use Rattle.meta_types.specs.Name.{Key};
+ghost use Rattle.meta_store.specs.Table.{IsTable, object_at};
+ghost use Rattle.node_images.specs.Images.{ChangeEarlier, HasRoom, IsChange, IsTabled, filled, holdings};
+
+use crate::image::Image;
+use meta_store::Store;
+use std::alloc::{AllocError, Global};
+
+/// Holds what the image has instead of its base, where nothing is held yet under that key.
+fn fill(store: &mut Store, image: &Image) -> Result<(), AllocError>
+    requires { IsChange image.now.change → HasRoom store.old image.now.change }
+    ensures value { OnOk result (store.new ≡ filled store.old image.now.change) }
+    ensures is_table { OnOk result (IsTable store.new) }
+{
+    if let Some((key, object)) = image.change() {
+        if store.object(key).is_none() {
+            store.hold(key.copy()?, object.copy()?)?;
+        }
+    }
+    let _ = store.len();
+    Ok(())
+}
+
+/// A store that holds what the image of that number has. It takes memory, with the refusal of which alone it
+/// is refused.
+pub fn restore(alloc: Global, images: &[Image], number: usize) -> Result<Store, AllocError>
+    requires number { number ≤ length images.now }
+    requires earlier { ChangeEarlier images.now }
+    requires tabled { IsTabled (holdings images.now number) }
+    ensures value { IfOk result (λ store. (key : Key) → object_at store key ≡ holdings images.now number key) }
+{
+    let mut store = Store::new(alloc);
+    let mut at = number;
+    let _ = store.len();
+    while at > 0 {
+        let image = &images[at - 1];
+        fill(&mut store, image)?;
+        at = image.base();
+    }
+    Ok(store)
+}

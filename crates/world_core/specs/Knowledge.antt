@@ -1,0 +1,50 @@
+-- What the contexts, the frames and the replies of a world say, in the words of the past. The rule is our own.
+use Rattle.std.specs.Prelude.{◌≡◌, ℕ, List, Some, slice_get, ◌↔◌}
+use Rattle.meta_types.specs.Name.{Key}
+use Rattle.dvvset.specs.Object.{Entry}
+use Rattle.meta_store.specs.Context.{Reading}
+use Rattle.past_model.specs.declared.happening.Happening.{Happening}
+use Rattle.past_model.specs.declared.happening.Happening.TheVariants.{Looked, Sent}
+use Rattle.past_model.specs.Sets.{IsSubset}
+use Rattle.past_model.specs.Past.{known, load, seen, writes}
+use Rattle.past_model.specs.Shown.{IsContext, IsObjectOf}
+use Rattle.world_core.specs.declared.answer.Answer.{Answer}
+use Rattle.world_core.specs.declared.answer.Reply.{Reply}
+use Rattle.world_core.specs.declared.answer.Reply.TheVariants.{TookFresh, TookStale}
+use Rattle.world_core.specs.declared.event.Event.{Event}
+use Rattle.world_core.specs.declared.event.Event.TheVariants.{Put, Get, PutOver, Send, Deliver, Junk, Keep, Restart}
+use Rattle.world_core.specs.Tells.{Told, numbered, sending_of}
+use Rattle.world_core.specs.World.{World}
+
+-- the context of a read counts what its node knew under its key
+pub record CountsSeen (t : Told) (read : ℕ) (context : Reading) : Type 0 where
+  pub place : ℕ
+  pub node : ℕ
+  pub told : numbered t.looks read ≡ Some place
+  pub looked : slice_get t.history place ≡ Some (Looked node context.key)
+  pub vector : IsContext (writes t.history) (seen t.history place context.key) context.vector
+
+-- the object of a frame is that of what its sender knew under its key
+pub record CarriesLoad (t : Told) (number from : ℕ) (key : Key) (object : List Entry) : Type 0 where
+  pub place : ℕ
+  pub told : sending_of t number ≡ Some place
+  pub sent : slice_get t.history place ≡ Some (Sent from key)
+  pub is : IsObjectOf (writes t.history) key (load t.history place key) object
+
+-- the reply to an object that was sent at the place: fresh exactly where the node didn't know all that was sent, and stale
+-- exactly where it did
+pub record IsFresh (hs : List Happening) (n place : ℕ) (key : Key) (reply : Reply) : Type 0 where
+  pub fresh : (reply ≡ TookFresh) ↔ (IsSubset (load hs place key) (known hs n key) → ⊥)
+  pub stale : (reply ≡ TookStale) ↔ IsSubset (load hs place key) (known hs n key)
+
+-- the answer to a delivery of what was sent
+abbrev pub FreshExactly : World → Event → Answer → Type 0
+FreshExactly w (Put n k v read) answer = Unit {0}
+FreshExactly w (Get n k) answer = Unit {0}
+FreshExactly w (PutOver n k v) answer = Unit {0}
+FreshExactly w (Send n k to) answer = Unit {0}
+FreshExactly w (Deliver number n word) answer =
+    (place m : ℕ) (key : Key) → sending_of w.told number ≡ Some place → slice_get w.told.history place ≡ Some (Sent m key) → IsFresh w.told.history n place key answer.reply
+FreshExactly w (Junk n bytes) answer = Unit {0}
+FreshExactly w (Keep n k) answer = Unit {0}
+FreshExactly w (Restart n image) answer = Unit {0}

@@ -1,0 +1,31 @@
+-- What a write and a read leave, made before anything changes, which private functions alone cite.
+use Rattle.std.specs.Prelude.{◌≡◌, ℕ, Option, None}
+use Rattle.meta_types.specs.Name.{Key}
+use Rattle.meta_types.specs.Value.{ValueParts}
+use Rattle.dvvset.specs.Clock.{join, values_of}
+use Rattle.meta_store.specs.Context.{Reading}
+use Rattle.meta_store.specs.Table.{Table, IsHeld, object_at}
+use Rattle.meta_store.specs.Step.{refusal_of_put, written}
+use Rattle.node_images.specs.Node.{Node, IsNode, image_of_write}
+use Rattle.world_core.specs.declared.write.Plan.{Plan}
+use Rattle.world_core.specs.declared.write.Shown.{Shown}
+
+-- the plan is that of the write on the node, whose store takes it
+pub record IsPlan (node : Node) (id : ℕ) (key : Key) (value : ValueParts) (context : Option Reading) (plan : Plan) : Type 0 where
+  pub image : plan.image ≡ image_of_write id key value context node
+  pub vector : plan.vector ≡ join (written node.table id key value context)
+  pub reply : plan.reply ≡ join (written node.table id key value context)
+  pub kept : plan.kept ≡ record { key = key; value = value }
+  pub told : plan.told ≡ record { key = key; value = value }
+  pub held : IsHeld (written node.table id key value context)
+  pub is_node : IsNode node
+  pub taken : refusal_of_put node.table id key value context ≡ None
+
+-- this is what the table shows with that context
+pub record IsShown (table : Table) (read : Reading) (shown : Shown) : Type 0 where
+  pub values : shown.values ≡ values_of (object_at table read.key)
+  pub copies : shown.copies ≡ values_of (object_at table read.key)
+  pub context : shown.context ≡ read
+  pub handed : shown.handed ≡ read
+  pub reply : shown.reply ≡ read
+  pub key : shown.key ≡ read.key

@@ -1,0 +1,118 @@
+-- Which refusal an event meets in a world: each event has its causes in their order, and the first that applies gives the
+-- refusal. An event for which none applies is accepted. The rule is our own.
+use Rattle.std.specs.Prelude.{◌≡◌, ◌≢◌, ℕ, ◌+◌, ◌<◌, ◌≤◌, ◌⊎◌, List, length, get_or, Option, Some, None}
+use Rattle.std.specs.Option.{option_map}
+use Rattle.meta_types.specs.Name.{Key}
+use Rattle.dvvset.specs.Object.{Entry}
+use Rattle.dvvset.specs.Clock.{join}
+use Rattle.meta_frame.specs.Frame.{Spells}
+use Rattle.meta_frame.specs.Frame as frame
+use Rattle.meta_frame.specs.declared.fault.FrameFault.{FrameFault}
+use Rattle.meta_frame.specs.declared.message.Frame.{Frame}
+use Rattle.meta_store.specs.Context.{Reading}
+use Rattle.meta_store.specs.Table.{Table, object_at}
+use Rattle.meta_store.specs.Step.{refusal_of_merge, refusal_of_put}
+use Rattle.meta_store.specs.declared.fault.StoreFault.{StoreFault}
+use Rattle.past_model.specs.declared.happening.Happening.TheVariants.{Restarted}
+use Rattle.past_model.specs.Past.{happens, past}
+use Rattle.past_model.specs.History.{KnowsOwn}
+use Rattle.node_images.specs.Node.{Node, empty}
+use Rattle.world_core.specs.declared.event.Event.{Event}
+use Rattle.world_core.specs.declared.event.Event.TheVariants.{Put, Get, PutOver, Send, Deliver, Junk, Keep, Restart}
+use Rattle.world_core.specs.declared.fault.WorldFault.{WorldFault}
+use Rattle.world_core.specs.declared.fault.WorldFault.TheVariants.{BadNode, NotAddressed, StaleImage, NoSuchFrame, NoSuchRead, NoSuchNode, LooksLikeFrame, NoSuchImage}
+use Rattle.world_core.specs.Fault.{of_frame, of_store}
+use Rattle.world_core.specs.Tells.{carried, numbered}
+use Rattle.world_core.specs.World.{World}
+
+-- ---- what there is
+
+-- what the node holds
+abbrev pub node_at : World → ℕ → Node
+node_at w n = get_or w.nodes n empty
+
+abbrev pub table_of : World → ℕ → Table
+table_of w n = (node_at w n).table
+
+-- the context that a read of the key by the node would hand out now; its source is the node with the read's number
+abbrev pub present : World → ℕ → Key → Reading
+present w n k = record { key = k; vector = join (object_at (table_of w n) k); source = record { node = n; step = length w.contexts + 1 } }
+
+-- the context of a write: that of the read of this number
+abbrev pub context_of : World → Option ℕ → Option Reading
+context_of w None = None
+context_of w (Some read) = numbered w.contexts read
+
+-- this is the frame of that number
+pub record IsFrameOf (w : World) (number : ℕ) (frame : Frame) : Type 0 where
+  pub bytes : List ℕ
+  pub there : numbered w.frames number ≡ Some bytes
+  pub spelled : Spells frame bytes
+
+-- ---- causes
+
+-- the world has no such node
+abbrev pub HasNoNode : World → ℕ → Type 0
+HasNoNode w n = length w.nodes ≤ n
+
+-- there was no such read
+abbrev pub HasNoRead : World → Option ℕ → Type 0
+HasNoRead w None = ⊥
+HasNoRead w (Some read) = numbered w.contexts read ≡ None
+
+-- there was no such frame
+abbrev pub HasNoFrame : World → ℕ → Type 0
+HasNoFrame w frame = numbered w.frames frame ≡ None
+
+-- the node has no such image
+abbrev pub HasNoImage : World → ℕ → ℕ → Type 0
+HasNoImage w n image = length (node_at w n).images < image
+
+-- the image lacks a write that the node made: after a restart from it the node wouldn't know each of its own
+abbrev pub LacksOwn : World → ℕ → ℕ → Type 0
+LacksOwn w n image = KnowsOwn (happens (past w.told.history) (Restarted n image)) n → ⊥
+
+-- the bytes are a frame
+pub record IsFrame (bytes : List ℕ) : Type 0 where
+  pub frame : Frame
+  pub spelled : Spells frame bytes
+
+-- ---- the first cause that applies
+
+-- where the cause applies this is the refusal, and where it doesn't, what the rest says
+abbrev pub first : Type 0 → WorldFault → (WorldFault → Type 0) → WorldFault → Type 0
+first cause refusal rest fault = (cause × (fault ≡ refusal)) ⊎ ((cause → ⊥) × rest fault)
+
+abbrev pub none : WorldFault → Type 0
+none fault = ⊥
+
+-- the refusal of a store, if there is one
+abbrev pub by_store : Option StoreFault → WorldFault → Type 0
+by_store refusal fault = option_map of_store refusal ≡ Some fault
+
+-- the refusal of what a frame carries, where it carries an object
+abbrev pub refusal_of_object : Table → Option (Key × List Entry) → Option StoreFault
+refusal_of_object table None = None
+refusal_of_object table (Some object) = refusal_of_merge table object.0 object.1
+
+-- the refusal of a frame
+pub record ByFrame (w : World) (number n : ℕ) (fault : WorldFault) : Type 0 where
+  pub frame : Frame
+  pub is : IsFrameOf w number frame
+  pub refused : first (frame.to ≢ n) NotAddressed (by_store (refusal_of_object (table_of w n) (carried frame.message))) fault
+
+-- the refusal of bytes that are no frame
+pub record ByBytes (bytes : List ℕ) (fault : WorldFault) : Type 0 where
+  pub of_bytes : FrameFault
+  pub refused : frame.Refuses bytes of_bytes
+  pub is : fault ≡ of_frame of_bytes
+
+abbrev pub Refuses : World → Event → WorldFault → Type 0
+Refuses w (Put n k v read) = first (HasNoNode w n) NoSuchNode (first (HasNoRead w read) NoSuchRead (by_store (refusal_of_put (table_of w n) n k v (context_of w read))))
+Refuses w (Get n k) = first (HasNoNode w n) NoSuchNode none
+Refuses w (PutOver n k v) = first (HasNoNode w n) NoSuchNode (by_store (refusal_of_put (table_of w n) n k v (Some (present w n k))))
+Refuses w (Send n k to) = first (HasNoNode w n ⊎ HasNoNode w to) NoSuchNode (first (n ≡ to) BadNode none)
+Refuses w (Deliver number n word) = first (HasNoNode w n) NoSuchNode (first (HasNoFrame w number) NoSuchFrame (ByFrame w number n))
+Refuses w (Junk n bytes) = first (HasNoNode w n) NoSuchNode (first (IsFrame bytes) LooksLikeFrame (ByBytes bytes))
+Refuses w (Keep n k) = first (HasNoNode w n) NoSuchNode none
+Refuses w (Restart n image) = first (HasNoNode w n) NoSuchNode (first (HasNoImage w n image) NoSuchImage (first (LacksOwn w n image) StaleImage none))

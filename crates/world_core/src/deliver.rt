@@ -1,0 +1,165 @@
+//! Deliveries of frames, and junk.
+
+ghost use Rattle.std.specs.Prelude.{◌≡◌, ◌+◌, ◌<◌, ◌^◌, Some, None, IfOk, IfErr};
+ghost use Rattle.world_core.specs.Tells.{carried};
+ghost use Rattle.world_core.specs.Outcome.{Outcome, merged, replied};
+ghost use Rattle.world_core.specs.Steps.{Arrives, IsArrival, IsNoFrame};
+ghost use Rattle.world_core.specs.Refusal.{IsFrame};
+ghost use Rattle.world_core.specs.declared.event.Event.TheVariants.{Deliver, Junk};
+
+use crate::answer::{Accepted, Answer, Reply};
+use crate::apply::place_of;
+use crate::event::Event;
+use crate::fault::WorldFault;
+use crate::world::World;
+use dvvset::Entries;
+use meta_frame::decode::decode;
+use meta_frame::{FrameFault, Message};
+use meta_store::Merged;
+use meta_types::{ByteString, MetaKey, NodeId};
+use past_model::Happening;
+use std::alloc::{AllocError, Global};
+
+/// To whom a frame is addressed, and the object that it carries, with its key.
+#[derive(Debug, Drop)]
+struct Arrival {
+    to: NodeId,
+    object: Option<(MetaKey, Entries)>,
+}
+
+impl World {
+    /// The delivery of the frame of that number to a node.
+    pub(crate) fn deliver(&mut self, frame: u64, node: u64, word: u64) -> Result<Answer, WorldFault>
+        ensures { Outcome self.old (Deliver frame node word) result self.new }
+    {
+        let alloc = self.alloc();
+        let id = self.node_id(node)?;
+        let Some(place) = place_of(frame, self.chronicle.frames.len()) else {
+            return Err(WorldFault::NoSuchFrame);
+        };
+        let arrival = opened_frame(alloc, self.chronicle.frames[place].as_slice())?;
+        if arrival.to != id {
+            return Err(WorldFault::NotAddressed);
+        }
+        match arrival.object {
+            Some((key, object)) => self.take(place, id, word, key, object),
+            None => self.take_nothing(place, id, word),
+        }
+    }
+
+    /// The delivery of a frame that carries an object.
+    fn take(
+        &mut self,
+        place: usize,
+        node: NodeId,
+        word: u64,
+        key: MetaKey,
+        object: Entries,
+    ) -> Result<Answer, WorldFault>
+        requires few { place + 1 < 2 ^ 64 }
+        requires arrives { Arrives self.old (place + 1) node (Some (key, object)) }
+        ensures { Outcome self.old (Deliver (place + 1) node word) result self.new }
+    {
+        let alloc = self.alloc();
+        let sent = self.chronicle.sendings[place].unwrap();
+        self.chronicle.reserve()?;
+        let taken = self.nodes[usize::from(node.number())].take(key, object)?;
+        self.chronicle
+            .history
+            .push(Happening::Got { node, sent })
+            .unwrap();
+        let accepted = Accepted {
+            event: delivery(place, node, word),
+            answer: took(alloc, taken),
+        };
+        self.chronicle.accepted.push(accepted).unwrap();
+        Ok(took(alloc, taken))
+    }
+
+    /// The delivery of a frame that carries no object.
+    fn take_nothing(&mut self, place: usize, node: NodeId, word: u64) -> Result<Answer, WorldFault>
+        requires few { place + 1 < 2 ^ 64 }
+        requires arrives { Arrives self.old (place + 1) node None }
+        ensures { Outcome self.old (Deliver (place + 1) node word) result self.new }
+    {
+        let alloc = self.alloc();
+        self.chronicle.reserve()?;
+        let accepted = Accepted {
+            event: delivery(place, node, word),
+            answer: Answer::replied(alloc, Reply::Took),
+        };
+        self.chronicle.accepted.push(accepted).unwrap();
+        Ok(Answer::replied(alloc, Reply::Took))
+    }
+
+    /// Bytes that no node sent. It is always refused.
+    pub(crate) fn junk(&mut self, node: u64, bytes: ByteString) -> Result<Answer, WorldFault>
+        ensures { Outcome self.old (Junk node bytes) result self.new }
+    {
+        let alloc = self.alloc();
+        self.node_id(node)?;
+        match opened(alloc, bytes.as_slice()) {
+            Ok(_) => Err(WorldFault::LooksLikeFrame),
+            Err(fault) => Err(WorldFault::from(fault)),
+        }
+    }
+}
+
+/// What arrives with the bytes of a frame. Refused as by `decode`.
+fn opened(alloc: Global, bytes: &[u8]) -> Result<Arrival, FrameFault>
+    ensures arrival { IfOk result (λ arrival. IsArrival bytes.now arrival.to arrival.object) }
+    ensures refused { IfErr result (IsNoFrame bytes.now) }
+{
+    let frame = decode(alloc, bytes)?;
+    Ok(Arrival {
+        to: frame.to,
+        object: carried(frame.message),
+    })
+}
+
+/// What arrives with the bytes of a frame that was sent.
+fn opened_frame(alloc: Global, bytes: &[u8]) -> Result<Arrival, AllocError>
+    requires { IsFrame bytes.now }
+    ensures { IfOk result (λ arrival. IsArrival bytes.now arrival.to arrival.object) }
+{
+    match opened(alloc, bytes) {
+        Ok(arrival) => Ok(arrival),
+        Err(FrameFault::Memory) => Err(AllocError),
+        Err(_) => unreachable!(),
+    }
+}
+
+/// The object that a message carries, with its key.
+fn carried(message: Message) -> Option<(MetaKey, Entries)>
+    ensures { result ≡ carried message }
+{
+    match message {
+        Message::Gossip { key, object, .. } => Some((key, object)),
+        Message::XObject { key, object } => Some((key, object)),
+        _ => None,
+    }
+}
+
+/// A delivery as an event.
+fn delivery(place: usize, node: NodeId, word: u64) -> Event
+    requires { place + 1 < 2 ^ 64 }
+    ensures { result ≡ Deliver (place + 1) node word }
+{
+    let before = place as u64;
+    Event::Deliver {
+        frame: before + 1,
+        node: u64::from(node.number()),
+        word,
+    }
+}
+
+/// The answer to an object that was taken.
+fn took(alloc: Global, taken: Merged) -> Answer
+    ensures { result ≡ replied (merged taken) }
+{
+    let reply = match taken {
+        Merged::Fresh => Reply::TookFresh,
+        Merged::Stale => Reply::TookStale,
+    };
+    Answer::replied(alloc, reply)
+}
