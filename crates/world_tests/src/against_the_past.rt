@@ -101,15 +101,15 @@ fn restart(world: &World, dice: &mut Dice, node: u64) -> Act {
 /// What comes next; a write is of this value.
 fn next_act(world: &World, dice: &mut Dice, letter: u8) -> Act {
     let (node, key) = (dice.node(), dice.key());
-    match dice.below(18) {
+    match dice.below(20) {
         0 | 1 => Act::Put(node, key, letter, None),
-        2..=4 => Act::Put(node, key, letter, Some(dice.number(reads(world)))),
-        5 | 6 => Act::Get(node, key),
-        7 => Act::PutOver(node, key, letter),
-        8..=10 => Act::Send(node, key, dice.node()),
-        11..=13 => delivery(world, dice),
-        14 => Act::Keep(node, key),
-        15 => Act::Restart(node, last_image(world, node)),
+        2..=5 => Act::Put(node, key, letter, Some(dice.number(reads(world)))),
+        6 | 7 => Act::Get(node, key),
+        8 => Act::PutOver(node, key, letter),
+        9..=12 => Act::Send(node, key, dice.node()),
+        13..=16 => delivery(world, dice),
+        17 => Act::Keep(node, key),
+        18 => Act::Restart(node, last_image(world, node)),
         _ => restart(world, dice, node),
     }
 }
@@ -151,21 +151,35 @@ fn are_right(alloc: Global, world: &World) -> Result<bool, Fail> {
     Ok(true)
 }
 
+/// Applies one event, and tells whether each node then shows what the sets of places do.
+fn stays_right(
+    alloc: Global,
+    world: &mut World,
+    dice: &mut Dice,
+    letter: u8,
+) -> Result<bool, Fail> {
+    let act = next_act(world, dice, letter);
+    // Refusals are part of it: what is refused changes nothing.
+    let _ = world.apply(event(alloc, act)?);
+    are_right(alloc, world)
+}
+
+/// The first step of a new schedule, from 1, after which a node shows something else; 0 where there is none.
+fn first_wrong(alloc: Global, dice: &mut Dice) -> Result<u8, Fail> {
+    let mut world = World::new(alloc, u64::from(NODES))?;
+    for step in 0..60 {
+        if !stays_right(alloc, &mut world, dice, step)? {
+            return Ok(step + 1);
+        }
+    }
+    Ok(0)
+}
+
 #[test]
 fn nodes_show_what_sets_of_places_do(rt: HostRuntime) -> Result<(), Fail> {
-    let alloc = rt.alloc();
     let mut dice = Dice { state: 1 };
-    for round in 0..60 {
-        let mut world = World::new(alloc, u64::from(NODES))?;
-        for step in 0..40 {
-            let act = next_act(&world, &mut dice, step);
-            // Refusals are part of it: what is refused changes nothing.
-            let _ = world.apply(event(alloc, act)?);
-            assert!(rt;
-                are_right(alloc, &world)?,
-                "round {round}, step {step}: {act:?}"
-            );
-        }
+    for _ in 0..40 {
+        assert_eq!(rt; first_wrong(rt.alloc(), &mut dice)?, 0);
     }
     Ok(())
 }
