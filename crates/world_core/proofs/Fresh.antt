@@ -1,10 +1,9 @@
 -- Fresh and stale deliveries, by what was sent and what is known.
-use Rattle.std.proofs.Common.{◌≡◌, inl, inr, ℕ, zero, suc, ◌+◌, ◌<◌, ◌≤◌, Bool, true, false, cond, List, length, Option, Some, None, Ok, Err, Result, refl, sym, ap, subst, ◌∙◌, arith, ltb}
+use Rattle.std.proofs.Common.{◌≡◌, inl, ℕ, zero, suc, ◌+◌, ◌<◌, Bool, true, false, cond, List, length, Option, Some, None, Ok, Err, Result, refl, sym, ap, subst, ◌∙◌, arith, ltb}
 use Rattle.std.specs.Prelude.{slice_get, IfOk, ◌↔◌}
 use Rattle.std.specs.Option.{option_flatten}
 use Rattle.std.proofs.lemmas.Bool.{ltb-true, ltb-false}
 use Rattle.meta_types.specs.Name.{Key}
-use Rattle.dvvset.specs.Object.{Entry}
 use Rattle.dvvset.specs.Clock.{descends, join}
 use Rattle.meta_frame.specs.declared.message.Frame.{Frame}
 use Rattle.meta_store.specs.Table.{object_at}
@@ -22,10 +21,10 @@ use Rattle.world_core.specs.declared.event.Event.{Event}
 use Rattle.world_core.specs.declared.event.Event.TheVariants.{Put, Get, PutOver, Send, Deliver, Junk, Keep, Restart}
 use Rattle.world_core.specs.declared.fault.WorldFault.{WorldFault}
 use Rattle.world_core.specs.declared.fault.WorldFault.TheVariants.{NoSuchNode}
-use Rattle.world_core.specs.Tells.{carried, numbered, sending_of}
+use Rattle.world_core.specs.Tells.{carried}
 use Rattle.world_core.specs.World.{World, IsKept, IsTold, IsWorld}
 use Rattle.world_core.specs.Refusal.{Refuses, IsFrameOf, table_of}
-use Rattle.world_core.specs.Outcome.{Accepts, Outcome, Takes, merged, replied, took}
+use Rattle.world_core.specs.Outcome.{Accepts, Outcome, Takes, merged, took}
 use Rattle.world_core.specs.Knowledge.{FreshExactly, IsFresh}
 use Rattle.world_core.proofs.Applying.{pair_first}
 use Rattle.world_core.proofs.Delivering.{frame_there}

@@ -4,11 +4,11 @@ use Rattle.world_core.specs.declared.answer.Answer.{Answer}
 use Rattle.world_core.specs.declared.event.Event.{Event}
 use Rattle.world_core.specs.declared.fault.WorldFault.{WorldFault}
 use Rattle.world_core.specs.World.{World}
-use Rattle.world_core.specs.Outcome.{Outcome, Outcomes}
+use Rattle.world_core.specs.Outcome.{Outcomes, Passes}
 
 pub outcomes_snoc : (old : World) (events : List Event) (outcomes : List (Result Answer WorldFault)) (mid : World) (event : Event) (outcome : Result Answer WorldFault) (new : World)
-    → Outcomes old events outcomes mid → Outcome mid event outcome new → Outcomes old (events ++ event ∷ []) (outcomes ++ outcome ∷ []) new
-outcomes_snoc old [] [] mid event outcome new ran last = (new, (subst (λ w. Outcome w event outcome new) ran last, refl))
+    → Outcomes old events outcomes mid → Passes mid event outcome new → Outcomes old (events ++ event ∷ []) (outcomes ++ outcome ∷ []) new
+outcomes_snoc old [] [] mid event outcome new ran last = (new, (subst (λ w. Passes w event outcome new) ran last, refl))
 outcomes_snoc old [] (o ∷ os) mid event outcome new ran last = absurd ran
 outcomes_snoc old (e ∷ es) [] mid event outcome new ran last = absurd ran
 outcomes_snoc old (e ∷ es) (o ∷ os) mid event outcome new ran last = (ran.0, (ran.1.0, outcomes_snoc ran.0 es os mid event outcome new ran.1.1 last))

@@ -22,6 +22,8 @@ pub mod Tells
 pub mod World
 -- the refusals
 pub mod Fault
+-- what contexts, frames and replies say of the past
+pub mod Knowledge
 -- which refusal an event meets
 pub mod Refusal
 -- what a world answers, and what it then is
@@ -32,7 +34,5 @@ pub mod Steps
 pub mod Chronicle
 -- what private functions alone cite: what a write and a read leave
 pub mod Plan
--- what contexts and frames carry
-pub mod Knowledge
 -- lists of values compared
 pub mod Equal

@@ -1,5 +1,5 @@
 -- What a world answers to an event, and what it then is. The rule is our own.
-use Rattle.std.specs.Prelude.{◌≡◌, ℕ, ◌+◌, List, [], ◌∷◌, ◌++◌, length, Option, Some, None, Result, Ok, Err, ◌⊎◌}
+use Rattle.std.specs.Prelude.{◌≡◌, ℕ, ◌+◌, List, [], ◌∷◌, ◌++◌, length, Option, Some, None, Result, Ok, Err, ◌⊎◌, IfOk}
 use Rattle.std.specs.FinMap.{find}
 use Rattle.meta_types.specs.Name.{Key}
 use Rattle.meta_types.specs.Value.{ValueParts}
@@ -22,7 +22,8 @@ use Rattle.world_core.specs.declared.event.Event.TheVariants.{Put, Get, PutOver,
 use Rattle.world_core.specs.declared.fault.WorldFault.{WorldFault}
 use Rattle.world_core.specs.declared.fault.WorldFault.TheVariants.{Memory}
 use Rattle.world_core.specs.Tells.{Pairwise, carried, numbers_from, tell_accepted}
-use Rattle.world_core.specs.World.{World}
+use Rattle.world_core.specs.World.{World, IsKept}
+use Rattle.world_core.specs.Knowledge.{FreshExactly}
 use Rattle.world_core.specs.Refusal.{IsFrameOf, Refuses, context_of, present, table_of}
 
 -- ---- answers
@@ -126,9 +127,15 @@ unfoldable pub Outcome : World → Event → Result Answer WorldFault → World 
 Outcome old event (Ok answer) new = Accepts old event answer new
 Outcome old event (Err fault) new = Rejects old event fault new
 
+-- one event of several: its outcome, and a world after it, which is one
+pub record Passes (old : World) (event : Event) (outcome : Result Answer WorldFault) (new : World) : Type 0 where
+  pub comes : Outcome old event outcome new
+  pub fresh : IfOk outcome (FreshExactly old event)
+  pub is_world : IsKept new
+
 -- one event after the other, each with its outcome
 abbrev pub Outcomes : World → List Event → List (Result Answer WorldFault) → World → Type 0
 Outcomes old [] [] new = new ≡ old
 Outcomes old [] (o ∷ os) new = ⊥
 Outcomes old (e ∷ es) [] new = ⊥
-Outcomes old (e ∷ es) (o ∷ os) new = (between : World) × (Outcome old e o between × Outcomes between es os new)
+Outcomes old (e ∷ es) (o ∷ os) new = (between : World) × (Passes old e o between × Outcomes between es os new)

@@ -55,14 +55,18 @@ impl World {
     {
         let mut outcomes = Vec::with_capacity(alloc, events.len())?;
         for event in events {
-            outcomes.push(self.apply_copy(event)).unwrap();
+            let outcome = self.apply_copy(event);
+            // Read for what it tells: this is a world.
+            let _ = self.nodes.len();
+            outcomes.push(outcome).unwrap();
         }
         Ok(outcomes)
     }
 
     /// Applies a copy of an event.
     fn apply_copy(&mut self, event: &Event) -> Result<Answer, WorldFault>
-        ensures { Outcome self.old event.now result self.new }
+        ensures outcome { Outcome self.old event.now result self.new }
+        ensures fresh { IfOk result (FreshExactly self.old event.now) }
     {
         let event = event.copy()?;
         self.apply(event)
