@@ -26,8 +26,8 @@ use Rattle.world_core.proofs.Applying.{Stepped, after, steps_quietly}
 use Rattle.world_core.proofs.Refusing.{none_left, passes}
 use Rattle.world_core.proofs.Putting.{has_node}
 
--- the image counts as many of the node's own writes under each key as the node does
-record Counts (w : World) (n j : ℕ) (node : Node) (table : Table) : Type 0 where
+-- a node of the world, the number of an image of it, and a table that has just what that image has
+record Restores (w : World) (n j : ℕ) (node : Node) (table : Table) : Type 0 where
   low : n < length w.nodes
   at : node ≡ node_at w n
   number : j ≤ length node.images
@@ -36,10 +36,10 @@ record Counts (w : World) (n j : ℕ) (node : Node) (table : Table) : Type 0 whe
 stands : (w : World) (n : ℕ) (node : Node) → IsWorld w → n < length w.nodes → node ≡ node_at w n → Follows w.told.history n node
 stands w n node is low at = subst (Follows w.told.history n) (sym at) (is.state.nodes n empty low)
 
-image_is : (w : World) (n j : ℕ) (node : Node) (table : Table) → IsWorld w → Counts w n j node table → (k : Key) → object_at table k ≡ image_object w.told.history n j k
+image_is : (w : World) (n j : ℕ) (node : Node) (table : Table) → IsWorld w → Restores w n j node table → (k : Key) → object_at table k ≡ image_object w.told.history n j k
 image_is w n j node table is c k = c.restored k ∙ (stands w n node is c.low c.at).images j c.number k
 
-keeps_own : (w : World) (n j : ℕ) (node : Node) (table : Table) → IsWorld w → Counts w n j node table → ((k : Key) → count_of (object_at node.table k) n ≤ count_of (object_at table k) n)
+keeps_own : (w : World) (n j : ℕ) (node : Node) (table : Table) → IsWorld w → Restores w n j node table → ((k : Key) → count_of (object_at node.table k) n ≤ count_of (object_at table k) n)
     → RestartsKeepOwnWrites (w.told.history ++ Restarted n j ∷ [])
 keeps_own w n j node table is c counts =
     (restart_exactly w.told.history is.state.keeps n j).1
@@ -50,7 +50,7 @@ keeps_own w n j node table is c counts =
 pub is_stale : (w : World) (n j : ℕ) (node : Node) (table : Table) → IsWorld w → n < length w.nodes → node ≡ node_at w n → j ≤ length node.images → ((k : Key) → object_at table k ≡ holdings node.images j k)
     → (((k : Key) → count_of (object_at node.table k) n ≤ count_of (object_at table k) n) → ⊥) → LacksOwn w n j
 is_stale w n j node table is low at number restored fewer knows =
-    let c : Counts w n j node table = record { low = low; at = at; number = number; restored = restored } in
+    let c : Restores w n j node table = record { low = low; at = at; number = number; restored = restored } in
     let hs = w.told.history in
     fewer
     (λ k. subst (λ o. count_of o n ≤ count_of (object_at table k) n) (sym ((stands w n node is low at).holds k))

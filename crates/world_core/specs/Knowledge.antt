@@ -37,7 +37,7 @@ pub record IsFresh (hs : List Happening) (n place : ℕ) (key : Key) (reply : Re
   pub fresh : (reply ≡ TookFresh) ↔ (IsSubset (load hs place key) (known hs n key) → ⊥)
   pub stale : (reply ≡ TookStale) ↔ IsSubset (load hs place key) (known hs n key)
 
--- the answer to a delivery of what was sent
+-- a delivery of a frame with an object is answered fresh or stale as that says; of other events nothing is said
 abbrev pub FreshExactly : World → Event → Answer → Type 0
 FreshExactly w (Put n k v read) answer = Unit {0}
 FreshExactly w (Get n k) answer = Unit {0}

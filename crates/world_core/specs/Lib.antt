@@ -30,7 +30,7 @@ pub mod Refusal
 pub mod Outcome
 -- what private functions alone cite: what the steps of an event hand on
 pub mod Steps
--- what private functions alone cite: the lists of a world
+-- what the view of a world and private functions cite: the lists of a world
 pub mod Chronicle
 -- what private functions alone cite: what a write and a read leave
 pub mod Plan

@@ -107,7 +107,8 @@ pub record Adds (frames : List Frame) (old new : List (List ℕ)) : Type 0 where
   pub spelled : Pairwise Spells frames bytes
   pub added : new ≡ old ++ bytes
 
--- an event was accepted with an answer: it had no refusal, and this is what was added
+-- an event was accepted with an answer: it had no refusal, and this is what was added; what its node then holds follows
+-- from what was told
 pub record Accepts (old : World) (event : Event) (answer : Answer) (new : World) : Type 0 where
   pub no_refusal : (fault : WorldFault) → Refuses old event fault → ⊥
   pub answers : Answers old event answer
@@ -117,12 +118,13 @@ pub record Accepts (old : World) (event : Event) (answer : Answer) (new : World)
   pub told : (sent : List Frame) → Pairwise Spells sent new.frames → new.told ≡ tell_accepted sent (record { event = event; answer = answer }) old.told
   pub nodes : length new.nodes ≡ length old.nodes
 
--- an event was refused, and nothing changed
+-- an event was refused, for its first cause or for want of memory, and nothing changed
 pub record Rejects (old : World) (event : Event) (fault : WorldFault) (new : World) : Type 0 where
   pub cause : (fault ≡ Memory) ⊎ Refuses old event fault
   pub same : new ≡ old
 
--- (one word, into which proofs do not look by themselves)
+-- what comes of an event: it is accepted with this answer, or refused with this fault (one word, into which proofs do not
+-- look by themselves)
 unfoldable pub Outcome : World → Event → Result Answer WorldFault → World → Type 0
 Outcome old event (Ok answer) new = Accepts old event answer new
 Outcome old event (Err fault) new = Rejects old event fault new

@@ -1,5 +1,5 @@
 -- Which refusal an event meets in a world: each event has its causes in their order, and the first that applies gives the
--- refusal. An event for which none applies is accepted. The rule is our own.
+-- refusal. An event for which none applies is accepted, unless memory is wanting. The rule is our own.
 use Rattle.std.specs.Prelude.{◌≡◌, ◌≢◌, ℕ, ◌+◌, ◌<◌, ◌≤◌, ◌⊎◌, List, length, get_or, Option, Some, None}
 use Rattle.std.specs.Option.{option_map}
 use Rattle.meta_types.specs.Name.{Key}

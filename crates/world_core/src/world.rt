@@ -126,7 +126,7 @@ impl World {
     }
 
     /// What the node holds; `None` for a node that the world doesn't have, and only then. Under each key that is
-    /// the object of the writes that the node knows: exactly those of them that none of them had read.
+    /// the object of the writes that the node knows, whose values are those of them that none of them had read.
     pub fn state(&self, node: u64) -> Option<&Store>
         ensures node { IsNone result ↔ (length self.now.nodes ≤ node) }
         ensures shows { IfSome result (λ store. (key : Key) → IsObjectOf (writes self.now.told.history) key (known self.now.told.history node key) (object_at store.now key)) }
