@@ -6,6 +6,7 @@
 mod acts;
 #[cfg(test)]
 mod against_the_past;
+pub mod checks;
 #[cfg(test)]
 mod knowing;
 #[cfg(test)]

@@ -1,6 +1,7 @@
 //! Short schedules on small worlds: what each event gives, and what the nodes then show.
 
 use crate::acts::{Act, event, key};
+use crate::checks::{Counts, is_done, is_fresh, is_refused, is_stale};
 use dvvset::Vector;
 use meta_store::Store;
 use meta_types::Value;
@@ -76,10 +77,10 @@ fn is_reply(reply: &Reply, want: Outcome) -> bool {
         Outcome::Wrote(counters) => has_wrote(reply, counters),
         Outcome::WroteOver(_, counters) => has_wrote(reply, counters),
         Outcome::Looked(_, counters, letters) => has_looked(reply, counters, letters),
-        Outcome::Sent(_) => matches!(reply, Reply::Done),
-        Outcome::Fresh => matches!(reply, Reply::TookFresh),
-        Outcome::Stale => matches!(reply, Reply::TookStale),
-        Outcome::Done => matches!(reply, Reply::Done),
+        Outcome::Sent(_) => is_done(reply),
+        Outcome::Fresh => is_fresh(reply),
+        Outcome::Stale => is_stale(reply),
+        Outcome::Done => is_done(reply),
         Outcome::Refused(_) => false,
     }
 }
@@ -106,25 +107,17 @@ fn is_answer(answer: &Answer, want: Outcome) -> bool {
 }
 
 fn is_outcome(outcome: &Result<Answer, WorldFault>, want: Outcome) -> bool {
-    match outcome {
-        Ok(answer) => is_answer(answer, want),
-        Err(fault) => matches!(want, Outcome::Refused(code) if code == fault.code()),
+    match (outcome, want) {
+        (_, Outcome::Refused(code)) => is_refused(outcome, code),
+        (Ok(answer), _) => is_answer(answer, want),
+        (Err(_), _) => false,
     }
 }
 
-/// How many events were accepted, frames sent, and happenings told.
-fn counts(world: &World) -> (usize, usize, usize) {
-    (
-        world.accepted().len(),
-        world.frames().len(),
-        world.history().len(),
-    )
-}
-
 fn gives(world: &mut World, event: Event, want: Outcome) -> bool {
-    let before = counts(world);
+    let before = Counts::of(world);
     let is_given = is_outcome(&world.apply(event), want);
-    let is_same = before == counts(world);
+    let is_same = before == Counts::of(world);
     is_given && is_same == matches!(want, Outcome::Refused(_))
 }
 
