@@ -5,7 +5,7 @@ mod Places
 -- a table after an object was put there
 pub mod Tables
 -- objects within a length
-mod Sizes
+pub mod Sizes
 -- a merge holds the object of the union
 mod Unions
 -- counts of a writer, row by row

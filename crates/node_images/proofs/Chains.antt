@@ -3,9 +3,9 @@ use Rattle.std.proofs.Common.{◌≡◌, ℕ, zero, suc, ◌+◌, ◌-◌, ◌<�
 use Rattle.meta_types.specs.Name.{Key}
 use Rattle.std.specs.Option.{unwrap_or}
 use Rattle.dvvset.specs.Object.{Entry}
-use Rattle.past_model.specs.Sets.{put, key_eq}
-use Rattle.past_model.proofs.Sound.{put-at}
-use Rattle.past_model.proofs.Walking.{put-other}
+use Rattle.past_model.specs.Sets.{set_at, key_eq}
+use Rattle.past_model.proofs.Sound.{set_at-here}
+use Rattle.past_model.proofs.Walking.{set_at-other}
 use Rattle.object_machine.specs.Objects.{Holding, nothing}
 use Rattle.node_images.specs.Images.{Image, ChangeEarlier, changed, instead, holdings, holdings_from}
 
@@ -14,8 +14,8 @@ stays : (there : ℕ → Holding) (last : ℕ) (images : List Image) (j : ℕ) �
 stays there last [] j low = refl
 stays there last (image ∷ later) j low =
     let made : Holding = changed (there image.base) image.change in
-    stays (put there (last + 1) made) (last + 1) later j (omega arith)
-    ∙ put-other there (last + 1) j made (λ e. omega arith)
+    stays (set_at there (last + 1) made) (last + 1) later j (omega arith)
+    ∙ set_at-other there (last + 1) j made (λ e. omega arith)
 
 -- what one image has is what its base has, but for its change
 step_from : (there : ℕ → Holding) (last : ℕ) (images : List Image) (at : ℕ) (d : Image) → at < length images
@@ -27,14 +27,14 @@ step_from there last (image ∷ later) zero d low earlier =
     let base : image.base ≤ last = let b : image.base ≤ last + 0 = earlier 0 low in omega arith in
     let number : last + 0 + 1 ≡ last + 1 = omega arith in
     ap (holdings_from there last (image ∷ later)) number
-    ∙ stays (put there (last + 1) made) (last + 1) later (last + 1) (omega arith)
-    ∙ put-at there (last + 1) made
+    ∙ stays (set_at there (last + 1) made) (last + 1) later (last + 1) (omega arith)
+    ∙ set_at-here there (last + 1) made
     ∙ ap (λ h. changed h image.change) (sym (stays there last (image ∷ later) image.base base))
 step_from there last (image ∷ later) (suc at) d low earlier =
     let made : Holding = changed (there image.base) image.change in
     let number : last + suc at + 1 ≡ last + 1 + at + 1 = omega arith in
     ap (holdings_from there last (image ∷ later)) number
-    ∙ step_from (put there (last + 1) made) (last + 1) later at d (omega arith) (λ j below. let b : (get_or later j d).base ≤ last + suc j = earlier (suc j) (omega arith) in omega arith)
+    ∙ step_from (set_at there (last + 1) made) (last + 1) later at d (omega arith) (λ j below. let b : (get_or later j d).base ≤ last + suc j = earlier (suc j) (omega arith) in omega arith)
 
 pub step : (images : List Image) (at : ℕ) (d : Image) → at < length images → ChangeEarlier images
     → holdings images (at + 1) ≡ changed (holdings images (get_or images at d).base) (get_or images at d).change
@@ -44,20 +44,20 @@ step images at d low earlier =
 
 -- one more image
 snoc_from : (there : ℕ → Holding) (last : ℕ) (images : List Image) (image : Image)
-    → holdings_from there last (images ++ image ∷ []) ≡ put (holdings_from there last images) (last + length images + 1) (changed (holdings_from there last images image.base) image.change)
+    → holdings_from there last (images ++ image ∷ []) ≡ set_at (holdings_from there last images) (last + length images + 1) (changed (holdings_from there last images image.base) image.change)
 snoc_from there last [] image =
-    ap (λ n. put there n (changed (there image.base) image.change)) (let e : last + 1 ≡ last + 0 + 1 = omega arith in e)
+    ap (λ n. set_at there n (changed (there image.base) image.change)) (let e : last + 1 ≡ last + 0 + 1 = omega arith in e)
 snoc_from there last (first ∷ later) image =
-    let now : ℕ → Holding = put there (last + 1) (changed (there first.base) first.change) in
+    let now : ℕ → Holding = set_at there (last + 1) (changed (there first.base) first.change) in
     snoc_from now (last + 1) later image
-    ∙ ap (λ n. put (holdings_from now (last + 1) later) n (changed (holdings_from now (last + 1) later image.base) image.change))
+    ∙ ap (λ n. set_at (holdings_from now (last + 1) later) n (changed (holdings_from now (last + 1) later image.base) image.change))
     (let e : last + 1 + length later + 1 ≡ last + suc (length later) + 1 = omega arith in e)
 
 pub holdings_snoc : (images : List Image) (image : Image)
-    → holdings (images ++ image ∷ []) ≡ put (holdings images) (length images + 1) (changed (holdings images image.base) image.change)
+    → holdings (images ++ image ∷ []) ≡ set_at (holdings images) (length images + 1) (changed (holdings images image.base) image.change)
 holdings_snoc images image =
     snoc_from (λ j. nothing) 0 images image
-    ∙ ap (λ n. put (holdings images) n (changed (holdings images image.base) image.change)) (let e : 0 + length images + 1 ≡ length images + 1 = omega arith in e)
+    ∙ ap (λ n. set_at (holdings images) n (changed (holdings images image.base) image.change)) (let e : 0 + length images + 1 ≡ length images + 1 = omega arith in e)
 
 -- ---- under one key
 

@@ -14,15 +14,15 @@ use Rattle.dvvset.specs.Object.{Entry}
 use Rattle.dvvset.specs.Clock.{join, sync}
 use Rattle.past_model.specs.Sets.{key_eq}
 use Rattle.past_model.proofs.Keys.{key_eq-true, key_eq-self}
-use Rattle.past_model.proofs.Sound.{put-at}
-use Rattle.past_model.proofs.Walking.{put-other}
+use Rattle.past_model.proofs.Sound.{set_at-here}
+use Rattle.past_model.proofs.Walking.{set_at-other}
 use Rattle.meta_store.specs.Table.{Table, IsHeld, IsTable, is_stale, object_at, with_object}
 use Rattle.meta_store.specs.Step.{after_merge}
 use Rattle.meta_store.proofs.Keys.{key_total}
 use Rattle.meta_store.proofs.Tables.{found_row, not_absent, object_at-elsewhere, object_at-here, table_put}
 use Rattle.object_machine.specs.Objects.{Holding}
 use Rattle.node_images.specs.Images.{Image, ChangeEarlier, IsTabled, change_of, changed, holdings}
-use Rattle.node_images.specs.Node.{Node, IsNode, change_at, empty, with_image}
+use Rattle.node_images.specs.Node.{Node, IsNode, change_at, new_node, with_image}
 use Rattle.node_images.proofs.Bounded.{KeysWithin, found_from, room_within, shown_from}
 use Rattle.node_images.proofs.Chains.{holdings_snoc, none}
 
@@ -34,8 +34,8 @@ tabled-none images number low = record {
   same = λ k. sym (ap (λ n. holdings images n k) (let e : number ≡ 0 = omega (arith, low) in e) ∙ none images k);
 }
 
-pub is_node-empty : IsNode empty
-is_node-empty = record {
+pub is_node-new : IsNode new_node
+is_node-new = record {
   earlier = record { earlier = λ at d low. let no : at < 0 = low in absurd (omega (arith, no)) };
   standing = omega arith;
   tabled = λ number low. tabled-none [] number low;
@@ -48,12 +48,12 @@ is_node-empty = record {
 pub reads_before : (images : List Image) (image : Image) (number : ℕ) → number ≤ length images → holdings (images ++ image ∷ []) number ≡ holdings images number
 reads_before images image number low =
     ap (λ h. h number) (holdings_snoc images image)
-    ∙ put-other (holdings images) (length images + 1) number (changed (holdings images image.base) image.change) (λ e. let no : length images + 1 ≡ number = e in absurd (omega (arith, low, no)))
+    ∙ set_at-other (holdings images) (length images + 1) number (changed (holdings images image.base) image.change) (λ e. let no : length images + 1 ≡ number = e in absurd (omega (arith, low, no)))
 
 pub reads_new : (images : List Image) (image : Image) → holdings (images ++ image ∷ []) (length images + 1) ≡ changed (holdings images image.base) image.change
 reads_new images image =
     ap (λ h. h (length images + 1)) (holdings_snoc images image)
-    ∙ put-at (holdings images) (length images + 1) (changed (holdings images image.base) image.change)
+    ∙ set_at-here (holdings images) (length images + 1) (changed (holdings images image.base) image.change)
 
 earlier_by : (images : List Image) (image : Image) → ChangeEarlier images → image.base ≤ length images → (at : ℕ) (d : Image) (b : Bool) → ltb at (length images) ≡ b → at < length (images ++ image ∷ [])
     → (get_or (images ++ image ∷ []) at d).base ≤ at

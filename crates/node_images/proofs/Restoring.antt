@@ -15,7 +15,8 @@ use Rattle.past_model.proofs.Keys.{key_eq-true, key_eq-self}
 use Rattle.meta_store.specs.Table.{Table, IsHeld, IsTable, object_at, with_object}
 use Rattle.meta_store.proofs.Keys.{key_total, same_key}
 use Rattle.meta_store.proofs.Tables.{found_row, not_absent}
-use Rattle.node_images.specs.Images.{Image, ChangeEarlier, HasRoom, IsChange, IsTabled, filled, holdings, instead}
+use Rattle.node_images.specs.Images.{Image, ChangeEarlier, IsChange, IsTabled, holdings, instead}
+use Rattle.node_images.specs.Restore.{HasRoomFor, filled}
 use Rattle.node_images.proofs.Bounded.{KeysWithin, room_within}
 use Rattle.node_images.proofs.Chains.{down, none}
 
@@ -84,11 +85,11 @@ room_by images number at store tabled f image is change e held None found =
     ∙ room_within change.0 store tabled.table f.is_table tabled.is_table within (change_within images number at store tabled f image is change e held found)
 
 room_of : (images : List Image) (number at : ℕ) (store : Table) (tabled : IsTabled (holdings images number)) (f : Filling images number at store) (image : Image) (is : IsNext images at image)
-    (change : Option (Key × List Entry)) → image.change ≡ change → IsChange change → HasRoom store change
+    (change : Option (Key × List Entry)) → image.change ≡ change → IsChange change → HasRoomFor store change
 room_of images number at store tabled f image is None e held = tt
 room_of images number at store tabled f image is (Some change) e held = room_by images number at store tabled f image is change e held (find key_cmp change.0 store) refl
 
-pub room : (images : List Image) (number at : ℕ) (store : Table) → IsTabled (holdings images number) → Filling images number at store → (image : Image) → IsNext images at image → IsChange image.change → HasRoom store image.change
+pub room : (images : List Image) (number at : ℕ) (store : Table) → IsTabled (holdings images number) → Filling images number at store → (image : Image) → IsNext images at image → IsChange image.change → HasRoomFor store image.change
 room images number at store tabled f image is held = room_of images number at store tabled f image is image.change refl held
 
 -- ---- a change more

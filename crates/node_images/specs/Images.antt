@@ -1,13 +1,10 @@
 -- The images of one node as they are kept: a list, oldest first, each with the number of the image that it changes and
 -- what it changes there. Image 0 is the empty one and stands in no list. The rule is our own.
-use Rattle.std.specs.Prelude.{◌≡◌, ℕ, ◌+◌, ◌<◌, ◌≤◌, List, [], ◌∷◌, length, get_or, Option, Some, None, is_none, false, if◌then◌else◌}
-use Rattle.std.specs.FinMap.{find}
+use Rattle.std.specs.Prelude.{◌≡◌, ℕ, ◌+◌, ◌<◌, ◌≤◌, List, [], ◌∷◌, length, get_or, Option, Some, None, if◌then◌else◌}
 use Rattle.meta_types.specs.Name.{Key}
 use Rattle.dvvset.specs.Object.{Entry}
-use Rattle.past_model.specs.Sets.{put, key_eq}
-use Rattle.meta_types.specs.Order.{key_cmp}
-use Rattle.meta_store.specs.Table.{Table, IsHeld, IsTable, object_at, with_object}
-use Rattle.meta_store.specs.Step.{is_full_for}
+use Rattle.past_model.specs.Sets.{set_at, key_eq}
+use Rattle.meta_store.specs.Table.{Table, IsHeld, IsTable, object_at}
 use Rattle.object_machine.specs.Objects.{Holding, nothing, with_held}
 
 -- the image that is changed, and the object that stands under a key instead; none where nothing is changed
@@ -38,7 +35,7 @@ instead (Some change) k = if key_eq k change.0 then Some change.1 else None
 -- what the images have, by number: the next one has what its base has, but for its change
 abbrev pub holdings_from : (ℕ → Holding) → ℕ → List Image → ℕ → Holding
 holdings_from there last [] = there
-holdings_from there last (image ∷ later) = holdings_from (put there (last + 1) (changed (there image.base) image.change)) (last + 1) later
+holdings_from there last (image ∷ later) = holdings_from (set_at there (last + 1) (changed (there image.base) image.change)) (last + 1) later
 
 abbrev pub holdings : List Image → ℕ → Holding
 holdings images = holdings_from (λ j. nothing) 0 images
@@ -52,15 +49,3 @@ pub record IsTabled (there : Holding) : Type 0 where
   pub table : Table
   pub is_table : IsTable table
   pub same : (k : Key) → object_at table k ≡ there k
-
--- ---- a store that is filled from an image
-
--- a change where nothing is held yet under its key
-abbrev pub filled : Table → Option (Key × List Entry) → Table
-filled table None = table
-filled table (Some change) = if is_none (find key_cmp change.0 table) then with_object change.0 change.1 table else table
-
--- there is room for the object of a change
-abbrev pub HasRoom : Table → Option (Key × List Entry) → Type 0
-HasRoom table None = Unit {0}
-HasRoom table (Some change) = is_full_for table change.0 ≡ false

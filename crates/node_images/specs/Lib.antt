@@ -11,5 +11,7 @@ pub use Rattle.object_machine.specs.Objects
 pub mod Images
 -- what is kept of one node
 pub mod Node
--- what proofs alone cite: where a node stands after a history
+-- where a node stands after a history, which the rule of a world cites
 pub mod Follows
+-- what private functions alone cite: a store that is filled from an image
+pub mod Restore

@@ -23,8 +23,8 @@ pub record IsNode (node : Node) : Type 0 where
   pub tabled : (number : ℕ) → number ≤ length node.images → IsTabled (holdings node.images number)
   pub within : (k : Key) → holdings node.images node.standing k ≢ [] → object_at node.table k ≢ []
 
-abbrev pub empty : Node
-empty = record { table = []; images = []; standing = 0 }
+abbrev pub new_node : Node
+new_node = record { table = []; images = []; standing = 0 }
 
 -- what a key has in a table, as a change of an image
 abbrev pub change_at : Table → Key → Option (Key × List Entry)

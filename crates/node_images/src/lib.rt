@@ -4,7 +4,7 @@
 
 pub mod image;
 pub mod node;
-pub mod restore;
+mod restore;
 #[cfg(test)]
 mod tests;
 

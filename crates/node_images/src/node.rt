@@ -9,7 +9,7 @@ ghost use Rattle.meta_store.specs.Step.{answer_of_merge, refusal_of_merge, refus
 ghost use Rattle.meta_store.specs.declared.fault.StoreFault.TheVariants.{Memory};
 ghost use Rattle.meta_store.specs.declared.merge.Merged.TheVariants.{Stale};
 ghost use Rattle.node_images.specs.Images.{IsChange, holdings};
-ghost use Rattle.node_images.specs.Node.{IsNode, change_at, empty, image_of_write, with_kept, with_merge, with_restart, with_write};
+ghost use Rattle.node_images.specs.Node.{IsNode, change_at, new_node, image_of_write, with_kept, with_merge, with_restart, with_write};
 
 use crate::image::Image;
 use crate::restore::restore;
@@ -41,7 +41,7 @@ impl Model for Node {
 impl Node {
     /// A node that holds nothing and has no image but the empty one.
     pub fn new(alloc: Global) -> Self
-        ensures { result ≡ empty }
+        ensures { result ≡ new_node }
     {
         Node {
             store: Store::new(alloc),

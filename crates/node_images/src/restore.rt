@@ -3,7 +3,8 @@
 ghost use Rattle.std.specs.Prelude.{◌≡◌, ◌≤◌, length, IfOk, OnOk};
 ghost use Rattle.meta_types.specs.Name.{Key};
 ghost use Rattle.meta_store.specs.Table.{IsTable, object_at};
-ghost use Rattle.node_images.specs.Images.{ChangeEarlier, HasRoom, IsChange, IsTabled, filled, holdings};
+ghost use Rattle.node_images.specs.Restore.{HasRoomFor, filled};
+ghost use Rattle.node_images.specs.Images.{ChangeEarlier, IsChange, IsTabled, holdings};
 
 use crate::image::Image;
 use meta_store::Store;
@@ -11,7 +12,7 @@ use std::alloc::{AllocError, Global};
 
 /// Holds what the image has instead of its base, where nothing is held yet under that key.
 fn fill(store: &mut Store, image: &Image) -> Result<(), AllocError>
-    requires { IsChange image.now.change → HasRoom store.old image.now.change }
+    requires { IsChange image.now.change → HasRoomFor store.old image.now.change }
     ensures value { OnOk result (store.new ≡ filled store.old image.now.change) }
     ensures is_table { OnOk result (IsTable store.new) }
 {
@@ -26,7 +27,7 @@ fn fill(store: &mut Store, image: &Image) -> Result<(), AllocError>
 
 /// A store that holds what the image of that number has. It takes memory, with the refusal of which alone it
 /// is refused.
-pub fn restore(alloc: Global, images: &[Image], number: usize) -> Result<Store, AllocError>
+pub(crate) fn restore(alloc: Global, images: &[Image], number: usize) -> Result<Store, AllocError>
     requires number { number ≤ length images.now }
     requires earlier { ChangeEarlier images.now }
     requires tabled { IsTabled (holdings images.now number) }

@@ -8,10 +8,10 @@ use Rattle.dvvset.specs.Object.{Entry}
 use Rattle.dvvset.specs.Clock.{join, update}
 use Rattle.past_model.specs.declared.happening.Happening.{Happening}
 use Rattle.past_model.specs.declared.happening.Happening.TheVariants.{Wrote, Looked, Sent, Got, Kept, Restarted}
-use Rattle.past_model.specs.Sets.{put, key_eq}
+use Rattle.past_model.specs.Sets.{set_at, key_eq}
 use Rattle.past_model.proofs.Keys.{key_eq-true, key_eq-self}
-use Rattle.past_model.proofs.Sound.{put-at}
-use Rattle.past_model.proofs.Walking.{put-other}
+use Rattle.past_model.proofs.Sound.{set_at-here}
+use Rattle.past_model.proofs.Walking.{set_at-other}
 use Rattle.object_machine.specs.Objects.{Objects, Holding, nothing, with_held, sync_by_key, start, writer_of, read_of, happens, run, objects}
 use Rattle.object_machine.specs.Laws.{Stays, Becomes, Gains, MakesNoImage, MakesImage, AfterWrite, AfterLook, AfterSending, AfterDelivery, AfterKeeping, AfterRestart}
 
@@ -41,17 +41,17 @@ with_held-at t k a = ap (λ b. cond b a (t k)) (key_eq-self k)
 with_held-other : (t : Holding) (k : Key) (a : List Entry) (l : Key) → l ≢ k → with_held t k a l ≡ t l
 with_held-other t k a l ne = ap (λ b. cond b a (t l)) (false_from_ne_true (key_eq l k) (λ e. ne (key_eq-true l k e)))
 
-becomes_put : (f : ℕ → Holding) (n : ℕ) (there : Holding) → Becomes f (put f n there) n there
+becomes_put : (f : ℕ → Holding) (n : ℕ) (there : Holding) → Becomes f (set_at f n there) n there
 becomes_put f n there = record {
-  here = λ l. ap (λ t. t l) (put-at f n there);
-  elsewhere = λ m ne l. ap (λ t. t l) (put-other f n m there (λ e. ne (sym e)));
+  here = λ l. ap (λ t. t l) (set_at-here f n there);
+  elsewhere = λ m ne l. ap (λ t. t l) (set_at-other f n m there (λ e. ne (sym e)));
 }
 
-gains_put : (f : ℕ → Holding) (n : ℕ) (k : Key) (a : List Entry) (rest : Holding) → Gains f (put f n (with_held rest k a)) n k a rest
+gains_put : (f : ℕ → Holding) (n : ℕ) (k : Key) (a : List Entry) (rest : Holding) → Gains f (set_at f n (with_held rest k a)) n k a rest
 gains_put f n k a rest = record {
-  here = ap (λ t. t k) (put-at f n (with_held rest k a)) ∙ with_held-at rest k a;
-  other_keys = λ l ne. ap (λ t. t l) (put-at f n (with_held rest k a)) ∙ with_held-other rest k a l ne;
-  elsewhere = λ m ne l. ap (λ t. t l) (put-other f n m (with_held rest k a) (λ e. ne (sym e)));
+  here = ap (λ t. t k) (set_at-here f n (with_held rest k a)) ∙ with_held-at rest k a;
+  other_keys = λ l ne. ap (λ t. t l) (set_at-here f n (with_held rest k a)) ∙ with_held-other rest k a l ne;
+  elsewhere = λ m ne l. ap (λ t. t l) (set_at-other f n m (with_held rest k a) (λ e. ne (sym e)));
 }
 
 stays : (f : ℕ → Holding) → Stays f f
@@ -64,18 +64,18 @@ stays_by part hs h e =
     subst (λ f. Stays (part (objects hs)) f) (sym (ap part (objects_snoc hs h) ∙ e)) (stays (part (objects hs)))
 
 becomes_by : (part : Objects → ℕ → Holding) (hs : List Happening) (h : Happening) (n : ℕ) (there : Holding)
-    → part (happens (objects hs) h) ≡ put (part (objects hs)) n there → Becomes (part (objects hs)) (part (objects (hs ++ h ∷ []))) n there
+    → part (happens (objects hs) h) ≡ set_at (part (objects hs)) n there → Becomes (part (objects hs)) (part (objects (hs ++ h ∷ []))) n there
 becomes_by part hs h n there e =
     subst (λ f. Becomes (part (objects hs)) f n there) (sym (ap part (objects_snoc hs h) ∙ e)) (becomes_put (part (objects hs)) n there)
 
 gains_by : (part : Objects → ℕ → Holding) (hs : List Happening) (h : Happening) (n : ℕ) (k : Key) (a : List Entry) (rest : Holding)
-    → part (happens (objects hs) h) ≡ put (part (objects hs)) n (with_held rest k a) → Gains (part (objects hs)) (part (objects (hs ++ h ∷ []))) n k a rest
+    → part (happens (objects hs) h) ≡ set_at (part (objects hs)) n (with_held rest k a) → Gains (part (objects hs)) (part (objects (hs ++ h ∷ []))) n k a rest
 gains_by part hs h n k a rest e =
     subst (λ f. Gains (part (objects hs)) f n k a rest) (sym (ap part (objects_snoc hs h) ∙ e)) (gains_put (part (objects hs)) n k a rest)
 
 -- the place of a happening is their number
 gains_at_place : (part : Objects → ℕ → Holding) (hs : List Happening) (h : Happening) (k : Key) (a : List Entry)
-    → part (happens (objects hs) h) ≡ put (part (objects hs)) (objects hs).next (with_held nothing k a) → Gains (part (objects hs)) (part (objects (hs ++ h ∷ []))) (length hs) k a nothing
+    → part (happens (objects hs) h) ≡ set_at (part (objects hs)) (objects hs).next (with_held nothing k a) → Gains (part (objects hs)) (part (objects (hs ++ h ∷ []))) (length hs) k a nothing
 gains_at_place part hs h k a e =
     subst (λ p. Gains (part (objects hs)) (part (objects (hs ++ h ∷ []))) p k a nothing) (objects-next hs)
     (gains_by part hs h (objects hs).next k a nothing e)
@@ -94,28 +94,28 @@ image_after hs h n k = with_held ((objects hs).standing n) k ((happens (objects 
 
 -- what a happening that makes an image does to the images
 record Images (hs : List Happening) (h : Happening) (n : ℕ) (k : Key) : Type 0 where
-  pub last : (happens (objects hs) h).last ≡ put (objects hs).last n ((objects hs).last n + 1)
-  pub images : (happens (objects hs) h).images ≡ put (objects hs).images n (put ((objects hs).images n) ((objects hs).last n + 1) (image_after hs h n k))
-  pub standing : (happens (objects hs) h).standing ≡ put (objects hs).standing n (image_after hs h n k)
+  pub last : (happens (objects hs) h).last ≡ set_at (objects hs).last n ((objects hs).last n + 1)
+  pub images : (happens (objects hs) h).images ≡ set_at (objects hs).images n (set_at ((objects hs).images n) ((objects hs).last n + 1) (image_after hs h n k))
+  pub standing : (happens (objects hs) h).standing ≡ set_at (objects hs).standing n (image_after hs h n k)
 
 makes_image : (hs : List Happening) (h : Happening) (n : ℕ) (k : Key) → Images hs h n k → MakesImage hs h n k
 makes_image hs h n k made =
-    let row : (happens (objects hs) h).images n ≡ put ((objects hs).images n) ((objects hs).last n + 1) (image_after hs h n k) =
-    ap (λ f. f n) made.images ∙ put-at (objects hs).images n (put ((objects hs).images n) ((objects hs).last n + 1) (image_after hs h n k)) in
+    let row : (happens (objects hs) h).images n ≡ set_at ((objects hs).images n) ((objects hs).last n + 1) (image_after hs h n k) =
+    ap (λ f. f n) made.images ∙ set_at-here (objects hs).images n (set_at ((objects hs).images n) ((objects hs).last n + 1) (image_after hs h n k)) in
     let image : Gains ((objects hs).images n) ((happens (objects hs) h).images n) ((objects hs).last n + 1) k ((happens (objects hs) h).held n k) ((objects hs).standing n) =
     subst (λ g. Gains ((objects hs).images n) g ((objects hs).last n + 1) k ((happens (objects hs) h).held n k) ((objects hs).standing n)) (sym row)
     (gains_put ((objects hs).images n) ((objects hs).last n + 1) k ((happens (objects hs) h).held n k) ((objects hs).standing n)) in
     let standing : Becomes (objects hs).standing (happens (objects hs) h).standing n ((happens (objects hs) h).images n ((objects hs).last n + 1)) =
     subst (λ f. Becomes (objects hs).standing f n ((happens (objects hs) h).images n ((objects hs).last n + 1))) (sym made.standing)
-    (subst (λ t. Becomes (objects hs).standing (put (objects hs).standing n (image_after hs h n k)) n t)
-    (sym (ap (λ g. g ((objects hs).last n + 1)) row ∙ put-at ((objects hs).images n) ((objects hs).last n + 1) (image_after hs h n k)))
+    (subst (λ t. Becomes (objects hs).standing (set_at (objects hs).standing n (image_after hs h n k)) n t)
+    (sym (ap (λ g. g ((objects hs).last n + 1)) row ∙ set_at-here ((objects hs).images n) ((objects hs).last n + 1) (image_after hs h n k)))
     (becomes_put (objects hs).standing n (image_after hs h n k))) in
     record {
-      number = ap (λ o. o.last n) (objects_snoc hs h) ∙ ap (λ f. f n) made.last ∙ put-at (objects hs).last n ((objects hs).last n + 1);
+      number = ap (λ o. o.last n) (objects_snoc hs h) ∙ ap (λ f. f n) made.last ∙ set_at-here (objects hs).last n ((objects hs).last n + 1);
       image = subst (λ o. Gains ((objects hs).images n) (o.images n) ((objects hs).last n + 1) k (o.held n k) ((objects hs).standing n)) (sym (objects_snoc hs h)) image;
-      other_numbers = λ m ne. ap (λ o. o.last m) (objects_snoc hs h) ∙ ap (λ f. f m) made.last ∙ put-other (objects hs).last n m ((objects hs).last n + 1) (λ e. ne (sym e));
+      other_numbers = λ m ne. ap (λ o. o.last m) (objects_snoc hs h) ∙ ap (λ f. f m) made.last ∙ set_at-other (objects hs).last n m ((objects hs).last n + 1) (λ e. ne (sym e));
       other_images = λ m ne. stays_by (λ o. o.images m) hs h
-          (ap (λ f. f m) made.images ∙ put-other (objects hs).images n m (put ((objects hs).images n) ((objects hs).last n + 1) (image_after hs h n k)) (λ e. ne (sym e)));
+          (ap (λ f. f m) made.images ∙ set_at-other (objects hs).images n m (set_at ((objects hs).images n) ((objects hs).last n + 1) (image_after hs h n k)) (λ e. ne (sym e)));
       standing = subst (λ o. Becomes (objects hs).standing o.standing n (o.images n ((objects hs).last n + 1))) (sym (objects_snoc hs h)) standing;
     }
 

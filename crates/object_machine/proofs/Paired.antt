@@ -6,7 +6,7 @@ use Rattle.dvvset.specs.Object.{Entry}
 use Rattle.dvvset.specs.Clock.{join, sync, update}
 use Rattle.past_model.specs.declared.happening.Happening.{Happening}
 use Rattle.past_model.specs.declared.happening.Happening.TheVariants.{Wrote, Looked, Sent, Got, Kept, Restarted}
-use Rattle.past_model.specs.Sets.{Places, Knowledge, empty, union, nothing, with_set, union_by_key, put, key_eq}
+use Rattle.past_model.specs.Sets.{Places, Knowledge, empty, union, nothing, with_set, union_by_key, set_at, key_eq}
 use Rattle.past_model.specs.Past.{Past, start, read_of, imaged, knows_write, happens}
 use Rattle.past_model.proofs.Keys.{key_eq-true}
 use Rattle.past_model.proofs.Reached.{after_write}
@@ -37,16 +37,16 @@ with_set-pairs Q v t k S a old new l =
       | false ↦ λ e. old l
     ] refl
 
-put-pairs : (Q : Key → Places → List Entry → Type 0) (f : ℕ → Knowledge) (g : ℕ → Holding) (n : ℕ) (v : Knowledge) (t : Holding)
-    → ((m : ℕ) (l : Key) → Q l (f m l) (g m l)) → ((l : Key) → Q l (v l) (t l)) → (m : ℕ) (l : Key) → Q l (put f n v m l) (put g n t m l)
-put-pairs Q f g n v t old new m l =
+set_at-pairs : (Q : Key → Places → List Entry → Type 0) (f : ℕ → Knowledge) (g : ℕ → Holding) (n : ℕ) (v : Knowledge) (t : Holding)
+    → ((m : ℕ) (l : Key) → Q l (f m l) (g m l)) → ((l : Key) → Q l (v l) (t l)) → (m : ℕ) (l : Key) → Q l (set_at f n v m l) (set_at g n t m l)
+set_at-pairs Q f g n v t old new m l =
     elim (eqb m n) as (λ b. Q l (cond b v (f m) l) (cond b t (g m) l)) [ true ↦ new l | false ↦ old m l ]
 
 -- the same at a number that both machines have
-put-pairs-at : (Q : Key → Places → List Entry → Type 0) (f : ℕ → Knowledge) (g : ℕ → Holding) (n i : ℕ) (v : Knowledge) (t : Holding)
-    → i ≡ n → ((m : ℕ) (l : Key) → Q l (f m l) (g m l)) → ((l : Key) → Q l (v l) (t l)) → (m : ℕ) (l : Key) → Q l (put f n v m l) (put g i t m l)
-put-pairs-at Q f g n i v t same old new m l =
-    subst (λ c. Q l (put f n v m l) (put g c t m l)) (sym same) (put-pairs Q f g n v t old new m l)
+set_at-pairs-at : (Q : Key → Places → List Entry → Type 0) (f : ℕ → Knowledge) (g : ℕ → Holding) (n i : ℕ) (v : Knowledge) (t : Holding)
+    → i ≡ n → ((m : ℕ) (l : Key) → Q l (f m l) (g m l)) → ((l : Key) → Q l (v l) (t l)) → (m : ℕ) (l : Key) → Q l (set_at f n v m l) (set_at g i t m l)
+set_at-pairs-at Q f g n i v t same old new m l =
+    subst (λ c. Q l (set_at f n v m l) (set_at g c t m l)) (sym same) (set_at-pairs Q f g n v t old new m l)
 
 imaged-pairs : (Q : Key → Places → List Entry → Type 0) (s : Past) (o : Objects) (n : ℕ) (k : Key) → Paired Q s o → Paired Q (imaged n k s) (machine.imaged n k o)
 imaged-pairs Q s o n k all =
@@ -54,18 +54,18 @@ imaged-pairs Q s o n k all =
     with_set-pairs Q (s.standing n) (o.standing n) k (s.known n k) (o.held n k) (all.standing n) (all.known n k) in
     record {
       next = all.next;
-      last = λ i. put (all.last i) n (all.last i n + 1);
+      last = λ i. set_at (all.last i) n (all.last i n + 1);
       known = all.known;
       seen = all.seen;
       load = all.load;
       images = λ m j l.
-          elim (eqb m n) as (λ b. Q l (cond b (put (s.images n) (s.last n + 1) (with_set (s.standing n) k (s.known n k))) (s.images m) j l)
-          (cond b (put (o.images n) (o.last n + 1) (with_held (o.standing n) k (o.held n k))) (o.images m) j l)) [
-            | true ↦ put-pairs-at Q (s.images n) (o.images n) (s.last n + 1) (o.last n + 1) (with_set (s.standing n) k (s.known n k)) (with_held (o.standing n) k (o.held n k))
+          elim (eqb m n) as (λ b. Q l (cond b (set_at (s.images n) (s.last n + 1) (with_set (s.standing n) k (s.known n k))) (s.images m) j l)
+          (cond b (set_at (o.images n) (o.last n + 1) (with_held (o.standing n) k (o.held n k))) (o.images m) j l)) [
+            | true ↦ set_at-pairs-at Q (s.images n) (o.images n) (s.last n + 1) (o.last n + 1) (with_set (s.standing n) k (s.known n k)) (with_held (o.standing n) k (o.held n k))
                 (λ i. all.last i n + 1) (all.images n) image j l
             | false ↦ all.images m j l
           ];
-      standing = put-pairs Q s.standing o.standing n (with_set (s.standing n) k (s.known n k)) (with_held (o.standing n) k (o.held n k)) all.standing image;
+      standing = set_at-pairs Q s.standing o.standing n (with_set (s.standing n) k (s.known n k)) (with_held (o.standing n) k (o.held n k)) all.standing image;
     }
 
 -- what a node holds once it wrote
@@ -78,7 +78,7 @@ knows_write-pairs Q s o n k v r all new =
     record {
       next = all.next;
       last = all.last;
-      known = put-pairs Q s.known o.held n (with_set (s.known n) k (after_write s n k r)) (with_held (o.held n) k (held_after_write o n k v r)) all.known
+      known = set_at-pairs Q s.known o.held n (with_set (s.known n) k (after_write s n k r)) (with_held (o.held n) k (held_after_write o n k v r)) all.known
           (with_set-pairs Q (s.known n) (o.held n) k (after_write s n k r) (held_after_write o n k v r) (all.known n) new);
       seen = all.seen;
       load = all.load;
@@ -133,7 +133,7 @@ Paired-happens Q merging s o (Looked n k) all new =
       next = ap (λ p. p + 1) all.next;
       last = all.last;
       known = all.known;
-      seen = put-pairs-at Q s.seen o.seen s.next o.next (with_set nothing k (s.known n k)) (with_held machine.nothing k (o.held n k)) all.next all.seen
+      seen = set_at-pairs-at Q s.seen o.seen s.next o.next (with_set nothing k (s.known n k)) (with_held machine.nothing k (o.held n k)) all.next all.seen
           (with_set-pairs Q nothing machine.nothing k (s.known n k) (o.held n k) merging.none (all.known n k));
       load = all.load;
       images = all.images;
@@ -145,7 +145,7 @@ Paired-happens Q merging s o (Sent n k) all new =
       last = all.last;
       known = all.known;
       seen = all.seen;
-      load = put-pairs-at Q s.load o.load s.next o.next (with_set nothing k (s.known n k)) (with_held machine.nothing k (o.held n k)) all.next all.load
+      load = set_at-pairs-at Q s.load o.load s.next o.next (with_set nothing k (s.known n k)) (with_held machine.nothing k (o.held n k)) all.next all.load
           (with_set-pairs Q nothing machine.nothing k (s.known n k) (o.held n k) merging.none (all.known n k));
       images = all.images;
       standing = all.standing;
@@ -154,7 +154,7 @@ Paired-happens Q merging s o (Got n i) all new =
     record {
       next = ap (λ p. p + 1) all.next;
       last = all.last;
-      known = put-pairs Q s.known o.held n (union_by_key (s.known n) (s.load i)) (sync_by_key (o.held n) (o.load i)) all.known
+      known = set_at-pairs Q s.known o.held n (union_by_key (s.known n) (s.load i)) (sync_by_key (o.held n) (o.load i)) all.known
           (λ l. merging.both l (s.known n l) (s.load i l) (o.held n l) (o.load i l) (all.known n l) (all.load i l));
       seen = all.seen;
       load = all.load;
@@ -176,11 +176,11 @@ Paired-happens Q merging s o (Restarted n j) all new =
     record {
       next = ap (λ p. p + 1) all.next;
       last = all.last;
-      known = put-pairs Q s.known o.held n (s.images n j) (o.images n j) all.known (all.images n j);
+      known = set_at-pairs Q s.known o.held n (s.images n j) (o.images n j) all.known (all.images n j);
       seen = all.seen;
       load = all.load;
       images = all.images;
-      standing = put-pairs Q s.standing o.standing n (s.images n j) (o.images n j) all.standing (all.images n j);
+      standing = set_at-pairs Q s.standing o.standing n (s.images n j) (o.images n j) all.standing (all.images n j);
     }
 
 pub Paired-start : (Q : Key → Places → List Entry → Type 0) → IsMerging Q → Paired Q start machine.start

@@ -14,7 +14,7 @@ use Rattle.past_model.proofs.Orderly.{IsFalling}
 use Rattle.past_model.proofs.Keys.{key_eq-self}
 use Rattle.past_model.proofs.Members.{in_filter, older_sub}
 use Rattle.past_model.proofs.Closed.{in_set, is_of, writes_of, own_count, in_set-older, count_in-own}
-use Rattle.past_model.proofs.Sound.{Sound, IsLawful, KeepsFrom, KeepsFrom-rest, sound_past, put-at}
+use Rattle.past_model.proofs.Sound.{Sound, IsLawful, KeepsFrom, KeepsFrom-rest, sound_past, set_at-here}
 use Rattle.past_model.proofs.Staying.{past_snoc}
 use Rattle.past_model.proofs.Counted.{own_counted}
 use Rattle.object_machine.specs.Objects.{Objects, objects, held, image_object}
@@ -75,7 +75,7 @@ own_from_counters s o n j sound same le =
           (in_set-older s.writes x.key (s.known n x.key) n falling (sound.reached.known n x.key))
           (in_set-older s.writes x.key (s.images n j x.key) n falling (sound.reached.images n j x.key))
           few (in_filter (is_of x.key n) s.writes x m mine) ((sound.own n).own x m w) in
-          ap (λ v. v x.key x.place) (put-at s.known n (s.images n j)) ∙ there;
+          ap (λ v. v x.key x.place) (set_at-here s.known n (s.images n j)) ∙ there;
     }
 
 -- and the other way: the image then counts as many as there are
@@ -84,7 +84,7 @@ counters_from_own s o n j sound same after k =
     let now : count_of (o.held n k) n ≡ length (writes_of s.writes k n) = (same.known n k).context.counts n ∙ own_counted s sound n k in
     let image : count_of (o.images n j k) n ≡ length (writes_of s.writes k n) =
     (same.images n j k).context.counts n
-    ∙ ap (λ v. count_in s.writes (v k) n) (sym (put-at s.known n (s.images n j)))
+    ∙ ap (λ v. count_in s.writes (v k) n) (sym (set_at-here s.known n (s.images n j)))
     ∙ own_counted (happens s (Restarted n j)) after n k in
     omega arith
 

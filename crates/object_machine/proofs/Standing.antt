@@ -8,8 +8,8 @@ use Rattle.past_model.specs.declared.happening.Happening.{Happening}
 use Rattle.past_model.specs.declared.happening.Happening.TheVariants.{Wrote, Looked, Sent, Got, Kept, Restarted}
 use Rattle.past_model.specs.Sets.{key_eq}
 use Rattle.past_model.proofs.Keys.{key_eq-true}
-use Rattle.past_model.proofs.Sound.{put-at}
-use Rattle.past_model.proofs.Walking.{put-other}
+use Rattle.past_model.proofs.Sound.{set_at-here}
+use Rattle.past_model.proofs.Walking.{set_at-other}
 use Rattle.object_machine.specs.Objects.{Objects, nothing, with_held, start, happens, run, objects, seen_object, sent_object}
 use Rattle.object_machine.proofs.Changes.{objects-next, run_append}
 
@@ -17,7 +17,7 @@ use Rattle.object_machine.proofs.Changes.{objects-next, run_append}
 
 seen_step : (o : Objects) (h : Happening) (p : ℕ) → p < o.next → (happens o h).seen p ≡ o.seen p
 seen_step o (Wrote n k v r) p low = refl
-seen_step o (Looked n k) p low = put-other o.seen o.next p (with_held nothing k (o.held n k)) (λ e. let no : o.next ≡ p = e in absurd (omega (arith, low, no)))
+seen_step o (Looked n k) p low = set_at-other o.seen o.next p (with_held nothing k (o.held n k)) (λ e. let no : o.next ≡ p = e in absurd (omega (arith, low, no)))
 seen_step o (Sent n k) p low = refl
 seen_step o (Got n i) p low = refl
 seen_step o (Kept n k) p low = refl
@@ -26,7 +26,7 @@ seen_step o (Restarted n j) p low = refl
 load_step : (o : Objects) (h : Happening) (p : ℕ) → p < o.next → (happens o h).load p ≡ o.load p
 load_step o (Wrote n k v r) p low = refl
 load_step o (Looked n k) p low = refl
-load_step o (Sent n k) p low = put-other o.load o.next p (with_held nothing k (o.held n k)) (λ e. let no : o.next ≡ p = e in absurd (omega (arith, low, no)))
+load_step o (Sent n k) p low = set_at-other o.load o.next p (with_held nothing k (o.held n k)) (λ e. let no : o.next ≡ p = e in absurd (omega (arith, low, no)))
 load_step o (Got n i) p low = refl
 load_step o (Kept n k) p low = refl
 load_step o (Restarted n j) p low = refl
@@ -62,7 +62,7 @@ sent_from o (h ∷ hs) zero m k l e ne =
     ap (λ p. (run (happens o h) hs).load p l) (let e0 : o.next + 0 ≡ o.next = omega arith in e0)
     ∙ ap (λ f. f l) (load_stays (happens o h) hs o.next (omega arith))
     ∙ ap (λ h. (happens o h).load o.next l) is
-    ∙ ap (λ f. f l) (put-at o.load o.next (with_held nothing k (o.held m k)))
+    ∙ ap (λ f. f l) (set_at-here o.load o.next (with_held nothing k (o.held m k)))
     ∙ not_under k l (o.held m k) ne
 sent_from o (h ∷ hs) (suc i) m k l e ne =
     ap (λ p. (run (happens o h) hs).load p l) (let e1 : o.next + suc i ≡ o.next + 1 + i = omega arith in e1)

@@ -9,7 +9,7 @@ use Rattle.dvvset.specs.Object.{Entry}
 use Rattle.dvvset.specs.Clock.{join, sync, update}
 use Rattle.past_model.specs.declared.happening.Happening.{Happening}
 use Rattle.past_model.specs.declared.happening.Happening.TheVariants.{Wrote, Looked, Sent, Got, Kept, Restarted}
-use Rattle.past_model.specs.Sets.{key_eq, put}
+use Rattle.past_model.specs.Sets.{key_eq, set_at}
 
 -- an object under each key; the empty list is the absent one
 abbrev pub Holding : Type 0
@@ -59,16 +59,16 @@ read_of o k (Some r) = o.seen r k
 
 -- the node holds the object under the key, and nothing else changes
 abbrev pub holds : ℕ → Key → List Entry → Objects → Objects
-holds n k object o = record o { held = put o.held n (with_held (o.held n) k object) }
+holds n k object o = record o { held = set_at o.held n (with_held (o.held n) k object) }
 
 -- the node makes its next image: the standing one, with what it holds now under the key
 abbrev pub imaged : ℕ → Key → Objects → Objects
 imaged n k o =
     let image : Holding = with_held (o.standing n) k (o.held n k) in
     record o {
-      last = put o.last n (o.last n + 1);
-      images = put o.images n (put (o.images n) (o.last n + 1) image);
-      standing = put o.standing n image;
+      last = set_at o.last n (o.last n + 1);
+      images = set_at o.images n (set_at (o.images n) (o.last n + 1) image);
+      standing = set_at o.standing n image;
     }
 
 -- the node holds, under the key, what it held with the write added, which had read that object
@@ -78,11 +78,11 @@ holds_write n k v r o = holds n k (update (join (read_of o k r)) (o.held n k) (w
 -- what a happening changes, but for the next place
 abbrev pub happens_at : Objects → Happening → Objects
 happens_at o (Wrote n k v r) = imaged n k (holds_write n k v r o)
-happens_at o (Looked n k) = record o { seen = put o.seen o.next (with_held nothing k (o.held n k)) }
-happens_at o (Sent n k) = record o { load = put o.load o.next (with_held nothing k (o.held n k)) }
-happens_at o (Got n i) = record o { held = put o.held n (sync_by_key (o.held n) (o.load i)) }
+happens_at o (Looked n k) = record o { seen = set_at o.seen o.next (with_held nothing k (o.held n k)) }
+happens_at o (Sent n k) = record o { load = set_at o.load o.next (with_held nothing k (o.held n k)) }
+happens_at o (Got n i) = record o { held = set_at o.held n (sync_by_key (o.held n) (o.load i)) }
 happens_at o (Kept n k) = imaged n k o
-happens_at o (Restarted n j) = record o { held = put o.held n (o.images n j); standing = put o.standing n (o.images n j) }
+happens_at o (Restarted n j) = record o { held = set_at o.held n (o.images n j); standing = set_at o.standing n (o.images n j) }
 
 abbrev pub happens : Objects → Happening → Objects
 happens o h = record (happens_at o h) { next = o.next + 1 }

@@ -16,7 +16,7 @@ use Rattle.past_model.specs.Moment.{Marks, Gives, GivesBoth, AreMoments, IsAccou
 use Rattle.std.proofs.lemmas.Bool.{cases_lt}
 use Rattle.meta_types.specs.Node.{IsNode}
 use Rattle.past_model.proofs.Keys.{key_eq-true}
-use Rattle.past_model.proofs.Sound.{put-at}
+use Rattle.past_model.proofs.Sound.{set_at-here}
 use Rattle.past_model.proofs.Told.{of_front, next_at, take_at, seen_at, load_at}
 
 -- the marks are those of the moment behind the happening at the place
@@ -73,11 +73,11 @@ behind_write hs place n k v seen m w lt at read known standing =
     let after : Gives hs m.known ((happens (past (take place hs)) (Wrote n k v seen)).known n) =
     subst (Gives hs m.known)
     ((λ i. with_set ((past (take place hs)).known n) k (union ((past (take place hs)).known n k) (union (read i) (singleton (sym here i)))))
-    ∙ sym (put-at (past (take place hs)).known n (with_set ((past (take place hs)).known n) k (union ((past (take place hs)).known n k) (union (read_of (past (take place hs)) k seen) (singleton (past (take place hs)).next))))))
+    ∙ sym (set_at-here (past (take place hs)).known n (with_set ((past (take place hs)).known n) k (union ((past (take place hs)).known n k) (union (read_of (past (take place hs)) k seen) (singleton (past (take place hs)).next))))))
     known in
     behind_step hs place (Wrote n k v seen) m at after
     (subst (Gives hs m.standing)
-    (sym (put-at (past (take place hs)).standing n (with_set ((past (take place hs)).standing n) k ((knows_write n k v seen (past (take place hs))).known n k))))
+    (sym (set_at-here (past (take place hs)).standing n (with_set ((past (take place hs)).standing n) k ((knows_write n k v seen (past (take place hs))).known n k))))
     (standing ((happens (past (take place hs)) (Wrote n k v seen)).known n) after))
 
 -- ---- a delivery
@@ -108,7 +108,7 @@ behind_delivery hs ms place n i now m lt len are at fits both known standing =
     (subst (Gives hs m.known)
     (got_set ((past (take place hs)).known n) ((past (take (i + 1) hs)).known fits.0) fits.1.0
     ∙ ap (union_by_key ((past (take place hs)).known n)) (sym (load_at hs i place fits.0 fits.1.0 front.0 front.1))
-    ∙ sym (put-at (past (take place hs)).known n (union_by_key ((past (take place hs)).known n) ((past (take place hs)).load i))))
+    ∙ sym (set_at-here (past (take place hs)).known n (union_by_key ((past (take place hs)).known n) ((past (take place hs)).load i))))
     gained)
     (subst (λ l. Gives hs l ((past (take place hs)).standing n)) (sym standing) both.standing)
 
@@ -128,14 +128,14 @@ behind_keeping hs place n k now m at both known standing =
     behind_step hs place (Kept n k) m at
     (subst (λ l. Gives hs l ((past (take place hs)).known n)) (sym known) both.known)
     (subst (Gives hs m.standing)
-    (sym (put-at (past (take place hs)).standing n (with_set ((past (take place hs)).standing n) k ((past (take place hs)).known n k))))
+    (sym (set_at-here (past (take place hs)).standing n (with_set ((past (take place hs)).standing n) k ((past (take place hs)).known n k))))
     (standing ((past (take place hs)).standing n) ((past (take place hs)).known n) both.standing both.known))
 
 pub behind_restart : (hs : List Happening) (place n j : ℕ) (standing : List Bool) → slice_get hs place ≡ Some (Restarted n j) → Gives hs standing ((past (take place hs)).images n j) → IsBehind hs place (record { known = standing; standing = standing })
 behind_restart hs place n j standing at gives =
     behind_step hs place (Restarted n j) (record { known = standing; standing = standing }) at
-    (subst (Gives hs standing) (sym (put-at (past (take place hs)).known n ((past (take place hs)).images n j))) gives)
-    (subst (Gives hs standing) (sym (put-at (past (take place hs)).standing n ((past (take place hs)).images n j))) gives)
+    (subst (Gives hs standing) (sym (set_at-here (past (take place hs)).known n ((past (take place hs)).images n j))) gives)
+    (subst (Gives hs standing) (sym (set_at-here (past (take place hs)).standing n ((past (take place hs)).images n j))) gives)
 
 -- ---- one moment more
 

@@ -4,7 +4,7 @@ use Rattle.meta_types.specs.Name.{Key}
 use Rattle.meta_types.specs.Value.{ValueParts}
 use Rattle.past_model.specs.declared.happening.Happening.{Happening}
 use Rattle.past_model.specs.declared.happening.Happening.TheVariants.{Wrote, Looked, Sent, Got, Kept, Restarted}
-use Rattle.past_model.specs.Sets.{Places, Knowledge, empty, singleton, union, nothing, with_set, union_by_key, put, key_eq}
+use Rattle.past_model.specs.Sets.{Places, Knowledge, empty, singleton, union, nothing, with_set, union_by_key, set_at, key_eq}
 use Rattle.past_model.specs.Past.{Past, start, read_of, imaged, knows_write, happens}
 use Rattle.past_model.proofs.Keys.{key_eq-true}
 
@@ -30,8 +30,8 @@ with_set-keeps Q v k S old new l =
       | false ↦ λ e. old l
     ] refl
 
-put-keeps : (Q : Key → Places → Type 0) (f : ℕ → Knowledge) (n : ℕ) (v : Knowledge) → ((m : ℕ) (l : Key) → Q l (f m l)) → ((l : Key) → Q l (v l)) → (m : ℕ) (l : Key) → Q l (put f n v m l)
-put-keeps Q f n v old new m l =
+set_at-keeps : (Q : Key → Places → Type 0) (f : ℕ → Knowledge) (n : ℕ) (v : Knowledge) → ((m : ℕ) (l : Key) → Q l (f m l)) → ((l : Key) → Q l (v l)) → (m : ℕ) (l : Key) → Q l (set_at f n v m l)
+set_at-keeps Q f n v old new m l =
     elim (eqb m n) as (λ b. Q l (cond b v (f m) l)) [ true ↦ new l | false ↦ old m l ]
 
 imaged-keeps : (Q : Key → Places → Type 0) (s : Past) (n : ℕ) (k : Key) → Reached Q s → Reached Q (imaged n k s)
@@ -42,11 +42,11 @@ imaged-keeps Q s n k all =
       seen = all.seen;
       load = all.load;
       images = λ m j l.
-          elim (eqb m n) as (λ b. Q l (cond b (put (s.images n) (s.last n + 1) (with_set (s.standing n) k (s.known n k))) (s.images m) j l)) [
-            | true ↦ put-keeps Q (s.images n) (s.last n + 1) (with_set (s.standing n) k (s.known n k)) (all.images n) image j l
+          elim (eqb m n) as (λ b. Q l (cond b (set_at (s.images n) (s.last n + 1) (with_set (s.standing n) k (s.known n k))) (s.images m) j l)) [
+            | true ↦ set_at-keeps Q (s.images n) (s.last n + 1) (with_set (s.standing n) k (s.known n k)) (all.images n) image j l
             | false ↦ all.images m j l
           ];
-      standing = put-keeps Q s.standing n (with_set (s.standing n) k (s.known n k)) all.standing image;
+      standing = set_at-keeps Q s.standing n (with_set (s.standing n) k (s.known n k)) all.standing image;
     }
 
 -- what a node knows once it wrote
@@ -56,7 +56,7 @@ after_write s n k r = union (s.known n k) (union (read_of s k r) (singleton s.ne
 knows_write-keeps : (Q : Key → Places → Type 0) (s : Past) (n : ℕ) (k : Key) (v : ValueParts) (r : Option ℕ) → Reached Q s → Q k (after_write s n k r) → Reached Q (knows_write n k v r s)
 knows_write-keeps Q s n k v r all new =
     record {
-      known = put-keeps Q s.known n (with_set (s.known n) k (after_write s n k r)) all.known (with_set-keeps Q (s.known n) k (after_write s n k r) (all.known n) new);
+      known = set_at-keeps Q s.known n (with_set (s.known n) k (after_write s n k r)) all.known (with_set-keeps Q (s.known n) k (after_write s n k r) (all.known n) new);
       seen = all.seen;
       load = all.load;
       images = all.images;
@@ -92,7 +92,7 @@ Reached-happens Q gathered s (Wrote n k v r) all new =
 Reached-happens Q gathered s (Looked n k) all new =
     record {
       known = all.known;
-      seen = put-keeps Q s.seen s.next (with_set nothing k (s.known n k)) all.seen (with_set-keeps Q nothing k (s.known n k) gathered.none (all.known n k));
+      seen = set_at-keeps Q s.seen s.next (with_set nothing k (s.known n k)) all.seen (with_set-keeps Q nothing k (s.known n k) gathered.none (all.known n k));
       load = all.load;
       images = all.images;
       standing = all.standing;
@@ -101,13 +101,13 @@ Reached-happens Q gathered s (Sent n k) all new =
     record {
       known = all.known;
       seen = all.seen;
-      load = put-keeps Q s.load s.next (with_set nothing k (s.known n k)) all.load (with_set-keeps Q nothing k (s.known n k) gathered.none (all.known n k));
+      load = set_at-keeps Q s.load s.next (with_set nothing k (s.known n k)) all.load (with_set-keeps Q nothing k (s.known n k) gathered.none (all.known n k));
       images = all.images;
       standing = all.standing;
     }
 Reached-happens Q gathered s (Got n i) all new =
     record {
-      known = put-keeps Q s.known n (union_by_key (s.known n) (s.load i)) all.known (λ l. gathered.both l (s.known n l) (s.load i l) (all.known n l) (all.load i l));
+      known = set_at-keeps Q s.known n (union_by_key (s.known n) (s.load i)) all.known (λ l. gathered.both l (s.known n l) (s.load i l) (all.known n l) (all.load i l));
       seen = all.seen;
       load = all.load;
       images = all.images;
@@ -118,11 +118,11 @@ Reached-happens Q gathered s (Kept n k) all new =
     record { known = after.known; seen = after.seen; load = after.load; images = after.images; standing = after.standing }
 Reached-happens Q gathered s (Restarted n j) all new =
     record {
-      known = put-keeps Q s.known n (s.images n j) all.known (all.images n j);
+      known = set_at-keeps Q s.known n (s.images n j) all.known (all.images n j);
       seen = all.seen;
       load = all.load;
       images = all.images;
-      standing = put-keeps Q s.standing n (s.images n j) all.standing (all.images n j);
+      standing = set_at-keeps Q s.standing n (s.images n j) all.standing (all.images n j);
     }
 
 pub Reached-start : (Q : Key → Places → Type 0) → IsGathered Q → Reached Q start

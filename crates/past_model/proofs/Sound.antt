@@ -7,7 +7,7 @@ use Rattle.meta_types.specs.Name.{Key}
 use Rattle.meta_types.specs.Value.{ValueParts}
 use Rattle.past_model.specs.declared.happening.Happening.{Happening}
 use Rattle.past_model.specs.declared.happening.Happening.TheVariants.{Wrote, Looked, Sent, Got, Kept, Restarted}
-use Rattle.past_model.specs.Sets.{Places, Knowledge, with_set, union_by_key, put, key_eq}
+use Rattle.past_model.specs.Sets.{Places, Knowledge, with_set, union_by_key, set_at, key_eq}
 use Rattle.past_model.specs.Past.{Past, Write, In, start, read_of, happens, run, past, writes}
 use Rattle.past_model.specs.History.{KnowsOwn, RestartsKeepOwnWrites}
 use Rattle.past_model.specs.Shown.{IsClosed}
@@ -48,8 +48,8 @@ with_set-more v k S l p more e =
 pub with_set-at : (v : Knowledge) (k : Key) (S : Places) → with_set v k S k ≡ S
 with_set-at v k S = ap (λ b. cond b S (v k)) (key_eq-self k)
 
-pub put-at : {A : Type 0} (f : ℕ → A) (n : ℕ) (x : A) → put f n x n ≡ x
-put-at f n x = ap (λ b. cond b x (f n)) (eq-eqb n n refl)
+pub set_at-here : {A : Type 0} (f : ℕ → A) (n : ℕ) (x : A) → set_at f n x n ≡ x
+set_at-here f n x = ap (λ b. cond b x (f n)) (eq-eqb n n refl)
 
 own-wrote : (s : Past) (n : ℕ) (k : Key) (v : ValueParts) (r : Option ℕ) → ((m : ℕ) → KnowsOwn s m) → (m : ℕ) → KnowsOwn (happens s (Wrote n k v r)) m
 own-wrote s n k v r own m =

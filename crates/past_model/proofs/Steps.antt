@@ -14,7 +14,7 @@ use Rattle.past_model.specs.Shown.{IsObjectOf}
 use Rattle.past_model.specs.Arisen.{counter_of}
 use Rattle.past_model.proofs.Reached.{after_write}
 use Rattle.past_model.proofs.Placed.{written}
-use Rattle.past_model.proofs.Sound.{Sound, sound_past, orderly_sound, new-closed, put-at, with_set-at}
+use Rattle.past_model.proofs.Sound.{Sound, sound_past, orderly_sound, new-closed, set_at-here, with_set-at}
 use Rattle.past_model.proofs.Staying.{past_snoc, past-next}
 use Rattle.past_model.proofs.Merging.{sync_object}
 use Rattle.past_model.proofs.Update.{update_object}
@@ -22,7 +22,7 @@ use Rattle.past_model.proofs.Update.{update_object}
 -- ---- a delivery
 
 known_got : (s : Past) (n i : ℕ) (k : Key) → (happens s (Got n i)).known n k ≡ union (s.known n k) (s.load i k)
-known_got s n i k = ap (λ v. v k) (put-at s.known n (union_by_key (s.known n) (s.load i)))
+known_got s n i k = ap (λ v. v k) (set_at-here s.known n (union_by_key (s.known n) (s.load i)))
 
 pub delivery_known : (hs : List Happening) (n i : ℕ) (k : Key) → known (hs ++ Got n i ∷ []) n k ≡ union (known hs n k) (load hs i k)
 delivery_known hs n i k = ap (λ s. s.known n k) (past_snoc hs (Got n i)) ∙ known_got (past hs) n i k
@@ -39,7 +39,7 @@ delivery_object hs keeps n i k a b left right =
 -- ---- a write
 
 known_wrote : (s : Past) (n : ℕ) (k : Key) (v : ValueParts) (r : Option ℕ) → (happens s (Wrote n k v r)).known n k ≡ after_write s n k r
-known_wrote s n k v r = ap (λ w. w k) (put-at s.known n (with_set (s.known n) k (after_write s n k r))) ∙ with_set-at (s.known n) k (after_write s n k r)
+known_wrote s n k v r = ap (λ w. w k) (set_at-here s.known n (with_set (s.known n) k (after_write s n k r))) ∙ with_set-at (s.known n) k (after_write s n k r)
 
 pub write_known : (hs : List Happening) (n : ℕ) (k : Key) (v : ValueParts) (r : Option ℕ)
     → known (hs ++ Wrote n k v r ∷ []) n k ≡ union (known hs n k) (union (read hs k r) (singleton (length hs)))

@@ -4,7 +4,7 @@ use Rattle.std.proofs.lemmas.Bool.{cases_eq, eq-eqb, ne_eqb, eqb-true}
 use Rattle.std.proofs.lemmas.List.{take_more, take-append-drop}
 use Rattle.past_model.specs.declared.happening.Happening.{Happening}
 use Rattle.past_model.specs.declared.happening.Happening.TheVariants.{Wrote, Looked, Sent, Got, Kept, Restarted}
-use Rattle.past_model.specs.Sets.{Knowledge, nothing, singleton, union, with_set, union_by_key, put}
+use Rattle.past_model.specs.Sets.{Knowledge, nothing, singleton, union, with_set, union_by_key, set_at}
 use Rattle.past_model.specs.Past.{Past, start, happens, run, past, read_of, knows_write}
 use Rattle.past_model.specs.Moment.{node_of, makes_image}
 use Rattle.past_model.proofs.Rendered.{take-min}
@@ -22,35 +22,35 @@ in_parts hs i places le =
 
 -- ---- what a happening of another node leaves as it is
 
-pub put-other : {A : Type 0} (f : ℕ → A) (m n : ℕ) (x : A) → (m ≡ n → ⊥) → put f m x n ≡ f n
-put-other f m n x ne = ap (λ b. cond b x (f n)) (ne_eqb n m (λ e. ne (sym e)))
+pub set_at-other : {A : Type 0} (f : ℕ → A) (m n : ℕ) (x : A) → (m ≡ n → ⊥) → set_at f m x n ≡ f n
+set_at-other f m n x ne = ap (λ b. cond b x (f n)) (ne_eqb n m (λ e. ne (sym e)))
 
-pub put-same : {A : Type 0} (f : ℕ → A) (m n : ℕ) (x : A) → m ≡ n → put f m x n ≡ x
-put-same f m n x e = ap (λ b. cond b x (f n)) (eq-eqb n m (sym e))
+pub set_at-same : {A : Type 0} (f : ℕ → A) (m n : ℕ) (x : A) → m ≡ n → set_at f m x n ≡ x
+set_at-same f m n x e = ap (λ b. cond b x (f n)) (eq-eqb n m (sym e))
 
 pub known-other : (s : Past) (h : Happening) (n : ℕ) → (node_of h ≡ n → ⊥) → (happens s h).known n ≡ s.known n
-known-other s (Wrote m k v r) n ne = put-other s.known m n (with_set (s.known m) k (union (s.known m k) (union (read_of s k r) (singleton s.next)))) ne
+known-other s (Wrote m k v r) n ne = set_at-other s.known m n (with_set (s.known m) k (union (s.known m k) (union (read_of s k r) (singleton s.next)))) ne
 known-other s (Looked m k) n ne = refl
 known-other s (Sent m k) n ne = refl
-known-other s (Got m i) n ne = put-other s.known m n (union_by_key (s.known m) (s.load i)) ne
+known-other s (Got m i) n ne = set_at-other s.known m n (union_by_key (s.known m) (s.load i)) ne
 known-other s (Kept m k) n ne = refl
-known-other s (Restarted m j) n ne = put-other s.known m n (s.images m j) ne
+known-other s (Restarted m j) n ne = set_at-other s.known m n (s.images m j) ne
 
 pub standing-other : (s : Past) (h : Happening) (n : ℕ) → (node_of h ≡ n → ⊥) → (happens s h).standing n ≡ s.standing n
-standing-other s (Wrote m k v r) n ne = put-other s.standing m n (with_set (s.standing m) k ((knows_write m k v r s).known m k)) ne
+standing-other s (Wrote m k v r) n ne = set_at-other s.standing m n (with_set (s.standing m) k ((knows_write m k v r s).known m k)) ne
 standing-other s (Looked m k) n ne = refl
 standing-other s (Sent m k) n ne = refl
 standing-other s (Got m i) n ne = refl
-standing-other s (Kept m k) n ne = put-other s.standing m n (with_set (s.standing m) k (s.known m k)) ne
-standing-other s (Restarted m j) n ne = put-other s.standing m n (s.images m j) ne
+standing-other s (Kept m k) n ne = set_at-other s.standing m n (with_set (s.standing m) k (s.known m k)) ne
+standing-other s (Restarted m j) n ne = set_at-other s.standing m n (s.images m j) ne
 
 -- ---- images
 
-put_counts : (f : ℕ → ℕ) (m n : ℕ) → put f m (f m + 1) n ≡ cond (eqb m n) (f n + 1) (f n)
+put_counts : (f : ℕ → ℕ) (m n : ℕ) → set_at f m (f m + 1) n ≡ cond (eqb m n) (f n + 1) (f n)
 put_counts f m n =
     ⊎_elim
-    (λ e. put-same f m n (f m + 1) e ∙ ap (λ x. f x + 1) e ∙ sym (ap (λ b. cond b (f n + 1) (f n)) (eq-eqb m n e)))
-    (λ ne. put-other f m n (f m + 1) ne ∙ sym (ap (λ b. cond b (f n + 1) (f n)) (ne_eqb m n ne)))
+    (λ e. set_at-same f m n (f m + 1) e ∙ ap (λ x. f x + 1) e ∙ sym (ap (λ b. cond b (f n + 1) (f n)) (eq-eqb m n e)))
+    (λ ne. set_at-other f m n (f m + 1) ne ∙ sym (ap (λ b. cond b (f n + 1) (f n)) (ne_eqb m n ne)))
     (cases_eq m n)
 
 -- the number of the newest image
@@ -63,13 +63,13 @@ last_step s (Kept m k) n = put_counts s.last m n
 last_step s (Restarted m j) n = refl
 
 -- an image stays
-put_image : (f : ℕ → ℕ → Knowledge) (last : ℕ → ℕ) (m n j : ℕ) (image : Knowledge) → j ≤ last n → put f m (put (f m) (last m + 1) image) n j ≡ f n j
+put_image : (f : ℕ → ℕ → Knowledge) (last : ℕ → ℕ) (m n j : ℕ) (image : Knowledge) → j ≤ last n → set_at f m (set_at (f m) (last m + 1) image) n j ≡ f n j
 put_image f last m n j image le =
     ⊎_elim
     (λ e.
     let other : (last m + 1 ≡ j → ⊥) = λ o. let top : last m ≡ last n = ap last e in omega arith in
-    (λ i. put-same f m n (put (f m) (last m + 1) image) e i j) ∙ put-other (f m) (last m + 1) j image other ∙ (λ i. f (e i) j))
-    (λ ne. λ i. put-other f m n (put (f m) (last m + 1) image) ne i j)
+    (λ i. set_at-same f m n (set_at (f m) (last m + 1) image) e i j) ∙ set_at-other (f m) (last m + 1) j image other ∙ (λ i. f (e i) j))
+    (λ ne. λ i. set_at-other f m n (set_at (f m) (last m + 1) image) ne i j)
     (cases_eq m n)
 
 image_step : (s : Past) (h : Happening) (n j : ℕ) → j ≤ s.last n → (happens s h).images n j ≡ s.images n j
@@ -103,10 +103,10 @@ image_after hs i places n j le made =
 pub first_image : (hs : List Happening) (n : ℕ) → (past hs).images n 0 ≡ nothing
 first_image hs n = image_stays start hs n 0 (omega arith)
 
-put_new : (f : ℕ → ℕ → Knowledge) (g : ℕ → Knowledge) (last : ℕ → ℕ) (m n : ℕ) (image : Knowledge) → eqb m n ≡ true → put f m (put (f m) (last m + 1) image) n (last n + 1) ≡ put g m image n
+put_new : (f : ℕ → ℕ → Knowledge) (g : ℕ → Knowledge) (last : ℕ → ℕ) (m n : ℕ) (image : Knowledge) → eqb m n ≡ true → set_at f m (set_at (f m) (last m + 1) image) n (last n + 1) ≡ set_at g m image n
 put_new f g last m n image same =
     let e : m ≡ n = eqb-true m n same in
-    (λ i. put-same f m n (put (f m) (last m + 1) image) e i (last n + 1)) ∙ put-same (f m) (last m + 1) (last n + 1) image (ap (λ x. last x + 1) e) ∙ sym (put-same g m n image e)
+    (λ i. set_at-same f m n (set_at (f m) (last m + 1) image) e i (last n + 1)) ∙ set_at-same (f m) (last m + 1) (last n + 1) image (ap (λ x. last x + 1) e) ∙ sym (set_at-same g m n image e)
 
 -- a new image is the standing one
 pub image_made : (s : Past) (h : Happening) (n : ℕ) → makes_image n h ≡ true → (happens s h).images n (s.last n + 1) ≡ (happens s h).standing n

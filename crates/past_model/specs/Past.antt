@@ -6,7 +6,7 @@ use Rattle.meta_types.specs.Name.{Key}
 use Rattle.meta_types.specs.Value.{ValueParts}
 use Rattle.past_model.specs.declared.happening.Happening.{Happening}
 use Rattle.past_model.specs.declared.happening.Happening.TheVariants.{Wrote, Looked, Sent, Got, Kept, Restarted}
-use Rattle.past_model.specs.Sets.{Places, Knowledge, empty, singleton, union, nothing, with_set, union_by_key, put}
+use Rattle.past_model.specs.Sets.{Places, Knowledge, empty, singleton, union, nothing, with_set, union_by_key, set_at}
 
 -- a write: its place, whose it is, and the places of the writes that it had read
 pub record Write : Type 0 where
@@ -57,16 +57,16 @@ read_of s k (Some r) = s.seen r k
 
 -- the node knows S under the key, and nothing else changes
 abbrev pub knows : ℕ → Key → Places → Past → Past
-knows n k S s = record s { known = put s.known n (with_set (s.known n) k S) }
+knows n k S s = record s { known = set_at s.known n (with_set (s.known n) k S) }
 
 -- the node makes its next image: the standing one, with what it knows now under the key
 abbrev pub imaged : ℕ → Key → Past → Past
 imaged n k s =
     let image : Knowledge = with_set (s.standing n) k (s.known n k) in
     record s {
-      last = put s.last n (s.last n + 1);
-      images = put s.images n (put (s.images n) (s.last n + 1) image);
-      standing = put s.standing n image;
+      last = set_at s.last n (s.last n + 1);
+      images = set_at s.images n (set_at (s.images n) (s.last n + 1) image);
+      standing = set_at s.standing n image;
     }
 
 -- the write stands in the list, and its node knows it and what it had read
@@ -79,11 +79,11 @@ knows_write n k v r s =
 -- what a happening changes, but for the next place
 abbrev pub happens_at : Past → Happening → Past
 happens_at s (Wrote n k v r) = imaged n k (knows_write n k v r s)
-happens_at s (Looked n k) = record s { seen = put s.seen s.next (with_set nothing k (s.known n k)) }
-happens_at s (Sent n k) = record s { load = put s.load s.next (with_set nothing k (s.known n k)) }
-happens_at s (Got n i) = record s { known = put s.known n (union_by_key (s.known n) (s.load i)) }
+happens_at s (Looked n k) = record s { seen = set_at s.seen s.next (with_set nothing k (s.known n k)) }
+happens_at s (Sent n k) = record s { load = set_at s.load s.next (with_set nothing k (s.known n k)) }
+happens_at s (Got n i) = record s { known = set_at s.known n (union_by_key (s.known n) (s.load i)) }
 happens_at s (Kept n k) = imaged n k s
-happens_at s (Restarted n j) = record s { known = put s.known n (s.images n j); standing = put s.standing n (s.images n j) }
+happens_at s (Restarted n j) = record s { known = set_at s.known n (s.images n j); standing = set_at s.standing n (s.images n j) }
 
 abbrev pub happens : Past → Happening → Past
 happens s h = record (happens_at s h) { next = s.next + 1 }

@@ -38,5 +38,5 @@ abbrev pub union_by_key : Knowledge → Knowledge → Knowledge
 union_by_key v w k = union (v k) (w k)
 
 -- x for n, and for each other number what there was
-abbrev pub put : {A : Type 0} → (ℕ → A) → ℕ → A → ℕ → A
-put f n x m = if m == n then x else f m
+abbrev pub set_at : {A : Type 0} → (ℕ → A) → ℕ → A → ℕ → A
+set_at f n x m = if m == n then x else f m

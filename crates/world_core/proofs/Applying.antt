@@ -1,17 +1,17 @@
 -- One more accepted event: what the world then is, and that it is a world.
-use Rattle.std.proofs.Common.{◌≡◌, ℕ, zero, suc, ◌≤◌, List, [], ◌∷◌, ◌++◌, length, Some, refl, sym, ap, subst, ◌∙◌}
+use Rattle.std.proofs.Common.{◌≡◌, ℕ, zero, suc, ◌≤◌, List, [], ◌∷◌, ◌++◌, length, Some, refl, sym, ap, subst, ◌∙◌, ◌+◌}
 use Rattle.std.specs.Prelude.{slice_get}
-use Rattle.std.proofs.lemmas.List.{append-nil, append_assoc}
+use Rattle.std.proofs.lemmas.List.{append-nil}
 use Rattle.meta_frame.specs.declared.message.Frame.{Frame}
 use Rattle.meta_store.specs.Context.{Reading}
 use Rattle.node_images.specs.Node.{Node}
 use Rattle.world_core.specs.declared.answer.Accepted.{Accepted}
 use Rattle.world_core.specs.declared.fault.WorldFault.{WorldFault}
-use Rattle.world_core.specs.Tells.{Told, Pairwise, node_of, sent_numbers, tell_accepted, tell_event, tell_frames}
-use Rattle.world_core.specs.World.{World, AreBelow, SentBelow, IsState, IsWorld}
+use Rattle.world_core.specs.Tells.{Told, Names, Pairwise, node_of, nothing_told, sent_numbers, tell_accepted, tell_event, tell_frames}
+use Rattle.world_core.specs.World.{World, IsRead, IsState, IsWorld}
 use Rattle.world_core.specs.Refusal.{Refuses}
-use Rattle.world_core.specs.Outcome.{Accepts, Adds, Answers, contexts_of, frames_of}
-use Rattle.world_core.proofs.Telling.{told_snoc}
+use Rattle.world_core.specs.Outcome.{Accepts, Adds, Answers, Leaves, contexts_of, frames_of, next_read}
+use Rattle.world_core.proofs.Telling.{each_names_snoc, sent_numbers_snoc, tell_all_snoc}
 
 -- ---- lists side by side
 
@@ -40,16 +40,6 @@ pair_length P [] (b ∷ ys) all = absurd all
 pair_length P (a ∷ xs) [] all = absurd all
 pair_length P (a ∷ xs) (b ∷ ys) all = ap suc (pair_length P xs ys all.1)
 
--- ---- the frames that events sent
-
-pub sent_numbers_snoc : (accepted : List Accepted) (a : Accepted) → sent_numbers (accepted ++ a ∷ []) ≡ sent_numbers accepted ++ a.answer.sent
-sent_numbers_snoc [] a = append-nil a.answer.sent
-sent_numbers_snoc (b ∷ accepted) a = ap (λ xs. b.answer.sent ++ xs) (sent_numbers_snoc accepted a) ∙ sym (append_assoc b.answer.sent (sent_numbers accepted) a.answer.sent)
-
-pub below_snoc : (most : ℕ) (accepted : List Accepted) (a : Accepted) → SentBelow most accepted → AreBelow most a.answer.sent → SentBelow most (accepted ++ a ∷ [])
-below_snoc most [] a below now = (now, tt)
-below_snoc most (b ∷ accepted) a below now = (below.0, below_snoc most accepted a below.1 now)
-
 -- ---- one more event
 
 -- the world after an accepted event is one, and is what was to be
@@ -61,6 +51,12 @@ pub record Stepped (old : World) (a : Accepted) (new : World) : Type 0 where
 abbrev pub after : World → Accepted → List Node → List Reading → Told → World
 after w a nodes contexts t = record { nodes = nodes; accepted = w.accepted ++ a ∷ []; frames = w.frames; contexts = contexts; told = t }
 
+-- the number of the next read, by what was told
+pub next_is : (w : World) → IsWorld w → Some (next_read w) ≡ Some (length w.told.looks + 1)
+next_is w is =
+    let many : length w.told.looks ≡ length w.contexts = pair_length (IsRead w.told.history) w.told.looks w.contexts is.state.reads in
+    ap (λ number. Some (number + 1)) (sym many)
+
 told_quietly : (sent : List Frame) (a : Accepted) (t : Told) → a.answer.sent ≡ [] → tell_accepted sent a t ≡ tell_event a.event t
 told_quietly sent a t none = ap (λ numbers. tell_frames sent (node_of a.event) numbers (tell_event a.event t)) none
 
@@ -69,7 +65,9 @@ pub record Quiet (w : World) (a : Accepted) (nodes : List Node) (contexts : List
   pub none : a.answer.sent ≡ []
   pub frames : frames_of w a.event ≡ []
   pub told : t ≡ tell_event a.event w.told
+  pub names : Names w.told a.event a.answer.read
   pub many : length nodes ≡ length w.nodes
+  pub leaves : Leaves w a.event nodes
   pub reads : contexts ≡ w.contexts ++ contexts_of w a.event
   pub state : (sent : List Frame) → IsState w.nodes w.contexts sent w.told → IsState nodes contexts sent t
   pub no_refusal : (fault : WorldFault) → Refuses w a.event fault → ⊥
@@ -78,12 +76,14 @@ pub record Quiet (w : World) (a : Accepted) (nodes : List Node) (contexts : List
 pub steps_quietly : (w : World) (a : Accepted) (nodes : List Node) (contexts : List Reading) (t : Told) → IsWorld w → Quiet w a nodes contexts t → Stepped w a (after w a nodes contexts t)
 steps_quietly w a nodes contexts t is q = record {
   is_world = record {
-    sent = is.sent;
-    spelled = is.spelled;
-    numbered = sent_numbers_snoc w.accepted a ∙ ap (λ xs. sent_numbers w.accepted ++ xs) q.none ∙ append-nil (sent_numbers w.accepted) ∙ is.numbered;
-    tells = told_snoc is.sent w.accepted a ∙ ap (tell_accepted is.sent a) is.tells ∙ told_quietly is.sent a w.told q.none ∙ sym q.told;
-    below = below_snoc (length is.sent) w.accepted a is.below (subst (AreBelow (length is.sent)) (sym q.none) tt);
-    state = q.state is.sent is.state;
+    telling = record {
+      frames = is.telling.frames;
+      spelled = is.telling.spelled;
+      sent_in_order = sent_numbers_snoc w.accepted a ∙ ap (λ xs. sent_numbers w.accepted ++ xs) q.none ∙ append-nil (sent_numbers w.accepted) ∙ is.telling.sent_in_order;
+      names = each_names_snoc is.telling.frames w.accepted a nothing_told is.telling.names (subst (λ told. Names told a.event a.answer.read) (sym is.telling.tells) q.names);
+      tells = tell_all_snoc is.telling.frames w.accepted a ∙ ap (tell_accepted is.telling.frames a) is.telling.tells ∙ told_quietly is.telling.frames a w.told q.none ∙ sym q.told;
+    };
+    state = q.state is.telling.frames is.state;
     some = subst (λ m. 1 ≤ m) (sym q.many) is.some;
     few = subst (λ m. m ≤ 16) (sym q.many) is.few;
   };
@@ -94,6 +94,6 @@ steps_quietly w a nodes contexts t is q = record {
     frames = subst (λ fs. Adds fs w.frames w.frames) (sym q.frames) (record { bytes = []; spelled = tt; added = sym (append-nil w.frames) });
     contexts = q.reads;
     told = λ sent spelled. q.told ∙ sym (told_quietly sent a w.told q.none);
-    nodes = q.many;
+    nodes = q.leaves;
   };
 }

@@ -16,17 +16,17 @@ use Rattle.meta_store.specs.Step.{answer_of_merge, refusal_of_merge}
 use Rattle.meta_store.specs.declared.fault.StoreFault.{StoreFault}
 use Rattle.past_model.specs.declared.happening.Happening.TheVariants.{Got, Sent}
 use Rattle.object_machine.specs.Objects.{sent_object}
-use Rattle.node_images.specs.Node.{Node, empty, with_merge}
+use Rattle.node_images.specs.Node.{Node, new_node, with_merge}
 use Rattle.world_core.specs.declared.answer.Accepted.{Accepted}
 use Rattle.world_core.specs.declared.answer.Reply.TheVariants as OfReply
 use Rattle.world_core.specs.declared.event.Event.TheVariants.{Deliver, Junk}
 use Rattle.world_core.specs.declared.fault.WorldFault.{WorldFault}
 use Rattle.world_core.specs.declared.fault.WorldFault.TheVariants.{LooksLikeFrame, NoSuchFrame, NoSuchNode, NotAddressed}
 use Rattle.world_core.specs.Fault.{of_frame, of_store}
-use Rattle.world_core.specs.Tells.{carried, numbered, tell, tell_got}
+use Rattle.world_core.specs.Tells.{carried_object, numbered, tell, tell_got}
 use Rattle.world_core.specs.World.{World, IsTold, IsWorld}
 use Rattle.world_core.specs.Refusal.{Refuses, ByFrame, HasNoFrame, HasNoNode, IsFrame, IsFrameOf, by_store, first, node_at, refusal_of_object, table_of}
-use Rattle.world_core.specs.Outcome.{merged, replied, took}
+use Rattle.world_core.specs.Outcome.{merged, replied, took, with_frame_taken, with_node}
 use Rattle.world_core.specs.Steps.{Arrives, IsArrival, IsNoFrame}
 use Rattle.world_core.proofs.Applying.{Stepped, after, pair_first, pair_second, steps_quietly}
 use Rattle.world_core.proofs.Putting.{has_node}
@@ -43,10 +43,10 @@ one_of w number f g a b =
     one_frame f g b.bytes (subst (Spells f) same a.spelled) b.spelled
 
 -- the frame of a number stands at its place among those that were sent
-pub frame_there : (w : World) (is : IsWorld w) (place : ℕ) (f : Frame) → IsFrameOf w (place + 1) f → slice_get is.sent place ≡ Some f
+pub frame_there : (w : World) (is : IsWorld w) (place : ℕ) (f : Frame) → IsFrameOf w (place + 1) f → slice_get is.telling.frames place ≡ Some f
 frame_there w is place f of =
     let bytes_there : slice_get w.frames place ≡ Some of.bytes = sym (numbered_at w.frames (place + 1) place refl) ∙ of.there in
-    let pair = pair_first Spells is.sent w.frames is.spelled place of.bytes bytes_there in
+    let pair = pair_first Spells is.telling.frames w.frames is.telling.spelled place of.bytes bytes_there in
     pair.1.0 ∙ ap (λ g. Some g) (one_frame pair.0 f of.bytes pair.1.1 of.spelled)
 
 -- bytes that were sent are a frame, and that of their number
@@ -55,7 +55,7 @@ bytes_there w place bytes low e = slice_get-get_or w.frames place bytes low ∙ 
 
 pub frame_at : (w : World) (place : ℕ) (bytes : List ℕ) → IsWorld w → place < length w.frames → bytes ≡ get_or w.frames place bytes → IsFrame bytes
 frame_at w place bytes is low e =
-    let pair = pair_first Spells is.sent w.frames is.spelled place bytes (bytes_there w place bytes low e) in
+    let pair = pair_first Spells is.telling.frames w.frames is.telling.spelled place bytes (bytes_there w place bytes low e) in
     record { frame = pair.0; spelled = pair.1.1 }
 
 pub frame_of_number : (w : World) (number place : ℕ) (bytes : List ℕ) (f : Frame) → number ≡ place + 1 → place < length w.frames → bytes ≡ get_or w.frames place bytes → Spells f bytes → IsFrameOf w number f
@@ -88,11 +88,11 @@ pub record IsSentAt (w : World) (place : ℕ) (k : Key) (came : List Entry) (at 
   pub object : came ≡ sent_object w.told.history at k
   pub there : slice_get w.told.sendings place ≡ Some (Some at)
 
-told_as : (w : World) (place : ℕ) (f : Frame) (k : Key) (came : List Entry) (entry : Option ℕ) → slice_get w.told.sendings place ≡ Some entry → IsTold w.told.history f entry → carried f.message ≡ Some (k, came)
+pub told_as : (w : World) (place : ℕ) (f : Frame) (k : Key) (came : List Entry) (entry : Option ℕ) → slice_get w.told.sendings place ≡ Some entry → IsTold w.told.history f entry → carried_object f.message ≡ Some (k, came)
     → (at : ℕ) × IsSentAt w place k came at
-told_as w place f k came None there is carries = absurd (not_both (carried f.message) (k, came) is carries)
+told_as w place f k came None there is carries = absurd (not_both (carried_object f.message) (k, came) is carries)
 told_as w place f k came (Some at) there is carries =
-    let same : (is.key ≡ k) × (came ≡ sent_object w.told.history at is.key) = same_object (carried f.message) k is.key came (sent_object w.told.history at is.key) carries is.carries in (
+    let same : (is.key ≡ k) × (came ≡ sent_object w.told.history at is.key) = same_object (carried_object f.message) k is.key came (sent_object w.told.history at is.key) carries is.carries in (
       at,
       record {
         from = f.from;
@@ -104,7 +104,7 @@ told_as w place f k came (Some at) there is carries =
 
 pub sent_at : (w : World) (place n : ℕ) (k : Key) (came : List Entry) → IsWorld w → Arrives w (place + 1) n (Some (k, came)) → (at : ℕ) × IsSentAt w place k came at
 sent_at w place n k came is arrives =
-    let pair = pair_second (IsTold w.told.history) is.sent w.told.sendings is.state.sendings place arrives.frame (frame_there w is place arrives.frame arrives.is) in
+    let pair = pair_second (IsTold w.told.history) is.telling.frames w.told.sendings is.state.sendings place arrives.frame (frame_there w is place arrives.frame arrives.is) in
     told_as w place arrives.frame k came pair.0 pair.1.0 pair.1.1 arrives.carries
 
 pub sending_within : (w : World) (place n : ℕ) (k : Key) (came : List Entry) → IsWorld w → Arrives w (place + 1) n (Some (k, came)) → place < length w.told.sendings
@@ -133,13 +133,13 @@ sent_here w place n k came here sent is arrives e named =
     subst (IsSentAt w place k came) same pair.1
 
 -- a frame without an object was told as none
-told_as_none : (w : World) (place : ℕ) (f : Frame) (entry : Option ℕ) → slice_get w.told.sendings place ≡ Some entry → IsTold w.told.history f entry → carried f.message ≡ None → slice_get w.told.sendings place ≡ Some None
+told_as_none : (w : World) (place : ℕ) (f : Frame) (entry : Option ℕ) → slice_get w.told.sendings place ≡ Some entry → IsTold w.told.history f entry → carried_object f.message ≡ None → slice_get w.told.sendings place ≡ Some None
 told_as_none w place f None there is carries = there
-told_as_none w place f (Some at) there is carries = absurd (not_both (carried f.message) (is.key, sent_object w.told.history at is.key) carries is.carries)
+told_as_none w place f (Some at) there is carries = absurd (not_both (carried_object f.message) (is.key, sent_object w.told.history at is.key) carries is.carries)
 
 none_at : (w : World) (place n : ℕ) → IsWorld w → Arrives w (place + 1) n None → slice_get w.told.sendings place ≡ Some None
 none_at w place n is arrives =
-    let pair = pair_second (IsTold w.told.history) is.sent w.told.sendings is.state.sendings place arrives.frame (frame_there w is place arrives.frame arrives.is) in
+    let pair = pair_second (IsTold w.told.history) is.telling.frames w.told.sendings is.state.sendings place arrives.frame (frame_there w is place arrives.frame arrives.is) in
     told_as_none w place arrives.frame pair.0 pair.1.0 pair.1.1 arrives.carries
 
 -- ---- refusals that don't apply
@@ -147,12 +147,12 @@ none_at w place n is arrives =
 has_frame : (w : World) (number : ℕ) (f : Frame) → IsFrameOf w number f → HasNoFrame w number → ⊥
 has_frame w number f of none = let both : Some of.bytes ≡ None = sym of.there ∙ none in cc
 
-takes_frame : (w : World) (number n : ℕ) (f : Frame) → IsFrameOf w number f → f.to ≡ n → refusal_of_object (table_of w n) (carried f.message) ≡ None → (fault : WorldFault) → ByFrame w number n fault → ⊥
+takes_frame : (w : World) (number n : ℕ) (f : Frame) → IsFrameOf w number f → f.to ≡ n → refusal_of_object (table_of w n) (carried_object f.message) ≡ None → (fault : WorldFault) → ByFrame w number n fault → ⊥
 takes_frame w number n f of addressed taken fault by =
     let same : by.frame ≡ f = one_of w number by.frame f by.is of in
-    passes (f.to ≢ n) NotAddressed (by_store (refusal_of_object (table_of w n) (carried f.message))) (λ other. other addressed)
-    (store_takes (refusal_of_object (table_of w n) (carried f.message)) taken) fault
-    (subst (λ g. first (g.to ≢ n) NotAddressed (by_store (refusal_of_object (table_of w n) (carried g.message))) fault) same by.refused)
+    passes (f.to ≢ n) NotAddressed (by_store (refusal_of_object (table_of w n) (carried_object f.message))) (λ other. other addressed)
+    (store_takes (refusal_of_object (table_of w n) (carried_object f.message)) taken) fault
+    (subst (λ g. first (g.to ≢ n) NotAddressed (by_store (refusal_of_object (table_of w n) (carried_object g.message))) fault) same by.refused)
 
 delivery_passes : (w : World) (number n word : ℕ) (object : Option (Key × List Entry)) → Arrives w number n object → refusal_of_object (table_of w n) object ≡ None → (fault : WorldFault) → Refuses w (Deliver number n word) fault → ⊥
 delivery_passes w number n word object arrives taken =
@@ -177,9 +177,15 @@ take_steps w place n word k came at node is arrives sent node_is taken =
       none = refl;
       frames = refl;
       told = ap (λ r. tell_got n (option_flatten r) w.told) (sym named);
+      names = (refl, (Some at, named));
       many = length-set w.nodes n (with_merge k came node);
+      leaves = record {
+        frame = arrives.frame;
+        is = arrives.is;
+        taken = ap (λ m. with_node w n (with_merge k came m)) node_is ∙ ap (with_frame_taken w n) (sym arrives.carries);
+      };
       reads = sym (append-nil w.contexts);
-      state = λ frames s. state_take w.nodes w.contexts frames w.told n at sent.from k came node s low (node_is ∙ get_or_default w.nodes n empty node low) sent.sent sent.object;
+      state = λ frames s. state_take w.nodes w.contexts frames w.told n at sent.from k came node s low (node_is ∙ get_or_default w.nodes n new_node node low) sent.sent sent.object;
       no_refusal = delivery_passes w (place + 1) n word (Some (k, came)) arrives (subst (λ t. refusal_of_merge t k came ≡ None) table taken);
       answers = record {
         frame = arrives.frame;
@@ -193,7 +199,7 @@ pub take_refused : (w : World) (number n word : ℕ) (k : Key) (came : List Entr
     → Refuses w (Deliver number n word) (of_store refusal)
 take_refused w number n word k came node refusal arrives node_is refused =
     let table : node.table ≡ table_of w n = ap (λ m. m.table) node_is in
-    let by : by_store (refusal_of_object (table_of w n) (carried arrives.frame.message)) (of_store refusal) =
+    let by : by_store (refusal_of_object (table_of w n) (carried_object arrives.frame.message)) (of_store refusal) =
     ap (λ object. option_map of_store (refusal_of_object (table_of w n) object)) arrives.carries ∙ ap (λ t. option_map of_store (refusal_of_merge t k came)) (sym table) ∙ ap (option_map of_store) refused in
     inr (
       has_node w n arrives.node,
@@ -214,7 +220,9 @@ nothing_taken w place n word is arrives =
       none = refl;
       frames = refl;
       told = ap (λ r. tell_got n (option_flatten r) w.told) (sym named);
+      names = (refl, (None, named));
       many = refl;
+      leaves = record { frame = arrives.frame; is = arrives.is; taken = ap (with_frame_taken w n) (sym arrives.carries) };
       reads = sym (append-nil w.contexts);
       state = λ frames s. s;
       no_refusal = delivery_passes w (place + 1) n word None arrives refl;

@@ -21,10 +21,10 @@ use Rattle.world_core.specs.declared.event.Event.{Event}
 use Rattle.world_core.specs.declared.event.Event.TheVariants.{Put, Get, PutOver, Send, Deliver, Junk, Keep, Restart}
 use Rattle.world_core.specs.declared.fault.WorldFault.{WorldFault}
 use Rattle.world_core.specs.declared.fault.WorldFault.TheVariants.{NoSuchNode}
-use Rattle.world_core.specs.Tells.{carried}
-use Rattle.world_core.specs.World.{World, IsKept, IsTold, IsWorld}
+use Rattle.world_core.specs.Tells.{carried_object}
+use Rattle.world_core.specs.World.{World, IsWholeWorld, IsTold, IsWorld}
 use Rattle.world_core.specs.Refusal.{Refuses, IsFrameOf, table_of}
-use Rattle.world_core.specs.Outcome.{Accepts, Outcome, Takes, merged, took}
+use Rattle.world_core.specs.Outcome.{Accepts, Outcome, AnswersFrame, merged, took}
 use Rattle.world_core.specs.Knowledge.{FreshExactly, IsFresh}
 use Rattle.world_core.proofs.Applying.{pair_first}
 use Rattle.world_core.proofs.Delivering.{frame_there}
@@ -58,16 +58,16 @@ flat (Some None) place e = cc
 flat (Some (Some at)) place e = ap (λ x. Some x) e
 
 taken_at : (w : World) (p n place m : ℕ) (k : Key) (f : Frame) → IsWorld w → n < length w.nodes → slice_get w.told.sendings p ≡ Some (Some place) → slice_get w.told.history place ≡ Some (Sent m k) → IsFrameOf w (p + 1) f
-    → (reply : Reply) → reply ≡ took (table_of w n) (carried f.message) → IsFresh w.told.history n place k reply
+    → (reply : Reply) → reply ≡ took (table_of w n) (carried_object f.message) → IsFresh w.told.history n place k reply
 taken_at w p n place m k f is low there sent of reply answers =
     let hs = w.told.history in
-    let pair = pair_first (IsTold hs) is.sent w.told.sendings is.state.sendings p (Some place) there in
+    let pair = pair_first (IsTold hs) is.telling.frames w.told.sendings is.state.sendings p (Some place) there in
     let both : Some pair.0 ≡ Some f = sym pair.1.0 ∙ frame_there w is p f of in
     let same : pair.0 ≡ f = cc in
     let key : pair.1.1.key ≡ k = same_sent hs place m pair.0.from k pair.1.1.key sent pair.1.1.sent in
-    let carries : carried f.message ≡ Some (k, sent_object hs place k) =
-    ap (λ g. carried g.message) (sym same) ∙ pair.1.1.carries ∙ ap (λ l. Some (l, sent_object hs place l)) key in
-    let shown : object_at (table_of w n) k ≡ held hs n k = shown_is_held w n k is.sent is.state low in
+    let carries : carried_object f.message ≡ Some (k, sent_object hs place k) =
+    ap (λ g. carried_object g.message) (sym same) ∙ pair.1.1.carries ∙ ap (λ l. Some (l, sent_object hs place l)) key in
+    let shown : object_at (table_of w n) k ≡ held hs n k = shown_is_held w n k is.telling.frames is.state low in
     let b : Bool = descends (join (held hs n k)) (join (sent_object hs place k)) in
     fresh_by hs n place k reply b
     (answers ∙ ap (took (table_of w n)) carries ∙ ap (λ o. merged (cond (descends (join o) (join (sent_object hs place k))) Stale Fresh)) shown)
@@ -77,7 +77,7 @@ fresh_answer : (w : World) (number n word : ℕ) (answer : Answer) (new : World)
 fresh_answer w zero n word answer new is accepts = λ place m k told sent. let none : None ≡ Some place = told in absurd (cc)
 fresh_answer w (suc p) n word answer new is accepts =
     λ place m k told sent.
-    let takes : Takes w (suc p) n answer = accepts.answers in
+    let takes : AnswersFrame w (suc p) n answer = accepts.answers in
     let low : n < length w.nodes = in_range w (suc p) n word (ltb n (length w.nodes)) refl accepts.no_refusal in
     let there : slice_get w.told.sendings p ≡ Some (Some place) = flat (slice_get w.told.sendings p) place told in
     let of : IsFrameOf w (p + 1) takes.frame = subst (λ i. IsFrameOf w i takes.frame) (let more : suc p ≡ p + 1 = omega arith in more) takes.is in
@@ -93,7 +93,7 @@ fresh_event w (Junk n bytes) answer new is accepts = tt
 fresh_event w (Keep n k) answer new is accepts = tt
 fresh_event w (Restart n image) answer new is accepts = tt
 
-pub fresh_of : (w : World) (event : Event) (result : Result Answer WorldFault) (new : World) → IsKept w → Outcome w event result new → IfOk result (FreshExactly w event)
+pub fresh_of : (w : World) (event : Event) (result : Result Answer WorldFault) (new : World) → IsWholeWorld w → Outcome w event result new → IfOk result (FreshExactly w event)
 unfolding Outcome
 fresh_of w event (Ok answer) new kept outcome = fresh_event w event answer new (world_of w kept) outcome
 fresh_of w event (Err fault) new kept outcome = tt

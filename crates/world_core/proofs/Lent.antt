@@ -14,7 +14,7 @@ use Rattle.object_machine.proofs.Matching.{matches, same_numbers}
 use Rattle.node_images.specs.Images.{holdings}
 use Rattle.node_images.specs.Node.{Node}
 use Rattle.node_images.specs.Follows.{Follows}
-use Rattle.world_core.specs.Tells.{carried, numbered}
+use Rattle.world_core.specs.Tells.{carried_object, numbered}
 use Rattle.world_core.specs.World.{World, IsRead, IsTold, IsWorld}
 use Rattle.world_core.specs.Refusal.{IsFrameOf}
 use Rattle.world_core.specs.Knowledge.{CarriesLoad, CountsSeen}
@@ -43,8 +43,7 @@ seen_at w place context is there =
     let pair = pair_first (IsRead hs) w.told.looks w.contexts is.state.reads place context there in
     record {
       place = pair.0;
-      node = pair.1.1.node;
-      told = pair.1.0;
+      told_at = pair.1.0;
       looked = pair.1.1.looked;
       vector = subst (IsContext (writes hs) (seen hs pair.0 context.key)) (sym pair.1.1.vector) ((matches hs is.state.keeps).seen pair.0 context.key).context;
     }
@@ -55,25 +54,25 @@ counts_seen w (suc place) context is there = seen_at w place context is there
 
 -- ---- frames
 
-load_of : (w : World) (place : ℕ) (f : Frame) (k : Key) (o : List Entry) (entry : Option ℕ) → IsWorld w → slice_get w.told.sendings place ≡ Some entry → IsTold w.told.history f entry → carried f.message ≡ Some (k, o)
+load_of : (w : World) (place : ℕ) (f : Frame) (k : Key) (o : List Entry) (entry : Option ℕ) → IsWorld w → slice_get w.told.sendings place ≡ Some entry → IsTold w.told.history f entry → carried_object f.message ≡ Some (k, o)
     → CarriesLoad w.told (suc place) f.from k o
-load_of w place f k o None is there told carries = absurd (not_both (carried f.message) (k, o) told carries)
+load_of w place f k o None is there told carries = absurd (not_both (carried_object f.message) (k, o) told carries)
 load_of w place f k o (Some at) is there told carries =
     let hs = w.told.history in
-    let same : (told.key ≡ k) × (o ≡ sent_object hs at told.key) = same_object (carried f.message) k told.key o (sent_object hs at told.key) carries told.carries in
+    let same : (told.key ≡ k) × (o ≡ sent_object hs at told.key) = same_object (carried_object f.message) k told.key o (sent_object hs at told.key) carries told.carries in
     let object : o ≡ sent_object hs at k = same.1 ∙ ap (sent_object hs at) same.0 in
     record {
       place = at;
-      told = ap option_flatten there;
+      told_at = ap option_flatten there;
       sent = told.sent ∙ ap (λ l. Some (Sent f.from l)) same.0;
       is = subst (IsObjectOf (writes hs) k (load hs at k)) (sym object) ((matches hs is.state.keeps).load at k);
     }
 
-load_at : (w : World) (place : ℕ) (f : Frame) (k : Key) (o : List Entry) → IsWorld w → IsFrameOf w (place + 1) f → carried f.message ≡ Some (k, o) → CarriesLoad w.told (suc place) f.from k o
+load_at : (w : World) (place : ℕ) (f : Frame) (k : Key) (o : List Entry) → IsWorld w → IsFrameOf w (place + 1) f → carried_object f.message ≡ Some (k, o) → CarriesLoad w.told (suc place) f.from k o
 load_at w place f k o is of carries =
-    let pair = pair_second (IsTold w.told.history) is.sent w.told.sendings is.state.sendings place f (frame_there w is place f of) in
+    let pair = pair_second (IsTold w.told.history) is.telling.frames w.told.sendings is.state.sendings place f (frame_there w is place f of) in
     load_of w place f k o pair.0 is pair.1.0 pair.1.1 carries
 
-pub carries_load : (w : World) (number : ℕ) (f : Frame) (k : Key) (o : List Entry) → IsWorld w → IsFrameOf w number f → carried f.message ≡ Some (k, o) → CarriesLoad w.told number f.from k o
+pub carries_load : (w : World) (number : ℕ) (f : Frame) (k : Key) (o : List Entry) → IsWorld w → IsFrameOf w number f → carried_object f.message ≡ Some (k, o) → CarriesLoad w.told number f.from k o
 carries_load w zero f k o is of carries = absurd (let none : None ≡ Some of.bytes = of.there in cc)
 carries_load w (suc place) f k o is of carries = load_at w place f k o is (subst (λ n. IsFrameOf w n f) (let more : suc place ≡ place + 1 = omega arith in more) of) carries

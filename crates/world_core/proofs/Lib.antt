@@ -18,9 +18,11 @@ pub mod Restarts
 pub mod Sending
 -- deliveries
 pub mod Delivering
--- events one after the other
-pub mod Running
 -- what a world lends
 pub mod Lent
 -- fresh and stale deliveries
 pub mod Fresh
+-- a refusal that never comes
+pub mod Never
+-- what is said of one event, and events one after the other
+pub mod Running

@@ -12,7 +12,8 @@ use Rattle.meta_store.specs.Step.{refusal_of_put}
 use Rattle.past_model.specs.declared.happening.Happening.TheVariants.{Wrote, Looked}
 use Rattle.past_model.specs.History.{Fits}
 use Rattle.object_machine.specs.Objects.{read_object, seen_object}
-use Rattle.world_core.specs.Tells.{look_of, numbered}
+use Rattle.world_core.specs.declared.event.Event.TheVariants.{Put}
+use Rattle.world_core.specs.Tells.{Names, look_of, numbered}
 use Rattle.world_core.specs.World.{World, IsRead, IsWorld}
 use Rattle.world_core.specs.Refusal.{HasNoRead, context_of}
 use Rattle.world_core.specs.Steps.{IsPlaceOf}
@@ -51,7 +52,7 @@ can_read_at : (w : World) (n : ℕ) (k : Key) (v : ValueParts) (read place : ℕ
 can_read_at w n k v read place table context look is there looked taken =
     let key : context.key ≡ k = of_the_key table n k v context (subst (λ c. refusal_of_put table n k v c ≡ None) there taken) in
     record {
-      fits = subst (λ r. Fits w.told.history (Wrote n k v r)) (sym looked) (is.node, is.looked ∙ ap (λ l. Some (Looked is.node l)) key);
+      fits = subst (λ r. Fits w.told.history (Wrote n k v r)) (sym looked) (context.source.node, is.looked ∙ ap (λ l. Some (Looked context.source.node l)) key);
       vector =
           ap vector_read there ∙ is.vector ∙ ap (λ l. join (seen_object w.told.history look l)) key
           ∙ ap (λ r. join (read_object w.told.history k r)) (sym looked);
@@ -80,3 +81,11 @@ pub context_in : (w : World) (read place : Option ℕ) → IsPlaceOf w read plac
 context_in w None place at = subst (λ x. IfSome x (λ p. p < length w.contexts)) (sym at) tt
 context_in w (Some read) None at = tt
 context_in w (Some read) (Some place) at = at.1
+
+-- the read that a write names is there
+pub put_names : (w : World) (n : ℕ) (k : Key) (v : ValueParts) (read place : Option ℕ) → IsWorld w → IsPlaceOf w read place → Names w.told (Put n k v read) None
+put_names w n k v None place is at = refl
+put_names w n k v (Some read) None is at = absurd at
+put_names w n k v (Some read) (Some place) is at =
+    let low : place < length w.told.looks = look_in w (Some read) (Some place) is at in
+    (refl, (get_or w.told.looks place 0, numbered_at w.told.looks read place at.0 ∙ slice_get-get_or w.told.looks place 0 low))

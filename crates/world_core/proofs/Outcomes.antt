@@ -2,30 +2,32 @@
 use Rattle.std.proofs.Common.{◌≡◌, ◌⊎◌, ◌≤◌, inl, inr, ℕ, List, length, get_or, Option, Some, Ok, Err, Result, refl, sym, ap, subst, ◌∙◌}
 use Rattle.std.specs.Prelude.{slice_set}
 use Rattle.std.specs.Option.{option_map}
-use Rattle.std.proofs.lemmas.List.{set-get_or}
+use Rattle.std.proofs.lemmas.List.{get_or_default, set-get_or}
 use Rattle.meta_store.specs.Context.{Reading}
 use Rattle.meta_store.specs.declared.fault.StoreFault.{StoreFault}
 use Rattle.meta_store.specs.declared.fault.StoreFault.TheVariants as OfStore
 use Rattle.past_model.specs.declared.happening.Happening.{Happening}
-use Rattle.node_images.specs.Node.{Node}
+use Rattle.node_images.specs.Node.{Node, new_node}
 use Rattle.world_core.specs.declared.answer.Accepted.{Accepted}
 use Rattle.world_core.specs.declared.answer.Answer.{Answer}
 use Rattle.world_core.specs.declared.event.Event.{Event}
 use Rattle.world_core.specs.declared.fault.WorldFault.{WorldFault}
 use Rattle.world_core.specs.declared.fault.WorldFault.TheVariants.{Memory}
 use Rattle.world_core.specs.Tells.{Told, Tells}
-use Rattle.world_core.specs.World.{World, IsKept, IsWorld}
+use Rattle.world_core.specs.World.{World, IsWholeWorld, IsWorld}
 use Rattle.world_core.specs.Fault.{of_store}
-use Rattle.world_core.specs.Refusal.{Refuses, by_store}
+use Rattle.world_core.specs.Refusal.{Refuses, by_store, node_at, table_of}
+use Rattle.world_core.specs.Knowledge.{ShowWhatTheyKnow}
 use Rattle.world_core.specs.Outcome.{Accepts, Outcome, Rejects}
 use Rattle.world_core.proofs.Applying.{Stepped}
+use Rattle.world_core.proofs.Worlds.{shows}
 
-pub kept : (w : World) → IsWorld w → IsKept w
-unfolding IsKept
+pub kept : (w : World) → IsWorld w → IsWholeWorld w
+unfolding IsWholeWorld
 kept w is = is
 
-pub world_of : (w : World) → IsKept w → IsWorld w
-unfolding IsKept
+pub world_of : (w : World) → IsWholeWorld w → IsWorld w
+unfolding IsWholeWorld
 world_of w is = is
 
 rejected : (old new : World) (event : Event) (fault : WorldFault) → Rejects old event fault new → Outcome old event (Err fault) new
@@ -61,8 +63,8 @@ stepped_outcome {old} {new} event {answer} w same right after is answers e =
     (subst (λ x. Outcome w event (Ok x) new) (sym answers)
     (subst (λ x. Outcome w event (Ok right) x) (sym e) (accepted w after event right is.accepts)))
 
-pub stepped_kept : {new : World} (w : World) (a : Accepted) (after : World) → Stepped w a after → new ≡ after → IsKept new
-stepped_kept {new} w a after is e = subst IsKept (sym e) (kept after is.is_world)
+pub stepped_kept : {new : World} (w : World) (a : Accepted) (after : World) → Stepped w a after → new ≡ after → IsWholeWorld new
+stepped_kept {new} w a after is e = subst IsWholeWorld (sym e) (kept after is.is_world)
 
 -- a world is what its parts are
 pub world_is : {nodes : List Node} {accepted_ : List Accepted} {frames : List (List ℕ)} {contexts : List Reading} {told : Told} (w : World) → nodes ≡ w.nodes → accepted_ ≡ w.accepted → frames ≡ w.frames → contexts ≡ w.contexts → told ≡ w.told
@@ -76,16 +78,13 @@ told_is t h l s = λ i. record { history = h i; looks = l i; sendings = s i }
 pub put_back : (nodes : List Node) (n : ℕ) (old new : Node) → old ≡ get_or nodes n old → new ≡ old → slice_set nodes n new ≡ nodes
 put_back nodes n old new at same = ap (slice_set nodes n) (same ∙ at) ∙ set-get_or nodes n old
 
-pub few_nodes : (w : World) → IsKept w → length w.nodes ≤ 16
+pub few_nodes : (w : World) → IsWholeWorld w → length w.nodes ≤ 16
 few_nodes w is = (world_of w is).few
 
--- a world's accepted events tell its history
-pub tells_of : (w : World) → IsKept w → Tells w.accepted w.frames w.told.history
-tells_of w kept_ =
-    let is : IsWorld w = world_of w kept_ in
-    record {
-      frames = is.sent;
-      spelled = is.spelled;
-      numbered = is.numbered;
-      tells = ap (λ t. t.history) is.tells;
-    }
+-- a world's accepted events tell what is told
+pub tells_of : (w : World) → IsWholeWorld w → Tells w.accepted w.frames w.told
+tells_of w kept_ = (world_of w kept_).telling
+
+-- each node shows what it knows
+pub shows_of : (w : World) → IsWholeWorld w → ShowWhatTheyKnow w
+shows_of w whole = λ n key low. shows w (world_of w whole) n (node_at w n) low (get_or_default w.nodes n new_node (node_at w n) low) (table_of w n) refl key

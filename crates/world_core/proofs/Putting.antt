@@ -11,7 +11,7 @@ use Rattle.meta_store.specs.Step.{refusal_of_put, written}
 use Rattle.past_model.specs.declared.happening.Happening.TheVariants.{Wrote, Looked, Kept}
 use Rattle.object_machine.specs.Objects.{held, seen_object}
 use Rattle.object_machine.proofs.Changes.{after_look}
-use Rattle.node_images.specs.Node.{Node, IsNode, empty, with_kept, with_write}
+use Rattle.node_images.specs.Node.{Node, IsNode, new_node, with_kept, with_write}
 use Rattle.node_images.proofs.Noding.{put_grows}
 use Rattle.world_core.specs.declared.answer.Accepted.{Accepted}
 use Rattle.world_core.specs.declared.answer.Reply.TheVariants as OfReply
@@ -20,16 +20,16 @@ use Rattle.world_core.specs.declared.fault.WorldFault.TheVariants.{NoSuchNode, N
 use Rattle.world_core.specs.Tells.{look_of, tell, tell_look}
 use Rattle.world_core.specs.World.{World, IsState, IsWorld}
 use Rattle.world_core.specs.Refusal.{HasNoNode, HasNoRead, context_of, node_at, none, present, table_of}
-use Rattle.world_core.specs.Outcome.{next_read, replied}
+use Rattle.world_core.specs.Outcome.{next_read, replied, with_node}
 use Rattle.world_core.specs.Steps.{IsPlaceOf}
 use Rattle.world_core.proofs.Worlds.{slice_get_end, state_keep, state_look, state_write}
-use Rattle.world_core.proofs.Applying.{Stepped, after, steps_quietly}
+use Rattle.world_core.proofs.Applying.{Stepped, after, next_is, steps_quietly}
 use Rattle.world_core.proofs.Refusing.{none_left, passes, store_takes}
-use Rattle.world_core.proofs.Named.{CanRead, can_read, has_read}
+use Rattle.world_core.proofs.Named.{CanRead, can_read, has_read, put_names}
 
 -- the node of the world, however it was read
 pub same_node : (w : World) (n : ℕ) (node : Node) → n < length w.nodes → node ≡ get_or w.nodes n node → node ≡ node_at w n
-same_node w n node low at = at ∙ get_or_default w.nodes n node empty low
+same_node w n node low at = at ∙ get_or_default w.nodes n node new_node low
 
 pub has_node : (w : World) (n : ℕ) → n < length w.nodes → HasNoNode w n → ⊥
 has_node w n low none = let past : length w.nodes ≤ n = none in omega (arith, low, past)
@@ -50,10 +50,12 @@ put_steps w n k v read place node is low at is_node there taken held =
       none = refl;
       frames = refl;
       told = refl;
+      names = put_names w n k v read place is there;
       many = length-set w.nodes n (with_write n k v (context_of w read) node);
+      leaves = ap (λ m. with_node w n (with_write n k v (context_of w read) m)) at;
       reads = sym (append-nil w.contexts);
       state = λ sent s.
-          state_write w.nodes w.contexts sent w.told n k v (look_of w.told read) (context_of w read) node s low (at ∙ get_or_default w.nodes n empty node low) is_node
+          state_write w.nodes w.contexts sent w.told n k v (look_of w.told read) (context_of w read) node s low (at ∙ get_or_default w.nodes n new_node node low) is_node
           (put_grows node.table k (written node.table n k v (context_of w read)) held) can.fits can.vector;
       no_refusal =
           passes (HasNoNode w n) NoSuchNode _ (has_node w n low)
@@ -66,7 +68,7 @@ put_steps w n k v read place node is low at is_node there taken held =
 
 -- what the node shows is what it holds by the history
 pub shown_is_held : (w : World) (n : ℕ) (k : Key) (sent : List Frame) → IsState w.nodes w.contexts sent w.told → n < length w.nodes → object_at (table_of w n) k ≡ held w.told.history n k
-shown_is_held w n k sent s low = (s.nodes n empty low).holds k
+shown_is_held w n k sent s low = (s.nodes n new_node low).holds k
 
 pub get_steps : (w : World) (n : ℕ) (k : Key) (node : Node) → IsWorld w → n < length w.nodes → node ≡ node_at w n
     → Stepped w (record { event = Get n k; answer = record { reply = OfReply.Looked (values_of (object_at node.table k)) (present w n k); read = Some (next_read w); sent = [] } })
@@ -79,9 +81,11 @@ get_steps w n k node is low at =
       none = refl;
       frames = refl;
       told = refl;
+      names = next_is w is;
       many = refl;
+      leaves = refl;
       reads = refl;
-      state = λ sent s. state_look w.nodes w.contexts sent w.told n k (present w n k) s refl (ap join (shown_is_held w n k sent s low));
+      state = λ sent s. state_look w.nodes w.contexts sent w.told n k (present w n k) s refl refl (ap join (shown_is_held w n k sent s low));
       no_refusal = passes (HasNoNode w n) NoSuchNode none (has_node w n low) none_left;
       answers = ap (λ m. record { reply = OfReply.Looked (values_of (object_at m.table k)) (present w n k); read = Some (next_read w); sent = [] }) at;
     })
@@ -94,10 +98,10 @@ over_state : (w : World) (n : ℕ) (k : Key) (v : ValueParts) (node : Node) (sen
 over_state w n k v node sent s low at is_node held_ =
     let hs = w.told.history in
     let looked : IsState w.nodes (w.contexts ++ present w n k ∷ []) sent (tell_look n k w.told) =
-    state_look w.nodes w.contexts sent w.told n k (present w n k) s refl (ap join (shown_is_held w n k sent s low)) in
+    state_look w.nodes w.contexts sent w.told n k (present w n k) s refl refl (ap join (shown_is_held w n k sent s low)) in
     let saw : seen_object (hs ++ Looked n k ∷ []) (length hs) k ≡ held hs n k = (after_look hs n k).seen.here in
     state_write w.nodes (w.contexts ++ present w n k ∷ []) sent (tell_look n k w.told) n k v (Some (length hs)) (Some (present w n k)) node looked low
-    (at ∙ get_or_default w.nodes n empty node low) is_node
+    (at ∙ get_or_default w.nodes n new_node node low) is_node
     (put_grows node.table k (written node.table n k v (Some (present w n k))) held_)
     (n, slice_get_end hs (Looked n k))
     (ap join (shown_is_held w n k sent s low ∙ sym saw))
@@ -115,7 +119,9 @@ over_steps w n k v node is low at is_node taken held_ =
       none = refl;
       frames = refl;
       told = refl;
+      names = next_is w is;
       many = length-set w.nodes n (with_write n k v (Some (present w n k)) node);
+      leaves = ap (λ m. with_node w n (with_write n k v (Some (present w n k)) m)) at;
       reads = refl;
       state = λ sent s. over_state w n k v node sent s low at is_node held_;
       no_refusal =
@@ -135,9 +141,11 @@ keep_steps w n k node is low at is_node =
       none = refl;
       frames = refl;
       told = refl;
+      names = refl;
       many = length-set w.nodes n (with_kept k node);
+      leaves = ap (λ m. with_node w n (with_kept k m)) at;
       reads = sym (append-nil w.contexts);
-      state = λ sent s. state_keep w.nodes w.contexts sent w.told n k node s low (at ∙ get_or_default w.nodes n empty node low) is_node;
+      state = λ sent s. state_keep w.nodes w.contexts sent w.told n k node s low (at ∙ get_or_default w.nodes n new_node node low) is_node;
       no_refusal = passes (HasNoNode w n) NoSuchNode none (has_node w n low) none_left;
       answers = refl;
     })

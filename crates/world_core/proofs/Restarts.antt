@@ -4,7 +4,7 @@ use Rattle.std.specs.Prelude.{slice_set}
 use Rattle.std.proofs.lemmas.List.{append-nil, get_or_default, length-set}
 use Rattle.meta_types.specs.Name.{Key}
 use Rattle.dvvset.specs.Writer.{count_of}
-use Rattle.meta_store.specs.Table.{Table, object_at}
+use Rattle.meta_store.specs.Table.{Table, IsTable, object_at}
 use Rattle.past_model.specs.declared.happening.Happening.TheVariants.{Restarted}
 use Rattle.past_model.specs.Past.{past}
 use Rattle.past_model.specs.History.{RestartsKeepOwnWrites}
@@ -12,7 +12,7 @@ use Rattle.object_machine.specs.Objects.{held, image_object}
 use Rattle.object_machine.proofs.Matching.{same_numbers}
 use Rattle.object_machine.proofs.Restarting.{known_keeps, restart_exactly}
 use Rattle.node_images.specs.Images.{holdings}
-use Rattle.node_images.specs.Node.{Node, empty, with_restart}
+use Rattle.node_images.specs.Node.{Node, new_node, with_restart}
 use Rattle.node_images.specs.Follows.{Follows}
 use Rattle.world_core.specs.declared.answer.Reply.TheVariants as OfReply
 use Rattle.world_core.specs.declared.event.Event.TheVariants.{Restart}
@@ -20,7 +20,7 @@ use Rattle.world_core.specs.declared.fault.WorldFault.TheVariants.{NoSuchImage, 
 use Rattle.world_core.specs.Tells.{tell}
 use Rattle.world_core.specs.World.{World, IsWorld}
 use Rattle.world_core.specs.Refusal.{HasNoImage, HasNoNode, LacksOwn, node_at, none}
-use Rattle.world_core.specs.Outcome.{replied}
+use Rattle.world_core.specs.Outcome.{replied, with_node}
 use Rattle.world_core.proofs.Worlds.{state_restart}
 use Rattle.world_core.proofs.Applying.{Stepped, after, steps_quietly}
 use Rattle.world_core.proofs.Refusing.{none_left, passes}
@@ -34,7 +34,7 @@ record Restores (w : World) (n j : ℕ) (node : Node) (table : Table) : Type 0 w
   restored : (k : Key) → object_at table k ≡ holdings node.images j k
 
 stands : (w : World) (n : ℕ) (node : Node) → IsWorld w → n < length w.nodes → node ≡ node_at w n → Follows w.told.history n node
-stands w n node is low at = subst (Follows w.told.history n) (sym at) (is.state.nodes n empty low)
+stands w n node is low at = subst (Follows w.told.history n) (sym at) (is.state.nodes n new_node low)
 
 image_is : (w : World) (n j : ℕ) (node : Node) (table : Table) → IsWorld w → Restores w n j node table → (k : Key) → object_at table k ≡ image_object w.told.history n j k
 image_is w n j node table is c k = c.restored k ∙ (stands w n node is c.low c.at).images j c.number k
@@ -57,33 +57,46 @@ is_stale w n j node table is low at number restored fewer knows =
     (subst (λ o. count_of (held hs n k) n ≤ count_of o n) (sym (image_is w n j node table is c k))
     ((restart_exactly hs is.state.keeps n j).0 (known_keeps hs is.state.keeps n j knows) k)))
 
-pub has_image : (w : World) (n j : ℕ) (node : Node) → node ≡ node_at w n → j ≤ length node.images → HasNoImage w n j → ⊥
-has_image w n j node at number none =
-    let past : length (node_at w n).images < j = none in
-    let same : length node.images ≡ length (node_at w n).images = ap (λ m. length m.images) at in
-    omega (arith, number, past, same)
+-- the node has as many images as it has made
+pub last_is : (w : World) (n : ℕ) (node : Node) → IsWorld w → n < length w.nodes → node ≡ node_at w n → length node.images ≡ (past w.told.history).last n
+last_is w n node is low at = (stands w n node is low at).number ∙ same_numbers w.told.history n
+
+pub no_image : (w : World) (n j : ℕ) (node : Node) → IsWorld w → n < length w.nodes → node ≡ node_at w n → length node.images < j → HasNoImage w n j
+no_image w n j node is low at fewer = subst (λ last. last < j) (last_is w n node is low at) fewer
+
+pub has_image : (w : World) (n j : ℕ) (node : Node) → IsWorld w → n < length w.nodes → node ≡ node_at w n → j ≤ length node.images → HasNoImage w n j → ⊥
+has_image w n j node is low at number none =
+    let past_last : (past w.told.history).last n < j = none in
+    let same : length node.images ≡ (past w.told.history).last n = last_is w n node is low at in
+    omega (arith, number, past_last, same)
 
 pub restart_steps : (w : World) (n j : ℕ) (node : Node) (table : Table) → IsWorld w → n < length w.nodes → node ≡ node_at w n → j ≤ length node.images → ((k : Key) → object_at table k ≡ holdings node.images j k)
-    → ((k : Key) → count_of (object_at node.table k) n ≤ count_of (object_at table k) n)
+    → IsTable table → ((k : Key) → count_of (object_at node.table k) n ≤ count_of (object_at table k) n)
     → Stepped w (record { event = Restart n j; answer = replied OfReply.Done })
     (after w (record { event = Restart n j; answer = replied OfReply.Done }) (slice_set w.nodes n (with_restart table j node)) w.contexts (tell (Restarted n j) w.told))
-restart_steps w n j node table is low at number restored counts =
+restart_steps w n j node table is low at number restored is_table counts =
     let hs = w.told.history in
-    let follows : Follows hs n node = stands w n node is low at in
     let keeps : RestartsKeepOwnWrites (hs ++ Restarted n j ∷ []) = keeps_own w n j node table is (record { low = low; at = at; number = number; restored = restored }) counts in
-    let last : length node.images ≡ (past hs).last n = follows.number ∙ same_numbers hs n in
+    let last : length node.images ≡ (past hs).last n = last_is w n node is low at in
     let fits : j ≤ (past hs).last n = omega (arith, number, last) in
     steps_quietly w (record { event = Restart n j; answer = replied OfReply.Done }) (slice_set w.nodes n (with_restart table j node)) w.contexts (tell (Restarted n j) w.told) is
     (record {
       none = refl;
       frames = refl;
       told = refl;
+      names = refl;
       many = length-set w.nodes n (with_restart table j node);
+      leaves = record {
+        table = table;
+        is_table = is_table;
+        restored = λ k. restored k ∙ ap (λ m. holdings m.images j k) at;
+        restarted = ap (λ m. with_node w n (with_restart table j m)) at;
+      };
       reads = sym (append-nil w.contexts);
-      state = λ sent s. state_restart w.nodes w.contexts sent w.told n j table node s low (at ∙ get_or_default w.nodes n empty node low) number restored fits keeps;
+      state = λ sent s. state_restart w.nodes w.contexts sent w.told n j table node s low (at ∙ get_or_default w.nodes n new_node node low) number restored fits keeps;
       no_refusal =
           passes (HasNoNode w n) NoSuchNode _ (has_node w n low)
-          (passes (HasNoImage w n j) NoSuchImage _ (has_image w n j node at number)
+          (passes (HasNoImage w n j) NoSuchImage _ (has_image w n j node is low at number)
           (passes (LacksOwn w n j) StaleImage none (λ lacks. lacks (keeps.keeps hs [] n j refl)) none_left));
       answers = refl;
     })

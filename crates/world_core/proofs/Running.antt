@@ -1,10 +1,21 @@
--- Events one after the other.
+-- What is said of one event, and events one after the other.
 use Rattle.std.proofs.Common.{List, [], ◌∷◌, ◌++◌, Result, refl, subst}
 use Rattle.world_core.specs.declared.answer.Answer.{Answer}
 use Rattle.world_core.specs.declared.event.Event.{Event}
 use Rattle.world_core.specs.declared.fault.WorldFault.{WorldFault}
-use Rattle.world_core.specs.World.{World}
-use Rattle.world_core.specs.Outcome.{Outcomes, Passes}
+use Rattle.world_core.specs.World.{World, IsWholeWorld}
+use Rattle.world_core.specs.Outcome.{Outcome, Outcomes, Passes}
+use Rattle.world_core.proofs.Fresh.{fresh_of}
+use Rattle.world_core.proofs.Never.{never_of}
+use Rattle.world_core.proofs.Outcomes.{shows_of}
+
+pub passes : (old : World) (event : Event) (outcome : Result Answer WorldFault) (new : World) → IsWholeWorld old → Outcome old event outcome new → IsWholeWorld new → Passes old event outcome new
+passes old event outcome new was comes is = record {
+  comes = comes;
+  fresh = fresh_of old event outcome new was comes;
+  never = never_of old event was;
+  shows = shows_of new is;
+}
 
 pub outcomes_snoc : (old : World) (events : List Event) (outcomes : List (Result Answer WorldFault)) (mid : World) (event : Event) (outcome : Result Answer WorldFault) (new : World)
     → Outcomes old events outcomes mid → Passes mid event outcome new → Outcomes old (events ++ event ∷ []) (outcomes ++ outcome ∷ []) new

@@ -1,5 +1,5 @@
 -- Sendings: the world after each is one, and is what was to be.
-use Rattle.std.proofs.Common.{◌≡◌, ◌≢◌, ◌⊎◌, ℕ, ◌+◌, ◌<◌, ◌≤◌, ◌^◌, true, leb, List, [], ◌∷◌, ◌++◌, length, All, Some, None, inl, inr, refl, sym, ap, subst, ◌∙◌, arith}
+use Rattle.std.proofs.Common.{◌≡◌, ◌≢◌, ◌⊎◌, ℕ, ◌+◌, ◌<◌, ◌≤◌, ◌^◌, leb, List, [], ◌∷◌, ◌++◌, length, Some, None, inl, inr, refl, sym, ap, subst, ◌∙◌, arith}
 use Rattle.std.specs.Prelude.{slice_get}
 use Rattle.std.specs.Int.{w16, to_be_bytes}
 use Rattle.std.specs.FinMap.{find}
@@ -8,33 +8,32 @@ use Rattle.std.specs.List.{list_all}
 use Rattle.std.specs.Option.{unwrap_or}
 use Rattle.std.proofs.lemmas.Bool.{leb-true}
 use Rattle.std.proofs.lemmas.List.{append-nil, length-append}
-use Rattle.std.proofs.lemmas.List.Elements.{All-cons, All-nil}
 use Rattle.meta_types.specs.Name.{Key, IsKey}
 use Rattle.meta_types.specs.Order.{key_cmp}
 use Rattle.dvvset.specs.Object.{Entry}
-use Rattle.frame_fields.specs.Size.{IsShort}
 use Rattle.frame_fields.specs.Field.{key, object}
-use Rattle.frame_fields.proofs.Spellable.{key_fits, object_fits}
+use Rattle.frame_fields.proofs.Spellable.{key_fits}
 use Rattle.meta_frame.specs.Frame.{IsLawful, Spells, body, header, limit, spelling}
 use Rattle.meta_frame.specs.declared.message.Frame.{Frame}
 use Rattle.meta_frame.specs.declared.message.Message.TheVariants.{Gossip}
 use Rattle.meta_frame.proofs.Frames.{one_frame}
 use Rattle.meta_store.specs.Table.{IsHeld, has_few_values, most_merged}
+use Rattle.meta_store.proofs.Sizes.{few_values_fit}
 use Rattle.past_model.specs.declared.happening.Happening.TheVariants.{Sent}
 use Rattle.world_core.specs.declared.answer.Accepted.{Accepted}
 use Rattle.world_core.specs.declared.answer.Reply.TheVariants.{Done}
 use Rattle.world_core.specs.declared.event.Event.TheVariants.{Send}
 use Rattle.world_core.specs.declared.fault.WorldFault.{WorldFault}
 use Rattle.world_core.specs.declared.fault.WorldFault.TheVariants.{BadNode, NoSuchNode}
-use Rattle.world_core.specs.Tells.{Pairwise, numbered, numbers_from, tell_accepted, tell_numbered, tell_sending}
-use Rattle.world_core.specs.World.{World, AreBelow, IsWorld, SentBelow}
+use Rattle.world_core.specs.Tells.{Pairwise, nothing_told, numbered, numbers_from, tell_accepted, tell_numbered, tell_sending}
+use Rattle.world_core.specs.World.{World, IsWorld}
 use Rattle.world_core.specs.Refusal.{Refuses, HasNoNode, first, none, table_of}
 use Rattle.world_core.specs.Outcome.{Adds, gossip_of, listed}
 use Rattle.world_core.specs.Steps.{IsNextFrame, Sends}
-use Rattle.world_core.proofs.Applying.{Stepped, after, below_snoc, pair_length, sent_numbers_snoc, steps_quietly}
+use Rattle.world_core.proofs.Applying.{Stepped, after, pair_length, steps_quietly}
 use Rattle.world_core.proofs.Putting.{has_node, shown_is_held}
 use Rattle.world_core.proofs.Refusing.{none_left, numbered_at, passes}
-use Rattle.world_core.proofs.Telling.{told_more, told_snoc}
+use Rattle.world_core.proofs.Telling.{each_names_more, each_names_snoc, numbers_snoc, sent_numbers_snoc, tell_all_more, tell_all_snoc}
 use Rattle.world_core.proofs.Worlds.{pairwise_snoc, state_sending}
 
 -- ---- frames
@@ -50,25 +49,10 @@ same_frames (x ∷ xs) [] (s ∷ spellings) a b = absurd b
 same_frames (x ∷ xs) (y ∷ ys) [] a b = absurd a
 same_frames (x ∷ xs) (y ∷ ys) (s ∷ spellings) a b = λ i. one_frame x y s a.0 b.0 i ∷ same_frames xs ys spellings a.1 b.1 i
 
--- the number of one frame more
-numbers_snoc : {A : Type 0} (first_number : ℕ) (xs : List A) (x : A) → numbers_from first_number (xs ++ x ∷ []) ≡ numbers_from first_number xs ++ (first_number + length xs) ∷ []
-numbers_snoc n [] x = let same : n ≡ n + 0 = omega arith in ap (λ m. m ∷ []) same
-numbers_snoc n (y ∷ xs) x =
-    let same : (n + 1) + length xs ≡ n + length (y ∷ xs) = omega arith in
-    ap (λ ms. n ∷ ms) (numbers_snoc (n + 1) xs x ∙ ap (λ m. numbers_from (n + 1) xs ++ m ∷ []) same)
-
 -- the last of a list
 last_there : {A : Type 0} (xs : List A) (x : A) → slice_get (xs ++ x ∷ []) (length xs) ≡ Some x
 last_there [] x = refl
 last_there (y ∷ xs) x = last_there xs x
-
-below_more_frames : (most more : ℕ) → most ≤ more → (numbers : List ℕ) → AreBelow most numbers → AreBelow more numbers
-below_more_frames most more le [] below = tt
-below_more_frames most more le (number ∷ numbers) below = (let low : number ≤ most = below.0 in let lower : number ≤ more = omega (arith, le, low) in lower, below_more_frames most more le numbers below.1)
-
-sent_below_more : (most more : ℕ) → most ≤ more → (accepted : List Accepted) → SentBelow most accepted → SentBelow more accepted
-sent_below_more most more le [] below = tt
-sent_below_more most more le (a ∷ accepted) below = (below_more_frames most more le a.answer.sent below.0, sent_below_more most more le accepted below.1)
 
 -- ---- a sending of nothing
 
@@ -86,7 +70,9 @@ nothing_steps w n k to is low there apart absent =
       none = refl;
       frames = ap (λ o. listed (gossip_of w n k to o)) absent;
       told = refl;
+      names = refl;
       many = refl;
+      leaves = refl;
       reads = sym (append-nil w.contexts);
       state = λ sent s. s;
       no_refusal = sending_passes w n to low there apart k;
@@ -126,27 +112,26 @@ world_sending : (w : World) (n : ℕ) (k : Key) (to : ℕ) (o : List Entry) (byt
 world_sending w n k to o bytes is low there spelled =
     let a : Accepted = sending_of_one w n k to in
     let frame : Frame = frame_of w n k to o in
-    let many : length is.sent ≡ length w.frames = pair_length Spells is.sent w.frames is.spelled in
-    let long : length (is.sent ++ frame ∷ []) ≡ length is.sent + 1 = length-append is.sent (frame ∷ []) in
-    let number : length w.frames + 1 ≡ 1 + length is.sent = omega (arith, many) in
-    let more : length is.sent ≤ length (is.sent ++ frame ∷ []) = omega (arith, long) in
-    let within : length w.frames + 1 ≤ length (is.sent ++ frame ∷ []) = omega (arith, long, many) in
+    let many : length is.telling.frames ≡ length w.frames = pair_length Spells is.telling.frames w.frames is.telling.spelled in
+    let number : length w.frames + 1 ≡ 1 + length is.telling.frames = omega (arith, many) in
     record {
-      sent = is.sent ++ frame ∷ [];
-      spelled = pairwise_snoc Spells is.sent w.frames frame bytes is.spelled spelled;
-      numbered =
-          sent_numbers_snoc w.accepted a
-          ∙ ap (λ ns. ns ++ (length w.frames + 1) ∷ []) is.numbered
-          ∙ ap (λ m. numbers_from 1 is.sent ++ m ∷ []) number
-          ∙ sym (numbers_snoc 1 is.sent frame);
-      tells =
-          told_snoc (is.sent ++ frame ∷ []) w.accepted a
-          ∙ ap (tell_accepted (is.sent ++ frame ∷ []) a) (told_more is.sent (frame ∷ []) w.accepted is.below ∙ is.tells)
-          ∙ told_sending w n k to o is.sent many;
-      below = below_snoc (length (is.sent ++ frame ∷ [])) w.accepted a (sent_below_more (length is.sent) (length (is.sent ++ frame ∷ [])) more w.accepted is.below) (within, tt);
+      telling = record {
+        frames = is.telling.frames ++ frame ∷ [];
+        spelled = pairwise_snoc Spells is.telling.frames w.frames frame bytes is.telling.spelled spelled;
+        sent_in_order =
+            sent_numbers_snoc w.accepted a
+            ∙ ap (λ ns. ns ++ (length w.frames + 1) ∷ []) is.telling.sent_in_order
+            ∙ ap (λ m. numbers_from 1 is.telling.frames ++ m ∷ []) number
+            ∙ sym (numbers_snoc 1 is.telling.frames frame);
+        names = each_names_snoc (is.telling.frames ++ frame ∷ []) w.accepted a nothing_told (each_names_more is.telling.frames (frame ∷ []) w.accepted is.telling.sent_in_order is.telling.names) refl;
+        tells =
+            tell_all_snoc (is.telling.frames ++ frame ∷ []) w.accepted a
+            ∙ ap (tell_accepted (is.telling.frames ++ frame ∷ []) a) (tell_all_more is.telling.frames (frame ∷ []) w.accepted is.telling.sent_in_order ∙ is.telling.tells)
+            ∙ told_sending w n k to o is.telling.frames many;
+      };
       state =
-          state_sending w.nodes w.contexts is.sent w.told n k o frame is.state refl refl
-          (ap (λ r. unwrap_or r []) (sym there) ∙ shown_is_held w n k is.sent is.state low);
+          state_sending w.nodes w.contexts is.telling.frames w.told n k o frame is.state refl refl
+          (ap (λ r. unwrap_or r []) (sym there) ∙ shown_is_held w n k is.telling.frames is.state low);
       some = is.some;
       few = is.few;
     }
@@ -156,8 +141,8 @@ pub send_steps : (w : World) (n : ℕ) (k : Key) (to : ℕ) (o : List Entry) (by
 send_steps w n k to o bytes is low there apart holds spelled =
     let a : Accepted = sending_of_one w n k to in
     let frame : Frame = frame_of w n k to o in
-    let many : length is.sent ≡ length w.frames = pair_length Spells is.sent w.frames is.spelled in
-    let all : Pairwise Spells (is.sent ++ frame ∷ []) (w.frames ++ bytes ∷ []) = pairwise_snoc Spells is.sent w.frames frame bytes is.spelled spelled in
+    let many : length is.telling.frames ≡ length w.frames = pair_length Spells is.telling.frames w.frames is.telling.spelled in
+    let all : Pairwise Spells (is.telling.frames ++ frame ∷ []) (w.frames ++ bytes ∷ []) = pairwise_snoc Spells is.telling.frames w.frames frame bytes is.telling.spelled spelled in
     record {
       is_world = world_sending w n k to o bytes is low holds spelled;
       accepts = record {
@@ -166,21 +151,15 @@ send_steps w n k to o bytes is low there apart holds spelled =
         accepted = refl;
         frames = subst (λ r. Adds (listed (gossip_of w n k to r)) w.frames (w.frames ++ bytes ∷ [])) (sym holds) (record { bytes = bytes ∷ []; spelled = (spelled, tt); added = refl });
         contexts = sym (append-nil w.contexts);
-        told = λ sent s. sym (told_sending w n k to o is.sent many) ∙ ap (λ frames. tell_accepted frames a w.told) (same_frames (is.sent ++ frame ∷ []) sent (w.frames ++ bytes ∷ []) all s);
+        told = λ sent s. sym (told_sending w n k to o is.telling.frames many) ∙ ap (λ frames. tell_accepted frames a w.told) (same_frames (is.telling.frames ++ frame ∷ []) sent (w.frames ++ bytes ∷ []) all s);
         nodes = refl;
       };
     }
 
 -- ---- the bytes of a sending
 
-all_short : (es : List Entry) → list_all has_few_values es ≡ true → All IsShort es
-all_short [] h = All-nil IsShort
-all_short (e ∷ es) h =
-    let few : length e.values ≤ 65535 = leb-true (length e.values) 65535 (first_so (has_few_values e) (list_all has_few_values es) h) in
-    All-cons IsShort e es (omega (arith, few)) (all_short es (second_so (has_few_values e) (list_all has_few_values es) h))
-
 pub held_fits : (es : List Entry) → IsHeld es → object.Fits es
-held_fits es is = object_fits es is.lawful (all_short es (first_so (list_all has_few_values es) (leb (length (object.spell es)) most_merged) is.small)) is.shows
+held_fits es is = few_values_fit es is.lawful is.shows (first_so (list_all has_few_values es) (leb (length (object.spell es)) most_merged) is.small)
 
 held_small : (es : List Entry) → IsHeld es → length (object.spell es) ≤ 16000000
 held_small es is = leb-true (length (object.spell es)) most_merged (second_so (list_all has_few_values es) (leb (length (object.spell es)) most_merged) is.small)

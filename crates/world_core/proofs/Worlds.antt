@@ -2,7 +2,7 @@
 use Rattle.std.proofs.Common.{◌≡◌, ◌≢◌, ℕ, ◌<◌, ◌≤◌, Bool, true, false, List, [], ◌∷◌, ◌++◌, length, get_or, replicate, Option, Some, None, refl, sym, ap, subst, ◌∙◌, arith, eqb}
 use Rattle.std.specs.Prelude.{slice_get, slice_set}
 use Rattle.std.proofs.lemmas.Bool.{eqb-true, eqb-false}
-use Rattle.std.proofs.lemmas.List.{get_or-set_same, get_or-set_other, length-set, get_or-replicate, length-replicate}
+use Rattle.std.proofs.lemmas.List.{get_or_default, get_or-set_same, get_or-set_other, length-set, get_or-replicate, length-replicate}
 use Rattle.std.proofs.lemmas.Option.{slice_get_within}
 use Rattle.meta_types.specs.Name.{Key}
 use Rattle.meta_types.specs.Value.{ValueParts}
@@ -17,11 +17,12 @@ use Rattle.past_model.specs.declared.happening.Happening.TheVariants.{Wrote, Loo
 use Rattle.past_model.specs.Past.{known, writes}
 use Rattle.past_model.specs.Shown.{IsObjectOf}
 use Rattle.past_model.specs.History.{Fits, RestartsKeepOwnWrites}
+use Rattle.past_model.proofs.Entries.{one_object}
 use Rattle.object_machine.specs.Objects.{held, read_object, seen_object, sent_object}
 use Rattle.node_images.specs.Images.{holdings}
-use Rattle.node_images.specs.Node.{Node, empty, IsNode, with_kept, with_merge, with_restart, with_write}
+use Rattle.node_images.specs.Node.{Node, new_node, IsNode, with_kept, with_merge, with_restart, with_write}
 use Rattle.node_images.specs.Follows.{Follows}
-use Rattle.world_core.specs.Tells.{Told, nothing_told, Pairwise, carried, tell, tell_look, tell_sending}
+use Rattle.world_core.specs.Tells.{Told, nothing_told, Pairwise, carried_object, tell, tell_look, tell_sending}
 use Rattle.world_core.specs.World.{World, IsRead, IsSending, IsState, IsTold, IsWorld, new_world}
 use Rattle.object_machine.proofs.Changes.{after_look, after_sending}
 use Rattle.object_machine.proofs.Restarting.{others_keep, start_keeps}
@@ -49,9 +50,8 @@ pairwise_map P Q f (x ∷ xs) (y ∷ ys) all = (f x y all.0, pairwise_map P Q f 
 
 read_later : (hs more : List Happening) (place : ℕ) (context : Reading) → IsRead hs place context → IsRead (hs ++ more) place context
 read_later hs more place context is =
-    let within : place < length hs = slice_get_within hs place (Looked is.node context.key) is.looked in
+    let within : place < length hs = slice_get_within hs place (Looked context.source.node context.key) is.looked in
     record {
-      node = is.node;
       looked = slice_get_more hs more place within ∙ is.looked;
       vector = is.vector ∙ ap join (sym (seen_later hs more place context.key within));
     }
@@ -141,14 +141,13 @@ slice_get_end (g ∷ hs) h = slice_get_end hs h
 
 -- a read: its context is of the key and what the node holds there
 pub state_look : (nodes : List Node) (contexts : List Reading) (sent : List Frame) (t : Told) (n : ℕ) (k : Key) (context : Reading)
-    → IsState nodes contexts sent t → context.key ≡ k → context.vector ≡ join (held t.history n k) → IsState nodes (contexts ++ context ∷ []) sent (tell_look n k t)
-state_look nodes contexts sent t n k context s key vector =
+    → IsState nodes contexts sent t → context.source.node ≡ n → context.key ≡ k → context.vector ≡ join (held t.history n k) → IsState nodes (contexts ++ context ∷ []) sent (tell_look n k t)
+state_look nodes contexts sent t n k context s node key vector =
     let hs = t.history in
     let more = hs ++ Looked n k ∷ [] in
     let next = state_next nodes nodes contexts sent t (Looked n k) s tt (others_keep hs (Looked n k) s.keeps (λ m j e. cc)) (λ m d within. follows_look hs n k m (get_or nodes m d) (s.nodes m d within)) in
     let read : IsRead more (length hs) context = record {
-      node = n;
-      looked = slice_get_end hs (Looked n k) ∙ ap (λ l. Some (Looked n l)) (sym key);
+      looked = slice_get_end hs (Looked n k) ∙ ap (λ l. Some (Looked n l)) (sym key) ∙ ap (λ m. Some (Looked m context.key)) (sym node);
       vector = vector ∙ ap join (sym (after_look hs n k).seen.here) ∙ ap (λ l. join (seen_object more (length hs) l)) (sym key);
     } in
     record {
@@ -161,7 +160,7 @@ state_look nodes contexts sent t n k context s key vector =
 
 -- a frame of the node that carries what it holds under the key
 pub state_sending : (nodes : List Node) (contexts : List Reading) (sent : List Frame) (t : Told) (n : ℕ) (k : Key) (o : List Entry) (frame : Frame)
-    → IsState nodes contexts sent t → frame.from ≡ n → carried frame.message ≡ Some (k, o) → o ≡ held t.history n k → IsState nodes contexts (sent ++ frame ∷ []) (tell_sending n (Some (k, o)) t)
+    → IsState nodes contexts sent t → frame.from ≡ n → carried_object frame.message ≡ Some (k, o) → o ≡ held t.history n k → IsState nodes contexts (sent ++ frame ∷ []) (tell_sending n (Some (k, o)) t)
 state_sending nodes contexts sent t n k o frame s from carries is =
     let hs = t.history in
     let more = hs ++ Sent n k ∷ [] in
@@ -181,7 +180,7 @@ state_sending nodes contexts sent t n k o frame s from carries is =
 
 -- ---- the first world
 
-follows_nothing : (n : ℕ) → Follows [] n empty
+follows_nothing : (n : ℕ) → Follows [] n new_node
 follows_nothing n = record {
   holds = λ k. refl;
   number = refl;
@@ -193,25 +192,27 @@ nothing_happened : (before after : List Happening) (h : Happening) → [] ≡ be
 nothing_happened [] after h e = cc
 nothing_happened (x ∷ before) after h e = cc
 
-pub state_new : (count : ℕ) → IsState (replicate count empty) [] [] nothing_told
+pub state_new : (count : ℕ) → IsState (replicate count new_node) [] [] nothing_told
 state_new count = record {
   is_history = record { fits = λ before after h e. absurd (nothing_happened before after h e) };
   keeps = start_keeps;
-  nodes = λ n d low. subst (Follows [] n) (sym (get_or-replicate count n empty d (subst (λ m. n < m) (length-replicate count empty) low))) (follows_nothing n);
+  nodes = λ n d low. subst (Follows [] n) (sym (get_or-replicate count n new_node d (subst (λ m. n < m) (length-replicate count new_node) low))) (follows_nothing n);
   reads = tt;
   sendings = tt;
 }
 
 pub world_new : (count : ℕ) → 1 ≤ count → count ≤ 16 → IsWorld (new_world count)
 world_new count some few = record {
-  sent = [];
-  spelled = tt;
-  numbered = refl;
-  tells = refl;
-  below = tt;
+  telling = record {
+    frames = [];
+    spelled = tt;
+    sent_in_order = refl;
+    names = tt;
+    tells = refl;
+  };
   state = state_new count;
-  some = subst (λ m. 1 ≤ m) (sym (length-replicate count empty)) some;
-  few = subst (λ m. m ≤ 16) (sym (length-replicate count empty)) few;
+  some = subst (λ m. 1 ≤ m) (sym (length-replicate count new_node)) some;
+  few = subst (λ m. m ≤ 16) (sym (length-replicate count new_node)) few;
 }
 
 -- ---- what a node shows
@@ -223,3 +224,14 @@ shows w is n node low at table same k =
     let hs = w.told.history in
     let stands : Follows hs n node = subst (Follows hs n) (sym at) (is.state.nodes n node low) in
     subst (IsObjectOf (writes hs) k (known hs n k)) (sym (ap (λ t. object_at t k) same ∙ stands.holds k)) ((matches hs is.state.keeps).known n k)
+
+-- what is known determines what is held
+pub equally : (w : World) → IsWorld w → (m n : ℕ) (k : Key) → m < length w.nodes → n < length w.nodes → ((p : ℕ) → known w.told.history m k p ≡ known w.told.history n k p)
+    → object_at (get_or w.nodes m new_node).table k ≡ object_at (get_or w.nodes n new_node).table k
+equally w is m n k low there same =
+    let hs = w.told.history in
+    let sets : known hs m k ≡ known hs n k = λ i p. same p i in
+    one_object (writes hs) k (known hs n k) (object_at (get_or w.nodes m new_node).table k) (object_at (get_or w.nodes n new_node).table k)
+    (subst (λ S. IsObjectOf (writes hs) k S (object_at (get_or w.nodes m new_node).table k)) sets
+    (shows w is m (get_or w.nodes m new_node) low (get_or_default w.nodes m new_node (get_or w.nodes m new_node) low) (get_or w.nodes m new_node).table refl k))
+    (shows w is n (get_or w.nodes n new_node) there (get_or_default w.nodes n new_node (get_or w.nodes n new_node) there) (get_or w.nodes n new_node).table refl k)

@@ -1,8 +1,9 @@
--- What the contexts, the frames and the replies of a world say, in the words of the past. The rule is our own.
-use Rattle.std.specs.Prelude.{◌≡◌, ℕ, List, Some, slice_get, ◌↔◌}
+-- What the nodes, the contexts, the frames and the replies of a world say, in the words of the past. The rule is our own.
+use Rattle.std.specs.Prelude.{◌≡◌, ℕ, ◌<◌, List, length, Some, slice_get, ◌↔◌}
 use Rattle.meta_types.specs.Name.{Key}
 use Rattle.dvvset.specs.Object.{Entry}
 use Rattle.meta_store.specs.Context.{Reading}
+use Rattle.meta_store.specs.Table.{object_at}
 use Rattle.past_model.specs.declared.happening.Happening.{Happening}
 use Rattle.past_model.specs.declared.happening.Happening.TheVariants.{Looked, Sent}
 use Rattle.past_model.specs.Sets.{IsSubset}
@@ -15,19 +16,23 @@ use Rattle.world_core.specs.declared.event.Event.{Event}
 use Rattle.world_core.specs.declared.event.Event.TheVariants.{Put, Get, PutOver, Send, Deliver, Junk, Keep, Restart}
 use Rattle.world_core.specs.Tells.{Told, numbered, sending_of}
 use Rattle.world_core.specs.World.{World}
+use Rattle.world_core.specs.Refusal.{table_of}
+
+-- each node holds, under each key, the object of the writes that it knows there
+abbrev pub ShowWhatTheyKnow : World → Type 0
+ShowWhatTheyKnow w = (n : ℕ) (key : Key) → n < length w.nodes → IsObjectOf (writes w.told.history) key (known w.told.history n key) (object_at (table_of w n) key)
 
 -- the context of a read counts what its node knew under its key
 pub record CountsSeen (t : Told) (read : ℕ) (context : Reading) : Type 0 where
   pub place : ℕ
-  pub node : ℕ
-  pub told : numbered t.looks read ≡ Some place
-  pub looked : slice_get t.history place ≡ Some (Looked node context.key)
+  pub told_at : numbered t.looks read ≡ Some place
+  pub looked : slice_get t.history place ≡ Some (Looked context.source.node context.key)
   pub vector : IsContext (writes t.history) (seen t.history place context.key) context.vector
 
 -- the object of a frame is that of what its sender knew under its key
 pub record CarriesLoad (t : Told) (number from : ℕ) (key : Key) (object : List Entry) : Type 0 where
   pub place : ℕ
-  pub told : sending_of t number ≡ Some place
+  pub told_at : sending_of t number ≡ Some place
   pub sent : slice_get t.history place ≡ Some (Sent from key)
   pub is : IsObjectOf (writes t.history) key (load t.history place key) object
 

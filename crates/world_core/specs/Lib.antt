@@ -22,17 +22,17 @@ pub mod Tells
 pub mod World
 -- the refusals
 pub mod Fault
--- what contexts, frames and replies say of the past
-pub mod Knowledge
 -- which refusal an event meets
 pub mod Refusal
+-- what nodes, contexts, frames and replies say of the past
+pub mod Knowledge
 -- what a world answers, and what it then is
 pub mod Outcome
+-- lists of values compared
+pub mod Equal
 -- what private functions alone cite: what the steps of an event hand on
 pub mod Steps
 -- what the view of a world and private functions cite: the lists of a world
 pub mod Chronicle
 -- what private functions alone cite: what a write and a read leave
 pub mod Plan
--- lists of values compared
-pub mod Equal

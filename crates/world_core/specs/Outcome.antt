@@ -1,5 +1,5 @@
 -- What a world answers to an event, and what it then is. The rule is our own.
-use Rattle.std.specs.Prelude.{◌≡◌, ℕ, ◌+◌, List, [], ◌∷◌, ◌++◌, length, Option, Some, None, Result, Ok, Err, ◌⊎◌, IfOk}
+use Rattle.std.specs.Prelude.{◌≡◌, ℕ, ◌+◌, List, [], ◌∷◌, ◌++◌, length, slice_set, Option, Some, None, Result, Ok, Err, ◌⊎◌, IfOk}
 use Rattle.std.specs.FinMap.{find}
 use Rattle.meta_types.specs.Name.{Key}
 use Rattle.meta_types.specs.Value.{ValueParts}
@@ -10,21 +10,24 @@ use Rattle.meta_frame.specs.Frame.{Spells}
 use Rattle.meta_frame.specs.declared.message.Frame.{Frame}
 use Rattle.meta_frame.specs.declared.message.Message.TheVariants.{Gossip}
 use Rattle.meta_store.specs.Context.{Reading}
-use Rattle.meta_store.specs.Table.{Table, object_at}
+use Rattle.meta_store.specs.Table.{Table, IsTable, object_at}
 use Rattle.meta_store.specs.Step.{answer_of_merge, written}
+use Rattle.meta_store.specs.declared.fault.StoreFault.TheVariants.{BadEntries}
 use Rattle.meta_store.specs.declared.merge.Merged.{Merged}
 use Rattle.meta_store.specs.declared.merge.Merged.TheVariants.{Fresh, Stale}
+use Rattle.node_images.specs.Images.{holdings}
+use Rattle.node_images.specs.Node.{Node, with_kept, with_merge, with_restart, with_write}
 use Rattle.world_core.specs.declared.answer.Answer.{Answer}
 use Rattle.world_core.specs.declared.answer.Reply.{Reply}
 use Rattle.world_core.specs.declared.answer.Reply.TheVariants.{Wrote, Looked, Took, TookFresh, TookStale, Done}
 use Rattle.world_core.specs.declared.event.Event.{Event}
 use Rattle.world_core.specs.declared.event.Event.TheVariants.{Put, Get, PutOver, Send, Deliver, Junk, Keep, Restart}
 use Rattle.world_core.specs.declared.fault.WorldFault.{WorldFault}
-use Rattle.world_core.specs.declared.fault.WorldFault.TheVariants.{Memory}
-use Rattle.world_core.specs.Tells.{Pairwise, carried, numbers_from, tell_accepted}
-use Rattle.world_core.specs.World.{World, IsKept}
-use Rattle.world_core.specs.Knowledge.{FreshExactly}
-use Rattle.world_core.specs.Refusal.{IsFrameOf, Refuses, context_of, present, table_of}
+use Rattle.world_core.specs.declared.fault.WorldFault.TheVariants.{Memory, Store}
+use Rattle.world_core.specs.Tells.{Pairwise, carried_object, numbers_from, tell_accepted}
+use Rattle.world_core.specs.World.{World}
+use Rattle.world_core.specs.Knowledge.{FreshExactly, ShowWhatTheyKnow}
+use Rattle.world_core.specs.Refusal.{IsFrameOf, Refuses, context_of, node_at, present, table_of}
 
 -- ---- answers
 
@@ -82,11 +85,11 @@ contexts_of w (Junk n bytes) = []
 contexts_of w (Keep n k) = []
 contexts_of w (Restart n image) = []
 
--- the answer to a frame
-pub record Takes (w : World) (number n : ℕ) (answer : Answer) : Type 0 where
+-- the answer to the frame of that number, which is one, since bytes spell one frame
+pub record AnswersFrame (w : World) (number n : ℕ) (answer : Answer) : Type 0 where
   pub frame : Frame
   pub is : IsFrameOf w number frame
-  pub answers : answer ≡ replied (took (table_of w n) (carried frame.message))
+  pub answers : answer ≡ replied (took (table_of w n) (carried_object frame.message))
 
 -- junk has no answer
 abbrev pub Answers : World → Event → Answer → Type 0
@@ -94,10 +97,45 @@ Answers w (Put n k v read) answer = answer ≡ replied (wrote w n k v (context_o
 Answers w (Get n k) answer = answer ≡ record { reply = looked w n k; read = Some (next_read w); sent = [] }
 Answers w (PutOver n k v) answer = answer ≡ record { reply = wrote w n k v (Some (present w n k)); read = Some (next_read w); sent = [] }
 Answers w (Send n k to) answer = answer ≡ record { reply = Done; read = None; sent = numbers_from (length w.frames + 1) (frames_of w (Send n k to)) }
-Answers w (Deliver number n word) answer = Takes w number n answer
+Answers w (Deliver number n word) answer = AnswersFrame w number n answer
 Answers w (Junk n bytes) answer = ⊥
 Answers w (Keep n k) answer = answer ≡ replied Done
 Answers w (Restart n image) answer = answer ≡ replied Done
+
+-- ---- nodes
+
+-- the nodes, with this one at n and all others as before
+abbrev pub with_node : World → ℕ → Node → List Node
+with_node w n node = slice_set w.nodes n node
+
+-- the nodes after n has taken a frame: it has merged the object that the frame carries, if it carries one
+abbrev pub with_frame_taken : World → ℕ → Option (Key × List Entry) → List Node
+with_frame_taken w n None = w.nodes
+with_frame_taken w n (Some object) = with_node w n (with_merge object.0 object.1 (node_at w n))
+
+-- the nodes after a frame
+pub record LeavesAfterFrame (w : World) (number n : ℕ) (nodes : List Node) : Type 0 where
+  pub frame : Frame
+  pub is : IsFrameOf w number frame
+  pub taken : nodes ≡ with_frame_taken w n (carried_object frame.message)
+
+-- the nodes after a restart: the node holds just what the image has
+pub record LeavesAfterRestart (w : World) (n image : ℕ) (nodes : List Node) : Type 0 where
+  pub table : Table
+  pub is_table : IsTable table
+  pub restored : (k : Key) → object_at table k ≡ holdings (node_at w n).images image k
+  pub restarted : nodes ≡ with_node w n (with_restart table image (node_at w n))
+
+-- the nodes after an event; junk is never accepted
+abbrev pub Leaves : World → Event → List Node → Type 0
+Leaves w (Put n k v read) nodes = nodes ≡ with_node w n (with_write n k v (context_of w read) (node_at w n))
+Leaves w (Get n k) nodes = nodes ≡ w.nodes
+Leaves w (PutOver n k v) nodes = nodes ≡ with_node w n (with_write n k v (Some (present w n k)) (node_at w n))
+Leaves w (Send n k to) nodes = nodes ≡ w.nodes
+Leaves w (Deliver number n word) nodes = LeavesAfterFrame w number n nodes
+Leaves w (Junk n bytes) nodes = ⊥
+Leaves w (Keep n k) nodes = nodes ≡ with_node w n (with_kept k (node_at w n))
+Leaves w (Restart n image) nodes = LeavesAfterRestart w n image nodes
 
 -- ---- worlds
 
@@ -107,8 +145,7 @@ pub record Adds (frames : List Frame) (old new : List (List ℕ)) : Type 0 where
   pub spelled : Pairwise Spells frames bytes
   pub added : new ≡ old ++ bytes
 
--- an event was accepted with an answer: it had no refusal, and this is what was added; what its node then holds follows
--- from what was told
+-- an event was accepted with an answer: it had no refusal, and this is what was added, and what all nodes then are
 pub record Accepts (old : World) (event : Event) (answer : Answer) (new : World) : Type 0 where
   pub no_refusal : (fault : WorldFault) → Refuses old event fault → ⊥
   pub answers : Answers old event answer
@@ -116,7 +153,7 @@ pub record Accepts (old : World) (event : Event) (answer : Answer) (new : World)
   pub frames : Adds (frames_of old event) old.frames new.frames
   pub contexts : new.contexts ≡ old.contexts ++ contexts_of old event
   pub told : (sent : List Frame) → Pairwise Spells sent new.frames → new.told ≡ tell_accepted sent (record { event = event; answer = answer }) old.told
-  pub nodes : length new.nodes ≡ length old.nodes
+  pub nodes : Leaves old event new.nodes
 
 -- an event was refused, for its first cause or for want of memory, and nothing changed
 pub record Rejects (old : World) (event : Event) (fault : WorldFault) (new : World) : Type 0 where
@@ -129,11 +166,13 @@ unfoldable pub Outcome : World → Event → Result Answer WorldFault → World 
 Outcome old event (Ok answer) new = Accepts old event answer new
 Outcome old event (Err fault) new = Rejects old event fault new
 
--- one event of several: its outcome, and a world after it, which is one
+-- one event: its outcome; a delivery is answered fresh exactly where it brought something; what a merge leaves shows a value,
+-- so that 21 is never the cause of a refusal; and in what is left each node shows what it knows
 pub record Passes (old : World) (event : Event) (outcome : Result Answer WorldFault) (new : World) : Type 0 where
   pub comes : Outcome old event outcome new
   pub fresh : IfOk outcome (FreshExactly old event)
-  pub is_world : IsKept new
+  pub never : Refuses old event (Store BadEntries) → ⊥
+  pub shows : ShowWhatTheyKnow new
 
 -- one event after the other, each with its outcome
 abbrev pub Outcomes : World → List Event → List (Result Answer WorldFault) → World → Type 0

@@ -16,20 +16,20 @@ use Rattle.meta_store.specs.declared.fault.StoreFault.{StoreFault}
 use Rattle.past_model.specs.declared.happening.Happening.TheVariants.{Restarted}
 use Rattle.past_model.specs.Past.{happens, past}
 use Rattle.past_model.specs.History.{KnowsOwn}
-use Rattle.node_images.specs.Node.{Node, empty}
+use Rattle.node_images.specs.Node.{Node, new_node}
 use Rattle.world_core.specs.declared.event.Event.{Event}
 use Rattle.world_core.specs.declared.event.Event.TheVariants.{Put, Get, PutOver, Send, Deliver, Junk, Keep, Restart}
 use Rattle.world_core.specs.declared.fault.WorldFault.{WorldFault}
 use Rattle.world_core.specs.declared.fault.WorldFault.TheVariants.{BadNode, NotAddressed, StaleImage, NoSuchFrame, NoSuchRead, NoSuchNode, LooksLikeFrame, NoSuchImage}
 use Rattle.world_core.specs.Fault.{of_frame, of_store}
-use Rattle.world_core.specs.Tells.{carried, numbered}
+use Rattle.world_core.specs.Tells.{carried_object, numbered}
 use Rattle.world_core.specs.World.{World}
 
 -- ---- what there is
 
 -- what the node holds
 abbrev pub node_at : World → ℕ → Node
-node_at w n = get_or w.nodes n empty
+node_at w n = get_or w.nodes n new_node
 
 abbrev pub table_of : World → ℕ → Table
 table_of w n = (node_at w n).table
@@ -64,9 +64,9 @@ HasNoRead w (Some read) = numbered w.contexts read ≡ None
 abbrev pub HasNoFrame : World → ℕ → Type 0
 HasNoFrame w frame = numbered w.frames frame ≡ None
 
--- the node has no such image
+-- the node has made no such image
 abbrev pub HasNoImage : World → ℕ → ℕ → Type 0
-HasNoImage w n image = length (node_at w n).images < image
+HasNoImage w n image = (past w.told.history).last n < image
 
 -- the image lacks a write that the node made: after a restart from it the node wouldn't know each of its own
 abbrev pub LacksOwn : World → ℕ → ℕ → Type 0
@@ -79,7 +79,8 @@ pub record IsFrame (bytes : List ℕ) : Type 0 where
 
 -- ---- the first cause that applies
 
--- where the cause applies this is the refusal, and where it doesn't, what the rest says
+-- where the cause applies this is the refusal, and where it doesn't, what the rest says: as `first_that_applies`, for causes
+-- that are propositions and not tests
 abbrev pub first : Type 0 → WorldFault → (WorldFault → Type 0) → WorldFault → Type 0
 first cause refusal rest fault = (cause × (fault ≡ refusal)) ⊎ ((cause → ⊥) × rest fault)
 
@@ -99,7 +100,7 @@ refusal_of_object table (Some object) = refusal_of_merge table object.0 object.1
 pub record ByFrame (w : World) (number n : ℕ) (fault : WorldFault) : Type 0 where
   pub frame : Frame
   pub is : IsFrameOf w number frame
-  pub refused : first (frame.to ≢ n) NotAddressed (by_store (refusal_of_object (table_of w n) (carried frame.message))) fault
+  pub refused : first (frame.to ≢ n) NotAddressed (by_store (refusal_of_object (table_of w n) (carried_object frame.message))) fault
 
 -- the refusal of bytes that are no frame
 pub record ByBytes (bytes : List ℕ) (fault : WorldFault) : Type 0 where

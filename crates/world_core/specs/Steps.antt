@@ -9,11 +9,11 @@ use Rattle.meta_frame.specs.declared.fault.FrameFault.{FrameFault}
 use Rattle.meta_frame.specs.declared.fault.FrameFault.TheVariants.{Memory}
 use Rattle.meta_frame.specs.declared.message.Frame.{Frame}
 use Rattle.meta_frame.specs.declared.message.Message.TheVariants.{Gossip}
-use Rattle.world_core.specs.Tells.{carried}
+use Rattle.world_core.specs.Tells.{carried_object}
 use Rattle.world_core.specs.World.{World}
 use Rattle.world_core.specs.Refusal.{IsFrameOf, table_of}
 
--- the place of a read, where one is named
+-- the place, from 0, of the context of the read of this number, where one is named
 abbrev pub IsPlaceOf : World → Option ℕ → Option ℕ → Type 0
 IsPlaceOf w None place = place ≡ None
 IsPlaceOf w (Some read) None = ⊥
@@ -24,7 +24,7 @@ pub record IsArrival (bytes : List ℕ) (to : ℕ) (object : Option (Key × List
   pub frame : Frame
   pub spelled : Spells frame bytes
   pub addressed : frame.to ≡ to
-  pub carries : carried frame.message ≡ object
+  pub carries : carried_object frame.message ≡ object
 
 -- the bytes are no frame, or there is no memory to tell
 unfoldable pub IsNoFrame : List ℕ → FrameFault → Type 0
@@ -35,7 +35,7 @@ pub record Arrives (w : World) (number n : ℕ) (object : Option (Key × List En
   pub frame : Frame
   pub is : IsFrameOf w number frame
   pub addressed : frame.to ≡ n
-  pub carries : carried frame.message ≡ object
+  pub carries : carried_object frame.message ≡ object
   pub node : n < length w.nodes
 
 -- the bytes are the next frame of the world: what the node holds under the key, to another node

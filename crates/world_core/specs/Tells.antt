@@ -76,25 +76,25 @@ node_of (Keep n k) = n
 node_of (Restart n image) = n
 
 -- the object that a message carries, with its key
-abbrev pub carried : Message → Option (Key × List Entry)
-carried (Gossip round k o) = Some (k, o)
-carried (IHave round k v) = None
-carried (Graft round k v) = None
-carried Prune = None
-carried Join = None
-carried (ForwardJoin n ttl) = None
-carried Disconnect = None
-carried (Neighbor p) = None
-carried (NeighborReply a) = None
-carried (Shuffle origin ttl ns) = None
-carried (ShuffleReply ns) = None
-carried (XRoot d) = None
-carried (XPrefixes rs) = None
-carried (XInner p ds) = None
-carried (XLeaves p i ds) = None
-carried (XBucket p leaf rs) = None
-carried (XObject k o) = Some (k, o)
-carried (XWant k) = None
+abbrev pub carried_object : Message → Option (Key × List Entry)
+carried_object (Gossip round k o) = Some (k, o)
+carried_object (IHave round k v) = None
+carried_object (Graft round k v) = None
+carried_object Prune = None
+carried_object Join = None
+carried_object (ForwardJoin n ttl) = None
+carried_object Disconnect = None
+carried_object (Neighbor p) = None
+carried_object (NeighborReply a) = None
+carried_object (Shuffle origin ttl ns) = None
+carried_object (ShuffleReply ns) = None
+carried_object (XRoot d) = None
+carried_object (XPrefixes rs) = None
+carried_object (XInner p ds) = None
+carried_object (XLeaves p i ds) = None
+carried_object (XBucket p leaf rs) = None
+carried_object (XObject k o) = Some (k, o)
+carried_object (XWant k) = None
 
 -- a frame of the node: a Sent, where it carries an object
 abbrev pub tell_sending : ℕ → Option (Key × List Entry) → Told → Told
@@ -103,7 +103,7 @@ tell_sending n (Some object) t = record t { history = t.history ++ Sent n object
 
 abbrev pub tell_numbered : ℕ → Option Frame → Told → Told
 tell_numbered n None t = t
-tell_numbered n (Some frame) t = tell_sending n (carried frame.message) t
+tell_numbered n (Some frame) t = tell_sending n (carried_object frame.message) t
 
 -- the frames of these numbers, in their order
 abbrev pub tell_frames : List Frame → ℕ → List ℕ → Told → Told
@@ -115,12 +115,12 @@ tell_frames frames n (number ∷ numbers) t = tell_frames frames n numbers (tell
 abbrev pub tell_accepted : List Frame → Accepted → Told → Told
 tell_accepted frames accepted t = tell_frames frames (node_of accepted.event) accepted.answer.sent (tell_event accepted.event t)
 
-abbrev pub told_after : List Frame → List Accepted → Told → Told
-told_after frames [] t = t
-told_after frames (first ∷ later) t = told_after frames later (tell_accepted frames first t)
+abbrev pub tell_each : List Frame → List Accepted → Told → Told
+tell_each frames [] t = t
+tell_each frames (first ∷ later) t = tell_each frames later (tell_accepted frames first t)
 
-abbrev pub told : List Frame → List Accepted → Told
-told frames accepted = told_after frames accepted nothing_told
+abbrev pub tell_all : List Frame → List Accepted → Told
+tell_all frames accepted = tell_each frames accepted nothing_told
 
 -- the lists are as long, and the relation holds one by one
 abbrev pub Pairwise : {A B : Type 0} → (A → B → Type 0) → List A → List B → Type 0
@@ -139,9 +139,29 @@ abbrev pub numbers_from : {A : Type 0} → ℕ → List A → List ℕ
 numbers_from first [] = []
 numbers_from first (x ∷ xs) = first ∷ numbers_from (first + 1) xs
 
--- the accepted events tell the history, by the frames that are spelled; each frame is sent once, in the order of its number
-pub record Tells (accepted : List Accepted) (spellings : List (List ℕ)) (history : List Happening) : Type 0 where
+-- what an event names is there: a write names an earlier read, a delivery an earlier frame; and an event that reads is
+-- answered with the next read number, any other with none
+abbrev pub Names : Told → Event → Option ℕ → Type 0
+Names t (Put n k v None) read = read ≡ None
+Names t (Put n k v (Some seen)) read = (read ≡ None) × ((place : ℕ) × (numbered t.looks seen ≡ Some place))
+Names t (Get n k) read = read ≡ Some (length t.looks + 1)
+Names t (PutOver n k v) read = read ≡ Some (length t.looks + 1)
+Names t (Send n k to) read = read ≡ None
+Names t (Deliver frame n word) read = (read ≡ None) × ((sending : Option ℕ) × (numbered t.sendings frame ≡ Some sending))
+Names t (Junk n bytes) read = ⊥
+Names t (Keep n k) read = read ≡ None
+Names t (Restart n image) read = read ≡ None
+
+-- so does each event, by what was told when it came
+abbrev pub EachNames : List Frame → List Accepted → Told → Type 0
+EachNames frames [] t = Unit {0}
+EachNames frames (first ∷ later) t = Names t first.event first.answer.read × EachNames frames later (tell_accepted frames first t)
+
+-- the accepted events tell all this, by the frames that are spelled; each frame is sent once, in the order of its number, and
+-- each event names what is there
+pub record Tells (accepted : List Accepted) (spellings : List (List ℕ)) (t : Told) : Type 0 where
   pub frames : List Frame
   pub spelled : Pairwise Spells frames spellings
-  pub numbered : sent_numbers accepted ≡ numbers_from 1 frames
-  pub tells : (told frames accepted).history ≡ history
+  pub sent_in_order : sent_numbers accepted ≡ numbers_from 1 frames
+  pub names : EachNames frames accepted nothing_told
+  pub tells : tell_all frames accepted ≡ t

@@ -1,8 +1,7 @@
 //! Events applied to a world.
 
 ghost use Rattle.std.specs.Prelude.{◌≡◌, ◌+◌, ◌<◌, ◌≤◌, ◌⊎◌, length, IfOk, IfErr, IfSome, IsNone, OnErr};
-ghost use Rattle.world_core.specs.Knowledge.{FreshExactly};
-ghost use Rattle.world_core.specs.Outcome.{Outcome, Outcomes};
+ghost use Rattle.world_core.specs.Outcome.{Outcome, Outcomes, Passes};
 ghost use Rattle.world_core.specs.declared.fault.WorldFault.TheVariants.{NoSuchNode};
 
 use crate::answer::Answer;
@@ -19,8 +18,18 @@ impl World {
     /// itself, 40 `NotAddressed`, those of `Store::put` and `Store::merge`, and of junk those of `decode`. It takes
     /// memory, and 99 `Memory` may stand in place of any other answer.
     pub fn apply(&mut self, event: Event) -> Result<Answer, WorldFault>
-        ensures outcome { Outcome self.old event result self.new }
-        ensures fresh { IfOk result (FreshExactly self.old event) }
+        ensures { Passes self.old event result self.new }
+    {
+        // Read for what it tells, before and after: this is a world.
+        let _ = self.nodes.len();
+        let outcome = self.act(event);
+        let _ = self.nodes.len();
+        outcome
+    }
+
+    /// Makes an event, or refuses it.
+    fn act(&mut self, event: Event) -> Result<Answer, WorldFault>
+        ensures { Outcome self.old event result self.new }
     {
         match event {
             Event::Put {
@@ -32,11 +41,7 @@ impl World {
             Event::Get { node, key } => self.get(node, key),
             Event::PutOver { node, key, value } => self.put_over(node, key, value),
             Event::Send { node, key, to } => self.send(node, key, to),
-            Event::Deliver { frame, node, word } => {
-                // Read for what it tells: this is a world.
-                let _ = self.nodes.len();
-                self.deliver(frame, node, word)
-            }
+            Event::Deliver { frame, node, word } => self.deliver(frame, node, word),
             Event::Junk { node, bytes } => self.junk(node, bytes),
             Event::Keep { node, key } => self.keep(node, key),
             Event::Restart { node, image } => self.restart(node, image),
@@ -55,19 +60,17 @@ impl World {
     {
         let mut outcomes = Vec::with_capacity(alloc, events.len())?;
         for event in events {
-            let outcome = self.apply_copy(event);
-            // Read for what it tells: this is a world.
-            let _ = self.nodes.len();
-            outcomes.push(outcome).unwrap();
+            outcomes.push(self.apply_copy(event)).unwrap();
         }
         Ok(outcomes)
     }
 
     /// Applies a copy of an event.
     fn apply_copy(&mut self, event: &Event) -> Result<Answer, WorldFault>
-        ensures outcome { Outcome self.old event.now result self.new }
-        ensures fresh { IfOk result (FreshExactly self.old event.now) }
+        ensures { Passes self.old event.now result self.new }
     {
+        // Read for what it tells: this is a world.
+        let _ = self.nodes.len();
         let event = event.copy()?;
         self.apply(event)
     }

@@ -1,7 +1,7 @@
 //! Deliveries of frames, and junk.
 
 ghost use Rattle.std.specs.Prelude.{◌≡◌, ◌+◌, ◌<◌, ◌^◌, Some, None, IfOk, IfErr};
-ghost use Rattle.world_core.specs.Tells.{carried};
+ghost use Rattle.world_core.specs.Tells.{carried_object};
 ghost use Rattle.world_core.specs.Outcome.{Outcome, merged, replied};
 ghost use Rattle.world_core.specs.Steps.{Arrives, IsArrival, IsNoFrame};
 ghost use Rattle.world_core.specs.Refusal.{IsFrame};
@@ -113,7 +113,7 @@ fn opened(alloc: Global, bytes: &[u8]) -> Result<Arrival, FrameFault>
     let frame = decode(alloc, bytes)?;
     Ok(Arrival {
         to: frame.to,
-        object: carried(frame.message),
+        object: carried_object(frame.message),
     })
 }
 
@@ -130,8 +130,8 @@ fn opened_frame(alloc: Global, bytes: &[u8]) -> Result<Arrival, AllocError>
 }
 
 /// The object that a message carries, with its key.
-fn carried(message: Message) -> Option<(MetaKey, Entries)>
-    ensures { result ≡ carried message }
+fn carried_object(message: Message) -> Option<(MetaKey, Entries)>
+    ensures { result ≡ carried_object message }
 {
     match message {
         Message::Gossip { key, object, .. } => Some((key, object)),

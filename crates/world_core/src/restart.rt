@@ -47,6 +47,8 @@ impl World {
         let number = usize::try_from(image).unwrap();
         self.chronicle.reserve()?;
         let store = self.nodes[at].restored(number)?;
+        // Read for what it tells: the keys rise and are few enough.
+        let _ = store.len();
         if !store.counts_as_many(self.nodes[at].store(), id) {
             return Err(WorldFault::StaleImage);
         }

@@ -7,12 +7,12 @@ ghost use Rattle.past_model.specs.Past.{image, known, past, writes};
 ghost use Rattle.past_model.specs.Shown.{ArePlaces, IsObjectOf};
 ghost use Rattle.node_images.specs.Images.{ChangeEarlier, holdings};
 ghost use Rattle.past_model.specs.History.{IsHistory, RestartsKeepOwnWrites};
-ghost use Rattle.node_images.specs.Node.{empty};
+ghost use Rattle.node_images.specs.Node.{new_node};
 ghost use Rattle.dvvset.specs.Object.{Entry};
 ghost use Rattle.meta_frame.specs.declared.message.Frame.{Frame as F};
 ghost use Rattle.meta_store.specs.Context.{Reading};
-ghost use Rattle.world_core.specs.Tells.{Tells, carried, numbered};
-ghost use Rattle.world_core.specs.Refusal.{IsFrameOf};
+ghost use Rattle.world_core.specs.Tells.{Tells, carried_object, numbered};
+ghost use Rattle.world_core.specs.Refusal.{IsFrameOf, node_at, table_of};
 ghost use Rattle.world_core.specs.Knowledge.{CarriesLoad, CountsSeen};
 ghost use Rattle.world_core.specs.World.{new_world};
 ghost use Rattle.world_core.specs.declared.fault.WorldFault.TheVariants.{Memory, NoSuchNode};
@@ -38,14 +38,14 @@ pub struct World {
 }
 
 impl Model for World {
-    ghost use Rattle.world_core.specs.World.{World as Parts, IsKept};
+    ghost use Rattle.world_core.specs.World.{World as Parts, IsWholeWorld};
     ghost use Rattle.world_core.specs.Chronicle.{told_so_far};
 
     ghost Value = { Parts };
 
     ghost view = { λ w. record { nodes = w.nodes.items; accepted = w.chronicle.accepted.items; frames = w.chronicle.frames.items; contexts = w.chronicle.contexts.items; told = told_so_far w.chronicle } };
 
-    ghost invariant = { λ w. IsKept (record { nodes = w.nodes.items; accepted = w.chronicle.accepted.items; frames = w.chronicle.frames.items; contexts = w.chronicle.contexts.items; told = told_so_far w.chronicle }) };
+    ghost invariant = { λ w. IsWholeWorld (record { nodes = w.nodes.items; accepted = w.chronicle.accepted.items; frames = w.chronicle.frames.items; contexts = w.chronicle.contexts.items; told = told_so_far w.chronicle }) };
 }
 
 impl World {
@@ -80,7 +80,7 @@ impl World {
     /// each is that of what its sender knew when it was sent.
     pub fn frames(&self) -> &[ByteString]
         ensures value { result.now ≡ self.now.frames }
-        ensures carries { (number : ℕ) (frame : F) (key : Key) (object : List Entry) → IsFrameOf self.now number frame → carried frame.message ≡ Some (key, object) → CarriesLoad self.now.told number frame.from key object }
+        ensures carries { (number : ℕ) (frame : F) (key : Key) (object : List Entry) → IsFrameOf self.now number frame → carried_object frame.message ≡ Some (key, object) → CarriesLoad self.now.told number frame.from key object }
     {
         self.chronicle.frames.as_slice()
     }
@@ -89,7 +89,7 @@ impl World {
     /// then.
     pub fn history(&self) -> &[Happening]
         ensures value { result.now ≡ self.now.told.history }
-        ensures tells { Tells self.now.accepted self.now.frames self.now.told.history }
+        ensures tells { Tells self.now.accepted self.now.frames self.now.told }
         ensures is_history { IsHistory self.now.told.history }
         ensures premise { RestartsKeepOwnWrites self.now.told.history }
         ensures reads { (read : ℕ) (context : Reading) → numbered self.now.contexts read ≡ Some context → CountsSeen self.now.told read context }
@@ -115,6 +115,7 @@ impl World {
     /// has there.
     pub fn images(&self, node: u64) -> Option<&[Image]>
         ensures node { IsNone result ↔ (length self.now.nodes ≤ node) }
+        ensures lends { IfSome result (λ images. images.now ≡ (node_at self.now node).images) }
         ensures number { IfSome result (λ images. length images.now ≡ (past self.now.told.history).last node) }
         ensures objects { IfSome result (λ images. (number : ℕ) → number ≤ length images.now → (key : Key) → IsObjectOf (writes self.now.told.history) key (image self.now.told.history node number key) (holdings images.now number key)) }
         ensures earlier { IfSome result (λ images. ChangeEarlier images.now) }
@@ -129,6 +130,7 @@ impl World {
     /// the object of the writes that the node knows, whose values are those of them that none of them had read.
     pub fn state(&self, node: u64) -> Option<&Store>
         ensures node { IsNone result ↔ (length self.now.nodes ≤ node) }
+        ensures lends { IfSome result (λ store. store.now ≡ table_of self.now node) }
         ensures shows { IfSome result (λ store. (key : Key) → IsObjectOf (writes self.now.told.history) key (known self.now.told.history node key) (object_at store.now key)) }
     {
         match usize::try_from(node) {
@@ -140,7 +142,7 @@ impl World {
 
 /// So many nodes that hold nothing.
 fn empty_nodes(alloc: Global, count: u64) -> Result<Vec<Node>, AllocError>
-    ensures { IfOk result (λ nodes. nodes.items ≡ replicate count empty) }
+    ensures { IfOk result (λ nodes. nodes.items ≡ replicate count new_node) }
 {
     let mut nodes = Vec::new(alloc);
     for _ in 0..count {

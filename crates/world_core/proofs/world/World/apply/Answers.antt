@@ -1,13 +1,9 @@
-use Rattle.std.proofs.Common.{rules, ◌≡◌, subst}
-use Rattle.std.specs.Prelude.{IfOk}
-use Rattle.world_core.specs.declared.event.Event.TheVariants.{Deliver}
-use Rattle.world_core.specs.Knowledge.{FreshExactly}
-use Rattle.world_core.specs.World.{IsKept}
-use Rattle.world_core.proofs.Fresh.{fresh_of}
+use Rattle.std.proofs.Common.{subst}
+use Rattle.world_core.specs.World.{IsWholeWorld}
+use Rattle.world_core.proofs.Running.{passes}
 use Rattle.world_core.proofs.world.World.apply.Goals as goal
 
-pub returns-in-Deliver-clause-fresh : goal.returns-in-Deliver-clause-fresh
-returns-in-Deliver-clause-fresh c =
-    let event : Deliver c.in-Deliver.frame c.in-Deliver.node c.in-Deliver.word ≡ c.args.event = search rules in
-    subst (λ e. IfOk c.deliver.result (FreshExactly c.args.self.now e)) event
-    (fresh_of c.args.self.now (Deliver c.in-Deliver.frame c.in-Deliver.node c.in-Deliver.word) c.deliver.result c.deliver.new.self (subst IsKept c.self.view_is c.self.invariant) c.deliver.ensures)
+pub returns : goal.returns
+returns c =
+    passes c.args.self.now c.args.event c.act-outcome.result c.act-outcome.new.self (subst IsWholeWorld c.self.view_is c.self.invariant) c.act-outcome.ensures
+    (subst IsWholeWorld c.self-2.view_is c.self-2.invariant)

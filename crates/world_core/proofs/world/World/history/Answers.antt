@@ -10,7 +10,7 @@ use Rattle.world_core.proofs.Outcomes.{tells_of, world_of}
 use Rattle.world_core.proofs.world.World.history.Goals as goal
 
 pub returns-clause-tells : goal.returns-clause-tells
-returns-clause-tells c = subst (λ w. Tells w.accepted w.frames w.told.history) c.self.view_is (tells_of (the_view c.self.inside) c.self.invariant)
+returns-clause-tells c = subst (λ w. Tells w.accepted w.frames w.told) c.self.view_is (tells_of (the_view c.self.inside) c.self.invariant)
 
 pub returns-clause-is_history : goal.returns-clause-is_history
 returns-clause-is_history c = subst (λ w. IsHistory w.told.history) c.self.view_is ((world_of (the_view c.self.inside) c.self.invariant).state.is_history)

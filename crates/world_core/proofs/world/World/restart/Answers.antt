@@ -1,7 +1,7 @@
 use Rattle.std.proofs.Common.{rules, true, false, ◌≡◌, ◌≤◌, ◌<◌, length, inl, inr, refl, sym, ap, subst, ◌∙◌}
 use Rattle.meta_types.specs.Name.{Key}
 use Rattle.dvvset.specs.Writer.{count_of}
-use Rattle.meta_store.specs.Table.{object_at}
+use Rattle.meta_store.specs.Table.{IsTable, object_at}
 use Rattle.node_images.specs.Images.{holdings}
 use Rattle.world_core.specs.World.{World}
 use Rattle.world_core.specs.contracts.world.World.{the_view}
@@ -9,7 +9,7 @@ use Rattle.world_core.specs.Refusal.{node_at}
 use Rattle.world_core.specs.declared.fault.WorldFault.TheVariants.{NoSuchNode, NoSuchImage, StaleImage}
 use Rattle.world_core.proofs.Outcomes.{memory, refused, refused_at, stepped_kept, stepped_outcome, told_is, world_is, world_of}
 use Rattle.world_core.proofs.Putting.{has_node, same_node}
-use Rattle.world_core.proofs.Restarts.{has_image, is_stale, restart_steps}
+use Rattle.world_core.proofs.Restarts.{has_image, is_stale, no_image, restart_steps}
 use Rattle.world_core.proofs.world.World.restart.Goals as goal
 
 pub returns-in_err-id : goal.returns-in_err-id
@@ -28,7 +28,7 @@ returns-then-images-image c =
     let at : c.index.result.now ≡ node_at w c.args.node = same_node w c.args.node c.index.result.now low (search rules) in
     let fewer : length c.index.result.now.images < c.args.image = search rules in
     refused_at _ w c.self.view_is NoSuchImage refl
-    (inr (has_node w c.args.node low, inl (subst (λ m. length m.images < c.args.image) at fewer, refl)))
+    (inr (has_node w c.args.node low, inl (no_image w c.args.node c.args.image c.index.result.now (world_of w c.self.invariant) low at fewer, refl)))
     (sym c.self.view_is)
 
 pub returns-then-not-counts_as_many : goal.returns-then-not-counts_as_many
@@ -58,7 +58,7 @@ returns-then-not-counts_as_many c =
     (inr (
       has_node w c.args.node low,
       inr (
-        has_image w c.args.node c.args.image (node_at w c.args.node) refl number,
+        has_image w c.args.node c.args.image (node_at w c.args.node) (world_of w c.self.invariant) low refl number,
         inl (is_stale w c.args.node c.args.image (node_at w c.args.node) c.in_ok-store.store (world_of w c.self.invariant) low refl number restored fewer, refl),
       ),
     ))
@@ -84,7 +84,8 @@ invariant_of-self-2 c =
     subst (λ t. (k : Key) → count_of (object_at t k) c.args.node ≤ count_of (object_at c.in_ok-store.store k) c.args.node) table
     (subst (λ i. (k : Key) → count_of (object_at c.store-2.result.now k) i ≤ count_of (object_at c.in_ok-store.store k) i) id
     (c.counts_as_many.ensures.0 c.if-not-counts_as_many.false)) in
-    let steps = restart_steps w c.args.node c.args.image (node_at w c.args.node) c.in_ok-store.store (world_of w c.self.invariant) low refl number restored counts in
+    let is_table : IsTable c.in_ok-store.store = search rules in
+    let steps = restart_steps w c.args.node c.args.image (node_at w c.args.node) c.in_ok-store.store (world_of w c.self.invariant) low refl number restored is_table counts in
     stepped_kept w _ _ steps
     (world_is _ (search rules) (search rules) (search rules) (search rules) (told_is _ (search rules) (search rules) (search rules)))
 
@@ -108,6 +109,7 @@ returns c =
     subst (λ t. (k : Key) → count_of (object_at t k) c.args.node ≤ count_of (object_at c.in_ok-store.store k) c.args.node) table
     (subst (λ i. (k : Key) → count_of (object_at c.store-2.result.now k) i ≤ count_of (object_at c.in_ok-store.store k) i) id
     (c.counts_as_many.ensures.0 c.if-not-counts_as_many.false)) in
-    let steps = restart_steps w c.args.node c.args.image (node_at w c.args.node) c.in_ok-store.store (world_of w c.self.invariant) low refl number restored counts in
+    let is_table : IsTable c.in_ok-store.store = search rules in
+    let steps = restart_steps w c.args.node c.args.image (node_at w c.args.node) c.in_ok-store.store (world_of w c.self.invariant) low refl number restored is_table counts in
     stepped_outcome _ w c.self.view_is _ _ steps (search rules)
     (world_is _ (search rules) (search rules) (search rules) (search rules) (told_is _ (search rules) (search rules) (search rules)))
