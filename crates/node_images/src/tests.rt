@@ -1,6 +1,6 @@
 use crate::node::Node;
 use dvvset::{Entries, Entry};
-use meta_store::Store;
+use meta_store::{Merged, Store};
 use meta_types::{FullPrefix, MetaKey, NodeId, TypeFault, Value};
 use std::alloc::Global;
 use std::test::Fail;
@@ -14,11 +14,15 @@ fn value(alloc: Global, name: u8) -> Result<Value, TypeFault> {
     Value::new(0, Some([name].to_vec(alloc)?))
 }
 
+/// The parts of the object of the first write of a node.
+fn entries(alloc: Global, id: u16, name: u8) -> Result<Vec<Entry>, TypeFault> {
+    let values = vec![in alloc; value(alloc, name)?]?;
+    Ok(vec![in alloc; Entry::new(NodeId::new(id)?, 1, values)]?)
+}
+
 /// The object of the first write of a node.
 fn object(alloc: Global, id: u16, name: u8) -> Result<Entries, Fail> {
-    let values = vec![in alloc; value(alloc, name)?]?;
-    let entries = vec![in alloc; Entry::new(NodeId::new(id)?, 1, values)]?;
-    Ok(Entries::from_parts(entries)?)
+    Ok(Entries::from_parts(entries(alloc, id, name)?)?)
 }
 
 /// What is done with node 0, or asked of it, under a key of one letter.
@@ -167,4 +171,152 @@ fn a_write_changes_the_image_of_the_last_restart(rt: HostRuntime) -> Result<(), 
     ];
     assert_eq!(rt; first_that_fails(rt.alloc(), &steps)?, 0);
     Ok(())
+}
+
+/// A call that takes memory, under a key of one letter.
+#[derive(Clone, Copy, Debug)]
+enum Call {
+    /// A blind write of node 0, of a value of one letter.
+    Write(u8, u8),
+    /// Node 1 has sent its first write.
+    Take(u8, u8),
+    Keep(u8),
+    Restart(usize),
+}
+
+/// What a node shows under a and under b, how many images it has, and which of them the next one changes.
+#[derive(Clone, Copy, Debug)]
+struct Standing {
+    a: &'static [u8],
+    b: &'static [u8],
+    images: usize,
+    changed: usize,
+}
+
+impl Standing {
+    fn new(a: &'static [u8], b: &'static [u8], images: usize, changed: usize) -> Self {
+        Standing {
+            a,
+            b,
+            images,
+            changed,
+        }
+    }
+}
+
+fn write_once(node: &mut Node, alloc: Global, name: u8, letter: u8) -> Option<()> {
+    let (key, value) = (key(alloc, name).ok()?, value(alloc, letter).ok()?);
+    let id = NodeId::new(0).ok()?;
+    let (image, _) = node.next_image(id, &key, value.copy().ok()?, None).ok()?;
+    node.write(image, id, key, value, None).ok()
+}
+
+fn take_once(node: &mut Node, alloc: Global, name: u8, letter: u8) -> Option<()> {
+    let object = Entries::from_parts(entries(alloc, 1, letter).ok()?).ok()?;
+    let merged = node.take(key(alloc, name).ok()?, object).ok()?;
+    if merged == Merged::Fresh {
+        Some(())
+    } else {
+        None
+    }
+}
+
+fn keep_once(node: &mut Node, alloc: Global, name: u8) -> Option<()> {
+    node.keep(&key(alloc, name).ok()?).ok()
+}
+
+fn restart_once(node: &mut Node, image: usize) -> Option<()> {
+    if node.images().len() < image {
+        return None;
+    }
+    let store = node.restored(image).ok()?;
+    node.restart(store, image);
+    Some(())
+}
+
+/// Makes a call; `None` where it was refused.
+fn call_once(node: &mut Node, alloc: Global, call: Call) -> Option<()> {
+    match call {
+        Call::Write(name, letter) => write_once(node, alloc, name, letter),
+        Call::Take(name, letter) => take_once(node, alloc, name, letter),
+        Call::Keep(name) => keep_once(node, alloc, name),
+        Call::Restart(image) => restart_once(node, image),
+    }
+}
+
+/// The number of the image that the next one changes.
+fn changed_next(node: &Node, alloc: Global) -> Option<usize> {
+    let (key, value) = (key(alloc, b'a').ok()?, value(alloc, b'w').ok()?);
+    let (image, _) = node
+        .next_image(NodeId::new(0).ok()?, &key, value, None)
+        .ok()?;
+    Some(image.base())
+}
+
+fn has_letters(node: &Node, alloc: Global, name: u8, letters: &[u8]) -> Option<bool> {
+    let (values, _) = node.store().get(&key(alloc, name).ok()?).ok()?;
+    Some(are_letters(values.as_slice(), letters))
+}
+
+/// Tells whether the node stands so; `None` where memory was refused.
+fn stands(node: &Node, alloc: Global, standing: Standing) -> Option<bool> {
+    let has_a = has_letters(node, alloc, b'a', standing.a)?;
+    let has_b = has_letters(node, alloc, b'b', standing.b)?;
+    let changed = changed_next(node, alloc)?;
+    Some(has_a && has_b && node.images().len() == standing.images && changed == standing.changed)
+}
+
+/// Makes a call, and once more where it was refused; tells whether it was then made, and the refusal had left
+/// the node as it stood.
+fn is_made_again(node: &mut Node, alloc: Global, call: Call, before: Standing) -> bool {
+    match call_once(node, alloc, call) {
+        Some(()) => true,
+        None => {
+            stands(node, alloc, before) == Some(true) && call_once(node, alloc, call).is_some()
+        }
+    }
+}
+
+/// The number of the first call, from 1, that isn't made, or whose refusal changes something; one more than there
+/// are calls where the node stands otherwise after the last; else 0.
+fn first_that_changes(alloc: Global, calls: &[(Call, Standing)]) -> usize {
+    let mut node = Node::new(alloc);
+    let mut last = Standing::new(b"", b"", 0, 0);
+    for (at, (call, then)) in calls.iter().enumerate() {
+        if !is_made_again(&mut node, alloc, *call, last) {
+            return at + 1;
+        }
+        last = *then;
+    }
+    let is_last = stands(&node, alloc, last).or_else(|| stands(&node, alloc, last));
+    if is_last == Some(true) {
+        0
+    } else {
+        calls.len() + 1
+    }
+}
+
+// Holds whichever single allocation is refused: a call that was refused memory leaves the node as it was, so that
+// it succeeds when it is made again. Allocates at most 67 times.
+#[test]
+fn a_node_is_as_before_a_write_or_a_delivery_under_refused_memory(rt: HostRuntime) {
+    let calls = [
+        (Call::Write(b'a', b'x'), Standing::new(b"x", b"", 1, 1)),
+        (Call::Take(b'b', b'y'), Standing::new(b"x", b"y", 1, 1)),
+        (Call::Write(b'a', b'z'), Standing::new(b"zx", b"y", 2, 2)),
+    ];
+    assert_eq!(rt; first_that_changes(rt.alloc(), &calls), 0);
+}
+
+// As above. Allocates at most 49 times.
+#[test]
+fn a_node_is_as_before_a_keeping_or_a_restart_under_refused_memory(rt: HostRuntime) {
+    let calls = [
+        (Call::Take(b'b', b'y'), Standing::new(b"", b"y", 0, 0)),
+        (Call::Keep(b'b'), Standing::new(b"", b"y", 1, 1)),
+        (Call::Restart(0), Standing::new(b"", b"", 1, 0)),
+        (Call::Keep(b'b'), Standing::new(b"", b"", 2, 2)),
+        (Call::Restart(1), Standing::new(b"", b"y", 2, 1)),
+    ];
+    assert_eq!(rt; first_that_changes(rt.alloc(), &calls), 0);
 }

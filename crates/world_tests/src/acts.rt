@@ -1,8 +1,7 @@
 //! Events of the tests: under keys of one letter, with values of one byte.
 
-use meta_types::{ByteString, FullPrefix, MetaKey, Value};
+use meta_types::{ByteString, FullPrefix, MetaKey, TypeFault, Value};
 use std::alloc::Global;
-use std::test::Fail;
 use world_core::event::Event;
 
 /// An event by its numbers and letters.
@@ -23,16 +22,22 @@ pub enum Act {
 }
 
 /// The key a/b/k, for the letter k.
-pub fn key(alloc: Global, name: u8) -> Result<MetaKey, Fail> {
+pub fn key(alloc: Global, name: u8) -> Result<MetaKey, TypeFault> {
     let prefix = FullPrefix::new([b'a'].to_vec(alloc)?, [b'b'].to_vec(alloc)?)?;
-    Ok(MetaKey::new(prefix, [name].to_vec(alloc)?)?)
+    MetaKey::new(prefix, [name].to_vec(alloc)?)
 }
 
-fn value(alloc: Global, letter: u8) -> Result<Value, Fail> {
-    Ok(Value::new(0, Some([letter].to_vec(alloc)?))?)
+fn value(alloc: Global, letter: u8) -> Result<Value, TypeFault> {
+    Value::new(0, Some([letter].to_vec(alloc)?))
 }
 
-fn put(alloc: Global, node: u64, name: u8, letter: u8, read: Option<u64>) -> Result<Event, Fail> {
+fn put(
+    alloc: Global,
+    node: u64,
+    name: u8,
+    letter: u8,
+    read: Option<u64>,
+) -> Result<Event, TypeFault> {
     let (key, value) = (key(alloc, name)?, value(alloc, letter)?);
     Ok(Event::Put {
         node,
@@ -42,17 +47,17 @@ fn put(alloc: Global, node: u64, name: u8, letter: u8, read: Option<u64>) -> Res
     })
 }
 
-fn get(alloc: Global, node: u64, name: u8) -> Result<Event, Fail> {
+fn get(alloc: Global, node: u64, name: u8) -> Result<Event, TypeFault> {
     let key = key(alloc, name)?;
     Ok(Event::Get { node, key })
 }
 
-fn put_over(alloc: Global, node: u64, name: u8, letter: u8) -> Result<Event, Fail> {
+fn put_over(alloc: Global, node: u64, name: u8, letter: u8) -> Result<Event, TypeFault> {
     let (key, value) = (key(alloc, name)?, value(alloc, letter)?);
     Ok(Event::PutOver { node, key, value })
 }
 
-fn send(alloc: Global, node: u64, name: u8, to: u64) -> Result<Event, Fail> {
+fn send(alloc: Global, node: u64, name: u8, to: u64) -> Result<Event, TypeFault> {
     let key = key(alloc, name)?;
     Ok(Event::Send { node, key, to })
 }
@@ -65,18 +70,18 @@ fn deliver(frame: u64, node: u64) -> Event {
     }
 }
 
-fn junk(alloc: Global, node: u64, bytes: &[u8]) -> Result<Event, Fail> {
+fn junk(alloc: Global, node: u64, bytes: &[u8]) -> Result<Event, TypeFault> {
     let bytes = ByteString::new(bytes.to_vec(alloc)?);
     Ok(Event::Junk { node, bytes })
 }
 
-fn keep(alloc: Global, node: u64, name: u8) -> Result<Event, Fail> {
+fn keep(alloc: Global, node: u64, name: u8) -> Result<Event, TypeFault> {
     let key = key(alloc, name)?;
     Ok(Event::Keep { node, key })
 }
 
 /// The event that is meant.
-pub fn event(alloc: Global, act: Act) -> Result<Event, Fail> {
+pub fn event(alloc: Global, act: Act) -> Result<Event, TypeFault> {
     match act {
         Act::Put(node, name, letter, read) => put(alloc, node, name, letter, read),
         Act::Get(node, name) => get(alloc, node, name),

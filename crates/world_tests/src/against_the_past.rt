@@ -66,7 +66,7 @@ fn makes_image(event: &Event, of: u64) -> bool {
 }
 
 /// The number of the node's last image.
-fn last_image(world: &World, node: u64) -> u64 {
+pub fn last_image(world: &World, node: u64) -> u64 {
     world
         .accepted()
         .iter()
@@ -141,7 +141,8 @@ fn is_right(alloc: Global, plain: &Plain, world: &World, node: u16) -> Result<bo
     Ok(true)
 }
 
-fn are_right(alloc: Global, world: &World) -> Result<bool, Fail> {
+/// Tells whether each node shows under each key what the sets of places do.
+pub fn are_right(alloc: Global, world: &World) -> Result<bool, Fail> {
     let plain = Plain::replay(alloc, world.history())?;
     for node in 0..NODES {
         if !is_right(alloc, &plain, world, node)? {

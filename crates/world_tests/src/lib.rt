@@ -12,4 +12,6 @@ mod knowing;
 #[cfg(test)]
 mod parts;
 #[cfg(test)]
+mod refused_memory;
+#[cfg(test)]
 mod schedules;

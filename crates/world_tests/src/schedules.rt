@@ -4,7 +4,7 @@ use crate::acts::{Act, event, key};
 use crate::checks::{Counts, is_done, is_fresh, is_refused, is_stale};
 use dvvset::Vector;
 use meta_store::Store;
-use meta_types::Value;
+use meta_types::{TypeFault, Value};
 use std::alloc::Global;
 use std::test::Fail;
 use world_core::answer::{Accepted, Answer, Reply};
@@ -14,7 +14,7 @@ use world_core::world::World;
 
 /// What an event gives. A context is told by its writers with their counters, values by their letters.
 #[derive(Clone, Copy, Debug)]
-enum Outcome {
+pub enum Outcome {
     Wrote(&'static [(u16, u64)]),
     /// A read of this number, with the context of what then stands.
     WroteOver(u64, &'static [(u16, u64)]),
@@ -37,7 +37,7 @@ enum Step {
     Shows(u64, u8, &'static [(u16, u64)], &'static [u8]),
 }
 
-fn is_letter(value: &Value, letter: u8) -> bool {
+pub fn is_letter(value: &Value, letter: u8) -> bool {
     value.body().is_some_and(|body| body == [letter].as_slice())
 }
 
@@ -100,13 +100,13 @@ fn are_sent(sent: &[u64], want: Outcome) -> bool {
     }
 }
 
-fn is_answer(answer: &Answer, want: Outcome) -> bool {
+pub fn is_answer(answer: &Answer, want: Outcome) -> bool {
     is_reply(&answer.reply, want)
         && answer.read == read_of(want)
         && are_sent(answer.sent.as_slice(), want)
 }
 
-fn is_outcome(outcome: &Result<Answer, WorldFault>, want: Outcome) -> bool {
+pub fn is_outcome(outcome: &Result<Answer, WorldFault>, want: Outcome) -> bool {
     match (outcome, want) {
         (_, Outcome::Refused(code)) => is_refused(outcome, code),
         (Ok(answer), _) => is_answer(answer, want),
@@ -121,13 +121,13 @@ fn gives(world: &mut World, event: Event, want: Outcome) -> bool {
     is_given && is_same == matches!(want, Outcome::Refused(_))
 }
 
-fn is_shown(
+pub fn is_shown(
     alloc: Global,
     store: &Store,
     name: u8,
     counters: &[(u16, u64)],
     letters: &[u8],
-) -> Result<bool, Fail> {
+) -> Result<bool, TypeFault> {
     let (values, vector) = store.get(&key(alloc, name)?)?;
     Ok(is_context(&vector, counters) && are_letters(values.as_slice(), letters))
 }
@@ -136,7 +136,7 @@ fn is_right(alloc: Global, world: &mut World, step: Step) -> Result<bool, Fail> 
     match step {
         Step::Gives(act, want) => Ok(gives(world, event(alloc, act)?, want)),
         Step::Shows(node, name, counters, letters) => match world.state(node) {
-            Some(store) => is_shown(alloc, store, name, counters, letters),
+            Some(store) => Ok(is_shown(alloc, store, name, counters, letters)?),
             None => Ok(false),
         },
     }
@@ -368,7 +368,7 @@ fn the_last_of_16_nodes_writes(rt: HostRuntime) -> Result<(), Fail> {
     Ok(())
 }
 
-fn events(alloc: Global, acts: &[Act]) -> Result<Vec<Event>, Fail> {
+pub fn events(alloc: Global, acts: &[Act]) -> Result<Vec<Event>, TypeFault> {
     let mut events = Vec::new(alloc);
     for act in acts {
         events.push(event(alloc, *act)?)?;
