@@ -1,11 +1,12 @@
 //! Reading node numbers, digests, and rows that rise. A row is compared with the one before it where
 //! both stand in the bytes.
 
-ghost use Rattle.std.specs.Prelude.{◌≡◌, ◌<◌, [], IfOk};
+ghost use Rattle.std.specs.Prelude.{◌≡◌, ◌≢◌, ◌<◌, [], IfOk, IfErr};
 ghost use Rattle.std.specs.Int.{w16};
 ghost use Rattle.frame_fields.specs.Field.{none, forget, is_before, lowest, prefix_of, key_bytes};
 ghost use Rattle.meta_types.specs.Name.{IsName};
 ghost use Rattle.field_readers.specs.Reader.{Gives, each_at, node_at, nodes_at, digest_at, digests_at, first_at, second_at, prefix_above_at, prefix_row_at, prefixes_at, key_above_at, key_row_at, keys_at};
+ghost use Rattle.field_readers.specs.declared.fault.FieldFault.TheVariants.{Memory};
 
 use crate::fault::FieldFault;
 use crate::reading::{bytes_of, node_from, node_of, u16_within};
@@ -55,7 +56,8 @@ pub fn nodes_of(alloc: Global, bytes: &[u8]) -> Result<(Nodes, &[u8]), FieldFaul
 
 #[tactic(auto, unfolding(crate::specs::Reader::digest_at))]
 pub fn digest_of(bytes: &[u8]) -> Result<([u8; 32], &[u8]), FieldFault>
-    ensures { Gives (λ x. (x.0, x.1.now)) result (digest_at bytes.now) }
+    ensures value { Gives (λ x. (x.0, x.1.now)) result (digest_at bytes.now) }
+    ensures memory { IfErr result (λ fault. fault ≢ Memory) }
 {
     match bytes.split_first_chunk::<32>() {
         Some((digest, rest)) => Ok((*digest, rest)),

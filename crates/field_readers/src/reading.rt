@@ -1,10 +1,11 @@
 //! Reading fields from the front of bytes. Each function answers the value and the bytes behind it.
 
-ghost use Rattle.std.specs.Prelude.{◌≡◌, ◌+◌, ◌≤◌, ◌<◌, List, length, Ok, IfOk, IsTrue, ◌↔◌};
+ghost use Rattle.std.specs.Prelude.{◌≡◌, ◌≢◌, ◌+◌, ◌≤◌, ◌<◌, List, length, Ok, IfOk, IfErr, IsTrue, ◌↔◌};
 ghost use Rattle.std.specs.Int.{w8, w16, w64};
 ghost use Rattle.meta_types.specs.Node.{IsNode};
 ghost use Rattle.frame_fields.specs.Field.{none, forget, above_entry, above_counter};
 ghost use Rattle.field_readers.specs.Reader.{Gives, number_at, answer_at, answer_from, bytes_at, node_at, priority_at, priority_from, within_at, name_at, prefix_at, key_at, value_at, values_at, entry_at, entries_at, object_at, each_at, counter_at, vector_at};
+ghost use Rattle.field_readers.specs.declared.fault.FieldFault.TheVariants.{Memory};
 
 use crate::fault::FieldFault;
 use dvvset::{Counter, Entries, Entry, Vector};
@@ -14,7 +15,8 @@ use meta_types::{FullPrefix, MetaKey, NodeId, Value};
 use std::alloc::Global;
 
 pub fn u8_of(bytes: &[u8]) -> Result<(u8, &[u8]), FieldFault>
-    ensures { Gives (λ x. (x.0, x.1.now)) result (number_at w8 bytes.now) }
+    ensures value { Gives (λ x. (x.0, x.1.now)) result (number_at w8 bytes.now) }
+    ensures memory { IfErr result (λ fault. fault ≢ Memory) }
 {
     if bytes.is_empty() {
         return Err(FieldFault::Left(bytes.len()));
@@ -24,7 +26,8 @@ pub fn u8_of(bytes: &[u8]) -> Result<(u8, &[u8]), FieldFault>
 }
 
 pub fn u16_of(bytes: &[u8]) -> Result<(u16, &[u8]), FieldFault>
-    ensures { Gives (λ x. (x.0, x.1.now)) result (number_at w16 bytes.now) }
+    ensures value { Gives (λ x. (x.0, x.1.now)) result (number_at w16 bytes.now) }
+    ensures memory { IfErr result (λ fault. fault ≢ Memory) }
 {
     if bytes.len() < 2 {
         return Err(FieldFault::Left(bytes.len()));
@@ -34,7 +37,8 @@ pub fn u16_of(bytes: &[u8]) -> Result<(u16, &[u8]), FieldFault>
 }
 
 pub(crate) fn u64_of(bytes: &[u8]) -> Result<(u64, &[u8]), FieldFault>
-    ensures { Gives (λ x. (x.0, x.1.now)) result (number_at w64 bytes.now) }
+    ensures value { Gives (λ x. (x.0, x.1.now)) result (number_at w64 bytes.now) }
+    ensures memory { IfErr result (λ fault. fault ≢ Memory) }
 {
     if bytes.len() < 8 {
         return Err(FieldFault::Left(bytes.len()));
@@ -50,6 +54,7 @@ pub(crate) fn u64_of(bytes: &[u8]) -> Result<(u64, &[u8]), FieldFault>
 fn u8_within(low: u8, high: u8, bytes: &[u8]) -> Result<(u8, &[u8]), FieldFault>
     ensures value { Gives (λ x. (x.0, x.1.now)) result (within_at w8 low high bytes.now) }
     ensures range { IfOk result (λ x. (low ≤ x.0) × (x.0 ≤ high)) }
+    ensures memory { IfErr result (λ fault. fault ≢ Memory) }
 {
     let (number, rest) = u8_of(bytes)?;
     if low <= number && number <= high {
@@ -63,6 +68,7 @@ fn u8_within(low: u8, high: u8, bytes: &[u8]) -> Result<(u8, &[u8]), FieldFault>
 pub(crate) fn u16_within(low: u16, high: u64, bytes: &[u8]) -> Result<(u16, &[u8]), FieldFault>
     ensures value { Gives (λ x. (x.0, x.1.now)) result (within_at w16 low high bytes.now) }
     ensures range { IfOk result (λ x. (low ≤ x.0) × (x.0 ≤ high)) }
+    ensures memory { IfErr result (λ fault. fault ≢ Memory) }
 {
     let (number, rest) = u16_of(bytes)?;
     if low <= number && u64::from(number) <= high {
@@ -76,6 +82,7 @@ pub(crate) fn u16_within(low: u16, high: u64, bytes: &[u8]) -> Result<(u16, &[u8
 fn u64_within(low: u64, high: u64, bytes: &[u8]) -> Result<(u64, &[u8]), FieldFault>
     ensures value { Gives (λ x. (x.0, x.1.now)) result (within_at w64 low high bytes.now) }
     ensures range { IfOk result (λ x. (low ≤ x.0) × (x.0 ≤ high)) }
+    ensures memory { IfErr result (λ fault. fault ≢ Memory) }
 {
     let (number, rest) = u64_of(bytes)?;
     if low <= number && number <= high {
@@ -109,6 +116,7 @@ fn name_of(alloc: Global, low: u16, high: u64, bytes: &[u8]) -> Result<(Vec<u8>,
 pub fn node_of(bytes: &[u8]) -> Result<(u16, &[u8]), FieldFault>
     ensures value { Gives (λ x. (x.0, x.1.now)) result (node_at bytes.now) }
     ensures range { IfOk result (λ x. IsNode x.0) }
+    ensures memory { IfErr result (λ fault. fault ≢ Memory) }
 {
     u16_within(0, 15, bytes)
 }
@@ -132,7 +140,8 @@ fn priority_from(number: u8) -> Priority
 
 #[tactic(auto, unfolding(crate::specs::Reader::priority_at))]
 pub fn priority_of(bytes: &[u8]) -> Result<(Priority, &[u8]), FieldFault>
-    ensures { Gives (λ x. (x.0, x.1.now)) result (priority_at bytes.now) }
+    ensures value { Gives (λ x. (x.0, x.1.now)) result (priority_at bytes.now) }
+    ensures memory { IfErr result (λ fault. fault ≢ Memory) }
 {
     let (number, rest) = u8_within(0, 1, bytes)?;
     Ok((priority_from(number), rest))
@@ -146,7 +155,8 @@ fn answer_from(number: u8) -> Answer
 
 #[tactic(auto, unfolding(crate::specs::Reader::answer_at))]
 pub fn answer_of(bytes: &[u8]) -> Result<(Answer, &[u8]), FieldFault>
-    ensures { Gives (λ x. (x.0, x.1.now)) result (answer_at bytes.now) }
+    ensures value { Gives (λ x. (x.0, x.1.now)) result (answer_at bytes.now) }
+    ensures memory { IfErr result (λ fault. fault ≢ Memory) }
 {
     let (answer, rest) = u8_within(0, 1, bytes)?;
     Ok((answer_from(answer), rest))
@@ -154,7 +164,8 @@ pub fn answer_of(bytes: &[u8]) -> Result<(Answer, &[u8]), FieldFault>
 
 /// The number of one of sixteen.
 pub fn place_of(bytes: &[u8]) -> Result<(u8, &[u8]), FieldFault>
-    ensures { Gives (λ x. (x.0, x.1.now)) result (within_at w8 0 15 bytes.now) }
+    ensures value { Gives (λ x. (x.0, x.1.now)) result (within_at w8 0 15 bytes.now) }
+    ensures memory { IfErr result (λ fault. fault ≢ Memory) }
 {
     u8_within(0, 15, bytes)
 }

@@ -8,13 +8,13 @@ pub returns-in_err-digest : goal.returns-in_err-digest
 unfolding digests_at
 returns-in_err-digest c =
     let p = err_from_is_err_and c.from_residual-in_err-digest.result c.from_residual-in_err-digest.ensures.1 in
-    rw (p.1, p.2) (ends (λ _. digest_at) forget c.in_err-digest.field-0.0 c.loop.digests.items 16 c.loop.counter none c.loop.rest.now (each_at (λ _. digest_at) forget none 16 c.args.bytes.now) c.loop-test.true c.in_err-digest.ensures c.loop.invariant)
+    rw (p.1, p.2) (ends (λ _. digest_at) forget c.in_err-digest.field-0.0 c.loop.digests.items 16 c.loop.counter none c.loop.rest.now (each_at (λ _. digest_at) forget none 16 c.args.bytes.now) c.loop-test.true c.in_err-digest.ensures.value c.loop.invariant)
 
 pub loop-preserved : goal.loop-preserved
 unfolding digests_at
 loop-preserved c =
     rw (c.in_ok-push.ensures.items, c.new.ensures)
-    (goes_on (λ _. digest_at) forget c.loop.digests.items 16 c.loop.counter none c.loop.rest.now c.in_ok-digest.digest c.in_ok-digest.after.now (each_at (λ _. digest_at) forget none 16 c.args.bytes.now) c.loop-test.true c.in_ok-digest.ensures c.loop.invariant)
+    (goes_on (λ _. digest_at) forget c.loop.digests.items 16 c.loop.counter none c.loop.rest.now c.in_ok-digest.digest c.in_ok-digest.after.now (each_at (λ _. digest_at) forget none 16 c.args.bytes.now) c.loop-test.true c.in_ok-digest.ensures.value c.loop.invariant)
 
 pub returns : goal.returns
 unfolding digests_at
