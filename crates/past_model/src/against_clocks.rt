@@ -1,14 +1,15 @@
 //! Random histories, in which objects made by `update` and `sync` show what the sets of places do.
 
 use super::*;
+use crate::acts::{Act, are_history, history, key, value};
 use dvvset::{Entries, Vector, join, sync, update, values};
-use meta_types::{FullPrefix, MetaKey, NodeId, TypeFault, Value};
+use meta_types::{NodeId, TypeFault};
 use std::alloc::Global;
 use std::test::Fail;
 
-const NODES: u64 = 3;
+const NODES: u16 = 3;
 
-const KEYS: u64 = 2;
+const KEYS: usize = 2;
 
 /// Numbers that look random, the same in each run.
 #[derive(Drop)]
@@ -34,8 +35,15 @@ impl Dice {
 /// A node and a key of a happening, by their numbers.
 #[derive(Clone, Copy)]
 struct Spot {
-    node: u64,
-    key: u64,
+    node: u16,
+    key: usize,
+}
+
+impl Spot {
+    /// The letter of the key.
+    fn name(self) -> u8 {
+        if self.key == 0 { b'k' } else { b'l' }
+    }
 }
 
 /// What a node has right after a happening: its object and its standing one under each key.
@@ -47,29 +55,26 @@ struct Row {
     standing: Vec<Entries>,
 }
 
-/// A history beside its rows; one row for each node stands before those of the happenings.
+/// What happens beside its rows; one row for each node stands before those of the happenings.
 #[derive(Drop)]
 struct Story {
-    history: Vec<Happening>,
+    acts: Vec<Act>,
     rows: Vec<Row>,
 }
 
-fn key(alloc: Global, number: u64) -> Result<MetaKey, Fail> {
-    let prefix = FullPrefix::new([b'a'].to_vec(alloc)?, [b'b'].to_vec(alloc)?)?;
-    let name = if number == 0 { b'k' } else { b'l' };
-    Ok(MetaKey::new(prefix, [name].to_vec(alloc)?)?)
+fn is_look_under(act: Act, name: u8) -> bool {
+    match act {
+        Act::Looked(_, of) => of == name,
+        _ => false,
+    }
 }
 
-fn node(number: u64) -> Result<NodeId, Fail> {
-    Ok(NodeId::new(u16::try_from(number)?)?)
+fn is_sending(act: Act) -> bool {
+    matches!(act, Act::Sent(_, _))
 }
 
-fn object_at(objects: &[Entries], key: u64) -> Result<&Entries, Fail> {
-    Ok(
-        objects
-            .get(usize::try_from(key)?)
-            .ok_or(TypeFault::BadNode)?,
-    )
+fn object_at(objects: &[Entries], key: usize) -> Result<&Entries, Fail> {
+    Ok(objects.get(key).ok_or(TypeFault::BadNode)?)
 }
 
 fn nothing(alloc: Global) -> Result<Vec<Entries>, Fail> {
@@ -92,21 +97,21 @@ fn copies(alloc: Global, objects: &[Entries]) -> Result<Vec<Entries>, Fail> {
 fn replaced(
     alloc: Global,
     objects: &[Entries],
-    key: u64,
+    key: usize,
     new: &Entries,
 ) -> Result<Vec<Entries>, Fail> {
     let mut replaced = Vec::new(alloc);
     for (number, object) in objects.iter().enumerate() {
-        let from = if number as u64 == key { new } else { object };
+        let from = if number == key { new } else { object };
         replaced.push(from.copy()?)?;
     }
     Ok(replaced)
 }
 
 /// How many events of the node an object knows.
-fn own(object: &Entries, node: u64) -> u64 {
+fn own(object: &Entries, node: u16) -> u64 {
     for entry in object.entries() {
-        if u64::from(entry.id().number()) == node {
+        if entry.id().number() == node {
             return entry.count();
         }
     }
@@ -114,6 +119,17 @@ fn own(object: &Entries, node: u64) -> u64 {
 }
 
 impl Row {
+    /// A node that knows nothing.
+    fn new(alloc: Global, node: u16) -> Result<Row, Fail> {
+        let (held, standing) = (nothing(alloc)?, nothing(alloc)?);
+        Ok(Row {
+            spot: Spot { node, key: 0 },
+            is_image: false,
+            held,
+            standing,
+        })
+    }
+
     /// The same objects, behind a happening that makes no image.
     fn same(&self, alloc: Global, spot: Spot) -> Result<Row, Fail> {
         let held = copies(alloc, &self.held)?;
@@ -183,28 +199,22 @@ impl Story {
     fn new(alloc: Global) -> Result<Story, Fail> {
         let mut rows = Vec::new(alloc);
         for node in 0..NODES {
-            let (held, standing) = (nothing(alloc)?, nothing(alloc)?);
-            rows.push(Row {
-                spot: Spot { node, key: 0 },
-                is_image: false,
-                held,
-                standing,
-            })?;
+            rows.push(Row::new(alloc, node)?)?;
         }
         Ok(Story {
-            history: Vec::new(alloc),
+            acts: Vec::new(alloc),
             rows,
         })
     }
 
-    fn add(&mut self, happening: Happening, row: Row) -> Result<(), Fail> {
-        self.history.push(happening)?;
+    fn add(&mut self, act: Act, row: Row) -> Result<(), Fail> {
+        self.acts.push(act)?;
         self.rows.push(row)?;
         Ok(())
     }
 
     /// The node's row now.
-    fn now(&self, node: u64) -> Result<&Row, Fail> {
+    fn now(&self, node: u16) -> Result<&Row, Fail> {
         Ok(
             self.rows
                 .iter()
@@ -219,14 +229,14 @@ impl Story {
         Ok(
             self.rows
                 .iter()
-                .skip(NODES as usize)
+                .skip(usize::from(NODES))
                 .nth(place)
                 .ok_or(TypeFault::BadNode)?,
         )
     }
 
     /// How many images the node has made.
-    fn images(&self, node: u64) -> u64 {
+    fn images(&self, node: u16) -> u64 {
         let mut images = 0u64;
         for row in self.rows.iter() {
             if row.is_image && row.spot.node == node {
@@ -237,7 +247,7 @@ impl Story {
     }
 
     /// The row in which the node's image of that number was made: its first row for image 0.
-    fn image(&self, node: u64, number: u64) -> Result<Option<&Row>, Fail> {
+    fn image(&self, node: u16, number: u64) -> Result<Option<&Row>, Fail> {
         if number == 0 {
             return Ok(self.rows.iter().find(|row| row.spot.node == node));
         }
@@ -253,107 +263,82 @@ impl Story {
         Ok(None)
     }
 
-    fn write(&mut self, alloc: Global, dice: &mut Dice, spot: Spot) -> Result<(), Fail> {
-        let key = key(alloc, spot.key)?;
-        let value = Value::new(0, Some([b'x'].to_vec(alloc)?))?;
-        let place = usize::try_from(dice.below(self.history.len() as u64))?;
+    /// The place of some look under the key, if the dice show one.
+    fn look_seen(&self, dice: &mut Dice, name: u8) -> Result<Option<usize>, Fail> {
+        let place = usize::try_from(dice.below(self.acts.len() as u64))?;
         let is_look = self
-            .history
+            .acts
             .get(place)
-            .is_some_and(|happening| happening.is_look_under(&key));
-        let (seen, read) = if is_look {
-            let row = self.behind(place)?;
-            (Some(place), join(alloc, object_at(&row.held, spot.key)?)?)
-        } else {
-            (None, Vector::empty(alloc))
-        };
-        let now = self.now(spot.node)?;
-        let object = update(
-            alloc,
-            &read,
-            object_at(&now.held, spot.key)?,
-            node(spot.node)?,
-            value.copy()?,
-        )?;
-        let row = now.holding(alloc, spot, &object)?.imaged(alloc)?;
-        self.add(
-            Happening::Wrote {
-                node: node(spot.node)?,
-                key,
-                value,
-                seen,
-            },
-            row,
-        )
+            .is_some_and(|act| is_look_under(*act, name));
+        Ok(if is_look { Some(place) } else { None })
+    }
+
+    /// What a write has read under the key that saw the look, if it saw one.
+    fn read(&self, alloc: Global, key: usize, seen: Option<usize>) -> Result<Vector, Fail> {
+        match seen {
+            Some(place) => Ok(join(alloc, object_at(&self.behind(place)?.held, key)?)?),
+            None => Ok(Vector::empty(alloc)),
+        }
+    }
+
+    /// The node's object behind a write.
+    fn written(&self, alloc: Global, spot: Spot, seen: Option<usize>) -> Result<Entries, Fail> {
+        let id = NodeId::new(spot.node)?;
+        let held = object_at(&self.now(spot.node)?.held, spot.key)?;
+        let read = self.read(alloc, spot.key, seen)?;
+        Ok(update(alloc, &read, held, id, value(alloc, b'x')?)?)
+    }
+
+    fn write(&mut self, alloc: Global, dice: &mut Dice, spot: Spot) -> Result<(), Fail> {
+        let seen = self.look_seen(dice, spot.name())?;
+        let object = self.written(alloc, spot, seen)?;
+        let row = self.now(spot.node)?.holding(alloc, spot, &object)?;
+        let row = row.imaged(alloc)?;
+        self.add(Act::Wrote(spot.node, spot.name(), b'x', seen), row)
     }
 
     fn look(&mut self, alloc: Global, spot: Spot) -> Result<(), Fail> {
         let row = self.now(spot.node)?.same(alloc, spot)?;
-        self.add(
-            Happening::Looked {
-                node: node(spot.node)?,
-                key: key(alloc, spot.key)?,
-            },
-            row,
-        )
+        self.add(Act::Looked(spot.node, spot.name()), row)
     }
 
     fn send(&mut self, alloc: Global, spot: Spot) -> Result<(), Fail> {
         let row = self.now(spot.node)?.same(alloc, spot)?;
-        self.add(
-            Happening::Sent {
-                node: node(spot.node)?,
-                key: key(alloc, spot.key)?,
-            },
-            row,
-        )
+        self.add(Act::Sent(spot.node, spot.name()), row)
     }
 
     fn keep(&mut self, alloc: Global, spot: Spot) -> Result<(), Fail> {
-        let row = self.now(spot.node)?.same(alloc, spot)?.imaged(alloc)?;
-        self.add(
-            Happening::Kept {
-                node: node(spot.node)?,
-                key: key(alloc, spot.key)?,
-            },
-            row,
-        )
+        let row = self.now(spot.node)?.same(alloc, spot)?;
+        let row = row.imaged(alloc)?;
+        self.add(Act::Kept(spot.node, spot.name()), row)
+    }
+
+    /// The node's row once it took the object that another row holds under that row's key.
+    fn taken(&self, alloc: Global, node: u16, from: &Row) -> Result<Row, Fail> {
+        let key = from.spot.key;
+        let now = self.now(node)?;
+        let object = sync(
+            alloc,
+            object_at(&now.held, key)?,
+            object_at(&from.held, key)?,
+        )?;
+        now.holding(alloc, Spot { node, key }, &object)
     }
 
     /// Delivers what was sent at some place, if something was.
-    fn deliver(&mut self, alloc: Global, dice: &mut Dice, spot: Spot) -> Result<(), Fail> {
-        let sent = usize::try_from(dice.below(self.history.len() as u64))?;
-        if !self
-            .history
-            .get(sent)
-            .is_some_and(|happening| happening.is_sending())
-        {
+    fn deliver(&mut self, alloc: Global, dice: &mut Dice, node: u16) -> Result<(), Fail> {
+        let sent = usize::try_from(dice.below(self.acts.len() as u64))?;
+        if !self.acts.get(sent).is_some_and(|act| is_sending(*act)) {
             return Ok(());
         }
-        let from = self.behind(sent)?;
-        let spot = Spot {
-            node: spot.node,
-            key: from.spot.key,
-        };
-        let now = self.now(spot.node)?;
-        let object = sync(
-            alloc,
-            object_at(&now.held, spot.key)?,
-            object_at(&from.held, spot.key)?,
-        )?;
-        let row = now.holding(alloc, spot, &object)?;
-        self.add(
-            Happening::Got {
-                node: node(spot.node)?,
-                sent,
-            },
-            row,
-        )
+        let row = self.taken(alloc, node, self.behind(sent)?)?;
+        self.add(Act::Got(node, sent), row)
     }
 
     /// Restarts from some image that has all of the node's own writes, if it has.
     fn restart(&mut self, alloc: Global, dice: &mut Dice, spot: Spot) -> Result<(), Fail> {
         let number = self.images(spot.node).saturating_sub(dice.below(3));
+        let place = usize::try_from(number)?;
         let Some(image) = self.image(spot.node, number)? else {
             return Ok(());
         };
@@ -361,19 +346,13 @@ impl Story {
             return Ok(());
         }
         let row = image.restarted(alloc, spot)?;
-        self.add(
-            Happening::Restarted {
-                node: node(spot.node)?,
-                image: usize::try_from(number)?,
-            },
-            row,
-        )
+        self.add(Act::Restarted(spot.node, place), row)
     }
 
     fn step(&mut self, alloc: Global, dice: &mut Dice) -> Result<(), Fail> {
         let spot = Spot {
-            node: dice.below(NODES),
-            key: dice.below(KEYS),
+            node: u16::try_from(dice.below(u64::from(NODES)))?,
+            key: usize::try_from(dice.below(KEYS as u64))?,
         };
         match dice.below(12) {
             0..=2 => self.write(alloc, dice, spot),
@@ -381,17 +360,62 @@ impl Story {
             4 | 5 => self.send(alloc, spot),
             6 => self.keep(alloc, spot),
             7 | 8 => self.restart(alloc, dice, spot),
-            _ => self.deliver(alloc, dice, spot),
+            _ => self.deliver(alloc, dice, spot.node),
         }
     }
 }
 
-/// Tells whether the object shows what the node shows by sets of places.
-fn is_shown(alloc: Global, plain: &Plain, spot: Spot, object: &Entries) -> Result<bool, Fail> {
-    let (node, key) = (node(spot.node)?, key(alloc, spot.key)?);
-    let siblings = plain.siblings(alloc, node, &key)?;
-    let context = plain.context(alloc, node, &key)?;
-    Ok(siblings.as_slice() == values(alloc, object)?.as_slice() && context == join(alloc, object)?)
+/// A story of 40 steps.
+fn random_story(alloc: Global, dice: &mut Dice) -> Result<Story, Fail> {
+    let mut story = Story::new(alloc)?;
+    for _ in 0..40 {
+        story.step(alloc, dice)?;
+    }
+    Ok(story)
+}
+
+fn are_values(alloc: Global, plain: &Plain, spot: Spot, object: &Entries) -> Result<bool, Fail> {
+    let node = NodeId::new(spot.node)?;
+    let siblings = plain.siblings(alloc, node, &key(alloc, spot.name())?)?;
+    Ok(siblings.as_slice() == values(alloc, object)?.as_slice())
+}
+
+fn is_context(alloc: Global, plain: &Plain, spot: Spot, object: &Entries) -> Result<bool, Fail> {
+    let node = NodeId::new(spot.node)?;
+    let context = plain.context(alloc, node, &key(alloc, spot.name())?)?;
+    Ok(context == join(alloc, object)?)
+}
+
+/// Tells whether each object that the row holds shows what its node shows by sets of places.
+fn is_row_shown(alloc: Global, plain: &Plain, row: &Row) -> Result<bool, Fail> {
+    let node = row.spot.node;
+    for key in 0..KEYS {
+        let spot = Spot { node, key };
+        let object = object_at(&row.held, key)?;
+        if !are_values(alloc, plain, spot, object)? || !is_context(alloc, plain, spot, object)? {
+            return Ok(false);
+        }
+    }
+    Ok(true)
+}
+
+fn are_rows_shown(alloc: Global, plain: &Plain, story: &Story) -> Result<bool, Fail> {
+    for node in 0..NODES {
+        if !is_row_shown(alloc, plain, story.now(node)?)? {
+            return Ok(false);
+        }
+    }
+    Ok(true)
+}
+
+/// Tells whether the story is a history, whose nodes show by sets of places what their objects show.
+fn is_shown(alloc: Global, story: &Story) -> Result<bool, Fail> {
+    let history = history(alloc, story.acts.as_slice())?;
+    if !fits(history.as_slice()) {
+        return Ok(false);
+    }
+    let plain = Plain::replay(alloc, history.as_slice())?;
+    are_rows_shown(alloc, &plain, story)
 }
 
 #[test]
@@ -399,21 +423,9 @@ fn objects_show_what_sets_of_places_do(rt: HostRuntime) -> Result<(), Fail> {
     let alloc = rt.alloc();
     let mut dice = Dice { state: 1 };
     for round in 0..400 {
-        let mut story = Story::new(alloc)?;
-        for _ in 0..40 {
-            story.step(alloc, &mut dice)?;
-        }
-        assert!(rt; fits(&story.history), "round {round}");
-        let plain = Plain::replay(alloc, &story.history)?;
-        for node in 0..NODES {
-            for key in 0..KEYS {
-                let object = object_at(&story.now(node)?.held, key)?;
-                assert!(rt;
-                    is_shown(alloc, &plain, Spot { node, key }, object)?,
-                    "round {round}"
-                );
-            }
-        }
+        let story = random_story(alloc, &mut dice)?;
+        assert!(rt; are_history(alloc, story.acts.as_slice())?, "round {round}");
+        assert!(rt; is_shown(alloc, &story)?, "round {round}");
     }
     Ok(())
 }

@@ -1,254 +1,237 @@
 use super::*;
-use meta_types::{FullPrefix, MetaKey, NodeId, TypeFault, Value};
+use crate::acts::{Act, are_history, history, key};
+use dvvset::Vector;
+use meta_types::{NodeId, Value};
 use std::alloc::Global;
 use std::test::Fail;
 
-/// The key of that name under one prefix.
-fn key(alloc: Global, name: u8) -> Result<MetaKey, TypeFault> {
-    let prefix = FullPrefix::new([b'a'].to_vec(alloc)?, [b'b'].to_vec(alloc)?)?;
-    MetaKey::new(prefix, [name].to_vec(alloc)?)
-}
-
-fn value(alloc: Global, name: u8) -> Result<Value, TypeFault> {
-    Value::new(0, Some([name].to_vec(alloc)?))
-}
-
-fn wrote(
-    alloc: Global,
+/// What a node shows under a key of one letter.
+#[derive(Clone, Copy, Debug)]
+struct Showing {
     node: u16,
     name: u8,
-    body: u8,
-    seen: Option<usize>,
-) -> Result<Happening, TypeFault> {
-    Ok(Happening::Wrote {
-        node: NodeId::new(node)?,
-        key: key(alloc, name)?,
-        value: value(alloc, body)?,
-        seen,
-    })
+    /// The places that the node knows.
+    places: &'static [usize],
+    /// The values, by their letters.
+    letters: &'static [u8],
+    /// The context, by its writers with their counters.
+    counters: &'static [(u16, u64)],
 }
 
-fn looked(alloc: Global, node: u16, name: u8) -> Result<Happening, TypeFault> {
-    Ok(Happening::Looked {
-        node: NodeId::new(node)?,
-        key: key(alloc, name)?,
-    })
-}
-
-fn sent(alloc: Global, node: u16, name: u8) -> Result<Happening, TypeFault> {
-    Ok(Happening::Sent {
-        node: NodeId::new(node)?,
-        key: key(alloc, name)?,
-    })
-}
-
-fn got(node: u16, sent: usize) -> Result<Happening, TypeFault> {
-    Ok(Happening::Got {
-        node: NodeId::new(node)?,
-        sent,
-    })
-}
-
-fn kept(alloc: Global, node: u16, name: u8) -> Result<Happening, TypeFault> {
-    Ok(Happening::Kept {
-        node: NodeId::new(node)?,
-        key: key(alloc, name)?,
-    })
-}
-
-fn restarted(node: u16, image: usize) -> Result<Happening, TypeFault> {
-    Ok(Happening::Restarted {
-        node: NodeId::new(node)?,
-        image,
-    })
-}
-
-/// What a node shows under the key, as text: the places that it knows, its siblings, its context.
-fn shown(alloc: Global, plain: &Plain, node: u16, name: u8) -> Result<String, Fail> {
-    let node = NodeId::new(node)?;
-    let key = key(alloc, name)?;
-    let mut text = String::new(alloc);
-    for place in plain.known(alloc, node, &key)?.iter() {
-        text.push_str(&format!(in alloc; "{place} ")?)?;
-    }
-    text.push_str("values")?;
-    for value in plain.siblings(alloc, node, &key)?.iter() {
-        if let Some(body) = value.body() {
-            for byte in body {
-                text.push_str(" ")?;
-                text.push(char::from(*byte))?;
-            }
+impl Showing {
+    fn new(
+        node: u16,
+        name: u8,
+        places: &'static [usize],
+        letters: &'static [u8],
+        counters: &'static [(u16, u64)],
+    ) -> Self {
+        Showing {
+            node,
+            name,
+            places,
+            letters,
+            counters,
         }
     }
-    text.push_str(" ctx")?;
-    for counter in plain.context(alloc, node, &key)?.counters() {
-        text.push_str(&format!(in alloc; " {}:{}", counter.id().number(), counter.count())?)?;
+
+    /// The node shows nothing under the key.
+    fn nothing(node: u16, name: u8) -> Self {
+        Showing::new(node, name, &[], b"", &[])
     }
-    Ok(text)
 }
 
-/// A history of node 0, which has image 1 with what it wrote, and image 2 with what it got as well.
-fn with_two_images(alloc: Global) -> Result<Vec<Happening>, Fail> {
-    let mut history = Vec::new(alloc);
-    history.push(wrote(alloc, 0, b'k', b'x', None)?)?;
-    history.push(wrote(alloc, 1, b'l', b'y', None)?)?;
-    history.push(sent(alloc, 1, b'l')?)?;
-    history.push(got(0, 2)?)?;
-    history.push(kept(alloc, 0, b'l')?)?;
-    Ok(history)
+fn is_letter(value: &Value, letter: u8) -> bool {
+    value.body().is_some_and(|body| body == [letter].as_slice())
+}
+
+fn are_letters(values: &[Value], letters: &[u8]) -> bool {
+    values.len() == letters.len()
+        && values
+            .iter()
+            .zip(letters)
+            .all(|(value, letter)| is_letter(value, *letter))
+}
+
+fn is_context(vector: &Vector, counters: &[(u16, u64)]) -> bool {
+    let found = vector.counters();
+    found.len() == counters.len()
+        && found.iter().zip(counters).all(|(found, counter)| found.id().number() == counter.0
+            && found.count() == counter.1)
+}
+
+fn are_known(alloc: Global, plain: &Plain, showing: Showing) -> Result<bool, Fail> {
+    let node = NodeId::new(showing.node)?;
+    let places = plain.known(alloc, node, &key(alloc, showing.name)?)?;
+    Ok(places.as_slice() == showing.places)
+}
+
+fn are_siblings(alloc: Global, plain: &Plain, showing: Showing) -> Result<bool, Fail> {
+    let node = NodeId::new(showing.node)?;
+    let values = plain.siblings(alloc, node, &key(alloc, showing.name)?)?;
+    Ok(are_letters(values.as_slice(), showing.letters))
+}
+
+fn has_context(alloc: Global, plain: &Plain, showing: Showing) -> Result<bool, Fail> {
+    let node = NodeId::new(showing.node)?;
+    let vector = plain.context(alloc, node, &key(alloc, showing.name)?)?;
+    Ok(is_context(&vector, showing.counters))
+}
+
+/// Tells whether the happenings are a history, behind which the node shows that.
+fn is_shown(alloc: Global, history: &[Happening], showing: Showing) -> Result<bool, Fail> {
+    if !fits(history) {
+        return Ok(false);
+    }
+    let plain = Plain::replay(alloc, history)?;
+    Ok(
+        are_known(alloc, &plain, showing)?
+            && are_siblings(alloc, &plain, showing)?
+            && has_context(alloc, &plain, showing)?,
+    )
+}
+
+/// The number of the first showing, from 1, that the acts don't lead to; 0 where there is none.
+fn first_not_shown(alloc: Global, acts: &[Act], showings: &[Showing]) -> Result<usize, Fail> {
+    let history = history(alloc, acts)?;
+    for (at, showing) in showings.iter().enumerate() {
+        if !is_shown(alloc, history.as_slice(), *showing)? {
+            return Ok(at + 1);
+        }
+    }
+    Ok(0)
 }
 
 #[test]
 fn a_context_seen_elsewhere_is_read_where_the_key_is_absent(rt: HostRuntime) -> Result<(), Fail> {
-    let alloc = rt.alloc();
-    let mut history = Vec::new(alloc);
-    history.push(wrote(alloc, 0, b'k', b'x', None)?)?;
-    history.push(looked(alloc, 0, b'k')?)?;
-    history.push(wrote(alloc, 0, b'k', b'y', None)?)?;
-    history.push(wrote(alloc, 1, b'k', b'z', Some(1))?)?;
-    assert!(rt; fits(&history));
-    let plain = Plain::replay(alloc, &history)?;
-    assert_eq!(rt;
-        shown(alloc, &plain, 1, b'k')?.as_str(),
-        "0 3 values z ctx 0:1 1:1"
-    );
-    assert_eq!(rt;
-        shown(alloc, &plain, 0, b'k')?.as_str(),
-        "0 2 values y x ctx 0:2"
-    );
-    assert_eq!(rt; shown(alloc, &plain, 0, b'l')?.as_str(), "values ctx");
-    assert_eq!(rt; shown(alloc, &plain, 2, b'k')?.as_str(), "values ctx");
+    let acts = [
+        Act::Wrote(0, b'k', b'x', None),
+        Act::Looked(0, b'k'),
+        Act::Wrote(0, b'k', b'y', None),
+        Act::Wrote(1, b'k', b'z', Some(1)),
+    ];
+    let showings = [
+        Showing::new(1, b'k', &[0, 3], b"z", &[(0, 1), (1, 1)]),
+        Showing::new(0, b'k', &[0, 2], b"yx", &[(0, 2)]),
+        Showing::nothing(0, b'l'),
+        Showing::nothing(2, b'k'),
+    ];
+    assert!(rt; are_history(rt.alloc(), &acts)?);
+    assert_eq!(rt; first_not_shown(rt.alloc(), &acts, &showings)?, 0);
     Ok(())
 }
 
 #[test]
 fn two_writes_of_equal_bytes_are_two_siblings(rt: HostRuntime) -> Result<(), Fail> {
-    let alloc = rt.alloc();
-    let mut history = Vec::new(alloc);
-    history.push(wrote(alloc, 0, b'k', b'x', None)?)?;
-    history.push(wrote(alloc, 1, b'k', b'x', None)?)?;
-    history.push(sent(alloc, 1, b'k')?)?;
-    history.push(got(0, 2)?)?;
-    assert!(rt; fits(&history));
-    let plain = Plain::replay(alloc, &history)?;
-    assert_eq!(rt;
-        shown(alloc, &plain, 0, b'k')?.as_str(),
-        "0 1 values x x ctx 0:1 1:1"
-    );
-    assert_eq!(rt;
-        shown(alloc, &plain, 1, b'k')?.as_str(),
-        "1 values x ctx 1:1"
-    );
+    let acts = [
+        Act::Wrote(0, b'k', b'x', None),
+        Act::Wrote(1, b'k', b'x', None),
+        Act::Sent(1, b'k'),
+        Act::Got(0, 2),
+    ];
+    let showings = [
+        Showing::new(0, b'k', &[0, 1], b"xx", &[(0, 1), (1, 1)]),
+        Showing::new(1, b'k', &[1], b"x", &[(1, 1)]),
+    ];
+    assert!(rt; are_history(rt.alloc(), &acts)?);
+    assert_eq!(rt; first_not_shown(rt.alloc(), &acts, &showings)?, 0);
     Ok(())
 }
 
 #[test]
 fn a_write_overwrites_what_was_seen_and_nothing_else(rt: HostRuntime) -> Result<(), Fail> {
-    let alloc = rt.alloc();
-    let mut history = Vec::new(alloc);
-    history.push(wrote(alloc, 0, b'k', b'x', None)?)?;
-    history.push(looked(alloc, 0, b'k')?)?;
-    history.push(wrote(alloc, 0, b'k', b'y', Some(1))?)?;
-    history.push(wrote(alloc, 0, b'k', b'z', Some(1))?)?;
-    history.push(wrote(alloc, 0, b'l', b'w', None)?)?;
-    assert!(rt; fits(&history));
-    let plain = Plain::replay(alloc, &history)?;
-    assert_eq!(rt;
-        shown(alloc, &plain, 0, b'k')?.as_str(),
-        "0 2 3 values z y ctx 0:3"
-    );
-    assert_eq!(rt;
-        shown(alloc, &plain, 0, b'l')?.as_str(),
-        "4 values w ctx 0:1"
-    );
+    let acts = [
+        Act::Wrote(0, b'k', b'x', None),
+        Act::Looked(0, b'k'),
+        Act::Wrote(0, b'k', b'y', Some(1)),
+        Act::Wrote(0, b'k', b'z', Some(1)),
+        Act::Wrote(0, b'l', b'w', None),
+    ];
+    let showings = [
+        Showing::new(0, b'k', &[0, 2, 3], b"zy", &[(0, 3)]),
+        Showing::new(0, b'l', &[4], b"w", &[(0, 1)]),
+    ];
+    assert!(rt; are_history(rt.alloc(), &acts)?);
+    assert_eq!(rt; first_not_shown(rt.alloc(), &acts, &showings)?, 0);
     Ok(())
 }
 
-/// What node 0 shows under both keys once it restarted from the image.
-fn after_restart(alloc: Global, image: usize) -> Result<String, Fail> {
-    let mut history = with_two_images(alloc)?;
-    history.push(restarted(0, image)?)?;
-    if !fits(&history) {
-        return Ok(String::from_str(alloc, "no history")?);
-    }
-    let plain = Plain::replay(alloc, &history)?;
-    let k = shown(alloc, &plain, 0, b'k')?;
-    let l = shown(alloc, &plain, 0, b'l')?;
-    Ok(format!(in alloc; "{k}; {l}")?)
+/// Node 0 has image 1 with what it wrote, and image 2 with what it got as well, and restarts from an image.
+fn restart_from(image: usize) -> [Act; 6] {
+    [
+        Act::Wrote(0, b'k', b'x', None),
+        Act::Wrote(1, b'l', b'y', None),
+        Act::Sent(1, b'l'),
+        Act::Got(0, 2),
+        Act::Kept(0, b'l'),
+        Act::Restarted(0, image),
+    ]
 }
 
 #[test]
 fn a_restart_takes_what_its_image_has(rt: HostRuntime) -> Result<(), Fail> {
     let alloc = rt.alloc();
+    let written = Showing::new(0, b'k', &[0], b"x", &[(0, 1)]);
+    let gotten = Showing::new(0, b'l', &[1], b"y", &[(1, 1)]);
+    let no_k = Showing::nothing(0, b'k');
+    let no_l = Showing::nothing(0, b'l');
     // the empty image lacks a write of the node's own: a history, though one that breaks the premise
-    assert_eq!(rt; after_restart(alloc, 0)?.as_str(), "values ctx; values ctx");
+    assert_eq!(rt; first_not_shown(alloc, &restart_from(0), &[no_k, no_l])?, 0);
     assert_eq!(rt;
-        after_restart(alloc, 1)?.as_str(),
-        "0 values x ctx 0:1; values ctx"
+        first_not_shown(alloc, &restart_from(1), &[written, no_l])?,
+        0
     );
     assert_eq!(rt;
-        after_restart(alloc, 2)?.as_str(),
-        "0 values x ctx 0:1; 1 values y ctx 1:1"
+        first_not_shown(alloc, &restart_from(2), &[written, gotten])?,
+        0
     );
-    assert_eq!(rt; after_restart(alloc, 3)?.as_str(), "no history");
+    assert!(rt; !are_history(alloc, &restart_from(3))?);
     Ok(())
 }
 
 #[test]
 fn an_image_is_the_standing_one_with_one_key_anew(rt: HostRuntime) -> Result<(), Fail> {
-    let alloc = rt.alloc();
-    let mut history = with_two_images(alloc)?;
-    history.push(restarted(0, 1)?)?;
-    history.push(got(0, 2)?)?;
-    // image 3 stands on image 1, from which the node restarted, and not on what it knows under the other key
-    history.push(wrote(alloc, 0, b'k', b'z', None)?)?;
-    history.push(restarted(0, 3)?)?;
-    assert!(rt; fits(&history));
-    let plain = Plain::replay(alloc, &history)?;
-    assert_eq!(rt;
-        shown(alloc, &plain, 0, b'k')?.as_str(),
-        "0 7 values z x ctx 0:2"
-    );
-    assert_eq!(rt; shown(alloc, &plain, 0, b'l')?.as_str(), "values ctx");
+    let acts = [
+        Act::Wrote(0, b'k', b'x', None),
+        Act::Wrote(1, b'l', b'y', None),
+        Act::Sent(1, b'l'),
+        Act::Got(0, 2),
+        Act::Kept(0, b'l'),
+        Act::Restarted(0, 1),
+        Act::Got(0, 2),
+        // image 3 stands on image 1, from which the node restarted, and not on what it knows under the other key
+        Act::Wrote(0, b'k', b'z', None),
+        Act::Restarted(0, 3),
+    ];
+    let showings = [
+        Showing::new(0, b'k', &[0, 7], b"zx", &[(0, 2)]),
+        Showing::nothing(0, b'l'),
+    ];
+    assert!(rt; are_history(rt.alloc(), &acts)?);
+    assert_eq!(rt; first_not_shown(rt.alloc(), &acts, &showings)?, 0);
     Ok(())
 }
 
-/// A write, a read and a sending of node 0 under `k`.
-fn three(alloc: Global) -> Result<Vec<Happening>, Fail> {
-    let mut history = Vec::new(alloc);
-    history.push(wrote(alloc, 0, b'k', b'x', None)?)?;
-    history.push(looked(alloc, 0, b'k')?)?;
-    history.push(sent(alloc, 0, b'k')?)?;
-    Ok(history)
-}
-
-fn fit_together(before: Vec<Happening>, happening: Happening) -> Result<bool, Fail> {
-    let mut history = before;
-    history.push(happening)?;
-    Ok(fits(&history))
-}
-
-/// Tells whether the write, if it is one, fits behind those three.
-fn write_fits(alloc: Global, name: u8, seen: Option<usize>) -> Result<bool, Fail> {
-    fit_together(three(alloc)?, wrote(alloc, 1, name, b'y', seen)?)
-}
-
-fn delivery_fits(alloc: Global, place: usize) -> Result<bool, Fail> {
-    fit_together(three(alloc)?, got(1, place)?)
-}
-
-fn restart_fits(alloc: Global, node: u16, image: usize) -> Result<bool, Fail> {
-    fit_together(three(alloc)?, restarted(node, image)?)
+/// Tells whether the act fits behind a write, a read and a sending of node 0 under `k`.
+fn fits_behind_three(alloc: Global, act: Act) -> Result<bool, Fail> {
+    let acts = [
+        Act::Wrote(0, b'k', b'x', None),
+        Act::Looked(0, b'k'),
+        Act::Sent(0, b'k'),
+        act,
+    ];
+    Ok(are_history(alloc, &acts)?)
 }
 
 #[test]
 fn a_write_names_an_earlier_look_of_its_key(rt: HostRuntime) -> Result<(), Fail> {
     let alloc = rt.alloc();
-    assert!(rt; write_fits(alloc, b'k', None)?);
-    assert!(rt; write_fits(alloc, b'k', Some(1))?);
-    assert!(rt; !write_fits(alloc, b'l', Some(1))?);
+    assert!(rt; fits_behind_three(alloc, Act::Wrote(1, b'k', b'y', None))?);
+    assert!(rt; fits_behind_three(alloc, Act::Wrote(1, b'k', b'y', Some(1)))?);
+    assert!(rt; !fits_behind_three(alloc, Act::Wrote(1, b'l', b'y', Some(1)))?);
     for place in [0, 2, 3, 4, usize::MAX] {
-        assert!(rt; !write_fits(alloc, b'k', Some(place))?, "{place}");
+        let write = Act::Wrote(1, b'k', b'y', Some(place));
+        assert!(rt; !fits_behind_three(alloc, write)?, "{place}");
     }
     Ok(())
 }
@@ -256,9 +239,9 @@ fn a_write_names_an_earlier_look_of_its_key(rt: HostRuntime) -> Result<(), Fail>
 #[test]
 fn a_delivery_names_an_earlier_sending(rt: HostRuntime) -> Result<(), Fail> {
     let alloc = rt.alloc();
-    assert!(rt; delivery_fits(alloc, 2)?);
+    assert!(rt; fits_behind_three(alloc, Act::Got(1, 2))?);
     for place in [0, 1, 3, 4, usize::MAX] {
-        assert!(rt; !delivery_fits(alloc, place)?, "{place}");
+        assert!(rt; !fits_behind_three(alloc, Act::Got(1, place))?, "{place}");
     }
     Ok(())
 }
@@ -266,19 +249,19 @@ fn a_delivery_names_an_earlier_sending(rt: HostRuntime) -> Result<(), Fail> {
 #[test]
 fn a_restart_names_an_image_of_its_node(rt: HostRuntime) -> Result<(), Fail> {
     let alloc = rt.alloc();
-    assert!(rt; restart_fits(alloc, 0, 0)?);
-    assert!(rt; restart_fits(alloc, 0, 1)?);
-    assert!(rt; !restart_fits(alloc, 0, 2)?);
-    assert!(rt; restart_fits(alloc, 1, 0)?);
-    assert!(rt; !restart_fits(alloc, 1, 1)?);
+    assert!(rt; fits_behind_three(alloc, Act::Restarted(0, 0))?);
+    assert!(rt; fits_behind_three(alloc, Act::Restarted(0, 1))?);
+    assert!(rt; !fits_behind_three(alloc, Act::Restarted(0, 2))?);
+    assert!(rt; fits_behind_three(alloc, Act::Restarted(1, 0))?);
+    assert!(rt; !fits_behind_three(alloc, Act::Restarted(1, 1))?);
     Ok(())
 }
 
 #[test]
 fn reading_sending_and_keeping_fit_anywhere(rt: HostRuntime) -> Result<(), Fail> {
     let alloc = rt.alloc();
-    assert!(rt; fit_together(Vec::new(alloc), looked(alloc, 1, b'k')?)?);
-    assert!(rt; fit_together(Vec::new(alloc), sent(alloc, 1, b'k')?)?);
-    assert!(rt; fit_together(Vec::new(alloc), kept(alloc, 1, b'k')?)?);
+    assert!(rt; are_history(alloc, &[Act::Looked(1, b'k')])?);
+    assert!(rt; are_history(alloc, &[Act::Sent(1, b'k')])?);
+    assert!(rt; are_history(alloc, &[Act::Kept(1, b'k')])?);
     Ok(())
 }
