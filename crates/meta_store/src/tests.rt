@@ -142,6 +142,14 @@ fn number<T: Drop>(answer: Result<T, StoreFault>) -> u16 {
     }
 }
 
+fn number_of_merge(answer: Result<Merged, StoreFault>) -> u16 {
+    match answer {
+        Ok(Merged::Fresh) => 0,
+        Ok(Merged::Stale) => 1,
+        Err(fault) => fault.code(),
+    }
+}
+
 fn put(
     store: &mut Store,
     node: u16,
@@ -181,11 +189,8 @@ fn look(store: &Store, name: &[u8]) -> Result<Context, Fail> {
 }
 
 fn merge(store: &mut Store, name: &[u8], came: Entries) -> Result<u16, Fail> {
-    match store.merge(key(store.allocator(), name)?, came) {
-        Ok(Merged::Fresh) => Ok(0),
-        Ok(Merged::Stale) => Ok(1),
-        Err(fault) => Ok(fault.code()),
-    }
+    let key = key(store.allocator(), name)?;
+    Ok(number_of_merge(store.merge(key, came)))
 }
 
 /// A copy of what stands under `k`.
@@ -504,14 +509,23 @@ fn a_spent_counter_is_named_before_the_length(rt: HostRuntime) -> Result<(), Fai
     Ok(())
 }
 
+/// What a blind write of node 0 under `k` would hold.
+fn previewed(store: &Store, name: u8) -> Result<Entries, Fail> {
+    let alloc = store.allocator();
+    let key = key(alloc, b"k")?;
+    Ok(store.preview_put(NodeId::new(0)?, &key, value(alloc, name)?, None)?)
+}
+
+fn previews(store: &Store, name: u8, parts: &[Parts]) -> Result<bool, Fail> {
+    let expected = object(store.allocator(), parts)?;
+    Ok(previewed(store, name)? == expected)
+}
+
 #[test]
 fn a_preview_changes_nothing(rt: HostRuntime) -> Result<(), Fail> {
-    let alloc = rt.alloc();
-    let store = Store::new(alloc);
-    let (key, expected) = (key(alloc, b"k")?, object(alloc, &[(0, 1, b"x")])?);
-    let previewed = store.preview_put(NodeId::new(0)?, &key, value(alloc, b'x')?, None);
-    assert!(rt; previewed == Ok(expected));
-    assert!(rt; store.is_empty());
+    let store = Store::new(rt.alloc());
+    let is_right = previews(&store, b'x', &[(0, 1, b"x")])?;
+    assert!(rt; is_right && store.is_empty());
     Ok(())
 }
 
@@ -559,122 +573,187 @@ fn faults_have_their_numbers(rt: HostRuntime) -> Result<(), Fail> {
     Ok(())
 }
 
-/// A store with a write of node 0 under `k`.
-fn with_a_write(alloc: Global) -> Result<Store, Fail> {
+/// What a store holds under `k`: nothing, or a write of node 0.
+#[derive(Clone, Copy, Debug)]
+enum Held {
+    Nothing,
+    Write,
+}
+
+fn store_of(alloc: Global, held: Held) -> Result<Store, Fail> {
     let mut store = Store::new(alloc);
-    put(&mut store, 0, b"k", value(alloc, b'x')?, None)?;
-    Ok(store)
+    match held {
+        Held::Nothing => Ok(store),
+        Held::Write => {
+            put(&mut store, 0, b"k", value(alloc, b'x')?, None)?;
+            Ok(store)
+        }
+    }
+}
+
+fn context_of(alloc: Global, held: Held, name: &[u8]) -> Result<Context, Fail> {
+    look(&store_of(alloc, held)?, name)
+}
+
+/// What is asked of the contexts of reads at node 0 in step 7, each of another store.
+#[derive(Clone, Copy, Debug)]
+enum Asked {
+    /// The context equals its copy.
+    EqualsItsCopy(Held),
+    /// The context under the key equals that of a store which holds nothing under `k`.
+    EqualsNothing(Held, &'static [u8]),
+    /// The step of the read.
+    HasStep(Held, u64),
+    /// The first store knows what the context of the second has read under `k`.
+    IsStale(Held, Held),
+}
+
+fn equals_its_copy(context: &Context) -> Result<bool, Fail> {
+    Ok(context.copy()? == *context)
+}
+
+fn equals_nothing(context: &Context, alloc: Global) -> Result<bool, Fail> {
+    Ok(*context == context_of(alloc, Held::Nothing, b"k")?)
+}
+
+fn is_stale_at(alloc: Global, held: Held, context: &Context) -> Result<bool, Fail> {
+    Ok(store_of(alloc, held)?.is_stale(context.key(), context.vector()))
+}
+
+fn is_so(alloc: Global, asked: Asked) -> Result<bool, Fail> {
+    match asked {
+        Asked::EqualsItsCopy(held) => equals_its_copy(&context_of(alloc, held, b"k")?),
+        Asked::EqualsNothing(held, name) => equals_nothing(&context_of(alloc, held, name)?, alloc),
+        Asked::HasStep(held, step) => Ok(context_of(alloc, held, b"k")?.source().step == step),
+        Asked::IsStale(held, read) => is_stale_at(alloc, held, &context_of(alloc, read, b"k")?),
+    }
+}
+
+/// The number of the first question, from 1, that has another answer; 0 where there is none.
+fn first_answered_otherwise(alloc: Global, questions: &[(Asked, bool)]) -> Result<usize, Fail> {
+    for (at, (asked, answer)) in questions.iter().enumerate() {
+        if is_so(alloc, *asked)? != *answer {
+            return Ok(at + 1);
+        }
+    }
+    Ok(0)
 }
 
 #[test]
 fn a_context_equals_its_copy_and_no_other(rt: HostRuntime) -> Result<(), Fail> {
-    let alloc = rt.alloc();
-    let nothing = look(&Store::new(alloc), b"k")?;
-    let read = look(&with_a_write(alloc)?, b"k")?;
-    assert!(rt; read.copy()? == read && read != nothing);
-    assert!(rt; look(&Store::new(alloc), b"l")? != nothing);
-    assert_eq!(rt; read.source().step, 7);
+    let questions = [
+        (Asked::EqualsItsCopy(Held::Write), true),
+        (Asked::EqualsNothing(Held::Write, b"k"), false),
+        (Asked::EqualsNothing(Held::Nothing, b"l"), false),
+        (Asked::HasStep(Held::Write, 7), true),
+    ];
+    assert_eq!(rt; first_answered_otherwise(rt.alloc(), &questions)?, 0);
     Ok(())
 }
 
 #[test]
 fn a_vector_is_stale_where_its_events_are_known(rt: HostRuntime) -> Result<(), Fail> {
-    let alloc = rt.alloc();
-    let (empty, store) = (Store::new(alloc), with_a_write(alloc)?);
-    let (nothing, read) = (look(&empty, b"k")?, look(&store, b"k")?);
-    let k = read.key();
-    assert!(rt; store.is_stale(k, read.vector()) && store.is_stale(k, nothing.vector()));
-    assert!(rt; !empty.is_stale(k, read.vector()) && empty.is_stale(k, nothing.vector()));
+    let questions = [
+        (Asked::IsStale(Held::Write, Held::Write), true),
+        (Asked::IsStale(Held::Write, Held::Nothing), true),
+        (Asked::IsStale(Held::Nothing, Held::Write), false),
+        (Asked::IsStale(Held::Nothing, Held::Nothing), true),
+    ];
+    assert_eq!(rt; first_answered_otherwise(rt.alloc(), &questions)?, 0);
     Ok(())
 }
 
-/// The key `k`, so often.
-fn keys(alloc: Global, many: usize) -> Result<Vec<MetaKey>, TypeFault> {
-    let mut keys = Vec::new(alloc);
-    for _ in 0..many {
-        keys.push(key(alloc, b"k")?)?;
-    }
-    Ok(keys)
+/// A call that takes memory, under `k`.
+#[derive(Clone, Copy, Debug)]
+enum Call {
+    /// A merge of the first write of node 1.
+    Merge,
+    /// A blind write of node 0.
+    Put,
+    /// A read that has one value of one writer.
+    Get,
+    /// A read with a context, and a copy of this that equals it.
+    Look,
 }
 
-/// Merges the objects until one is taken; a refusal is for memory and leaves the store empty.
-fn merges_again(store: &mut Store, keys: Vec<MetaKey>, objects: Vec<Vec<Entry>>) -> bool {
-    for (key, parts) in keys.into_iter().zip(objects) {
-        let Ok(object) = Entries::from_parts(parts) else {
-            return false;
-        };
-        match store.merge(key, object) {
-            Ok(merged) => return merged == Merged::Fresh,
-            Err(fault) => {
-                if fault != StoreFault::Memory || !store.is_empty() {
-                    return false;
-                }
-            }
+fn merge_once(store: &mut Store) -> Option<u16> {
+    let alloc = store.allocator();
+    let came = Entries::from_parts(entries(alloc, &[(1, 1, b"x")]).ok()?).ok()?;
+    let key = key(alloc, b"k").ok()?;
+    Some(number_of_merge(store.merge(key, came)))
+}
+
+fn put_once(store: &mut Store) -> Option<u16> {
+    let alloc = store.allocator();
+    let (key, value) = (key(alloc, b"k").ok()?, value(alloc, b'y').ok()?);
+    Some(number(store.put(NodeId::new(0).ok()?, key, value, None)))
+}
+
+fn get_once(store: &Store) -> Option<u16> {
+    let (values, vector) = store.get(&key(store.allocator(), b"k").ok()?).ok()?;
+    Some(u16::from(values.len() != 1 || vector.counters().len() != 1))
+}
+
+fn read_once(store: &Store) -> Option<Context> {
+    let source = Source {
+        node: NodeId::new(0).ok()?,
+        step: 1,
+    };
+    let key = key(store.allocator(), b"k").ok()?;
+    let (_, context) = store.look(&key, source).ok()?;
+    Some(context)
+}
+
+fn look_once(store: &Store) -> Option<u16> {
+    let read = read_once(store)?;
+    let copy = read.copy().or_else(|_| read.copy()).ok()?;
+    Some(u16::from(copy != read))
+}
+
+/// Makes a call: 0 where it answers as it should, 99 where memory was refused, or another number.
+fn call_once(store: &mut Store, call: Call) -> u16 {
+    let answer = match call {
+        Call::Merge => merge_once(store),
+        Call::Put => put_once(store),
+        Call::Get => get_once(store),
+        Call::Look => look_once(store),
+    };
+    answer.unwrap_or(99)
+}
+
+/// Makes a call, and once more where memory was refused; tells whether it then answered as it should, and the
+/// refusal had left so many keys.
+fn succeeds_again(store: &mut Store, call: Call, held: usize) -> bool {
+    match call_once(store, call) {
+        0 => true,
+        99 => store.len() == held && call_once(store, call) == 0,
+        _ => false,
+    }
+}
+
+/// The number of the first call, from 1, that doesn't succeed again; one more than there are calls where the
+/// store doesn't hold one key after the last; else 0. Beside each call stands how many keys are held before it.
+fn first_that_fails(alloc: Global, calls: &[(Call, usize)]) -> usize {
+    let mut store = Store::new(alloc);
+    for (at, (call, held)) in calls.iter().enumerate() {
+        if !succeeds_again(&mut store, *call, *held) {
+            return at + 1;
         }
     }
-    false
-}
-
-/// Writes the values until one is taken; a refusal is for memory.
-fn puts_again(store: &mut Store, node: NodeId, keys: Vec<MetaKey>, values: Vec<Value>) -> bool {
-    for (key, value) in keys.into_iter().zip(values) {
-        match store.put(node, key, value, None) {
-            Ok(()) => return true,
-            Err(fault) => {
-                if fault != StoreFault::Memory {
-                    return false;
-                }
-            }
-        }
-    }
-    false
-}
-
-/// What came from node 1, twice.
-fn twice(alloc: Global) -> Result<Vec<Vec<Entry>>, TypeFault> {
-    let mut objects = Vec::new(alloc);
-    for _ in 0..2 {
-        objects.push(entries(alloc, &[(1, 1, b"x")])?)?;
-    }
-    Ok(objects)
+    if store.len() == 1 { 0 } else { calls.len() + 1 }
 }
 
 // Holds whichever single allocation is refused: a call that was refused memory answers `Memory` and leaves
 // the store as it was, so that it succeeds when it is made again. Allocates at most 60 times.
 #[test]
-fn merges_and_writes_succeed_again_under_refused_memory(rt: HostRuntime) -> Result<(), Fail> {
-    let alloc = rt.alloc();
-    let (Ok(objects), Ok(ks), Ok(ls), Ok(values)) = (
-        twice(alloc),
-        keys(alloc, 2),
-        keys(alloc, 2),
-        named(alloc, b"yy"),
-    ) else {
-        return Ok(());
-    };
-    let mut store = Store::new(alloc);
-    assert!(rt; merges_again(&mut store, ks, objects));
-    assert!(rt; puts_again(&mut store, NodeId::new(0)?, ls, values));
-    assert_eq!(rt; store.len(), 1);
-    Ok(())
+fn merges_and_writes_succeed_again_under_refused_memory(rt: HostRuntime) {
+    let calls = [(Call::Merge, 0), (Call::Put, 1)];
+    assert_eq!(rt; first_that_fails(rt.alloc(), &calls), 0);
 }
 
 // As above, for the calls that read. Allocates at most 60 times.
 #[test]
-fn reads_succeed_again_under_refused_memory(rt: HostRuntime) -> Result<(), Fail> {
-    let alloc = rt.alloc();
-    let mut store = Store::new(alloc);
-    let (Ok(objects), Ok(ks), Ok(k)) = (twice(alloc), keys(alloc, 2), key(alloc, b"k")) else {
-        return Ok(());
-    };
-    assert!(rt; merges_again(&mut store, ks, objects));
-    let (values, vector) = store.get(&k).or_else(|_| store.get(&k))?;
-    assert!(rt; values.len() == 1 && vector.counters().len() == 1);
-    let source = Source {
-        node: NodeId::new(0)?,
-        step: 1,
-    };
-    let (_, context) = store.look(&k, source).or_else(|_| store.look(&k, source))?;
-    assert!(rt; context.copy().or_else(|_| context.copy())? == context);
-    Ok(())
+fn reads_succeed_again_under_refused_memory(rt: HostRuntime) {
+    let calls = [(Call::Merge, 0), (Call::Get, 1), (Call::Look, 1)];
+    assert_eq!(rt; first_that_fails(rt.alloc(), &calls), 0);
 }
