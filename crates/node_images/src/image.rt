@@ -1,5 +1,5 @@
-//! The images of one node, which share what they can: each is an earlier one with one object in place of
-//! what stands there under its key.
+//! The images of one node: each is an earlier one with one object, a copy of its own, in place of what stands
+//! there under its key.
 
 ghost use Rattle.std.specs.Prelude.{◌≡◌, ◌≤◌, [], length};
 ghost use Rattle.std.specs.Option.{option_copied, unwrap_or};

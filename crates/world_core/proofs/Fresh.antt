@@ -1,8 +1,7 @@
 -- Fresh and stale deliveries, by what was sent and what is known.
-use Rattle.std.proofs.Common.{◌≡◌, inl, ℕ, zero, suc, ◌+◌, ◌<◌, Bool, true, false, cond, List, length, Option, Some, None, Ok, Err, Result, refl, sym, ap, subst, ◌∙◌, arith, ltb}
+use Rattle.std.proofs.Common.{◌≡◌, inl, ℕ, zero, suc, ◌+◌, ◌<◌, Bool, true, false, cond, List, length, Option, Some, None, Ok, Err, Result, refl, sym, ap, subst, ◌∙◌, arith}
 use Rattle.std.specs.Prelude.{slice_get, IfOk, ◌↔◌}
 use Rattle.std.specs.Option.{option_flatten}
-use Rattle.std.proofs.lemmas.Bool.{ltb-true, ltb-false}
 use Rattle.meta_types.specs.Name.{Key}
 use Rattle.dvvset.specs.Clock.{descends, join}
 use Rattle.meta_frame.specs.declared.message.Frame.{Frame}
@@ -23,18 +22,13 @@ use Rattle.world_core.specs.declared.fault.WorldFault.{WorldFault}
 use Rattle.world_core.specs.declared.fault.WorldFault.TheVariants.{NoSuchNode}
 use Rattle.world_core.specs.Tells.{carried_object}
 use Rattle.world_core.specs.World.{World, IsWholeWorld, IsTold, IsWorld}
-use Rattle.world_core.specs.Refusal.{Refuses, IsFrameOf, table_of}
+use Rattle.world_core.specs.Refusal.{IsFrameOf, table_of}
 use Rattle.world_core.specs.Outcome.{Accepts, Outcome, AnswersFrame, merged, took}
 use Rattle.world_core.specs.Knowledge.{FreshExactly, IsFresh}
 use Rattle.world_core.proofs.Applying.{pair_first}
 use Rattle.world_core.proofs.Delivering.{frame_there}
 use Rattle.world_core.proofs.Outcomes.{world_of}
-use Rattle.world_core.proofs.Putting.{shown_is_held}
-
--- an accepted event is of a node of the world
-in_range : (w : World) (number n word : ℕ) (b : Bool) → ltb n (length w.nodes) ≡ b → ((fault : WorldFault) → Refuses w (Deliver number n word) fault → ⊥) → n < length w.nodes
-in_range w number n word true e right = ltb-true n (length w.nodes) e
-in_range w number n word false e right = absurd (right NoSuchNode (inl (ltb-false n (length w.nodes) e, refl)))
+use Rattle.world_core.proofs.Putting.{node_there, shown_is_held}
 
 -- the reply to an object, by whether its vector is known
 fresh_by : (hs : List Happening) (n place : ℕ) (k : Key) (reply : Reply) (b : Bool) → reply ≡ merged (cond b Stale Fresh) → ((b ≡ true) ↔ IsSubset (load hs place k) (known hs n k)) → IsFresh hs n place k reply
@@ -78,7 +72,7 @@ fresh_answer w zero n word answer new is accepts = λ place m k told sent. let n
 fresh_answer w (suc p) n word answer new is accepts =
     λ place m k told sent.
     let takes : AnswersFrame w (suc p) n answer = accepts.answers in
-    let low : n < length w.nodes = in_range w (suc p) n word (ltb n (length w.nodes)) refl accepts.no_refusal in
+    let low : n < length w.nodes = node_there w n (λ none. accepts.no_refusal NoSuchNode (inl (none, refl))) in
     let there : slice_get w.told.sendings p ≡ Some (Some place) = flat (slice_get w.told.sendings p) place told in
     let of : IsFrameOf w (p + 1) takes.frame = subst (λ i. IsFrameOf w i takes.frame) (let more : suc p ≡ p + 1 = omega arith in more) takes.is in
     taken_at w p n place m k takes.frame is low there sent of answer.reply (ap (λ (a : Answer). a.reply) takes.answers)

@@ -7,33 +7,28 @@ use Rattle.dvvset.specs.Object.{Entry}
 use Rattle.meta_frame.specs.declared.message.Frame.{Frame}
 use Rattle.meta_store.specs.Context.{Reading}
 use Rattle.past_model.specs.declared.happening.Happening.TheVariants.{Sent}
-use Rattle.past_model.specs.Past.{image, load, past, seen, writes}
+use Rattle.past_model.specs.Past.{image, load, seen, writes}
 use Rattle.past_model.specs.Shown.{IsContext, IsObjectOf}
 use Rattle.object_machine.specs.Objects.{sent_object}
-use Rattle.object_machine.proofs.Matching.{matches, same_numbers}
+use Rattle.object_machine.proofs.Matching.{matches}
 use Rattle.node_images.specs.Images.{holdings}
 use Rattle.node_images.specs.Node.{Node}
-use Rattle.node_images.specs.Follows.{Follows}
 use Rattle.world_core.specs.Tells.{carried_object, numbered}
 use Rattle.world_core.specs.World.{World, IsRead, IsTold, IsWorld}
 use Rattle.world_core.specs.Refusal.{IsFrameOf}
 use Rattle.world_core.specs.Knowledge.{CarriesLoad, CountsSeen}
 use Rattle.world_core.proofs.Applying.{pair_first, pair_second}
 use Rattle.world_core.proofs.Delivering.{frame_there, not_both, same_object}
+use Rattle.world_core.proofs.Putting.{same_node}
+use Rattle.world_core.proofs.Restarts.{stands}
 
 -- ---- images
-
-stands_there : (w : World) (n : ℕ) (node : Node) → IsWorld w → n < length w.nodes → node ≡ get_or w.nodes n node → Follows w.told.history n node
-stands_there w n node is low at = subst (Follows w.told.history n) (sym at) (is.state.nodes n node low)
-
-pub image_number : (w : World) (n : ℕ) (node : Node) → IsWorld w → n < length w.nodes → node ≡ get_or w.nodes n node → length node.images ≡ (past w.told.history).last n
-image_number w n node is low at = (stands_there w n node is low at).number ∙ same_numbers w.told.history n
 
 pub image_shows : (w : World) (n : ℕ) (node : Node) → IsWorld w → n < length w.nodes → node ≡ get_or w.nodes n node
     → (j : ℕ) → j ≤ length node.images → (k : Key) → IsObjectOf (writes w.told.history) k (image w.told.history n j k) (holdings node.images j k)
 image_shows w n node is low at j there k =
     let hs = w.told.history in
-    subst (IsObjectOf (writes hs) k (image hs n j k)) (sym ((stands_there w n node is low at).images j there k)) ((matches hs is.state.keeps).images n j k)
+    subst (IsObjectOf (writes hs) k (image hs n j k)) (sym ((stands w n node is low (same_node w n node low at)).images j there k)) ((matches hs is.state.keeps).images n j k)
 
 -- ---- contexts
 

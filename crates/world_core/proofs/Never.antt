@@ -1,6 +1,5 @@
 -- No event is ever refused with 21: what merges in a world shows a value.
 use Rattle.std.proofs.Common.{◌≡◌, ◌≢◌, ◌⊎◌, inl, inr, ℕ, zero, suc, ◌+◌, ◌<◌, Bool, true, false, not, cond, eqb, ltb, List, [], ◌∷◌, length, Option, Some, None, refl, sym, ap, subst, ◌∙◌, arith}
-use Rattle.std.proofs.lemmas.Bool.{ltb-true, ltb-false}
 use Rattle.meta_types.specs.Name.{Key}
 use Rattle.meta_types.specs.Value.{ValueParts}
 use Rattle.meta_types.specs.First.{first_that_applies}
@@ -29,7 +28,7 @@ use Rattle.world_core.specs.Refusal.{ByBytes, ByFrame, HasNoFrame, HasNoImage, H
 use Rattle.world_core.proofs.Applying.{pair_second}
 use Rattle.world_core.proofs.Delivering.{frame_there, told_as}
 use Rattle.world_core.proofs.Outcomes.{world_of}
-use Rattle.world_core.proofs.Putting.{shown_is_held}
+use Rattle.world_core.proofs.Putting.{node_there, shown_is_held}
 
 -- ---- what no store refuses
 
@@ -127,14 +126,10 @@ passed : (cause : Type 0) (refusal : WorldFault) (rest : WorldFault → Type 0) 
 passed cause refusal rest other never_later (inl here) = other here.1
 passed cause refusal rest other never_later (inr later) = never_later later.1
 
-there_by : (w : World) (n : ℕ) (b : Bool) → ltb n (length w.nodes) ≡ b → (HasNoNode w n → ⊥) → n < length w.nodes
-there_by w n true e has = ltb-true n (length w.nodes) e
-there_by w n false e has = absurd (has (ltb-false n (length w.nodes) e))
-
 delivery_never : (w : World) (number n word : ℕ) → IsWorld w → Refuses w (Deliver number n word) (Store OfStore.BadEntries) → ⊥
 delivery_never w number n word is (inl here) = let no : Store OfStore.BadEntries ≡ NoSuchNode = here.1 in cc
 delivery_never w number n word is (inr later) =
-    passed (HasNoFrame w number) NoSuchFrame (ByFrame w number n) (λ e. cc) (frame_never w number n is (there_by w n (ltb n (length w.nodes)) refl later.0)) later.1
+    passed (HasNoFrame w number) NoSuchFrame (ByFrame w number n) (λ e. cc) (frame_never w number n is (node_there w n later.0)) later.1
 
 of_bytes : (fault : FrameFault) → of_frame fault ≢ Store OfStore.BadEntries
 of_bytes OfFrame.Short e = cc

@@ -1,6 +1,7 @@
 -- Writes and reads: the world after each is one, and is what was to be.
-use Rattle.std.proofs.Common.{◌≡◌, ℕ, ◌<◌, ◌≤◌, List, [], ◌∷◌, ◌++◌, length, get_or, Option, Some, None, refl, sym, ap, subst, ◌∙◌, arith}
+use Rattle.std.proofs.Common.{◌≡◌, ℕ, ◌<◌, ◌≤◌, Bool, true, false, ltb, List, [], ◌∷◌, ◌++◌, length, get_or, Option, Some, None, refl, sym, ap, subst, ◌∙◌, arith}
 use Rattle.std.specs.Prelude.{slice_set}
+use Rattle.std.proofs.lemmas.Bool.{ltb-true, ltb-false}
 use Rattle.std.proofs.lemmas.List.{append-nil, get_or_default, length-set}
 use Rattle.meta_types.specs.Name.{Key}
 use Rattle.meta_types.specs.Value.{ValueParts}
@@ -33,6 +34,14 @@ same_node w n node low at = at ∙ get_or_default w.nodes n node new_node low
 
 pub has_node : (w : World) (n : ℕ) → n < length w.nodes → HasNoNode w n → ⊥
 has_node w n low none = let past : length w.nodes ≤ n = none in omega (arith, low, past)
+
+there_by : (w : World) (n : ℕ) (b : Bool) → ltb n (length w.nodes) ≡ b → (HasNoNode w n → ⊥) → n < length w.nodes
+there_by w n true e has = ltb-true n (length w.nodes) e
+there_by w n false e has = absurd (has (ltb-false n (length w.nodes) e))
+
+-- and the other way round
+pub node_there : (w : World) (n : ℕ) → (HasNoNode w n → ⊥) → n < length w.nodes
+node_there w n has = there_by w n (ltb n (length w.nodes)) refl has
 
 -- ---- a write
 

@@ -33,7 +33,8 @@ record Restores (w : World) (n j : ℕ) (node : Node) (table : Table) : Type 0 w
   number : j ≤ length node.images
   restored : (k : Key) → object_at table k ≡ holdings node.images j k
 
-stands : (w : World) (n : ℕ) (node : Node) → IsWorld w → n < length w.nodes → node ≡ node_at w n → Follows w.told.history n node
+-- a node of a world stands where the history left it
+pub stands : (w : World) (n : ℕ) (node : Node) → IsWorld w → n < length w.nodes → node ≡ node_at w n → Follows w.told.history n node
 stands w n node is low at = subst (Follows w.told.history n) (sym at) (is.state.nodes n new_node low)
 
 image_is : (w : World) (n j : ℕ) (node : Node) (table : Table) → IsWorld w → Restores w n j node table → (k : Key) → object_at table k ≡ image_object w.told.history n j k

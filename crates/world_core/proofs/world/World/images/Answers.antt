@@ -5,8 +5,10 @@ use Rattle.past_model.specs.Shown.{IsObjectOf}
 use Rattle.node_images.specs.Images.{ChangeEarlier, holdings}
 use Rattle.world_core.specs.World.{World}
 use Rattle.world_core.specs.contracts.world.World.{the_view}
-use Rattle.world_core.proofs.Lent.{image_number, image_shows}
+use Rattle.world_core.proofs.Lent.{image_shows}
 use Rattle.world_core.proofs.Outcomes.{world_of}
+use Rattle.world_core.proofs.Putting.{same_node}
+use Rattle.world_core.proofs.Restarts.{last_is}
 use Rattle.world_core.proofs.world.World.images.Goals as goal
 
 pub returns-in-Ok-clause-number : goal.returns-in-Ok-clause-number
@@ -14,7 +16,7 @@ returns-in-Ok-clause-number c =
     let w : World = the_view c.self.inside in
     let low : c.in-Ok.at < length w.nodes = search rules in
     let number : c.in-Ok.at ≡ c.args.node = search rules in
-    let is = image_number w c.in-Ok.at c.index.result.now (world_of w c.self.invariant) low c.index.ensures in
+    let is = last_is w c.in-Ok.at c.index.result.now (world_of w c.self.invariant) low (same_node w c.in-Ok.at c.index.result.now low c.index.ensures) in
     ap length c.images.ensures.value ∙ is
     ∙ ap (λ n. (past w.told.history).last n) number ∙ ap (λ (v : World). (past v.told.history).last c.args.node) c.self.view_is
 
