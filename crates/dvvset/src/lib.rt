@@ -10,8 +10,6 @@ pub mod entry;
 pub mod fault;
 pub mod laws;
 pub mod merge;
-#[cfg(test)]
-mod tests;
 pub mod vector;
 pub mod write;
 

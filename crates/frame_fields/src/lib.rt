@@ -1,5 +1,5 @@
 //! The fields that frames are made of: their forms, which values have a spelling, how long it is, and
-//! how it is written. What reads them is `field_readers`.
+//! how it is written. What reads them is `field_readers`. Their tests are the crate `frame_tests`.
 #![tactic(auto)]
 
 pub mod digest;
@@ -12,8 +12,6 @@ pub mod neighbor;
 pub mod nodes;
 pub mod prefixes;
 mod rows;
-#[cfg(test)]
-mod tests;
 pub mod writing;
 
 pub use digest::Digest;

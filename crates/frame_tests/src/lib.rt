@@ -1,21 +1,19 @@
-//! The tests of the codec, over the public calls of `meta_frame`, apart from it: a crate is proved once
-//! more with its tests, and for the codec that takes long. The tests alone call `checks`, which is proved
-//! to ask what it says.
+//! The tests of frames: of `meta_frame` and of `frame_fields`, over their public calls, apart from them,
+//! since a crate is proved once more with its tests. They show what no contract says: that each call that
+//! takes memory succeeds where there is enough, and once more where it was refused. What is refused and
+//! what is printed shows the stored run of the program `plumctl`. No crate uses this one.
 #![tactic(auto)]
 
-// A test is proved before it is run, and that takes long for a long one, most of all for each `?` beside
-// a frame. So small functions in `checks` and `samples`, each proved once, do the work.
+// What a function of a test costs to prove grows with each place at which it may end while it owns a frame
+// or bytes. So tests are rows of bytes and numbers, and small functions answer whether all is as it should.
 
-#[cfg(test)]
-mod broadcast_and_views;
-pub mod checks;
-#[cfg(test)]
-mod exchange;
 #[cfg(test)]
 mod fields;
 #[cfg(test)]
-mod headers_and_limits;
+mod kept;
+#[cfg(test)]
+mod kinds;
+#[cfg(test)]
+mod large;
 #[cfg(test)]
 mod refused_memory;
-#[cfg(test)]
-mod samples;

@@ -10,8 +10,6 @@ mod size;
 pub mod source;
 mod stale;
 pub mod store;
-#[cfg(test)]
-mod tests;
 
 pub use context::Context;
 pub use fault::StoreFault;

@@ -9,8 +9,6 @@ pub mod fault;
 pub mod key;
 pub mod node;
 pub mod prefix;
-#[cfg(test)]
-mod tests;
 pub mod value;
 
 pub use bytes::ByteString;

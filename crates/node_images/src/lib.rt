@@ -5,8 +5,6 @@
 pub mod image;
 pub mod node;
 mod restore;
-#[cfg(test)]
-mod tests;
 
 pub use image::Image;
 pub use node::Node;

@@ -5,17 +5,11 @@
 //! an object.
 #![tactic(auto)]
 
-#[cfg(test)]
-mod acts;
-#[cfg(test)]
-mod against_clocks;
 pub mod happening;
 pub mod history;
 pub mod laws;
 mod moment;
 pub mod plain;
-#[cfg(test)]
-mod tests;
 
 pub use happening::Happening;
 pub use history::fits;

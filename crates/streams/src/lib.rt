@@ -1,13 +1,12 @@
 //! Readers and writers whose faults have a cause, the lines of a reader within a limit, and writing
-//! whole texts: what the commands over standard input and output stand on.
+//! whole texts: what the commands over standard input and output stand on. Their tests are the crate
+//! `text_tests`.
 #![tactic(auto)]
 
 mod fault;
 mod line;
 mod sink;
 mod source;
-#[cfg(test)]
-mod tests;
 
 pub use fault::StreamFault;
 pub use line::{LineBuffer, MAX_INPUT_LEN};

@@ -12,6 +12,8 @@ pub mod Named
 pub mod Putting
 -- outcomes
 pub mod Outcomes
+-- the lists of a world after an event
+pub mod Chronicles
 -- restarts
 pub mod Restarts
 -- sendings

@@ -1,5 +1,5 @@
 -- A restart: the world after it is one, and is what was to be; and where an image is stale.
-use Rattle.std.proofs.Common.{◌≡◌, ℕ, ◌<◌, ◌≤◌, [], ◌∷◌, ◌++◌, length, refl, sym, ap, subst, ◌∙◌, arith}
+use Rattle.std.proofs.Common.{◌≡◌, ℕ, ◌<◌, ◌≤◌, [], ◌∷◌, ◌++◌, length, inl, inr, refl, sym, ap, subst, ◌∙◌, arith}
 use Rattle.std.specs.Prelude.{slice_set}
 use Rattle.std.proofs.lemmas.List.{append-nil, get_or_default, length-set}
 use Rattle.meta_types.specs.Name.{Key}
@@ -19,7 +19,7 @@ use Rattle.world_core.specs.declared.event.Event.TheVariants.{Restart}
 use Rattle.world_core.specs.declared.fault.WorldFault.TheVariants.{NoSuchImage, NoSuchNode, StaleImage}
 use Rattle.world_core.specs.Tells.{tell}
 use Rattle.world_core.specs.World.{World, IsWorld}
-use Rattle.world_core.specs.Refusal.{HasNoImage, HasNoNode, LacksOwn, node_at, none}
+use Rattle.world_core.specs.Refusal.{HasNoImage, HasNoNode, LacksOwn, Refuses, node_at, none}
 use Rattle.world_core.specs.Outcome.{replied, with_node}
 use Rattle.world_core.proofs.Worlds.{state_restart}
 use Rattle.world_core.proofs.Applying.{Stepped, after, steps_quietly}
@@ -101,3 +101,11 @@ restart_steps w n j node table is low at number restored is_table counts =
           (passes (LacksOwn w n j) StaleImage none (λ lacks. lacks (keeps.keeps hs [] n j refl)) none_left));
       answers = refl;
     })
+
+-- ---- refusals
+
+pub no_image_refuses : (w : World) (n j : ℕ) → n < length w.nodes → HasNoImage w n j → Refuses w (Restart n j) NoSuchImage
+no_image_refuses w n j low none = inr (has_node w n low, inl (none, refl))
+
+pub stale_refuses : (w : World) (n j : ℕ) → IsWorld w → n < length w.nodes → j ≤ length (node_at w n).images → LacksOwn w n j → Refuses w (Restart n j) StaleImage
+stale_refuses w n j is low enough lacks = inr (has_node w n low, inr (has_image w n j (node_at w n) is low refl enough, inl (lacks, refl)))

@@ -1,4 +1,4 @@
--- What a write and a read leave, made before anything changes, which private functions alone cite.
+-- What a write and a read leave, which private functions alone cite.
 use Rattle.std.specs.Prelude.{◌≡◌, ℕ, Option, None}
 use Rattle.meta_types.specs.Name.{Key}
 use Rattle.meta_types.specs.Value.{ValueParts}
@@ -6,17 +6,16 @@ use Rattle.dvvset.specs.Clock.{join, values_of}
 use Rattle.meta_store.specs.Context.{Reading}
 use Rattle.meta_store.specs.Table.{Table, IsHeld, object_at}
 use Rattle.meta_store.specs.Step.{refusal_of_put, written}
-use Rattle.node_images.specs.Node.{Node, IsNode, image_of_write}
-use Rattle.world_core.specs.declared.write.Plan.{Plan}
+use Rattle.node_images.specs.Node.{Node, IsNode}
 use Rattle.world_core.specs.declared.write.Shown.{Shown}
+use Rattle.world_core.specs.declared.write.Written.{Written}
 
--- the plan is that of the write on the node, whose store takes it
-pub record IsPlan (node : Node) (id : ℕ) (key : Key) (value : ValueParts) (context : Option Reading) (plan : Plan) : Type 0 where
-  pub image : plan.image ≡ image_of_write id key value context node
-  pub vector : plan.vector ≡ join (written node.table id key value context)
-  pub reply : plan.reply ≡ join (written node.table id key value context)
-  pub kept : plan.kept ≡ record { key = key; value = value }
-  pub told : plan.told ≡ record { key = key; value = value }
+-- this is what the write leaves of the node, whose store takes it
+pub record IsWritten (node : Node) (id : ℕ) (key : Key) (value : ValueParts) (context : Option Reading) (left : Written) : Type 0 where
+  pub vector : left.vector ≡ join (written node.table id key value context)
+  pub reply : left.reply ≡ join (written node.table id key value context)
+  pub kept : left.kept ≡ record { key = key; value = value }
+  pub told : left.told ≡ record { key = key; value = value }
   pub held : IsHeld (written node.table id key value context)
   pub is_node : IsNode node
   pub taken : refusal_of_put node.table id key value context ≡ None
@@ -29,3 +28,4 @@ pub record IsShown (table : Table) (read : Reading) (shown : Shown) : Type 0 whe
   pub handed : shown.handed ≡ read
   pub reply : shown.reply ≡ read
   pub key : shown.key ≡ read.key
+  pub kept : shown.kept ≡ read.key

@@ -20,6 +20,16 @@ impl World {
     pub fn apply(&mut self, event: Event) -> Result<Answer, WorldFault>
         ensures { Passes self.old event result self.new }
     {
+        let outcome = self.pass(&event);
+        // Dropped by a call: no case of the proof then takes it apart.
+        drop(event);
+        outcome
+    }
+
+    /// Makes an event as `apply` does.
+    fn pass(&mut self, event: &Event) -> Result<Answer, WorldFault>
+        ensures { Passes self.old event.now result self.new }
+    {
         // Read for what it tells, before and after: this is a world.
         let _ = self.nodes.len();
         let outcome = self.act(event);
@@ -28,8 +38,8 @@ impl World {
     }
 
     /// Makes an event, or refuses it.
-    fn act(&mut self, event: Event) -> Result<Answer, WorldFault>
-        ensures { Outcome self.old event result self.new }
+    fn act(&mut self, event: &Event) -> Result<Answer, WorldFault>
+        ensures { Outcome self.old event.now result self.new }
     {
         match event {
             Event::Put {
@@ -37,14 +47,14 @@ impl World {
                 key,
                 value,
                 read,
-            } => self.put(node, key, value, read),
-            Event::Get { node, key } => self.get(node, key),
-            Event::PutOver { node, key, value } => self.put_over(node, key, value),
-            Event::Send { node, key, to } => self.send(node, key, to),
-            Event::Deliver { frame, node, word } => self.deliver(frame, node, word),
-            Event::Junk { node, bytes } => self.junk(node, bytes),
-            Event::Keep { node, key } => self.keep(node, key),
-            Event::Restart { node, image } => self.restart(node, image),
+            } => self.put(*node, key, value, *read),
+            Event::Get { node, key } => self.get(*node, key),
+            Event::PutOver { node, key, value } => self.put_over(*node, key, value),
+            Event::Send { node, key, to } => self.send(*node, key, *to),
+            Event::Deliver { frame, node, word } => self.deliver(*frame, *node, *word),
+            Event::Junk { node, bytes } => self.junk(*node, bytes),
+            Event::Keep { node, key } => self.keep(*node, key),
+            Event::Restart { node, image } => self.restart(*node, *image),
         }
     }
 
@@ -60,19 +70,9 @@ impl World {
     {
         let mut outcomes = Vec::with_capacity(alloc, events.len())?;
         for event in events {
-            outcomes.push(self.apply_copy(event)).unwrap();
+            outcomes.push(self.pass(event)).unwrap();
         }
         Ok(outcomes)
-    }
-
-    /// Applies a copy of an event.
-    fn apply_copy(&mut self, event: &Event) -> Result<Answer, WorldFault>
-        ensures { Passes self.old event.now result self.new }
-    {
-        // Read for what it tells: this is a world.
-        let _ = self.nodes.len();
-        let event = event.copy()?;
-        self.apply(event)
     }
 
     /// The node of that number. Refused with 44 `NoSuchNode`.

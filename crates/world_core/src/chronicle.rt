@@ -1,12 +1,14 @@
 //! What a world keeps of what it has accepted.
 
-ghost use Rattle.std.specs.Prelude.{◌≡◌, [], OnOk};
+ghost use Rattle.std.specs.Prelude.{◌≡◌, ◌∷◌, ◌++◌, [], OnOk, Some, length};
+ghost use Rattle.past_model.specs.declared.happening.Happening.TheVariants.{Sent, Wrote};
 ghost use Rattle.world_core.specs.Chronicle.{HasRoom, IsSame, told_so_far};
-ghost use Rattle.world_core.specs.Tells.{nothing_told};
+ghost use Rattle.world_core.specs.Tells.{nothing_told, tell, tell_look};
 
 use crate::answer::Accepted;
+use crate::write::Pair;
 use meta_store::Context;
-use meta_types::ByteString;
+use meta_types::{ByteString, MetaKey, NodeId};
 use past_model::Happening;
 use std::alloc::{AllocError, Global};
 
@@ -52,5 +54,82 @@ impl Chronicle {
         self.history.reserve(2)?;
         self.looks.reserve(1)?;
         self.sendings.reserve(1)
+    }
+
+    /// Adds an accepted event with its answer. There is room for it.
+    pub(crate) fn accept(&mut self, accepted: Accepted)
+        requires { HasRoom self.old }
+        ensures accepted { self.new.accepted.items ≡ self.old.accepted.items ++ accepted ∷ [] }
+        ensures frames { self.new.frames.items ≡ self.old.frames.items }
+        ensures contexts { self.new.contexts.items ≡ self.old.contexts.items }
+        ensures told { told_so_far self.new ≡ told_so_far self.old }
+    {
+        self.accepted.push_reserved(accepted);
+    }
+
+    /// Adds what has happened, and the event that it comes of. There is room for both.
+    pub(crate) fn tell(&mut self, told: Happening, accepted: Accepted)
+        requires { HasRoom self.old }
+        ensures accepted { self.new.accepted.items ≡ self.old.accepted.items ++ accepted ∷ [] }
+        ensures frames { self.new.frames.items ≡ self.old.frames.items }
+        ensures contexts { self.new.contexts.items ≡ self.old.contexts.items }
+        ensures told { told_so_far self.new ≡ tell told (told_so_far self.old) }
+    {
+        self.history.push_reserved(told);
+        self.accepted.push_reserved(accepted);
+    }
+
+    /// Adds a read with its context, and the event that it comes of. There is room for all.
+    pub(crate) fn look(&mut self, node: NodeId, key: MetaKey, context: Context, accepted: Accepted)
+        requires { HasRoom self.old }
+        ensures accepted { self.new.accepted.items ≡ self.old.accepted.items ++ accepted ∷ [] }
+        ensures frames { self.new.frames.items ≡ self.old.frames.items }
+        ensures contexts { self.new.contexts.items ≡ self.old.contexts.items ++ context ∷ [] }
+        ensures told { told_so_far self.new ≡ tell_look node key (told_so_far self.old) }
+    {
+        let place = self.history.len();
+        self.looks.push_reserved(place);
+        self.contexts.push_reserved(context);
+        self.history.push_reserved(Happening::Looked { node, key });
+        self.accepted.push_reserved(accepted);
+    }
+
+    /// Adds a read with its context, a write that has read it, and the event that both come of.
+    /// There is room for all.
+    pub(crate) fn look_and_tell(
+        &mut self,
+        node: NodeId,
+        key: MetaKey,
+        context: Context,
+        written: Pair,
+        accepted: Accepted,
+    )
+        requires { HasRoom self.old }
+        ensures accepted { self.new.accepted.items ≡ self.old.accepted.items ++ accepted ∷ [] }
+        ensures frames { self.new.frames.items ≡ self.old.frames.items }
+        ensures contexts { self.new.contexts.items ≡ self.old.contexts.items ++ context ∷ [] }
+        ensures told { told_so_far self.new ≡ tell (Wrote node written.key written.value (Some (length self.old.history.items))) (tell_look node key (told_so_far self.old)) }
+    {
+        let place = self.history.len();
+        self.looks.push_reserved(place);
+        self.contexts.push_reserved(context);
+        self.history.push_reserved(Happening::Looked { node, key });
+        self.history.push_reserved(written.wrote(node, Some(place)));
+        self.accepted.push_reserved(accepted);
+    }
+
+    /// Adds a frame with an object, and the event that it comes of. There is room for all.
+    pub(crate) fn send(&mut self, node: NodeId, key: MetaKey, bytes: ByteString, accepted: Accepted)
+        requires { HasRoom self.old }
+        ensures accepted { self.new.accepted.items ≡ self.old.accepted.items ++ accepted ∷ [] }
+        ensures frames { self.new.frames.items ≡ self.old.frames.items ++ bytes ∷ [] }
+        ensures contexts { self.new.contexts.items ≡ self.old.contexts.items }
+        ensures told { told_so_far self.new ≡ record { history = self.old.history.items ++ Sent node key ∷ []; looks = self.old.looks.items; sendings = self.old.sendings.items ++ Some (length self.old.history.items) ∷ [] } }
+    {
+        let place = self.history.len();
+        self.frames.push_reserved(bytes);
+        self.sendings.push_reserved(Some(place));
+        self.history.push_reserved(Happening::Sent { node, key });
+        self.accepted.push_reserved(accepted);
     }
 }

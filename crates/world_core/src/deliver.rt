@@ -1,14 +1,16 @@
 //! Deliveries of frames, and junk.
 
-ghost use Rattle.std.specs.Prelude.{◌≡◌, ◌+◌, ◌<◌, ◌^◌, Some, None, IfOk, IfErr};
+ghost use Rattle.std.specs.Prelude.{◌≡◌, ◌⊎◌, ℕ, ◌+◌, ◌<◌, ◌^◌, length, Some, None, IfOk, IfErr};
 ghost use Rattle.world_core.specs.Tells.{carried_object};
 ghost use Rattle.world_core.specs.Outcome.{Outcome, merged, replied};
 ghost use Rattle.world_core.specs.Steps.{Arrives, IsArrival, IsNoFrame};
-ghost use Rattle.world_core.specs.Refusal.{IsFrame};
+ghost use Rattle.world_core.specs.Refusal.{HasNoFrame, IsFrame, Refuses};
 ghost use Rattle.world_core.specs.declared.event.Event.TheVariants.{Deliver, Junk};
+ghost use Rattle.world_core.specs.declared.fault.WorldFault.TheVariants.{Memory, NoSuchFrame, NotAddressed};
 
 use crate::answer::{Accepted, Answer, Reply};
 use crate::apply::place_of;
+use crate::both::after;
 use crate::event::Event;
 use crate::fault::WorldFault;
 use crate::world::World;
@@ -21,7 +23,7 @@ use past_model::Happening;
 use std::alloc::{AllocError, Global};
 
 /// To whom a frame is addressed, and the object that it carries, with its key.
-#[derive(Debug, Drop)]
+#[derive(Drop)]
 struct Arrival {
     to: NodeId,
     object: Option<(MetaKey, Entries)>,
@@ -32,19 +34,37 @@ impl World {
     pub(crate) fn deliver(&mut self, frame: u64, node: u64, word: u64) -> Result<Answer, WorldFault>
         ensures { Outcome self.old (Deliver frame node word) result self.new }
     {
-        let alloc = self.alloc();
         let id = self.node_id(node)?;
-        let Some(place) = place_of(frame, self.chronicle.frames.len()) else {
-            return Err(WorldFault::NoSuchFrame);
-        };
-        let arrival = opened_frame(alloc, self.chronicle.frames[place].as_slice())?;
-        if arrival.to != id {
-            return Err(WorldFault::NotAddressed);
-        }
-        match arrival.object {
+        let place = self.place_of_frame(frame)?;
+        match self.arrived(place, id)? {
             Some((key, object)) => self.take(place, id, word, key, object),
             None => self.take_nothing(place, id, word),
         }
+    }
+
+    /// The place of a frame among all. Refused with 42 `NoSuchFrame`.
+    fn place_of_frame(&self, frame: u64) -> Result<usize, WorldFault>
+        ensures value { IfOk result (λ place. (frame ≡ place + 1) × (place < length self.now.frames)) }
+        ensures fault { IfErr result (λ fault. (fault ≡ NoSuchFrame) × HasNoFrame self.now frame) }
+    {
+        match place_of(frame, self.chronicle.frames.len()) {
+            Some(place) => Ok(place),
+            None => Err(WorldFault::NoSuchFrame),
+        }
+    }
+
+    /// What the frame at a place brings the node. Refused with 40 `NotAddressed` and 99 `Memory`.
+    fn arrived(&self, place: usize, node: NodeId) -> Result<Option<(MetaKey, Entries)>, WorldFault>
+        requires within { place < length self.now.frames }
+        requires low { node < length self.now.nodes }
+        ensures value { IfOk result (Arrives self.now (place + 1) node) }
+        ensures fault { IfErr result (λ fault. (fault ≡ Memory) ⊎ ((fault ≡ NotAddressed) × ((word : ℕ) → Refuses self.now (Deliver (place + 1) node word) NotAddressed))) }
+    {
+        let arrival = opened_frame(self.alloc(), self.chronicle.frames[place].as_slice())?;
+        if arrival.to != node {
+            return Err(WorldFault::NotAddressed);
+        }
+        Ok(arrival.object)
     }
 
     /// The delivery of a frame that carries an object.
@@ -62,17 +82,13 @@ impl World {
     {
         let alloc = self.alloc();
         let sent = self.chronicle.sendings[place].unwrap();
-        self.chronicle.reserve()?;
+        let (key, object) = after(self.chronicle.reserve(), (key, object))?;
         let taken = self.nodes[usize::from(node.number())].take(key, object)?;
-        self.chronicle
-            .history
-            .push(Happening::Got { node, sent })
-            .unwrap();
         let accepted = Accepted {
             event: delivery(place, node, word),
             answer: took(alloc, taken),
         };
-        self.chronicle.accepted.push(accepted).unwrap();
+        self.chronicle.tell(Happening::Got { node, sent }, accepted);
         Ok(took(alloc, taken))
     }
 
@@ -88,13 +104,13 @@ impl World {
             event: delivery(place, node, word),
             answer: Answer::replied(alloc, Reply::Took),
         };
-        self.chronicle.accepted.push(accepted).unwrap();
+        self.chronicle.accept(accepted);
         Ok(Answer::replied(alloc, Reply::Took))
     }
 
     /// Bytes that no node sent. It is always refused.
-    pub(crate) fn junk(&mut self, node: u64, bytes: ByteString) -> Result<Answer, WorldFault>
-        ensures { Outcome self.old (Junk node bytes) result self.new }
+    pub(crate) fn junk(&mut self, node: u64, bytes: &ByteString) -> Result<Answer, WorldFault>
+        ensures { Outcome self.old (Junk node bytes.now) result self.new }
     {
         let alloc = self.alloc();
         self.node_id(node)?;
@@ -136,7 +152,11 @@ fn carried_object(message: Message) -> Option<(MetaKey, Entries)>
     match message {
         Message::Gossip { key, object, .. } => Some((key, object)),
         Message::XObject { key, object } => Some((key, object)),
-        _ => None,
+        other => {
+            // Dropped by a call: no case of the proof then takes it apart.
+            drop(other);
+            None
+        }
     }
 }
 

@@ -4,6 +4,7 @@
 
 pub mod answer;
 mod apply;
+mod both;
 mod chronicle;
 mod deliver;
 pub mod event;

@@ -1,36 +1,44 @@
 //! Images made and restarted from.
 
-ghost use Rattle.std.specs.Prelude.{◌≡◌};
+ghost use Rattle.std.specs.Prelude.{◌≡◌, ◌⊎◌, ◌≤◌, ◌<◌, length, IfOk, IfErr};
+ghost use Rattle.meta_types.specs.Name.{Key};
+ghost use Rattle.dvvset.specs.Writer.{count_of};
+ghost use Rattle.meta_store.specs.Table.{IsTable, object_at};
+ghost use Rattle.node_images.specs.Images.{holdings};
 ghost use Rattle.world_core.specs.Outcome.{Outcome};
+ghost use Rattle.world_core.specs.Refusal.{Refuses, node_at, table_of};
 ghost use Rattle.world_core.specs.declared.event.Event.TheVariants.{Keep, Restart};
+ghost use Rattle.world_core.specs.declared.fault.WorldFault.TheVariants.{Memory, NoSuchImage, StaleImage};
 
 use crate::answer::{Accepted, Answer, Reply};
+use crate::both::{after, both};
 use crate::event::Event;
 use crate::fault::WorldFault;
 use crate::world::World;
-use meta_types::MetaKey;
+use meta_store::Store;
+use meta_types::{MetaKey, NodeId};
 use past_model::Happening;
 
 impl World {
     /// The next image of a node, with what it holds under the key.
-    pub(crate) fn keep(&mut self, node: u64, key: MetaKey) -> Result<Answer, WorldFault>
-        ensures { Outcome self.old (Keep node key) result self.new }
+    pub(crate) fn keep(&mut self, node: u64, key: &MetaKey) -> Result<Answer, WorldFault>
+        ensures { Outcome self.old (Keep node key.now) result self.new }
     {
         let alloc = self.alloc();
         let id = self.node_id(node)?;
         self.chronicle.reserve()?;
-        let told = key.copy()?;
-        self.nodes[usize::from(id.number())].keep(&key)?;
-        let kept = Happening::Kept {
+        let keys = both(key.copy(), key.copy())?;
+        let done = self.nodes[usize::from(id.number())].keep(key);
+        let (kept, told) = after(done, keys)?;
+        let happening = Happening::Kept {
             node: id,
             key: told,
         };
-        self.chronicle.history.push(kept).unwrap();
         let accepted = Accepted {
-            event: Event::Keep { node, key },
+            event: Event::Keep { node, key: kept },
             answer: Answer::replied(alloc, Reply::Done),
         };
-        self.chronicle.accepted.push(accepted).unwrap();
+        self.chronicle.tell(happening, accepted);
         Ok(Answer::replied(alloc, Reply::Done))
     }
 
@@ -38,31 +46,74 @@ impl World {
     pub(crate) fn restart(&mut self, node: u64, image: u64) -> Result<Answer, WorldFault>
         ensures { Outcome self.old (Restart node image) result self.new }
     {
-        let alloc = self.alloc();
         let id = self.node_id(node)?;
-        let at = usize::from(id.number());
-        if (self.nodes[at].images().len() as u64) < image {
+        let number = self.image_number(id, image)?;
+        let store = self.restored(id, number)?;
+        self.restart_with(id, number, store)
+    }
+
+    /// The number of an image, in memory. Refused with 46 `NoSuchImage`.
+    fn image_number(&self, node: NodeId, image: u64) -> Result<usize, WorldFault>
+        requires { node < length self.now.nodes }
+        ensures value { IfOk result (λ number. (number ≡ image) × (image ≤ length (node_at self.now node).images)) }
+        ensures fault { IfErr result (λ fault. (fault ≡ NoSuchImage) × Refuses self.now (Restart node image) NoSuchImage) }
+    {
+        let images = self.nodes[usize::from(node.number())].images();
+        if (images.len() as u64) < image {
             return Err(WorldFault::NoSuchImage);
         }
-        let number = usize::try_from(image).unwrap();
-        self.chronicle.reserve()?;
-        let store = self.nodes[at].restored(number)?;
+        Ok(usize::try_from(image).unwrap())
+    }
+
+    /// A store that holds what the image of that number has. Refused with 41 `StaleImage`, and with
+    /// 99 `Memory`.
+    fn restored(&self, node: NodeId, number: usize) -> Result<Store, WorldFault>
+        requires low { node < length self.now.nodes }
+        requires number { number ≤ length (node_at self.now node).images }
+        ensures is_table { IfOk result IsTable }
+        ensures restored { IfOk result (λ store. (key : Key) → object_at store key ≡ holdings (node_at self.now node).images number key) }
+        ensures counts { IfOk result (λ store. (key : Key) → count_of (object_at (table_of self.now node) key) node ≤ count_of (object_at store key) node) }
+        ensures fault { IfErr result (λ fault. (fault ≡ Memory) ⊎ ((fault ≡ StaleImage) × Refuses self.now (Restart node number) StaleImage)) }
+    {
+        let there = &self.nodes[usize::from(node.number())];
+        let store = there.restored(number)?;
         // Read for what it tells: the keys rise and are few enough.
         let _ = store.len();
-        if !store.counts_as_many(self.nodes[at].store(), id) {
+        if !store.counts_as_many(there.store(), node) {
             return Err(WorldFault::StaleImage);
         }
-        self.nodes[at].restart(store, number);
+        Ok(store)
+    }
+
+    /// A restart of a node with a store that holds what its image of that number has.
+    fn restart_with(
+        &mut self,
+        node: NodeId,
+        number: usize,
+        store: Store,
+    ) -> Result<Answer, WorldFault>
+        requires low { node < length self.old.nodes }
+        requires number { number ≤ length (node_at self.old node).images }
+        requires is_table { IsTable store }
+        requires restored { (key : Key) → object_at store key ≡ holdings (node_at self.old node).images number key }
+        requires counts { (key : Key) → count_of (object_at (table_of self.old node) key) node ≤ count_of (object_at store key) node }
+        ensures { Outcome self.old (Restart node number) result self.new }
+    {
+        let alloc = self.alloc();
+        let store = after(self.chronicle.reserve(), store)?;
+        self.nodes[usize::from(node.number())].restart(store, number);
         let restarted = Happening::Restarted {
-            node: id,
+            node,
             image: number,
         };
-        self.chronicle.history.push(restarted).unwrap();
         let accepted = Accepted {
-            event: Event::Restart { node, image },
+            event: Event::Restart {
+                node: u64::from(node.number()),
+                image: number as u64,
+            },
             answer: Answer::replied(alloc, Reply::Done),
         };
-        self.chronicle.accepted.push(accepted).unwrap();
+        self.chronicle.tell(restarted, accepted);
         Ok(Answer::replied(alloc, Reply::Done))
     }
 }

@@ -1,9 +1,9 @@
 //! Sendings: what a node holds under a key, as a frame to another.
 
-ghost use Rattle.std.specs.Prelude.{◌≡◌, ◌≢◌, ◌+◌, ◌<◌, [], length, None, Some, IfOk, IfSome};
+ghost use Rattle.std.specs.Prelude.{◌≡◌, ◌≢◌, ◌+◌, ◌<◌, ◌≤◌, ◌∷◌, [], length, None, Some, IfOk, IfSome};
 ghost use Rattle.std.specs.FinMap.{find};
 ghost use Rattle.meta_types.specs.Order.{key_cmp};
-ghost use Rattle.meta_frame.specs.Frame.{Spells};
+ghost use Rattle.meta_frame.specs.Frame.{IsLawful, Spells, limit, spelling};
 ghost use Rattle.meta_frame.specs.declared.message.Message.TheVariants.{Gossip};
 ghost use Rattle.meta_store.specs.Table.{IsHeld};
 ghost use Rattle.world_core.specs.Outcome.{Outcome};
@@ -13,6 +13,7 @@ ghost use Rattle.world_core.specs.declared.answer.Reply.TheVariants.{Done};
 ghost use Rattle.world_core.specs.declared.event.Event.TheVariants.{Send};
 
 use crate::answer::{Accepted, Answer, FrameNumbers, Reply};
+use crate::both::both;
 use crate::event::Event;
 use crate::fault::WorldFault;
 use crate::world::World;
@@ -20,20 +21,19 @@ use dvvset::Entries;
 use meta_frame::encode::encode;
 use meta_frame::{Frame, FrameFault, Message};
 use meta_types::{ByteString, MetaKey, NodeId};
-use past_model::Happening;
 use std::alloc::{AllocError, Global};
 
 impl World {
     /// A sending of what the node holds under the key; where it holds nothing no frame is sent.
-    pub(crate) fn send(&mut self, node: u64, key: MetaKey, to: u64) -> Result<Answer, WorldFault>
-        ensures { Outcome self.old (Send node key to) result self.new }
+    pub(crate) fn send(&mut self, node: u64, key: &MetaKey, to: u64) -> Result<Answer, WorldFault>
+        ensures { Outcome self.old (Send node key.now to) result self.new }
     {
         let from = self.node_id(node)?;
         let addressee = self.node_id(to)?;
         if from == addressee {
             return Err(WorldFault::BadNode);
         }
-        match self.object_of(from, &key)? {
+        match self.object_of(from, key)? {
             Some(object) => self.send_object(from, key, addressee, object),
             None => self.send_nothing(node, key, to),
         }
@@ -63,19 +63,19 @@ impl World {
     fn send_object(
         &mut self,
         from: NodeId,
-        key: MetaKey,
+        key: &MetaKey,
         to: NodeId,
         object: Entries,
     ) -> Result<Answer, WorldFault>
         requires low { from < length self.old.nodes }
         requires there { to < length self.old.nodes }
         requires apart { from ≢ to }
-        requires object { find key_cmp key (table_of self.old from) ≡ Some object }
+        requires object { find key_cmp key.now (table_of self.old from) ≡ Some object }
         requires held { IsHeld object }
-        ensures { Outcome self.old (Send from key to) result self.new }
+        ensures { Outcome self.old (Send from key.now to) result self.new }
     {
         let number = self.next_frame();
-        let bytes = encoded(self.alloc(), from, to, number, key.copy()?, object)?;
+        let bytes = encoded(self.alloc(), from, to, number, key, object)?;
         self.send_frame(from, key, to, bytes)
     }
 
@@ -83,55 +83,76 @@ impl World {
     fn send_frame(
         &mut self,
         from: NodeId,
-        key: MetaKey,
+        key: &MetaKey,
         to: NodeId,
         bytes: ByteString,
     ) -> Result<Answer, WorldFault>
-        requires { IsNextFrame self.old from key to bytes }
-        ensures { Outcome self.old (Send from key to) result self.new }
+        requires { IsNextFrame self.old from key.now to bytes }
+        ensures { Outcome self.old (Send from key.now to) result self.new }
     {
-        let alloc = self.alloc();
-        let number = self.next_frame();
-        self.chronicle.reserve()?;
-        let told = key.copy()?;
-        let numbers = FrameNumbers::one(alloc, number)?;
-        let reply = FrameNumbers::one(alloc, number)?;
-        let place = self.chronicle.history.len();
-        self.chronicle.frames.push(bytes).unwrap();
-        self.chronicle.sendings.push(Some(place)).unwrap();
-        let sending = Happening::Sent {
-            node: from,
-            key: told,
-        };
-        self.chronicle.history.push(sending).unwrap();
+        let sending = Sending::of(self.alloc(), key, self.next_frame(), bytes);
+        let sending = both(self.chronicle.reserve(), sending)?.1;
         let accepted = Accepted {
             event: Event::Send {
                 node: u64::from(from.number()),
-                key,
+                key: sending.kept,
                 to: u64::from(to.number()),
             },
-            answer: done(numbers),
+            answer: done(sending.numbers),
         };
-        self.chronicle.accepted.push(accepted).unwrap();
-        Ok(done(reply))
+        self.chronicle
+            .send(from, sending.told, sending.bytes, accepted);
+        Ok(done(sending.reply))
     }
 
     /// A sending of a node that holds nothing under the key.
-    fn send_nothing(&mut self, node: u64, key: MetaKey, to: u64) -> Result<Answer, WorldFault>
+    fn send_nothing(&mut self, node: u64, key: &MetaKey, to: u64) -> Result<Answer, WorldFault>
         requires low { node < length self.old.nodes }
         requires there { to < length self.old.nodes }
         requires apart { node ≢ to }
-        requires absent { find key_cmp key (table_of self.old node) ≡ None }
-        ensures { Outcome self.old (Send node key to) result self.new }
+        requires absent { find key_cmp key.now (table_of self.old node) ≡ None }
+        ensures { Outcome self.old (Send node key.now to) result self.new }
     {
         let alloc = self.alloc();
         self.chronicle.reserve()?;
+        let key = key.copy()?;
         let accepted = Accepted {
             event: Event::Send { node, key, to },
             answer: done(FrameNumbers::none(alloc)),
         };
-        self.chronicle.accepted.push(accepted).unwrap();
+        self.chronicle.accept(accepted);
         Ok(done(FrameNumbers::none(alloc)))
+    }
+}
+
+/// All that a sending leaves: the bytes, the key twice and the number of the frame twice.
+#[derive(Drop)]
+struct Sending {
+    bytes: ByteString,
+    kept: MetaKey,
+    told: MetaKey,
+    numbers: FrameNumbers,
+    reply: FrameNumbers,
+}
+
+impl Sending {
+    /// Copies of all.
+    fn of(alloc: Global, key: &MetaKey, number: u64, bytes: ByteString) -> Result<Self, AllocError>
+        ensures { IfOk result (λ sending. sending ≡ record { bytes = bytes; kept = key.now; told = key.now; numbers = number ∷ []; reply = number ∷ [] }) }
+    {
+        let keys = both(key.copy(), key.copy());
+        let numbers = both(
+            FrameNumbers::one(alloc, number),
+            FrameNumbers::one(alloc, number),
+        );
+        let (bytes, ((kept, told), (numbers, reply))) = both(Ok(bytes), both(keys, numbers))?;
+        Ok(Sending {
+            bytes,
+            kept,
+            told,
+            numbers,
+            reply,
+        })
     }
 }
 
@@ -141,27 +162,46 @@ fn encoded(
     from: NodeId,
     to: NodeId,
     number: u64,
-    key: MetaKey,
+    key: &MetaKey,
     object: Entries,
 ) -> Result<ByteString, AllocError>
     requires apart { from ≢ to }
     requires held { IsHeld object }
-    ensures { IfOk result (Spells (record { from = from; to = to; number = number; message = Gossip 0 key object })) }
+    ensures { IfOk result (Spells (record { from = from; to = to; number = number; message = Gossip 0 key.now object })) }
 {
     // Read for what they tell: the numbers of nodes and the lengths of names are in range.
     let _ = (from.number(), to.number(), key.key().len());
-    let message = Message::Gossip {
-        round: 0,
-        key,
-        object,
-    };
-    let frame = Frame {
+    let (key, object) = both(key.copy(), Ok(object))?;
+    let frame = gossip(from, to, number, key, object);
+    let bytes = bytes_of(alloc, &frame);
+    // Dropped by a call: no case of the proof then takes it apart.
+    drop(frame);
+    bytes
+}
+
+/// The frame of an object.
+fn gossip(from: NodeId, to: NodeId, number: u64, key: MetaKey, object: Entries) -> Frame
+    ensures { result ≡ record { from = from; to = to; number = number; message = Gossip 0 key object } }
+{
+    Frame {
         from,
         to,
         number,
-        message,
-    };
-    match encode(alloc, &frame) {
+        message: Message::Gossip {
+            round: 0,
+            key,
+            object,
+        },
+    }
+}
+
+/// The bytes of a frame that is lawful and not too long.
+fn bytes_of(alloc: Global, frame: &Frame) -> Result<ByteString, AllocError>
+    requires lawful { IsLawful frame.now }
+    requires short { length (spelling frame.now) ≤ limit }
+    ensures { IfOk result (Spells frame.now) }
+{
+    match encode(alloc, frame) {
         Ok(bytes) => Ok(ByteString::new(bytes)),
         Err(FrameFault::Memory) => Err(AllocError),
         Err(_) => unreachable!(),

@@ -1,15 +1,16 @@
 //! Writes and reads.
 
-ghost use Rattle.std.specs.Prelude.{◌≡◌, ◌<◌, ◌⊎◌, [], length, slice_get, Some, IfOk, IfErr, IfSome};
+ghost use Rattle.std.specs.Prelude.{◌≡◌, ◌<◌, ◌⊎◌, [], length, slice_get, Some, IfOk, IfErr, IfSome, OnErr, OnOk};
 ghost use Rattle.std.specs.Option.{option_copied, option_and_then};
 ghost use Rattle.dvvset.specs.Clock.{join};
 ghost use Rattle.meta_store.specs.Table.{object_at};
 ghost use Rattle.meta_store.specs.Step.{refusal_of_put};
 ghost use Rattle.meta_store.specs.declared.fault.StoreFault.TheVariants.{Memory};
-ghost use Rattle.past_model.specs.declared.happening.Happening.TheVariants.{Looked, Wrote};
+ghost use Rattle.node_images.specs.Node.{image_of_write, with_write};
+ghost use Rattle.past_model.specs.declared.happening.Happening.TheVariants.{Wrote};
 ghost use Rattle.world_core.specs.Outcome.{Outcome, next_read};
-ghost use Rattle.world_core.specs.Refusal.{HasNoRead, context_of, node_at, present, table_of};
-ghost use Rattle.world_core.specs.Plan.{IsPlan, IsShown};
+ghost use Rattle.world_core.specs.Refusal.{HasNoRead};
+ghost use Rattle.world_core.specs.Plan.{IsShown, IsWritten};
 ghost use Rattle.world_core.specs.Steps.{IsPlaceOf};
 ghost use Rattle.world_core.specs.declared.answer.Reply.TheVariants as OfReply;
 ghost use Rattle.world_core.specs.declared.event.Event.TheVariants.{Get, Put, PutOver};
@@ -17,6 +18,7 @@ ghost use Rattle.world_core.specs.declared.fault.WorldFault.TheVariants.{NoSuchR
 
 use crate::answer::{Accepted, Answer, FrameNumbers, Reply, Values};
 use crate::apply::place_of;
+use crate::both::{after, both};
 use crate::event::Event;
 use crate::fault::WorldFault;
 use crate::world::World;
@@ -57,97 +59,73 @@ impl World {
     pub(crate) fn put(
         &mut self,
         node: u64,
-        key: MetaKey,
-        value: Value,
+        key: &MetaKey,
+        value: &Value,
         read: Option<u64>,
     ) -> Result<Answer, WorldFault>
-        ensures { Outcome self.old (Put node key value read) result self.new }
+        ensures { Outcome self.old (Put node key.now value.now read) result self.new }
     {
         let id = self.node_id(node)?;
         let place = self.place_of_read(read)?;
-        let context = context_at(self.chronicle.contexts.as_slice(), place);
-        let plan = Plan::of(
-            &self.nodes[usize::from(id.number())],
-            id,
-            &key,
-            &value,
-            context,
-        )?;
-        self.put_as_planned(id, key, value, read, place, plan)
+        self.put_at(id, key, value, read, place)
     }
 
-    /// A write that a store takes, once all that it leaves is made.
-    fn put_as_planned(
+    /// A write on a node, with the context of the read at a place.
+    fn put_at(
         &mut self,
         node: NodeId,
-        key: MetaKey,
-        value: Value,
+        key: &MetaKey,
+        value: &Value,
         read: Option<u64>,
         place: Option<usize>,
-        plan: Plan,
     ) -> Result<Answer, WorldFault>
         requires low { node < length self.old.nodes }
         requires place { IsPlaceOf self.old read place }
-        requires plan { IsPlan (node_at self.old node) node key value (context_of self.old read) plan }
-        ensures { Outcome self.old (Put node key value read) result self.new }
+        ensures { Outcome self.old (Put node key.now value.now read) result self.new }
     {
         let alloc = self.alloc();
-        let number = u64::from(node.number());
         self.chronicle.reserve()?;
         let seen = look_at(self.chronicle.looks.as_slice(), place);
         let context = context_at(self.chronicle.contexts.as_slice(), place);
-        self.nodes[usize::from(node.number())].write(plan.image, node, key, value, context)?;
-        self.chronicle
-            .history
-            .push(plan.told.wrote(node, seen))
-            .unwrap();
+        let target = &mut self.nodes[usize::from(node.number())];
+        let written = write(target, node, key, value, context)?;
         let accepted = Accepted {
-            event: plan.kept.put(number, read),
-            answer: wrote(alloc, None, plan.reply),
+            event: written.kept.put(u64::from(node.number()), read),
+            answer: wrote(alloc, None, written.reply),
         };
-        self.chronicle.accepted.push(accepted).unwrap();
-        Ok(wrote(alloc, None, plan.vector))
+        self.chronicle
+            .tell(written.told.wrote(node, seen), accepted);
+        Ok(wrote(alloc, None, written.vector))
     }
 
     /// A read.
-    pub(crate) fn get(&mut self, node: u64, key: MetaKey) -> Result<Answer, WorldFault>
-        ensures { Outcome self.old (Get node key) result self.new }
+    pub(crate) fn get(&mut self, node: u64, key: &MetaKey) -> Result<Answer, WorldFault>
+        ensures { Outcome self.old (Get node key.now) result self.new }
     {
         let id = self.node_id(node)?;
-        let source = self.next_source(id);
-        let store = self.nodes[usize::from(id.number())].store();
-        let shown = Shown::of(store, &key, source)?;
-        self.get_as_shown(id, key, shown)
+        self.get_at(id, key)
     }
 
-    /// A read, once all that it leaves is made.
-    fn get_as_shown(
-        &mut self,
-        node: NodeId,
-        key: MetaKey,
-        shown: Shown,
-    ) -> Result<Answer, WorldFault>
-        requires low { node < length self.old.nodes }
-        requires shown { IsShown (table_of self.old node) (present self.old node key) shown }
-        ensures { Outcome self.old (Get node key) result self.new }
+    /// A read of a node.
+    fn get_at(&mut self, node: NodeId, key: &MetaKey) -> Result<Answer, WorldFault>
+        requires { node < length self.old.nodes }
+        ensures { Outcome self.old (Get node key.now) result self.new }
     {
         let alloc = self.alloc();
-        let number = u64::from(node.number());
         let source = self.next_source(node);
         let read = source.step;
         self.chronicle.reserve()?;
-        let place = self.chronicle.history.len();
-        self.chronicle.looks.push(place).unwrap();
-        self.chronicle.contexts.push(shown.context).unwrap();
-        self.chronicle
-            .history
-            .push(looked_at(node, shown.key))
-            .unwrap();
+        let there = self.nodes[usize::from(node.number())].store();
+        let shown = Shown::of(there, key, source)?;
         let accepted = Accepted {
-            event: Event::Get { node: number, key },
+            event: Event::Get {
+                node: u64::from(node.number()),
+                key: shown.kept,
+            },
             answer: looked(alloc, read, shown.values, shown.handed),
         };
-        self.chronicle.accepted.push(accepted).unwrap();
+        self.chronicle
+            .look(node, shown.key, shown.context, accepted);
         Ok(looked(alloc, read, shown.copies, shown.reply))
     }
 
@@ -155,87 +133,60 @@ impl World {
     pub(crate) fn put_over(
         &mut self,
         node: u64,
-        key: MetaKey,
-        value: Value,
+        key: &MetaKey,
+        value: &Value,
     ) -> Result<Answer, WorldFault>
-        ensures { Outcome self.old (PutOver node key value) result self.new }
+        ensures { Outcome self.old (PutOver node key.now value.now) result self.new }
     {
         let id = self.node_id(node)?;
-        let source = self.next_source(id);
-        let there = &self.nodes[usize::from(id.number())];
-        let (_, context) = there.store().look(&key, source)?;
-        let plan = Plan::of(there, id, &key, &value, Some(&context))?;
-        let told = key.copy()?;
-        self.put_over_as_planned(id, key, value, context, told, plan)
+        self.put_over_at(id, key, value)
     }
 
-    /// A read and a write that a store takes, once all that it leaves is made; `told` is a copy of the key.
-    fn put_over_as_planned(
+    /// A read of a node, and a write with its context.
+    fn put_over_at(
         &mut self,
         node: NodeId,
-        key: MetaKey,
-        value: Value,
-        context: Context,
-        told: MetaKey,
-        plan: Plan,
+        key: &MetaKey,
+        value: &Value,
     ) -> Result<Answer, WorldFault>
-        requires low { node < length self.old.nodes }
-        requires context { context ≡ present self.old node key }
-        requires told { told ≡ key }
-        requires plan { IsPlan (node_at self.old node) node key value (Some (present self.old node key)) plan }
-        ensures { Outcome self.old (PutOver node key value) result self.new }
+        requires { node < length self.old.nodes }
+        ensures { Outcome self.old (PutOver node key.now value.now) result self.new }
     {
         let alloc = self.alloc();
-        let number = u64::from(node.number());
         let source = self.next_source(node);
         let read = source.step;
         self.chronicle.reserve()?;
-        let place = self.chronicle.history.len();
-        self.nodes[usize::from(node.number())].write(plan.image, node, key, value, Some(&context))?;
-        self.chronicle.looks.push(place).unwrap();
-        self.chronicle.contexts.push(context).unwrap();
-        self.chronicle.history.push(looked_at(node, told)).unwrap();
-        self.chronicle
-            .history
-            .push(plan.told.wrote(node, Some(place)))
-            .unwrap();
+        let there = &mut self.nodes[usize::from(node.number())];
+        let ((looked, context), written) = write_over(there, node, key, value, source)?;
         let accepted = Accepted {
-            event: plan.kept.put_over(number),
-            answer: wrote(alloc, Some(read), plan.reply),
+            event: written.kept.put_over(u64::from(node.number())),
+            answer: wrote(alloc, Some(read), written.reply),
         };
-        self.chronicle.accepted.push(accepted).unwrap();
-        Ok(wrote(alloc, Some(read), plan.vector))
+        self.chronicle
+            .look_and_tell(node, looked, context, written.told, accepted);
+        Ok(wrote(alloc, Some(read), written.vector))
     }
 }
 
-/// All that a write leaves beside what stands in the store: the next image, the vector twice, and the write twice.
-#[derive(Debug, Drop)]
-pub(crate) struct Plan {
-    pub(crate) image: Image,
+/// What a write leaves beside what stands on its node: the vector twice, and the write twice.
+#[derive(Drop)]
+pub(crate) struct Written {
     pub(crate) vector: Vector,
     pub(crate) reply: Vector,
     pub(crate) kept: Pair,
     pub(crate) told: Pair,
 }
 
-impl Plan {
-    /// The plan of a write on a node, refused as the write would be.
-    fn of(
-        node: &Node,
-        id: NodeId,
-        key: &MetaKey,
-        value: &Value,
-        context: Option<&Context>,
-    ) -> Result<Self, StoreFault>
-        ensures plan { IfOk result (IsPlan node.now id key.now value.now (option_copied context.entry)) }
-        ensures fault { IfErr result (λ fault. (fault ≡ Memory) ⊎ (refusal_of_put node.now.table id key.now value.now (option_copied context.entry) ≡ Some fault)) }
+impl Written {
+    /// Copies of all.
+    fn of(key: &MetaKey, value: &Value, vector: Vector) -> Result<Self, AllocError>
+        ensures { IfOk result (λ written. written ≡ record { vector = vector; reply = vector; kept = record { key = key.now; value = value.now }; told = record { key = key.now; value = value.now } }) }
     {
-        let (image, vector) = node.next_image(id, key, value.copy()?, context)?;
-        let reply = vector.copy()?;
-        let kept = Pair::of(key, value)?;
-        let told = Pair::of(key, value)?;
-        Ok(Plan {
-            image,
+        let copy = vector.copy();
+        let vectors = both(Ok(vector), copy);
+        let pairs = both(Pair::of(key, value), Pair::of(key, value));
+        let ((vector, reply), (kept, told)) = both(vectors, pairs)?;
+        Ok(Written {
             vector,
             reply,
             kept,
@@ -244,8 +195,78 @@ impl Plan {
     }
 }
 
-/// All that a read leaves: the values and the context, for all who are told of it, and a copy of the key.
-#[derive(Debug, Drop)]
+/// A write on a node, with the context of what it has read, if anything. It is refused as by
+/// `Node::write`, and then nothing changes.
+fn write(
+    node: &mut Node,
+    id: NodeId,
+    key: &MetaKey,
+    value: &Value,
+    context: Option<&Context>,
+) -> Result<Written, StoreFault>
+    ensures value { OnOk result (node.new ≡ with_write id key.now value.now (option_copied context.entry) node.old) }
+    ensures written { IfOk result (IsWritten node.old id key.now value.now (option_copied context.entry)) }
+    ensures fault { IfErr result (λ fault. (fault ≡ Memory) ⊎ (refusal_of_put node.old.table id key.now value.now (option_copied context.entry) ≡ Some fault)) }
+    ensures same { OnErr result (node.new ≡ node.old) }
+{
+    let ((image, stored), written) = planned(node, id, key, value, context)?;
+    let done = node.write(image, id, stored.key, stored.value, context);
+    after(done, written)
+}
+
+/// The image of a write, with copies of the key and the value, and what it leaves beside that. It is
+/// refused as the write would be.
+fn planned(
+    node: &Node,
+    id: NodeId,
+    key: &MetaKey,
+    value: &Value,
+    context: Option<&Context>,
+) -> Result<((Image, Pair), Written), StoreFault>
+    ensures image { IfOk result (λ plan. plan.0.0 ≡ image_of_write id key.now value.now (option_copied context.entry) node.now) }
+    ensures stored { IfOk result (λ plan. plan.0.1 ≡ record { key = key.now; value = value.now }) }
+    ensures written { IfOk result (λ plan. IsWritten node.now id key.now value.now (option_copied context.entry) plan.1) }
+    ensures fault { IfErr result (λ fault. (fault ≡ Memory) ⊎ (refusal_of_put node.now.table id key.now value.now (option_copied context.entry) ≡ Some fault)) }
+{
+    let (image, vector) = node.next_image(id, key, value.copy()?, context)?;
+    let stored = both(Ok(image), Pair::of(key, value));
+    Ok(both(stored, Written::of(key, value, vector))?)
+}
+
+/// A read of a node, and a write on it with its context; the key of the read, and its context. It is
+/// refused as by `Node::write`, and then nothing changes.
+fn write_over(
+    node: &mut Node,
+    id: NodeId,
+    key: &MetaKey,
+    value: &Value,
+    source: Source,
+) -> Result<((MetaKey, Context), Written), StoreFault>
+    ensures value { OnOk result (node.new ≡ with_write id key.now value.now (Some (record { key = key.now; vector = join (object_at node.old.table key.now); source = source })) node.old) }
+    ensures looked { IfOk result (λ over. over.0 ≡ (key.now, record { key = key.now; vector = join (object_at node.old.table key.now); source = source })) }
+    ensures written { IfOk result (λ over. IsWritten node.old id key.now value.now (Some (record { key = key.now; vector = join (object_at node.old.table key.now); source = source })) over.1) }
+    ensures fault { IfErr result (λ fault. (fault ≡ Memory) ⊎ (refusal_of_put node.old.table id key.now value.now (Some (record { key = key.now; vector = join (object_at node.old.table key.now); source = source })) ≡ Some fault)) }
+    ensures same { OnErr result (node.new ≡ node.old) }
+{
+    let context = looked_over(node.store(), key, source)?;
+    let written = write(node, id, key, value, Some(&context.1));
+    both(Ok(context), written)
+}
+
+/// The key and the context of a read of a store.
+fn looked_over(
+    store: &Store,
+    key: &MetaKey,
+    source: Source,
+) -> Result<(MetaKey, Context), AllocError>
+    ensures { IfOk result (λ looked. looked ≡ (key.now, record { key = key.now; vector = join (object_at store.now key.now); source = source })) }
+{
+    let (_, context) = store.look(key, source)?;
+    both(key.copy(), Ok(context))
+}
+
+/// All that a read leaves: the values, the context and the key, for all who are told of it.
+#[derive(Drop)]
 pub(crate) struct Shown {
     pub(crate) values: Values,
     pub(crate) copies: Values,
@@ -253,6 +274,7 @@ pub(crate) struct Shown {
     pub(crate) handed: Context,
     pub(crate) reply: Context,
     pub(crate) key: MetaKey,
+    pub(crate) kept: MetaKey,
 }
 
 impl Shown {
@@ -261,11 +283,13 @@ impl Shown {
         ensures { IfOk result (IsShown store.now (record { key = key.now; vector = join (object_at store.now key.now); source = source })) }
     {
         let (values, context) = store.look(key, source)?;
-        let values = Values::new(values);
-        let copies = values.copy()?;
-        let handed = context.copy()?;
-        let reply = context.copy()?;
-        let key = key.copy()?;
+        let values = twice(Values::new(values));
+        let contexts = thrice(context);
+        let keys = both(key.copy(), key.copy());
+        let (((values, copies), ((context, handed), reply)), (key, kept)) = both(
+            both(values, contexts),
+            keys,
+        )?;
         Ok(Shown {
             values,
             copies,
@@ -273,12 +297,32 @@ impl Shown {
             handed,
             reply,
             key,
+            kept,
         })
     }
 }
 
+/// Values and a copy.
+fn twice(values: Values) -> Result<(Values, Values), AllocError>
+    ensures { IfOk result (λ twice. twice ≡ (values, values)) }
+{
+    let copy = values.copy();
+    both(Ok(values), copy)
+}
+
+/// A context and two copies.
+fn thrice(context: Context) -> Result<((Context, Context), Context), AllocError>
+    ensures { IfOk result (λ thrice. thrice ≡ ((context, context), context)) }
+{
+    let copies = both(context.copy(), context.copy());
+    match both(Ok(context), copies) {
+        Ok((context, (handed, reply))) => Ok(((context, handed), reply)),
+        Err(error) => Err(error),
+    }
+}
+
 /// A key and a value, to be kept.
-#[derive(Debug, Drop)]
+#[derive(Drop)]
 pub(crate) struct Pair {
     pub(crate) key: MetaKey,
     pub(crate) value: Value,
@@ -289,13 +333,12 @@ impl Pair {
     fn of(key: &MetaKey, value: &Value) -> Result<Self, AllocError>
         ensures { IfOk result (λ pair. pair ≡ record { key = key.now; value = value.now }) }
     {
-        let key = key.copy()?;
-        let value = value.copy()?;
+        let (key, value) = both(key.copy(), value.copy())?;
         Ok(Pair { key, value })
     }
 
     /// The write as a happening.
-    fn wrote(self, node: NodeId, seen: Option<usize>) -> Happening
+    pub(crate) fn wrote(self, node: NodeId, seen: Option<usize>) -> Happening
         ensures { result ≡ Wrote node self.key self.value seen }
     {
         Happening::Wrote {
@@ -328,13 +371,6 @@ impl Pair {
             value: self.value,
         }
     }
-}
-
-/// A read as a happening.
-fn looked_at(node: NodeId, key: MetaKey) -> Happening
-    ensures { result ≡ Looked node key }
-{
-    Happening::Looked { node, key }
 }
 
 /// The answer to a write, with the number of its read if it was one.

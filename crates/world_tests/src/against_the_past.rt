@@ -1,17 +1,16 @@
 //! Random schedules, after each event of which every node shows what the sets of places of the history do.
 
-use crate::acts::{Act, event, key};
+use crate::acts::{Act, DONE, FRESH, K, L, SHORT, STALE, gives, key, new_world};
 use meta_store::Store;
-use meta_types::{ByteString, NodeId};
+use meta_types::{ByteString, MetaKey, NodeId};
 use past_model::Plain;
 use std::alloc::Global;
-use std::test::Fail;
-use world_core::event::Event;
+use std::process::Abort;
 use world_core::world::World;
 
-const NODES: u16 = 4;
+const NODES: u16 = 3;
 
-const KEYS: [u8; 2] = [b'k', b'l'];
+const KEYS: [u16; 2] = [K, L];
 
 /// Numbers that look random, the same in each run.
 #[derive(Drop)]
@@ -37,13 +36,33 @@ impl Dice {
         self.below(u64::from(NODES))
     }
 
-    fn key(&mut self) -> u8 {
-        if self.below(2) == 0 { KEYS[0] } else { KEYS[1] }
+    fn key(&mut self) -> u16 {
+        if self.below(2) == 0 { K } else { L }
     }
 
     /// A number from 1 to `last`, or 1.
     fn number(&mut self, last: u64) -> u64 {
         self.below(last).saturating_add(1)
+    }
+}
+
+/// How many events gave what.
+#[derive(Drop)]
+struct Tally {
+    done: u64,
+    fresh: u64,
+    stale: u64,
+    refused: u64,
+}
+
+impl Tally {
+    fn count(&mut self, number: u16) {
+        match number {
+            DONE => self.done = self.done.saturating_add(1),
+            FRESH => self.fresh = self.fresh.saturating_add(1),
+            STALE => self.stale = self.stale.saturating_add(1),
+            _ => self.refused = self.refused.saturating_add(1),
+        }
     }
 }
 
@@ -56,22 +75,9 @@ fn reads(world: &World) -> u64 {
         .count() as u64
 }
 
-fn makes_image(event: &Event, of: u64) -> bool {
-    match event {
-        Event::Put { node, .. } => *node == of,
-        Event::PutOver { node, .. } => *node == of,
-        Event::Keep { node, .. } => *node == of,
-        _ => false,
-    }
-}
-
 /// The number of the node's last image.
-pub fn last_image(world: &World, node: u64) -> u64 {
-    world
-        .accepted()
-        .iter()
-        .filter(|accepted| makes_image(&accepted.event, node))
-        .count() as u64
+fn last_image(world: &World, node: u64) -> u64 {
+    world.images(node).map_or(0, |images| images.len() as u64)
 }
 
 /// The addressee of a frame, whose low byte stands there.
@@ -114,73 +120,67 @@ fn next_act(world: &World, dice: &mut Dice, letter: u8) -> Act {
     }
 }
 
-fn is_shown(
+/// Tells whether the node, which has this store, shows under the key what the sets of places do.
+fn is_right(
+    rt: &impl Abort,
     alloc: Global,
     plain: &Plain,
     store: &Store,
-    node: u16,
-    name: u8,
-) -> Result<bool, Fail> {
-    let (node, key) = (NodeId::new(node)?, key(alloc, name)?);
-    let (values, vector) = store.get(&key)?;
-    let siblings = plain.siblings(alloc, node, &key)?;
-    let context = plain.context(alloc, node, &key)?;
-    Ok(siblings.as_slice() == values.as_slice() && context == vector)
+    node: NodeId,
+    key: &MetaKey,
+) -> bool {
+    let (values, vector) = store.get(key).expect(rt, "memory");
+    let siblings = plain.siblings(alloc, node, key).expect(rt, "memory");
+    let context = plain.context(alloc, node, key).expect(rt, "memory");
+    values.as_slice() == siblings.as_slice() && vector == context
 }
 
-/// Tells whether the node shows under each key what the sets of places do.
-fn is_right(alloc: Global, plain: &Plain, world: &World, node: u16) -> Result<bool, Fail> {
-    let Some(store) = world.state(u64::from(node)) else {
-        return Ok(false);
-    };
-    for name in KEYS {
-        if !is_shown(alloc, plain, store, node, name)? {
-            return Ok(false);
+/// Tells whether each node shows under the key what the sets of places do.
+fn are_right(rt: &impl Abort, alloc: Global, plain: &Plain, world: &World, name: u16) -> bool {
+    let key = key(rt, alloc, SHORT, name);
+    for number in 0..NODES {
+        let node = NodeId::new(number).expect(rt, "a node");
+        let store = world.state(u64::from(number)).expect(rt, "a node");
+        if !is_right(rt, alloc, plain, store, node, &key) {
+            return false;
         }
     }
-    Ok(true)
+    true
 }
 
 /// Tells whether each node shows under each key what the sets of places do.
-pub fn are_right(alloc: Global, world: &World) -> Result<bool, Fail> {
-    let plain = Plain::replay(alloc, world.history())?;
-    for node in 0..NODES {
-        if !is_right(alloc, &plain, world, node)? {
-            return Ok(false);
-        }
-    }
-    Ok(true)
-}
-
-/// Applies one event, and tells whether each node then shows what the sets of places do.
-fn stays_right(
-    alloc: Global,
-    world: &mut World,
-    dice: &mut Dice,
-    letter: u8,
-) -> Result<bool, Fail> {
-    let act = next_act(world, dice, letter);
-    // Refusals are part of it: what is refused changes nothing.
-    let _ = world.apply(event(alloc, act)?);
-    are_right(alloc, world)
+fn is_shown(rt: &impl Abort, alloc: Global, world: &World) -> bool {
+    let plain = Plain::replay(alloc, world.history()).expect(rt, "memory");
+    KEYS.iter()
+        .all(|name| are_right(rt, alloc, &plain, world, *name))
 }
 
 /// The first step of a new schedule, from 1, after which a node shows something else; 0 where there is none.
-fn first_wrong(alloc: Global, dice: &mut Dice) -> Result<u8, Fail> {
-    let mut world = World::new(alloc, u64::from(NODES))?;
-    for step in 0..60 {
-        if !stays_right(alloc, &mut world, dice, step)? {
-            return Ok(step + 1);
+fn first_wrong(rt: &impl Abort, alloc: Global, dice: &mut Dice, tally: &mut Tally) -> u8 {
+    let mut world = new_world(rt, alloc, u64::from(NODES));
+    for step in 0..40 {
+        let act = next_act(&world, dice, step);
+        tally.count(gives(rt, alloc, SHORT, &mut world, act));
+        if !is_shown(rt, alloc, &world) {
+            return step + 1;
         }
     }
-    Ok(0)
+    0
 }
 
 #[test]
-fn nodes_show_what_sets_of_places_do(rt: HostRuntime) -> Result<(), Fail> {
+fn nodes_show_what_sets_of_places_do(rt: HostRuntime) {
     let mut dice = Dice { state: 1 };
-    for _ in 0..40 {
-        assert_eq!(rt; first_wrong(rt.alloc(), &mut dice)?, 0);
+    let mut tally = Tally {
+        done: 0,
+        fresh: 0,
+        stale: 0,
+        refused: 0,
+    };
+    for _ in 0..60 {
+        assert_eq!(rt; first_wrong(&rt, rt.alloc(), &mut dice, &mut tally), 0);
     }
-    Ok(())
+    // Were everything refused, or nothing delivered, all would agree too.
+    assert!(rt; tally.done >= 1_200 && tally.refused >= 100);
+    assert!(rt; tally.fresh >= 50 && tally.stale >= 50);
 }

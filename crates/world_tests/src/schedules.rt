@@ -1,417 +1,396 @@
-//! Short schedules on small worlds: what each event gives, and what the nodes then show.
+//! Short schedules on two nodes, worked out by hand: what each event gives, and what the nodes then show.
 
-use crate::acts::{Act, event, key};
-use crate::checks::{Counts, is_done, is_fresh, is_refused, is_stale};
-use dvvset::Vector;
-use meta_store::Store;
-use meta_types::{TypeFault, Value};
+use crate::acts::{Act, DONE, FRESH, K, L, MEMORY, SHORT, STALE, gives, key, new_world};
+use dvvset::Entries;
+use meta_types::{MetaKey, Value};
 use std::alloc::Global;
-use std::test::Fail;
-use world_core::answer::{Accepted, Answer, Reply};
-use world_core::event::Event;
-use world_core::fault::WorldFault;
+use std::process::Abort;
 use world_core::world::World;
 
-/// What an event gives. A context is told by its writers with their counters, values by their letters.
-#[derive(Clone, Copy, Debug)]
-pub enum Outcome {
-    Wrote(&'static [(u16, u64)]),
-    /// A read of this number, with the context of what then stands.
-    WroteOver(u64, &'static [(u16, u64)]),
-    /// A read of this number.
-    Looked(u64, &'static [(u16, u64)], &'static [u8]),
-    /// The number of the frame.
-    Sent(u64),
-    Fresh,
-    Stale,
-    Done,
-    /// The number of the refusal.
-    Refused(u16),
-}
+/// The letters of the values that a node shows under K, with dots for none, and how many writes of node 0 and of node 1
+/// their context counts.
+pub type Shown = ([u8; 3], [u64; 2]);
 
-#[derive(Clone, Copy, Debug)]
-enum Step {
-    /// The event gives this, and where it is refused nothing is kept of it.
-    Gives(Act, Outcome),
-    /// The node shows this context and these values under the key.
-    Shows(u64, u8, &'static [(u16, u64)], &'static [u8]),
-}
+/// An event, what it gives, and what nodes 0 and 1 then show.
+pub type Row = (Act, u16, Shown, Shown);
 
-pub fn is_letter(value: &Value, letter: u8) -> bool {
-    value.body().is_some_and(|body| body == [letter].as_slice())
-}
+pub const NOTHING: Shown = (*b"...", [0, 0]);
 
-fn are_letters(values: &[Value], letters: &[u8]) -> bool {
-    values.len() == letters.len()
-        && values
-            .iter()
-            .zip(letters)
-            .all(|(value, letter)| is_letter(value, *letter))
-}
+/// A PRUNE from node 0 to node 1.
+pub const PRUNE: &[u8] = b"PT\x01\x04\0\0\0\x01\0\0\0\0\0\0\0\x05\0\0\0\0";
 
-fn is_context(vector: &Vector, counters: &[(u16, u64)]) -> bool {
-    let found = vector.counters();
-    found.len() == counters.len()
-        && found.iter().zip(counters).all(|(found, counter)| found.id().number() == counter.0
-            && found.count() == counter.1)
-}
-
-fn has_wrote(reply: &Reply, counters: &[(u16, u64)]) -> bool {
-    match reply {
-        Reply::Wrote { vector } => is_context(vector, counters),
-        _ => false,
+/// The only byte of the value's body, or a question mark.
+fn letter(value: &Value) -> u8 {
+    match value.body() {
+        Some([letter]) => *letter,
+        _ => b'?',
     }
 }
 
-fn has_looked(reply: &Reply, counters: &[(u16, u64)], letters: &[u8]) -> bool {
-    match reply {
-        Reply::Looked { values, context } => {
-            is_context(context.vector(), counters) && are_letters(values.as_slice(), letters)
+/// The letters of the values, with dots after the last; of more than three the first.
+fn letters(object: &Entries) -> [u8; 3] {
+    let mut letters = *b"...";
+    let mut places = letters.iter_mut();
+    for entry in object.entries() {
+        for value in entry.values() {
+            if let Some(place) = places.next() {
+                *place = letter(value);
+            }
         }
-        _ => false,
+    }
+    letters
+}
+
+fn counts(object: &Entries) -> [u64; 2] {
+    let mut counts = [0, 0];
+    for entry in object.entries() {
+        if entry.id().number() == 0 {
+            counts[0] = entry.count();
+        } else {
+            counts[1] = entry.count();
+        }
+    }
+    counts
+}
+
+fn shows(world: &World, node: u64, key: &MetaKey, shown: Shown) -> bool {
+    let Some(store) = world.state(node) else {
+        return false;
+    };
+    match store.object(key) {
+        Some(object) => (letters(object), counts(object)) == shown,
+        None => shown == NOTHING,
     }
 }
 
-fn is_reply(reply: &Reply, want: Outcome) -> bool {
-    match want {
-        Outcome::Wrote(counters) => has_wrote(reply, counters),
-        Outcome::WroteOver(_, counters) => has_wrote(reply, counters),
-        Outcome::Looked(_, counters, letters) => has_looked(reply, counters, letters),
-        Outcome::Sent(_) => is_done(reply),
-        Outcome::Fresh => is_fresh(reply),
-        Outcome::Stale => is_stale(reply),
-        Outcome::Done => is_done(reply),
-        Outcome::Refused(_) => false,
-    }
+fn images(world: &World, node: u64) -> usize {
+    world.images(node).map_or(0, |images| images.len())
 }
 
-fn read_of(want: Outcome) -> Option<u64> {
-    match want {
-        Outcome::WroteOver(read, _) => Some(read),
-        Outcome::Looked(read, _, _) => Some(read),
-        _ => None,
-    }
+/// How much a world has of what only grows: accepted events, frames, happenings, and images of nodes 0 and 1.
+fn sizes(world: &World) -> [usize; 5] {
+    [
+        world.accepted().len(),
+        world.frames().len(),
+        world.history().len(),
+        images(world, 0),
+        images(world, 1),
+    ]
 }
 
-fn are_sent(sent: &[u64], want: Outcome) -> bool {
-    match want {
-        Outcome::Sent(frame) => sent == [frame].as_slice(),
-        _ => sent.is_empty(),
-    }
-}
-
-pub fn is_answer(answer: &Answer, want: Outcome) -> bool {
-    is_reply(&answer.reply, want)
-        && answer.read == read_of(want)
-        && are_sent(answer.sent.as_slice(), want)
-}
-
-pub fn is_outcome(outcome: &Result<Answer, WorldFault>, want: Outcome) -> bool {
-    match (outcome, want) {
-        (_, Outcome::Refused(code)) => is_refused(outcome, code),
-        (Ok(answer), _) => is_answer(answer, want),
-        (Err(_), _) => false,
-    }
-}
-
-fn gives(world: &mut World, event: Event, want: Outcome) -> bool {
-    let before = Counts::of(world);
-    let is_given = is_outcome(&world.apply(event), want);
-    let is_same = before == Counts::of(world);
-    is_given && is_same == matches!(want, Outcome::Refused(_))
-}
-
-pub fn is_shown(
+/// Applies the event and answers the number of what it gives. Where it was refused memory and has changed nothing it
+/// is applied once more.
+fn gives_at_last(
+    rt: &impl Abort,
     alloc: Global,
-    store: &Store,
-    name: u8,
-    counters: &[(u16, u64)],
-    letters: &[u8],
-) -> Result<bool, TypeFault> {
-    let (values, vector) = store.get(&key(alloc, name)?)?;
-    Ok(is_context(&vector, counters) && are_letters(values.as_slice(), letters))
-}
-
-fn is_right(alloc: Global, world: &mut World, step: Step) -> Result<bool, Fail> {
-    match step {
-        Step::Gives(act, want) => Ok(gives(world, event(alloc, act)?, want)),
-        Step::Shows(node, name, counters, letters) => match world.state(node) {
-            Some(store) => Ok(is_shown(alloc, store, name, counters, letters)?),
-            None => Ok(false),
-        },
+    world: &mut World,
+    key: &MetaKey,
+    act: Act,
+    before: [Shown; 2],
+) -> u16 {
+    let sizes_before = sizes(world);
+    match gives(rt, alloc, SHORT, world, act) {
+        MEMORY
+            if sizes(world) == sizes_before
+                && shows(world, 0, key, before[0])
+                && shows(world, 1, key, before[1]) => { gives(rt, alloc, SHORT, world, act) }
+        number => number,
     }
 }
 
-/// The number of the first step, from 1, that goes another way in a new world of so many nodes; 0 where there is
-/// none.
-fn first_that_fails(alloc: Global, nodes: u64, steps: &[Step]) -> Result<usize, Fail> {
-    let mut world = World::new(alloc, nodes)?;
-    for (at, step) in steps.iter().enumerate() {
-        if !is_right(alloc, &mut world, *step)? {
-            return Ok(at + 1);
+/// The number of the first row, from 1, that goes another way in a new world; 0 where there is none.
+pub fn first_wrong(rt: &impl Abort, alloc: Global, rows: &[Row]) -> usize {
+    let mut world = new_world(rt, alloc, 2);
+    let key = key(rt, alloc, SHORT, K);
+    let mut before = [NOTHING, NOTHING];
+    for (at, row) in rows.iter().enumerate() {
+        let (act, want, zero, one) = *row;
+        let number = gives_at_last(rt, alloc, &mut world, &key, act, before);
+        if number != want || !shows(&world, 0, &key, zero) || !shows(&world, 1, &key, one) {
+            return at + 1;
         }
+        before = [zero, one];
     }
-    Ok(0)
+    0
 }
 
-#[test]
-fn writes_that_have_not_read_each_other_stand_side_by_side(rt: HostRuntime) -> Result<(), Fail> {
-    let steps = [
-        Step::Gives(Act::Put(0, b'k', b'x', None), Outcome::Wrote(&[(0, 1)])),
-        Step::Gives(Act::Get(0, b'k'), Outcome::Looked(1, &[(0, 1)], b"x")),
-        Step::Gives(Act::Put(0, b'k', b'y', None), Outcome::Wrote(&[(0, 2)])),
-        Step::Shows(0, b'k', &[(0, 2)], b"yx"),
-        // The context is from elsewhere: here nothing stands under the key.
-        Step::Gives(
-            Act::Put(1, b'k', b'z', Some(1)),
-            Outcome::Wrote(&[(0, 1), (1, 1)]),
-        ),
-        Step::Shows(1, b'k', &[(0, 1), (1, 1)], b"z"),
-        Step::Gives(Act::Send(0, b'k', 1), Outcome::Sent(1)),
-        Step::Gives(Act::Send(1, b'k', 0), Outcome::Sent(2)),
-        Step::Gives(Act::Deliver(1, 1), Outcome::Fresh),
-        Step::Gives(Act::Deliver(2, 0), Outcome::Fresh),
-        Step::Shows(0, b'k', &[(0, 2), (1, 1)], b"yz"),
-        Step::Shows(1, b'k', &[(0, 2), (1, 1)], b"yz"),
-    ];
-    assert_eq!(rt; first_that_fails(rt.alloc(), 2, &steps)?, 0);
-    Ok(())
-}
-
-#[test]
-fn equal_bytes_of_two_writers_are_two_values(rt: HostRuntime) -> Result<(), Fail> {
-    let steps = [
-        Step::Gives(Act::Put(0, b'k', b'x', None), Outcome::Wrote(&[(0, 1)])),
-        Step::Gives(Act::Put(1, b'k', b'x', None), Outcome::Wrote(&[(1, 1)])),
-        Step::Gives(Act::Send(0, b'k', 1), Outcome::Sent(1)),
-        Step::Gives(Act::Deliver(1, 1), Outcome::Fresh),
-        Step::Gives(Act::Send(1, b'k', 0), Outcome::Sent(2)),
-        Step::Gives(Act::Deliver(2, 0), Outcome::Fresh),
-        Step::Shows(0, b'k', &[(0, 1), (1, 1)], b"xx"),
-        Step::Shows(1, b'k', &[(0, 1), (1, 1)], b"xx"),
-    ];
-    assert_eq!(rt; first_that_fails(rt.alloc(), 2, &steps)?, 0);
-    Ok(())
-}
-
-#[test]
-fn a_write_replaces_what_its_read_showed(rt: HostRuntime) -> Result<(), Fail> {
-    let steps = [
-        Step::Gives(Act::Put(0, b'k', b'x', None), Outcome::Wrote(&[(0, 1)])),
-        Step::Gives(Act::Get(0, b'k'), Outcome::Looked(1, &[(0, 1)], b"x")),
-        Step::Gives(Act::Put(0, b'k', b'y', Some(1)), Outcome::Wrote(&[(0, 2)])),
-        Step::Shows(0, b'k', &[(0, 2)], b"y"),
-    ];
-    assert_eq!(rt; first_that_fails(rt.alloc(), 1, &steps)?, 0);
-    Ok(())
-}
-
-#[test]
-fn a_write_over_what_stands_is_a_read_too(rt: HostRuntime) -> Result<(), Fail> {
-    let steps = [
-        Step::Gives(Act::Put(0, b'k', b'x', None), Outcome::Wrote(&[(0, 1)])),
-        Step::Gives(Act::Get(0, b'k'), Outcome::Looked(1, &[(0, 1)], b"x")),
-        Step::Gives(Act::Put(0, b'm', b'y', Some(1)), Outcome::Refused(26)),
-        Step::Gives(
-            Act::PutOver(0, b'k', b'z'),
-            Outcome::WroteOver(2, &[(0, 2)]),
-        ),
-        Step::Shows(0, b'k', &[(0, 2)], b"z"),
-        // It showed x alone.
-        Step::Gives(Act::Put(0, b'k', b'w', Some(2)), Outcome::Wrote(&[(0, 3)])),
-        Step::Shows(0, b'k', &[(0, 3)], b"wz"),
-        Step::Shows(0, b'm', &[], b""),
-    ];
-    assert_eq!(rt; first_that_fails(rt.alloc(), 1, &steps)?, 0);
-    Ok(())
-}
-
-#[test]
-fn a_frame_is_stale_where_its_writes_are_known(rt: HostRuntime) -> Result<(), Fail> {
-    let steps = [
-        Step::Gives(Act::Put(0, b'k', b'x', None), Outcome::Wrote(&[(0, 1)])),
-        Step::Gives(Act::Send(0, b'k', 1), Outcome::Sent(1)),
-        Step::Gives(Act::Get(0, b'k'), Outcome::Looked(1, &[(0, 1)], b"x")),
-        Step::Gives(Act::Put(0, b'k', b'y', Some(1)), Outcome::Wrote(&[(0, 2)])),
-        Step::Gives(Act::Send(0, b'k', 1), Outcome::Sent(2)),
-        Step::Gives(Act::Deliver(2, 1), Outcome::Fresh),
-        Step::Gives(Act::Deliver(2, 1), Outcome::Stale),
-        Step::Gives(Act::Deliver(1, 1), Outcome::Stale),
-        Step::Shows(1, b'k', &[(0, 2)], b"y"),
-    ];
-    assert_eq!(rt; first_that_fails(rt.alloc(), 2, &steps)?, 0);
-    Ok(())
-}
-
-#[test]
-fn a_restart_forgets_what_no_image_has(rt: HostRuntime) -> Result<(), Fail> {
-    let steps = [
-        Step::Gives(Act::Put(0, b'a', b'x', None), Outcome::Wrote(&[(0, 1)])),
-        Step::Gives(Act::Put(1, b'b', b'y', None), Outcome::Wrote(&[(1, 1)])),
-        Step::Gives(Act::Send(1, b'b', 0), Outcome::Sent(1)),
-        Step::Gives(Act::Deliver(1, 0), Outcome::Fresh),
-        Step::Shows(0, b'b', &[(1, 1)], b"y"),
-        Step::Gives(Act::Restart(0, 1), Outcome::Done),
-        Step::Shows(0, b'a', &[(0, 1)], b"x"),
-        Step::Shows(0, b'b', &[], b""),
-        Step::Gives(Act::Deliver(1, 0), Outcome::Fresh),
-        Step::Shows(0, b'b', &[(1, 1)], b"y"),
-    ];
-    assert_eq!(rt; first_that_fails(rt.alloc(), 2, &steps)?, 0);
-    Ok(())
-}
-
-#[test]
-fn an_image_without_a_write_of_the_node_is_stale(rt: HostRuntime) -> Result<(), Fail> {
-    let steps = [
-        Step::Gives(Act::Put(0, b'k', b'x', None), Outcome::Wrote(&[(0, 1)])),
-        Step::Gives(Act::Restart(0, 0), Outcome::Refused(41)),
-        Step::Shows(0, b'k', &[(0, 1)], b"x"),
-        Step::Gives(Act::Put(0, b'k', b'y', None), Outcome::Wrote(&[(0, 2)])),
-        Step::Gives(Act::Keep(0, b'k'), Outcome::Done),
-        Step::Gives(Act::Keep(0, b'm'), Outcome::Done),
-        Step::Gives(Act::Restart(0, 0), Outcome::Refused(41)),
-        Step::Gives(Act::Restart(0, 1), Outcome::Refused(41)),
-        Step::Gives(Act::Restart(0, 2), Outcome::Done),
-        Step::Gives(Act::Restart(0, 3), Outcome::Done),
-        Step::Gives(Act::Restart(0, 4), Outcome::Done),
-        Step::Gives(Act::Restart(0, 5), Outcome::Refused(46)),
-        Step::Shows(0, b'k', &[(0, 2)], b"yx"),
-        Step::Shows(0, b'm', &[], b""),
-    ];
-    assert_eq!(rt; first_that_fails(rt.alloc(), 1, &steps)?, 0);
-    Ok(())
-}
-
-#[test]
-fn each_image_has_what_was_kept_till_then(rt: HostRuntime) -> Result<(), Fail> {
-    let steps = [
-        Step::Gives(Act::Put(1, b'a', b'x', None), Outcome::Wrote(&[(1, 1)])),
-        Step::Gives(Act::Put(1, b'b', b'y', None), Outcome::Wrote(&[(1, 1)])),
-        Step::Gives(Act::Send(1, b'a', 0), Outcome::Sent(1)),
-        Step::Gives(Act::Send(1, b'b', 0), Outcome::Sent(2)),
-        Step::Gives(Act::Deliver(1, 0), Outcome::Fresh),
-        Step::Gives(Act::Deliver(2, 0), Outcome::Fresh),
-        Step::Gives(Act::Keep(0, b'a'), Outcome::Done),
-        Step::Gives(Act::Keep(0, b'm'), Outcome::Done),
-        Step::Gives(Act::Keep(0, b'b'), Outcome::Done),
-        Step::Gives(Act::Restart(0, 4), Outcome::Refused(46)),
-        Step::Gives(Act::Restart(0, 2), Outcome::Done),
-        Step::Shows(0, b'a', &[(1, 1)], b"x"),
-        Step::Shows(0, b'b', &[], b""),
-        Step::Gives(Act::Restart(0, 3), Outcome::Done),
-        Step::Shows(0, b'a', &[(1, 1)], b"x"),
-        Step::Shows(0, b'b', &[(1, 1)], b"y"),
-        Step::Gives(Act::Restart(0, 0), Outcome::Done),
-        Step::Shows(0, b'a', &[], b""),
-        Step::Shows(0, b'b', &[], b""),
-        Step::Gives(Act::Restart(0, 1), Outcome::Done),
-        Step::Shows(0, b'a', &[(1, 1)], b"x"),
-        Step::Shows(0, b'b', &[], b""),
-    ];
-    assert_eq!(rt; first_that_fails(rt.alloc(), 2, &steps)?, 0);
-    Ok(())
-}
-
-#[test]
-fn a_missing_node_is_refused_first(rt: HostRuntime) -> Result<(), Fail> {
-    let steps = [
-        Step::Gives(Act::Put(7, b'k', b'x', Some(99)), Outcome::Refused(44)),
-        Step::Gives(Act::Get(7, b'k'), Outcome::Refused(44)),
-        Step::Gives(Act::PutOver(7, b'k', b'x'), Outcome::Refused(44)),
-        Step::Gives(Act::Send(9, b'k', 9), Outcome::Refused(44)),
-        Step::Gives(Act::Send(9, b'k', 0), Outcome::Refused(44)),
-        Step::Gives(Act::Send(0, b'k', 9), Outcome::Refused(44)),
-        Step::Gives(Act::Deliver(5, 7), Outcome::Refused(44)),
-        Step::Gives(Act::Junk(7, b"PT"), Outcome::Refused(44)),
-        Step::Gives(Act::Keep(7, b'k'), Outcome::Refused(44)),
-        Step::Gives(Act::Restart(7, 9), Outcome::Refused(44)),
-    ];
-    assert_eq!(rt; first_that_fails(rt.alloc(), 2, &steps)?, 0);
-    Ok(())
-}
-
-#[test]
-fn what_is_not_there_is_refused(rt: HostRuntime) -> Result<(), Fail> {
-    let steps = [
-        Step::Gives(Act::Send(0, b'k', 1), Outcome::Done),
-        Step::Gives(Act::Put(0, b'k', b'x', None), Outcome::Wrote(&[(0, 1)])),
-        Step::Gives(Act::Send(0, b'k', 1), Outcome::Sent(1)),
-        Step::Gives(Act::Put(0, b'k', b'y', Some(99)), Outcome::Refused(43)),
-        Step::Gives(Act::Put(0, b'k', b'y', Some(0)), Outcome::Refused(43)),
-        Step::Gives(Act::Deliver(5, 1), Outcome::Refused(42)),
-        Step::Gives(Act::Deliver(0, 1), Outcome::Refused(42)),
-        Step::Gives(Act::Deliver(1, 0), Outcome::Refused(40)),
-        Step::Gives(Act::Send(0, b'k', 0), Outcome::Refused(3)),
-        Step::Gives(Act::Restart(0, 9), Outcome::Refused(46)),
-        Step::Gives(Act::Junk(0, b"PT"), Outcome::Refused(10)),
-        // A PRUNE from node 0 to node 1.
-        Step::Gives(
-            Act::Junk(1, b"PT\x01\x04\0\0\0\x01\0\0\0\0\0\0\0\x05\0\0\0\0"),
-            Outcome::Refused(45),
-        ),
-        Step::Shows(0, b'k', &[(0, 1)], b"x"),
-        Step::Shows(1, b'k', &[], b""),
-    ];
-    assert_eq!(rt; first_that_fails(rt.alloc(), 2, &steps)?, 0);
-    Ok(())
-}
-
-#[test]
-fn the_last_of_16_nodes_writes(rt: HostRuntime) -> Result<(), Fail> {
-    let steps = [
-        Step::Gives(Act::Put(15, b'k', b'x', None), Outcome::Wrote(&[(15, 1)])),
-        Step::Shows(15, b'k', &[(15, 1)], b"x"),
-        Step::Gives(Act::Put(16, b'k', b'x', None), Outcome::Refused(44)),
-    ];
-    assert_eq!(rt; first_that_fails(rt.alloc(), 16, &steps)?, 0);
-    Ok(())
-}
-
-pub fn events(alloc: Global, acts: &[Act]) -> Result<Vec<Event>, TypeFault> {
-    let mut events = Vec::new(alloc);
-    for act in acts {
-        events.push(event(alloc, *act)?)?;
-    }
-    Ok(events)
-}
-
-fn are_outcomes(outcomes: &[Result<Answer, WorldFault>], wants: &[Outcome]) -> bool {
-    outcomes.len() == wants.len()
-        && outcomes
-            .iter()
-            .zip(wants)
-            .all(|(outcome, want)| is_outcome(outcome, *want))
-}
-
-fn are_answers(accepted: &[Accepted], wants: &[Outcome]) -> bool {
-    accepted.len() == wants.len()
-        && accepted
-            .iter()
-            .zip(wants)
-            .all(|(accepted, want)| is_answer(&accepted.answer, *want))
-}
-
-#[test]
-fn a_run_goes_on_after_a_refusal(rt: HostRuntime) -> Result<(), Fail> {
-    let alloc = rt.alloc();
-    let acts = [
-        Act::Put(0, b'k', b'x', None),
-        Act::Deliver(9, 1),
-        Act::Send(0, b'k', 1),
+const BLIND_WRITES: [Row; 8] = [
+    (Act::Put(0, K, b'x', None), DONE, (*b"x..", [1, 0]), NOTHING),
+    (Act::Get(0, K), DONE, (*b"x..", [1, 0]), NOTHING),
+    (Act::Put(0, K, b'y', None), DONE, (*b"yx.", [2, 0]), NOTHING),
+    // The context is from elsewhere: here nothing stands under the key.
+    (
+        Act::Put(1, K, b'z', Some(1)),
+        DONE,
+        (*b"yx.", [2, 0]),
+        (*b"z..", [1, 1]),
+    ),
+    (
+        Act::Send(0, K, 1),
+        DONE,
+        (*b"yx.", [2, 0]),
+        (*b"z..", [1, 1]),
+    ),
+    (
+        Act::Send(1, K, 0),
+        DONE,
+        (*b"yx.", [2, 0]),
+        (*b"z..", [1, 1]),
+    ),
+    (
         Act::Deliver(1, 1),
-    ];
-    let events = events(alloc, &acts)?;
-    let mut world = World::new(alloc, 2)?;
-    let outcomes = world.run(alloc, events.as_slice())?;
-    let (wrote, sent) = (Outcome::Wrote(&[(0, 1)]), Outcome::Sent(1));
-    assert!(rt;
-        are_outcomes(
-            outcomes.as_slice(),
-            &[wrote, Outcome::Refused(42), sent, Outcome::Fresh]
-        )
-    );
-    assert!(rt; are_answers(world.accepted(), &[wrote, sent, Outcome::Fresh]));
-    assert_eq!(rt; world.frames().len(), 1);
-    Ok(())
+        FRESH,
+        (*b"yx.", [2, 0]),
+        (*b"yz.", [2, 1]),
+    ),
+    (
+        Act::Deliver(2, 0),
+        FRESH,
+        (*b"yz.", [2, 1]),
+        (*b"yz.", [2, 1]),
+    ),
+];
+
+#[test]
+fn blind_writes_are_siblings_and_a_context_counts_where_nothing_stands(rt: HostRuntime) {
+    assert_eq!(rt; first_wrong(&rt, rt.alloc(), &BLIND_WRITES), 0);
+}
+
+const EQUAL_BYTES: [Row; 6] = [
+    (Act::Put(0, K, b'x', None), DONE, (*b"x..", [1, 0]), NOTHING),
+    (
+        Act::Put(1, K, b'x', None),
+        DONE,
+        (*b"x..", [1, 0]),
+        (*b"x..", [0, 1]),
+    ),
+    (
+        Act::Send(0, K, 1),
+        DONE,
+        (*b"x..", [1, 0]),
+        (*b"x..", [0, 1]),
+    ),
+    (
+        Act::Deliver(1, 1),
+        FRESH,
+        (*b"x..", [1, 0]),
+        (*b"xx.", [1, 1]),
+    ),
+    (
+        Act::Send(1, K, 0),
+        DONE,
+        (*b"x..", [1, 0]),
+        (*b"xx.", [1, 1]),
+    ),
+    (
+        Act::Deliver(2, 0),
+        FRESH,
+        (*b"xx.", [1, 1]),
+        (*b"xx.", [1, 1]),
+    ),
+];
+
+#[test]
+fn two_writes_of_equal_bytes_are_two_values(rt: HostRuntime) {
+    assert_eq!(rt; first_wrong(&rt, rt.alloc(), &EQUAL_BYTES), 0);
+}
+
+const READS: [Row; 9] = [
+    (Act::Put(0, K, b'x', None), DONE, (*b"x..", [1, 0]), NOTHING),
+    (Act::Get(0, K), DONE, (*b"x..", [1, 0]), NOTHING),
+    (
+        Act::Put(0, L, b'y', Some(1)),
+        26,
+        (*b"x..", [1, 0]),
+        NOTHING,
+    ),
+    (Act::PutOver(0, K, b'z'), DONE, (*b"z..", [2, 0]), NOTHING),
+    // The write was read 2, which showed x alone.
+    (
+        Act::Put(0, K, b'w', Some(2)),
+        DONE,
+        (*b"wz.", [3, 0]),
+        NOTHING,
+    ),
+    (Act::Get(0, K), DONE, (*b"wz.", [3, 0]), NOTHING),
+    (
+        Act::Put(0, K, b'v', Some(3)),
+        DONE,
+        (*b"v..", [4, 0]),
+        NOTHING,
+    ),
+    (
+        Act::Put(0, K, b'u', Some(4)),
+        43,
+        (*b"v..", [4, 0]),
+        NOTHING,
+    ),
+    (
+        Act::Put(0, K, b'u', Some(0)),
+        43,
+        (*b"v..", [4, 0]),
+        NOTHING,
+    ),
+];
+
+#[test]
+fn a_write_replaces_what_it_has_read(rt: HostRuntime) {
+    assert_eq!(rt; first_wrong(&rt, rt.alloc(), &READS), 0);
+}
+
+const FRAMES: [Row; 13] = [
+    (Act::Put(0, K, b'x', None), DONE, (*b"x..", [1, 0]), NOTHING),
+    (Act::Send(0, K, 1), DONE, (*b"x..", [1, 0]), NOTHING),
+    (Act::Get(0, K), DONE, (*b"x..", [1, 0]), NOTHING),
+    (
+        Act::Put(0, K, b'y', Some(1)),
+        DONE,
+        (*b"y..", [2, 0]),
+        NOTHING,
+    ),
+    (Act::Send(0, K, 1), DONE, (*b"y..", [2, 0]), NOTHING),
+    // Frame 2 comes first, and then once more; frame 1 comes late.
+    (
+        Act::Deliver(2, 1),
+        FRESH,
+        (*b"y..", [2, 0]),
+        (*b"y..", [2, 0]),
+    ),
+    (
+        Act::Deliver(2, 1),
+        STALE,
+        (*b"y..", [2, 0]),
+        (*b"y..", [2, 0]),
+    ),
+    (
+        Act::Deliver(1, 1),
+        STALE,
+        (*b"y..", [2, 0]),
+        (*b"y..", [2, 0]),
+    ),
+    (
+        Act::Put(1, K, b'z', None),
+        DONE,
+        (*b"y..", [2, 0]),
+        (*b"yz.", [2, 1]),
+    ),
+    // Frame 3 is lost; frame 4 makes up for it.
+    (
+        Act::Send(1, K, 0),
+        DONE,
+        (*b"y..", [2, 0]),
+        (*b"yz.", [2, 1]),
+    ),
+    (
+        Act::Put(1, K, b'w', None),
+        DONE,
+        (*b"y..", [2, 0]),
+        (*b"ywz", [2, 2]),
+    ),
+    (
+        Act::Send(1, K, 0),
+        DONE,
+        (*b"y..", [2, 0]),
+        (*b"ywz", [2, 2]),
+    ),
+    (
+        Act::Deliver(4, 0),
+        FRESH,
+        (*b"ywz", [2, 2]),
+        (*b"ywz", [2, 2]),
+    ),
+];
+
+#[test]
+fn frames_may_be_repeated_reordered_and_lost(rt: HostRuntime) {
+    assert_eq!(rt; first_wrong(&rt, rt.alloc(), &FRAMES), 0);
+}
+
+const RESTARTS: [Row; 14] = [
+    (Act::Put(0, K, b'x', None), DONE, (*b"x..", [1, 0]), NOTHING),
+    (
+        Act::Put(1, K, b'y', None),
+        DONE,
+        (*b"x..", [1, 0]),
+        (*b"y..", [0, 1]),
+    ),
+    (
+        Act::Send(1, K, 0),
+        DONE,
+        (*b"x..", [1, 0]),
+        (*b"y..", [0, 1]),
+    ),
+    (
+        Act::Deliver(1, 0),
+        FRESH,
+        (*b"xy.", [1, 1]),
+        (*b"y..", [0, 1]),
+    ),
+    // No image of node 0 has y.
+    (
+        Act::Restart(0, 1),
+        DONE,
+        (*b"x..", [1, 0]),
+        (*b"y..", [0, 1]),
+    ),
+    (
+        Act::Deliver(1, 0),
+        FRESH,
+        (*b"xy.", [1, 1]),
+        (*b"y..", [0, 1]),
+    ),
+    (Act::Keep(0, K), DONE, (*b"xy.", [1, 1]), (*b"y..", [0, 1])),
+    (
+        Act::Restart(0, 1),
+        DONE,
+        (*b"x..", [1, 0]),
+        (*b"y..", [0, 1]),
+    ),
+    (
+        Act::Restart(0, 2),
+        DONE,
+        (*b"xy.", [1, 1]),
+        (*b"y..", [0, 1]),
+    ),
+    (Act::Restart(0, 3), 46, (*b"xy.", [1, 1]), (*b"y..", [0, 1])),
+    (
+        Act::Put(0, K, b'z', None),
+        DONE,
+        (*b"zxy", [2, 1]),
+        (*b"y..", [0, 1]),
+    ),
+    // Each image before image 3 lacks z, which is of the node itself.
+    (Act::Restart(0, 2), 41, (*b"zxy", [2, 1]), (*b"y..", [0, 1])),
+    (Act::Restart(0, 0), 41, (*b"zxy", [2, 1]), (*b"y..", [0, 1])),
+    (
+        Act::Restart(0, 3),
+        DONE,
+        (*b"zxy", [2, 1]),
+        (*b"y..", [0, 1]),
+    ),
+];
+
+#[test]
+fn a_restart_forgets_what_its_image_lacks(rt: HostRuntime) {
+    assert_eq!(rt; first_wrong(&rt, rt.alloc(), &RESTARTS), 0);
+}
+
+const REFUSALS: [Row; 11] = [
+    (Act::Put(0, K, b'x', None), DONE, (*b"x..", [1, 0]), NOTHING),
+    (Act::Send(0, K, 1), DONE, (*b"x..", [1, 0]), NOTHING),
+    (Act::Put(2, K, b'y', None), 44, (*b"x..", [1, 0]), NOTHING),
+    (Act::Deliver(0, 1), 42, (*b"x..", [1, 0]), NOTHING),
+    (Act::Deliver(2, 1), 42, (*b"x..", [1, 0]), NOTHING),
+    (Act::Deliver(1, 0), 40, (*b"x..", [1, 0]), NOTHING),
+    (Act::Send(0, K, 0), 3, (*b"x..", [1, 0]), NOTHING),
+    // Node 1 holds nothing: no frame is sent.
+    (Act::Send(1, K, 0), DONE, (*b"x..", [1, 0]), NOTHING),
+    (Act::Deliver(2, 0), 42, (*b"x..", [1, 0]), NOTHING),
+    (Act::Junk(0, b"PT"), 10, (*b"x..", [1, 0]), NOTHING),
+    (Act::Junk(1, PRUNE), 45, (*b"x..", [1, 0]), NOTHING),
+];
+
+#[test]
+fn what_cannot_be_done_is_refused(rt: HostRuntime) {
+    assert_eq!(rt; first_wrong(&rt, rt.alloc(), &REFUSALS), 0);
 }

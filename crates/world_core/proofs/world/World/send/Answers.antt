@@ -19,7 +19,7 @@ returns-in_err-addressee c = refused _ NoSuchNode (search rules) (inl (inr (sear
 pub returns-then-eq : goal.returns-then-eq
 returns-then-eq c =
     let same : c.args.node ≡ c.args.to = search rules in
-    refused _ BadNode refl (to_itself_refuses c.args.self.now c.args.node c.args.to c.args.key c.in_ok-from.ensures.value.1 c.in_ok-addressee.ensures.value.1 same) refl
+    refused _ BadNode refl (to_itself_refuses c.args.self.now c.args.node c.args.to c.args.key.now c.in_ok-from.ensures.value.1 c.in_ok-addressee.ensures.value.1 same) refl
 
 pub object_of-requires : goal.object_of-requires
 object_of-requires c = search rules
@@ -48,5 +48,5 @@ send_nothing-requires c =
       low = c.in_ok-from.ensures.value.1;
       there = c.in_ok-addressee.ensures.value.1;
       apart = apart;
-      absent = subst (λ n. find key_cmp c.args.key (table_of c.args.self.now n) ≡ None) from (sym c.in_ok-object.ensures.value ∙ c.in-None.is);
+      absent = subst (λ n. find key_cmp c.args.key.now (table_of c.args.self.now n) ≡ None) from (sym c.in_ok-object.ensures.value ∙ c.in-None.is);
     }

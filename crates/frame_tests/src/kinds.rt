@@ -1,0 +1,85 @@
+//! A body of each kind.
+
+use crate::kept::is_body_kept;
+
+// Round 0, key a/b/k, one value x of node 0.
+pub(crate) const GOSSIP: &[u8] = b"\0\x00\0\x01a\0\x01b\0\x01k\
+    \0\x01\0\x00\0\0\0\0\0\0\0\x01\0\x01\x01\0\0\0\0\0\0\0\0\0\x01x";
+
+// Round 3, key a/b/k, the vector 0:2,1:1.
+pub(crate) const IHAVE: &[u8] = b"\0\x03\0\x01a\0\x01b\0\x01k\
+    \0\x02\0\x00\0\0\0\0\0\0\0\x02\0\x01\0\0\0\0\0\0\0\x01";
+
+// Origin 15, ttl 255, nodes 3, 15, 2 and 15.
+pub(crate) const SHUFFLE: &[u8] = b"\0\x0f\xff\0\x04\0\x03\0\x0f\0\x02\0\x0f";
+
+const XROOT: &[u8] = b"0123456789abcdef0123456789abcdef";
+
+// The prefixes a/b and a/c, each with a digest.
+pub(crate) const XPREFIXES: &[u8] = b"\0\x02\
+    \0\x01a\0\x01b0123456789abcdef0123456789abcdef\
+    \0\x01a\0\x01cfedcba9876543210fedcba9876543210";
+
+// The prefix a/b, and sixteen digests, each of 32 equal letters.
+const XINNER: &[u8] = b"\0\x01a\0\x01b\
+    aaaaaaaaaaaaaaaaaaaaaaaaaaaaaaaabbbbbbbbbbbbbbbbbbbbbbbbbbbbbbbb\
+    ccccccccccccccccccccccccccccccccdddddddddddddddddddddddddddddddd\
+    eeeeeeeeeeeeeeeeeeeeeeeeeeeeeeeeffffffffffffffffffffffffffffffff\
+    gggggggggggggggggggggggggggggggghhhhhhhhhhhhhhhhhhhhhhhhhhhhhhhh\
+    iiiiiiiiiiiiiiiiiiiiiiiiiiiiiiiijjjjjjjjjjjjjjjjjjjjjjjjjjjjjjjj\
+    kkkkkkkkkkkkkkkkkkkkkkkkkkkkkkkkllllllllllllllllllllllllllllllll\
+    mmmmmmmmmmmmmmmmmmmmmmmmmmmmmmmmnnnnnnnnnnnnnnnnnnnnnnnnnnnnnnnn\
+    oooooooooooooooooooooooooooooooopppppppppppppppppppppppppppppppp";
+
+// The prefix a/b, inner node 15, and the same digests.
+pub(crate) const XLEAVES: &[u8] = b"\0\x01a\0\x01b\x0f\
+    aaaaaaaaaaaaaaaaaaaaaaaaaaaaaaaabbbbbbbbbbbbbbbbbbbbbbbbbbbbbbbb\
+    ccccccccccccccccccccccccccccccccdddddddddddddddddddddddddddddddd\
+    eeeeeeeeeeeeeeeeeeeeeeeeeeeeeeeeffffffffffffffffffffffffffffffff\
+    gggggggggggggggggggggggggggggggghhhhhhhhhhhhhhhhhhhhhhhhhhhhhhhh\
+    iiiiiiiiiiiiiiiiiiiiiiiiiiiiiiiijjjjjjjjjjjjjjjjjjjjjjjjjjjjjjjj\
+    kkkkkkkkkkkkkkkkkkkkkkkkkkkkkkkkllllllllllllllllllllllllllllllll\
+    mmmmmmmmmmmmmmmmmmmmmmmmmmmmmmmmnnnnnnnnnnnnnnnnnnnnnnnnnnnnnnnn\
+    oooooooooooooooooooooooooooooooopppppppppppppppppppppppppppppppp";
+
+// The keys k and l of leaf 202 of the prefix a/b, each with a digest.
+pub(crate) const XBUCKET: &[u8] = b"\0\x01a\0\x01b\xca\0\x02\
+    \0\x01k0123456789abcdef0123456789abcdef\
+    \0\x01lfedcba9876543210fedcba9876543210";
+
+// Key a/b/k; node 0 has a tombstone with stamp 9, node 1 two events and no value, node 2 one value of no byte.
+const XOBJECT: &[u8] = b"\0\x01a\0\x01b\0\x01k\0\x03\
+    \0\x00\0\0\0\0\0\0\0\x01\0\x01\0\0\0\0\0\0\0\0\x09\
+    \0\x01\0\0\0\0\0\0\0\x02\0\x00\
+    \0\x02\0\0\0\0\0\0\0\x01\0\x01\x01\0\0\0\0\0\0\0\0\0\x00";
+
+const XWANT: &[u8] = b"\0\x01a\0\x01b\0\x01k";
+
+// The kinds with their numbers; the priority high, and the answer no.
+const BODIES: [(u8, &[u8]); 18] = [
+    (1, GOSSIP),
+    (2, IHAVE),
+    (3, IHAVE),
+    (4, b""),
+    (5, b""),
+    (6, b"\0\x01\x04"),
+    (7, b""),
+    (8, b"\x01"),
+    (9, b"\0"),
+    (10, SHUFFLE),
+    (11, b"\0\x01\0\x07"),
+    (12, XROOT),
+    (13, XPREFIXES),
+    (14, XINNER),
+    (15, XLEAVES),
+    (16, XBUCKET),
+    (17, XOBJECT),
+    (18, XWANT),
+];
+
+#[test]
+fn a_frame_of_each_kind_is_read_copied_and_written(rt: HostRuntime) {
+    for (kind, body) in BODIES {
+        assert!(rt; is_body_kept(rt.alloc(), kind, body), "kind {kind}");
+    }
+}

@@ -1,0 +1,224 @@
+//! Frames at their limits: names of 64, 64 and 256 bytes, 16 writers, 65,535 values, 8,192 rows, and
+//! 16,777,216 bytes.
+
+use crate::kept::{is_body_kept, is_body_written};
+use dvvset::Entries;
+use meta_frame::encode::encode;
+use meta_frame::field::{get_key, get_object};
+use meta_frame::lawful::is_lawful;
+use meta_frame::{Frame, FrameFault, Message};
+use meta_types::{MetaKey, NodeId};
+use std::alloc::{AllocError, Global};
+
+/// A piece of a row of bytes.
+#[derive(Clone, Copy)]
+enum Piece {
+    /// Bytes, so many times.
+    Bytes(u16, &'static [u8]),
+    /// The number of the row, from 0 up, in two bytes.
+    Number,
+}
+
+/// Pieces, and how often they stand one after another.
+type Rows = (u16, &'static [Piece]);
+
+fn put_bytes(out: &mut Vec<u8>, times: u16, bytes: &[u8]) -> Result<(), AllocError> {
+    for _ in 0..times {
+        out.extend_from_slice(bytes)?;
+    }
+    Ok(())
+}
+
+fn put_piece(out: &mut Vec<u8>, piece: Piece, number: u16) -> Result<(), AllocError> {
+    match piece {
+        Piece::Bytes(times, bytes) => put_bytes(out, times, bytes),
+        Piece::Number => out.extend_from_slice(&number.to_be_bytes()),
+    }
+}
+
+fn put_row(out: &mut Vec<u8>, pieces: &[Piece], number: u16) -> Result<(), AllocError> {
+    for piece in pieces {
+        put_piece(out, *piece, number)?;
+    }
+    Ok(())
+}
+
+fn put_rows(out: &mut Vec<u8>, rows: Rows) -> Result<(), AllocError> {
+    for number in 0..rows.0 {
+        put_row(out, rows.1, number)?;
+    }
+    Ok(())
+}
+
+fn put_body(out: &mut Vec<u8>, body: &[Rows]) -> Result<(), AllocError> {
+    for rows in body {
+        put_rows(out, *rows)?;
+    }
+    Ok(())
+}
+
+const LINE: &[u8] = b"xxxxxxxxxxxxxxxxxxxxxxxxxxxxxxxxxxxxxxxxxxxxxxxxxxxxxxxxxxxxxxxx";
+
+const PREFIX: Rows = (
+    1,
+    &[
+        Piece::Bytes(1, b"\0\x40"),
+        Piece::Bytes(1, LINE),
+        Piece::Bytes(1, b"\0\x40"),
+        Piece::Bytes(1, LINE),
+    ],
+);
+
+const LONGEST_NAME: Rows = (1, &[Piece::Bytes(1, b"\x01\0"), Piece::Bytes(4, LINE)]);
+
+const ROUND: Rows = (1, &[Piece::Bytes(1, b"\xff\xff")]);
+
+const INNER: Rows = (1, &[Piece::Bytes(1, b"\x0f")]);
+
+const DIGESTS: Rows = (1, &[Piece::Bytes(8, LINE)]);
+
+const SIXTEEN: Rows = (1, &[Piece::Bytes(1, b"\0\x10")]);
+
+// A counter of eight letters for each number.
+const COUNTERS: Rows = (16, &[Piece::Number, Piece::Bytes(1, b"xxxxxxxx")]);
+
+// And behind each three values of 1,024 letters, with a stamp of eight.
+const ENTRIES: Rows = (
+    16,
+    &[
+        Piece::Number,
+        Piece::Bytes(1, b"xxxxxxxx\0\x03\x01xxxxxxxx\x04\0"),
+        Piece::Bytes(16, LINE),
+        Piece::Bytes(1, b"\x01xxxxxxxx\x04\0"),
+        Piece::Bytes(16, LINE),
+        Piece::Bytes(1, b"\x01xxxxxxxx\x04\0"),
+        Piece::Bytes(16, LINE),
+    ],
+);
+
+// The front of an object of one entry with 65,535 values.
+const MOST: Rows = (1, &[Piece::Bytes(1, b"\0\x01\0\x0fxxxxxxxx\xff\xff")]);
+
+const TOMBSTONES: Rows = (65_535, &[Piece::Bytes(1, b"\0xxxxxxxx")]);
+
+const ROW_COUNT: Rows = (1, &[Piece::Bytes(1, b"\x20\0")]);
+
+const PREFIXES: Rows = (
+    8192,
+    &[
+        Piece::Bytes(1, b"\0\x40"),
+        Piece::Bytes(1, LINE),
+        Piece::Bytes(1, b"\0\x40"),
+        Piece::Number,
+        Piece::Bytes(94, b"x"),
+    ],
+);
+
+const LEAF: Rows = (1, &[Piece::Bytes(1, b"\xff")]);
+
+const KEYS: Rows = (
+    8192,
+    &[
+        Piece::Bytes(1, b"\x01\0"),
+        Piece::Number,
+        Piece::Bytes(286, b"x"),
+    ],
+);
+
+// Bodies by the numbers of their kinds.
+const BODIES: [(u8, &[Rows]); 9] = [
+    (1, &[ROUND, PREFIX, LONGEST_NAME, SIXTEEN, ENTRIES]),
+    (2, &[ROUND, PREFIX, LONGEST_NAME, SIXTEEN, COUNTERS]),
+    (3, &[ROUND, PREFIX, LONGEST_NAME, SIXTEEN, COUNTERS]),
+    (13, &[ROW_COUNT, PREFIXES]),
+    (14, &[PREFIX, DIGESTS]),
+    (15, &[PREFIX, INNER, DIGESTS]),
+    (16, &[PREFIX, LEAF, ROW_COUNT, KEYS]),
+    (17, &[PREFIX, LONGEST_NAME, MOST, TOMBSTONES]),
+    (18, &[PREFIX, LONGEST_NAME]),
+];
+
+fn are_kept(alloc: Global, kind: u8, rows: &[Rows]) -> bool {
+    let mut body = Vec::new(alloc);
+    put_body(&mut body, rows).is_ok() && is_body_kept(alloc, kind, body.as_slice())
+}
+
+#[test]
+fn frames_at_their_limits_are_read_copied_and_written(rt: HostRuntime) {
+    for (kind, rows) in BODIES {
+        assert!(rt; are_kept(rt.alloc(), kind, rows), "kind {kind}");
+    }
+}
+
+// The front of an object of one entry with 16,210 values, and all but the last of them.
+const LONG: Rows = (1, &[Piece::Bytes(1, b"\0\x01\0\x00xxxxxxxx\x3f\x52")]);
+
+const VALUES: Rows = (
+    16_209,
+    &[
+        Piece::Bytes(1, b"\x01xxxxxxxx\x04\0"),
+        Piece::Bytes(16, LINE),
+    ],
+);
+
+// The front of an XOBJECT of a key with the longest names has 410 bytes, that of such an object 14, and a value
+// 11 beside its own: with 466 bytes in the last value the frame has 16,777,216.
+const LAST: Rows = (
+    1,
+    &[
+        Piece::Bytes(1, b"\x01xxxxxxxx\x01\xd2"),
+        Piece::Bytes(466, b"x"),
+    ],
+);
+
+const LONGER: Rows = (
+    1,
+    &[
+        Piece::Bytes(1, b"\x01xxxxxxxx\x01\xd3"),
+        Piece::Bytes(467, b"x"),
+    ],
+);
+
+#[test]
+fn a_frame_of_16777216_bytes_is_read_and_written(rt: HostRuntime) {
+    let mut body = Vec::new(rt.alloc());
+    let rows = [PREFIX, LONGEST_NAME, LONG, VALUES, LAST];
+    assert!(rt; put_body(&mut body, &rows).is_ok() && body.len() == 16_777_196);
+    assert!(rt; is_body_written(rt.alloc(), 17, body.as_slice()));
+}
+
+fn is_frame_too_long(alloc: Global, frame: Frame) -> bool {
+    is_lawful(&frame) && matches!(encode(alloc, &frame), Err(FrameFault::TooLong))
+}
+
+fn exchanged(key: MetaKey, object: Entries) -> Frame {
+    Frame {
+        from: NodeId::new(3).unwrap(),
+        to: NodeId::new(15).unwrap(),
+        number: u64::MAX,
+        message: Message::XObject { key, object },
+    }
+}
+
+fn is_too_long_with(alloc: Global, object: Entries, bytes: &[u8]) -> bool {
+    match get_key(alloc, bytes) {
+        Ok((key, _)) => is_frame_too_long(alloc, exchanged(key, object)),
+        Err(_) => false,
+    }
+}
+
+/// Tells whether the XOBJECT of the object and the key at the front of bytes is lawful, and too long.
+fn is_too_long(alloc: Global, bytes: &[u8]) -> bool {
+    match get_object(alloc, bytes) {
+        Ok((object, rest)) => is_too_long_with(alloc, object, rest),
+        Err(_) => false,
+    }
+}
+
+#[test]
+fn a_frame_of_16777217_bytes_is_too_long(rt: HostRuntime) {
+    let mut parts = Vec::new(rt.alloc());
+    let rows = [LONG, VALUES, LONGER, PREFIX, LONGEST_NAME];
+    assert!(rt; put_body(&mut parts, &rows).is_ok() && parts.len() == 16_777_197);
+    assert!(rt; is_too_long(rt.alloc(), parts.as_slice()));
+}

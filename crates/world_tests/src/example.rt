@@ -1,0 +1,113 @@
+//! The example of README.md.
+
+use meta_types::{FullPrefix, MetaKey, Value};
+use std::alloc::Global;
+use std::process::Abort;
+use world_core::event::Event;
+use world_core::fault::WorldFault;
+use world_core::world::World;
+
+fn bytes(rt: &impl Abort, alloc: Global, text: &str) -> Vec<u8> {
+    text.as_bytes().to_vec(alloc).expect(rt, "memory")
+}
+
+/// The key app/flags/colour.
+fn colour(rt: &impl Abort, alloc: Global) -> MetaKey {
+    let (prefix, sub) = (bytes(rt, alloc, "app"), bytes(rt, alloc, "flags"));
+    let prefix = FullPrefix::new(prefix, sub).expect(rt, "a prefix");
+    MetaKey::new(prefix, bytes(rt, alloc, "colour")).expect(rt, "a key")
+}
+
+fn value(rt: &impl Abort, alloc: Global, text: &str) -> Value {
+    Value::new(0, Some(bytes(rt, alloc, text))).expect(rt, "a value")
+}
+
+fn is_text(value: &Value, text: &str) -> bool {
+    match value.body() {
+        Some(body) => body == text.as_bytes(),
+        None => false,
+    }
+}
+
+/// Tells whether node 1 shows these values under the key, in this order.
+fn shows(rt: &impl Abort, world: &World, key: &MetaKey, texts: &[&str]) -> bool {
+    let store = world.state(1).expect(rt, "a node");
+    let (values, _) = store.get(key).expect(rt, "memory");
+    values.len() == texts.len()
+        && values
+            .iter()
+            .zip(texts)
+            .all(|(value, text)| is_text(value, text))
+}
+
+/// Tells whether the context that node 1 shows counts a write of each node.
+fn counts_one_of_each(rt: &impl Abort, world: &World, key: &MetaKey) -> bool {
+    let store = world.state(1).expect(rt, "a node");
+    let (_, context) = store.get(key).expect(rt, "memory");
+    let counters = context.counters();
+    counters.len() == 2
+        && counters.iter().enumerate().all(|(node, counter)| usize::from(counter.id().number())
+            == node
+            && counter.count() == 1)
+}
+
+fn write(world: &mut World, key: &MetaKey, red: Value, blue: Value) -> Result<(), WorldFault> {
+    // Both nodes write under app/flags/colour, neither knowing of the other's write.
+    world.apply(Event::Put {
+        node: 0,
+        key: key.copy()?,
+        value: red,
+        read: None,
+    })?;
+    world.apply(Event::Put {
+        node: 1,
+        key: key.copy()?,
+        value: blue,
+        read: None,
+    })?;
+    Ok(())
+}
+
+fn send_and_deliver(world: &mut World, key: &MetaKey) -> Result<(), WorldFault> {
+    // Node 0 sends what it holds, as frame 1: a GOSSIP. Frames may be lost, repeated and reordered.
+    world.apply(Event::Send {
+        node: 0,
+        key: key.copy()?,
+        to: 1,
+    })?;
+    world.apply(Event::Deliver {
+        frame: 1,
+        node: 1,
+        word: 0,
+    })?;
+    Ok(())
+}
+
+fn replace(world: &mut World, key: &MetaKey, green: Value) -> Result<(), WorldFault> {
+    // Node 1 shows red and blue, and the context 0:1,1:1. A write with that context replaces both.
+    world.apply(Event::Get {
+        node: 1,
+        key: key.copy()?,
+    })?;
+    world.apply(Event::Put {
+        node: 1,
+        key: key.copy()?,
+        value: green,
+        read: Some(1),
+    })?;
+    Ok(())
+}
+
+#[test]
+fn two_nodes_write_send_and_deliver(rt: HostRuntime) {
+    let alloc = rt.alloc();
+    let key = colour(&rt, alloc);
+    let (red, blue) = (value(&rt, alloc, "red"), value(&rt, alloc, "blue"));
+    let mut world = World::new(alloc, 2).expect(&rt, "a world");
+    write(&mut world, &key, red, blue).expect(&rt, "two writes");
+    send_and_deliver(&mut world, &key).expect(&rt, "a frame");
+    assert!(rt; shows(&rt, &world, &key, &["red", "blue"]));
+    assert!(rt; counts_one_of_each(&rt, &world, &key));
+    replace(&mut world, &key, value(&rt, alloc, "green")).expect(&rt, "a write");
+    assert!(rt; shows(&rt, &world, &key, &["green"]));
+}
