@@ -1,5 +1,6 @@
-//! The fields that frames are made of: their forms, which values have a spelling, how long it is, and
-//! how it is written. What reads them is `field_readers`. Their tests are the crate `frame_tests`.
+//! The fields that frames are made of: their forms, which values have a spelling, how long it is,
+//! and how it is written. What reads them is `field_readers`. Their tests are the crate
+//! `frame_tests`.
 #![tactic(auto)]
 
 pub mod digest;

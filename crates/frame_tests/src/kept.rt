@@ -16,8 +16,8 @@ pub(crate) fn framed(alloc: Global, kind: u8, body: &[u8]) -> Result<Vec<u8>, Al
     Ok(bytes)
 }
 
-/// Tells whether there is a copy, and it is equal to its source. Of any type, since it is proved for all at once
-/// sooner than for the kinds of a frame.
+/// Tells whether there is a copy, and it is equal to its source. It takes any type, since that is
+/// proved sooner than for the kinds of a frame.
 fn is_copy<T: PartialEq + Drop, E: Drop>(copy: Result<T, E>, source: &T) -> bool {
     match copy {
         Ok(copy) => copy == *source,
@@ -50,7 +50,8 @@ fn is_body_read(alloc: Global, kind: u8, body: &[u8], with_copy: bool) -> bool {
     matches!(framed(alloc, kind, body), Ok(bytes) if is_read(alloc, bytes.as_slice(), with_copy))
 }
 
-/// Tells whether the frame of this kind and body is read, copied, and spelled by the same bytes again.
+/// Tells whether the frame of this kind and body is read, copied, and spelled by the same bytes
+/// again.
 pub(crate) fn is_body_kept(alloc: Global, kind: u8, body: &[u8]) -> bool {
     is_body_read(alloc, kind, body, true)
 }

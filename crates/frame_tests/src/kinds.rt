@@ -47,7 +47,8 @@ pub(crate) const XBUCKET: &[u8] = b"\0\x01a\0\x01b\xca\0\x02\
     \0\x01k0123456789abcdef0123456789abcdef\
     \0\x01lfedcba9876543210fedcba9876543210";
 
-// Key a/b/k; node 0 has a tombstone with stamp 9, node 1 two events and no value, node 2 one value of no byte.
+// Key a/b/k; node 0 has a tombstone with stamp 9, node 1 two events and no value, node 2 one value
+// of no byte.
 const XOBJECT: &[u8] = b"\0\x01a\0\x01b\0\x01k\0\x03\
     \0\x00\0\0\0\0\0\0\0\x01\0\x01\0\0\0\0\0\0\0\0\x09\
     \0\x01\0\0\0\0\0\0\0\x02\0\x00\

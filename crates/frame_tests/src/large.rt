@@ -1,5 +1,5 @@
-//! Frames at their limits: names of 64, 64 and 256 bytes, 16 writers, 65,535 values, 8,192 rows, and
-//! 16,777,216 bytes.
+//! Frames at their limits: names of 64, 64 and 256 bytes, 16 writers, 65,535 values, 8,192 rows,
+//! and 16,777,216 bytes.
 
 use crate::kept::{is_body_kept, is_body_written};
 use dvvset::Entries;
@@ -161,8 +161,8 @@ const VALUES: Rows = (
     ],
 );
 
-// The front of an XOBJECT of a key with the longest names has 410 bytes, that of such an object 14, and a value
-// 11 beside its own: with 466 bytes in the last value the frame has 16,777,216.
+// The front of an XOBJECT of a key with the longest names has 410 bytes, that of such an object 14,
+// and a value 11 beside its own: with 466 bytes in the last value the frame has 16,777,216.
 const LAST: Rows = (
     1,
     &[
@@ -207,7 +207,8 @@ fn is_too_long_with(alloc: Global, object: Entries, bytes: &[u8]) -> bool {
     }
 }
 
-/// Tells whether the XOBJECT of the object and the key at the front of bytes is lawful, and too long.
+/// Tells whether the XOBJECT of the object and the key at the front of bytes is lawful, and too
+/// long.
 fn is_too_long(alloc: Global, bytes: &[u8]) -> bool {
     match get_object(alloc, bytes) {
         Ok((object, rest)) => is_too_long_with(alloc, object, rest),

@@ -1,5 +1,5 @@
-//! What the commands of `plumctl` read and print. The program itself only reads its arguments. Their tests
-//! are the crate `text_tests`.
+//! What the commands of `plumctl` read and print. The program itself only reads its arguments.
+//! Their tests are the crate `text_tests`.
 #![tactic(auto)]
 
 mod frame;

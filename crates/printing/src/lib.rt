@@ -1,6 +1,6 @@
-//! Printed forms: of numbers, names, values, contexts and lists, which every command prints alike, and
-//! of frames and their refusals. Each call adds its text at the end of bytes. What no contract says of
-//! them is tested by the crate `text_tests` and by the stored run of the program `plumctl`.
+//! Printed forms: of numbers, names, values, contexts and lists, which every command prints alike,
+//! and of frames and their refusals. Each call adds its text at the end of bytes. What no contract
+//! says of them is tested by the crate `text_tests` and by the stored run of the program `plumctl`.
 #![tactic(auto)]
 
 mod field;

@@ -1,6 +1,6 @@
 //! Readers and writers whose faults have a cause, the lines of a reader within a limit, and writing
-//! whole texts: what the commands over standard input and output stand on. Their tests are the crate
-//! `text_tests`.
+//! whole texts: what the commands over standard input and output stand on. Their tests are the
+//! crate `text_tests`.
 #![tactic(auto)]
 
 mod fault;

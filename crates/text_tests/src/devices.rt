@@ -36,7 +36,8 @@ impl Read for Feed {
     }
 }
 
-/// Gives so many bytes, of which the last of each piece is a line feed. The others are left as they are.
+/// Gives so many bytes, of which the last of each piece is a line feed. The others are left as they
+/// are.
 #[derive(Clone, Copy)]
 pub(crate) struct Lines {
     pub(crate) left: usize,
@@ -54,8 +55,8 @@ impl Read for Lines {
     }
 }
 
-/// Takes so many bytes, at most so many at a time, and then none, or fails where it is told to, at a flush
-/// too. Who waits behind it sees what was flushed alone.
+/// Takes so many bytes, at most so many at a time, and then none, or fails where it is told to, at
+/// a flush too. Who waits behind it sees what was flushed alone.
 #[derive(Clone, Copy)]
 pub(crate) struct Device {
     /// The text that is still to come.

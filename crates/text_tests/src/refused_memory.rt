@@ -1,5 +1,5 @@
-//! Whichever single allocation is refused: a run ends with Memory and a front of the output, and made again
-//! it prints all.
+//! Whichever single allocation is refused: a run ends with Memory and a front of the output, and
+//! made again it prints all.
 
 use crate::devices::{Device, End, Feed};
 use plumctl_core::{Ended, frame_lines};

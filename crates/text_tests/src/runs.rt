@@ -51,8 +51,8 @@ fn a_last_line_feed_starts_no_line(rt: HostRuntime) {
     }
 }
 
-/// How many bytes are seen outside, and how often they were passed on, when this many bytes were given one
-/// by one and the next is waited for; `None` where others were printed.
+/// How many bytes are seen outside, and how often they were passed on, when this many bytes were
+/// given one by one and the next is waited for; `None` where others were printed.
 fn seen_after(alloc: Global, given: usize) -> Option<(usize, u32)> {
     let feed = Feed {
         text: &INPUT[..given.min(INPUT.len())],
@@ -116,8 +116,8 @@ fn an_interruption_is_not_tried_again(rt: HostRuntime) {
     assert!(rt; done == Err(StreamFault::Read));
 }
 
-/// How many bytes a device of so much room took of the text, so many at a time, until the writer failed;
-/// `None` where it took others, or the run ended otherwise.
+/// How many bytes a device of so much room took of the text, so many at a time, until the writer
+/// failed; `None` where it took others, or the run ended otherwise.
 fn taken_until_full(alloc: Global, room: usize, most: usize, fails: bool) -> Option<usize> {
     let feed = Feed {
         text: INPUT,
