@@ -101,21 +101,21 @@ fn a_write_keeps_what_was_not_read(rt: HostRuntime) {
 fn is_copied(object: &Entries) -> bool {
     match object.copy() {
         Ok(copy) => copy == *object,
-        Err(_) => object.copy().is_ok(),
+        Err(_) => object.copy().is_ok_and(|copy| copy == *object),
     }
 }
 
 fn has_values(alloc: Global, object: &Entries, many: usize) -> bool {
     match values(alloc, object) {
         Ok(values) => values.len() == many,
-        Err(_) => values(alloc, object).is_ok(),
+        Err(_) => values(alloc, object).is_ok_and(|values| values.len() == many),
     }
 }
 
 fn is_vector_copied(vector: &Vector) -> bool {
     match vector.copy() {
         Ok(copy) => copy == *vector,
-        Err(_) => vector.copy().is_ok(),
+        Err(_) => vector.copy().is_ok_and(|copy| copy == *vector),
     }
 }
 

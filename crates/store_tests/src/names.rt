@@ -5,7 +5,7 @@ use meta_types::{MetaKey, TypeFault, Value};
 fn is_copied(key: &MetaKey) -> bool {
     match key.copy() {
         Ok(copy) => copy == *key,
-        Err(_) => key.copy().is_ok(),
+        Err(_) => key.copy().is_ok_and(|copy| copy == *key),
     }
 }
 
@@ -13,7 +13,7 @@ fn is_copied(key: &MetaKey) -> bool {
 fn is_value_copied(value: &Value) -> bool {
     match value.copy() {
         Ok(copy) => copy == *value,
-        Err(_) => value.copy().is_ok(),
+        Err(_) => value.copy().is_ok_and(|copy| copy == *value),
     }
 }
 

@@ -311,7 +311,7 @@ fn is_read(store: &Store, key: &MetaKey, many: usize) -> bool {
 fn is_copied(context: &Context) -> bool {
     match context.copy() {
         Ok(copy) => copy == *context,
-        Err(_) => context.copy().is_ok(),
+        Err(_) => context.copy().is_ok_and(|copy| copy == *context),
     }
 }
 

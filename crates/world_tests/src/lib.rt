@@ -14,6 +14,8 @@ mod example;
 #[cfg(test)]
 mod large;
 #[cfg(test)]
+mod refusals;
+#[cfg(test)]
 mod refused_memory;
 #[cfg(test)]
 mod schedules;
