@@ -6,25 +6,25 @@ use Rattle.std.proofs.lemmas.List.{length-drop}
 use Rattle.std.proofs.lemmas.List.Elements.{All-head, All-tail}
 use Rattle.std.proofs.Math.ListN.{drop_of_length-le}
 use Rattle.dvvset.specs.Object.{Counter, RisesFrom, ids_counted, IsCounter, IsVector}
-use Rattle.dvvset.specs.Clock.{counter, descends}
+use Rattle.dvvset.specs.Clock.{count_for, descends}
 use Rattle.dvvset.proofs.Rising.{drop_is}
 
 abbrev Rises : ℕ → List Counter → Type 0
 Rises low cs = RisesFrom low (ids_counted cs)
 
 -- a writer below the least has no counter
-counter-low : (cs : List Counter) (low w : ℕ) → Rises low cs → w < low → counter cs w ≡ 0
+counter-low : (cs : List Counter) (low w : ℕ) → Rises low cs → w < low → count_for cs w ≡ 0
 counter-low [] low w rises lt = refl
 counter-low (c ∷ cs) low w rises lt =
     let first : low ≤ c.id = rises.0 in
     let other : (c.id ≡ w → ⊥) = λ e. absurd (omega arith) in
-    ap (λ b. cond b c.count (counter cs w)) (ne_eqb c.id w other) ∙ counter-low cs (c.id + 1) w rises.1 (omega arith)
+    ap (λ b. cond b c.count (count_for cs w)) (ne_eqb c.id w other) ∙ counter-low cs (c.id + 1) w rises.1 (omega arith)
 
-counter-first : (c : Counter) (cs : List Counter) (w : ℕ) → c.id ≡ w → counter (c ∷ cs) w ≡ c.count
-counter-first c cs w e = ap (λ b. cond b c.count (counter cs w)) (eq-eqb c.id w e)
+counter-first : (c : Counter) (cs : List Counter) (w : ℕ) → c.id ≡ w → count_for (c ∷ cs) w ≡ c.count
+counter-first c cs w e = ap (λ b. cond b c.count (count_for cs w)) (eq-eqb c.id w e)
 
-counter-other : (c : Counter) (cs : List Counter) (w : ℕ) → (c.id ≡ w → ⊥) → counter (c ∷ cs) w ≡ counter cs w
-counter-other c cs w e = ap (λ b. cond b c.count (counter cs w)) (ne_eqb c.id w e)
+counter-other : (c : Counter) (cs : List Counter) (w : ℕ) → (c.id ≡ w → ⊥) → count_for (c ∷ cs) w ≡ count_for cs w
+counter-other c cs w e = ap (λ b. cond b c.count (count_for cs w)) (ne_eqb c.id w e)
 
 gt-leb : (a b : ℕ) → b < a → leb a b ≡ false
 gt-leb a b lt = elim (leb a b) as (λ t. leb a b ≡ t → t ≡ false) [ true ↦ λ e. let le = leb-true a b e in absurd (omega arith) | false ↦ λ e. refl ] refl
@@ -74,8 +74,8 @@ descending_below a b i j x y d li lj ix iy lt =
     let one = (All-head IsCounter y ys (subst (All IsCounter) ey d.counted)).counted.least in
     let rises = subst (Rises 0) ex d.rises_left in
     let first : x.id ≤ x.id = omega arith in
-    let none : counter (x ∷ xs) y.id ≡ 0 = counter-low (x ∷ xs) x.id y.id (first, rises.1) lt in
-    d.same ∙ (λ k. descends (ex k) (ey k)) ∙ ap (λ t. t && descends (x ∷ xs) ys) (gt-leb y.count (counter (x ∷ xs) y.id) (omega arith))
+    let none : count_for (x ∷ xs) y.id ≡ 0 = counter-low (x ∷ xs) x.id y.id (first, rises.1) lt in
+    d.same ∙ (λ k. descends (ex k) (ey k)) ∙ ap (λ t. t && descends (x ∷ xs) ys) (gt-leb y.count (count_for (x ∷ xs) y.id) (omega arith))
 
 -- one writer, whose counter is too small
 pub descending_less : (a b : List Counter) (i j : ℕ) (x y : Counter) → Descending a b i j → i < length a → j < length b → x ≡ get_or a i x → y ≡ get_or b j y → x.id ≡ y.id → x.count < y.count → descends a b ≡ false
@@ -84,8 +84,8 @@ descending_less a b i j x y d li lj ix iy same less =
     let ys = drop (j + 1) b in
     let ex : drop i a ≡ x ∷ xs = drop_is a i x li ix in
     let ey : drop j b ≡ y ∷ ys = drop_is b j y lj iy in
-    let here : counter (x ∷ xs) y.id ≡ x.count = counter-first x xs y.id same in
-    d.same ∙ (λ k. descends (ex k) (ey k)) ∙ ap (λ t. t && descends (x ∷ xs) ys) (gt-leb y.count (counter (x ∷ xs) y.id) (omega arith))
+    let here : count_for (x ∷ xs) y.id ≡ x.count = counter-first x xs y.id same in
+    d.same ∙ (λ k. descends (ex k) (ey k)) ∙ ap (λ t. t && descends (x ∷ xs) ys) (gt-leb y.count (count_for (x ∷ xs) y.id) (omega arith))
 
 -- one writer, whose counter is great enough
 pub descending_next : (a b : List Counter) (i j : ℕ) (x y : Counter) → Descending a b i j → i < length a → j < length b → x ≡ get_or a i x → y ≡ get_or b j y → x.id ≡ y.id → y.count ≤ x.count → Descending a b (i + 1) (j + 1)
@@ -94,7 +94,7 @@ descending_next a b i j x y d li lj ix iy same le =
     let ys = drop (j + 1) b in
     let ex : drop i a ≡ x ∷ xs = drop_is a i x li ix in
     let ey : drop j b ≡ y ∷ ys = drop_is b j y lj iy in
-    let here : counter (x ∷ xs) y.id ≡ x.count = counter-first x xs y.id same in
+    let here : count_for (x ∷ xs) y.id ≡ x.count = counter-first x xs y.id same in
     let rx = subst (Rises 0) ex d.rises_left in
     let ry = subst (Rises 0) ey d.rises_right in
     record {
@@ -104,7 +104,7 @@ descending_next a b i j x y d li lj ix iy same le =
       rises_right = Rises-weaken ys (y.id + 1) 0 ry.1 (omega arith);
       counted = All-tail IsCounter y ys (subst (All IsCounter) ey d.counted);
       same =
-          d.same ∙ (λ k. descends (ex k) (ey k)) ∙ ap (λ t. t && descends (x ∷ xs) ys) (le-leb y.count (counter (x ∷ xs) y.id) (omega arith))
+          d.same ∙ (λ k. descends (ex k) (ey k)) ∙ ap (λ t. t && descends (x ∷ xs) ys) (le-leb y.count (count_for (x ∷ xs) y.id) (omega arith))
           ∙ skip x xs ys (y.id + 1) ry.1 (omega arith);
     }
 
@@ -132,28 +132,28 @@ descending_end a b i j d end = d.same ∙ ap (λ cs. descends (drop i a) cs) (dr
 
 -- ---- by counters
 
-each_from_descends : (v w : List Counter) → descends v w ≡ true → (u : ℕ) → counter w u ≤ counter v u
+each_from_descends : (v w : List Counter) → descends v w ≡ true → (u : ℕ) → count_for w u ≤ count_for v u
 each_from_descends v [] e u = omega arith
 each_from_descends v (c ∷ cs) e u =
-    let parts = and_parts (leb c.count (counter v c.id)) (descends v cs) e in
-    elim (eqb c.id u) as (λ b. eqb c.id u ≡ b → cond b c.count (counter cs u) ≤ counter v u) [
-      | true ↦ λ q. subst (λ n. c.count ≤ counter v n) (eqb-true c.id u q) (leb-true c.count (counter v c.id) parts.0)
+    let parts = and_parts (leb c.count (count_for v c.id)) (descends v cs) e in
+    elim (eqb c.id u) as (λ b. eqb c.id u ≡ b → cond b c.count (count_for cs u) ≤ count_for v u) [
+      | true ↦ λ q. subst (λ n. c.count ≤ count_for v n) (eqb-true c.id u q) (leb-true c.count (count_for v c.id) parts.0)
       | false ↦ λ q. each_from_descends v cs parts.1 u
     ] refl
 
-descends_from_each : (v w : List Counter) (low : ℕ) → Rises low w → ((u : ℕ) → counter w u ≤ counter v u) → descends v w ≡ true
+descends_from_each : (v w : List Counter) (low : ℕ) → Rises low w → ((u : ℕ) → count_for w u ≤ count_for v u) → descends v w ≡ true
 descends_from_each v [] low rises each = refl
 descends_from_each v (c ∷ cs) low rises each =
-    let here : c.count ≤ counter v c.id = subst (λ n. n ≤ counter v c.id) (counter-first c cs c.id refl) (each c.id) in
-    let rest : (u : ℕ) → counter cs u ≤ counter v u = λ u.
-    elim (eqb c.id u) as (λ b. eqb c.id u ≡ b → counter cs u ≤ counter v u) [
+    let here : c.count ≤ count_for v c.id = subst (λ n. n ≤ count_for v c.id) (counter-first c cs c.id refl) (each c.id) in
+    let rest : (u : ℕ) → count_for cs u ≤ count_for v u = λ u.
+    elim (eqb c.id u) as (λ b. eqb c.id u ≡ b → count_for cs u ≤ count_for v u) [
       | true ↦ λ q.
           let same : c.id ≡ u = eqb-true c.id u q in
-          let none : counter cs u ≡ 0 = counter-low cs (c.id + 1) u rises.1 (omega arith) in
+          let none : count_for cs u ≡ 0 = counter-low cs (c.id + 1) u rises.1 (omega arith) in
           omega arith
-      | false ↦ λ q. subst (λ n. n ≤ counter v u) (counter-other c cs u (eqb-false c.id u q)) (each u)
+      | false ↦ λ q. subst (λ n. n ≤ count_for v u) (counter-other c cs u (eqb-false c.id u q)) (each u)
     ] refl in
-    (λ i. le-leb c.count (counter v c.id) here i && descends_from_each v cs (c.id + 1) rises.1 rest i)
+    (λ i. le-leb c.count (count_for v c.id) here i && descends_from_each v cs (c.id + 1) rises.1 rest i)
 
-pub descends-Decides : (v w : List Counter) → IsVector w → Decides (descends v w) ((u : ℕ) → counter w u ≤ counter v u)
+pub descends-Decides : (v w : List Counter) → IsVector w → Decides (descends v w) ((u : ℕ) → count_for w u ≤ count_for v u)
 descends-Decides v w is = (each_from_descends v w, descends_from_each v w 0 is.rising)

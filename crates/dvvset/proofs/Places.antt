@@ -5,7 +5,7 @@ use Rattle.std.proofs.lemmas.List.{get_or_default}
 use Rattle.std.proofs.Math.ListN.{drop_of_length-le}
 use Rattle.meta_types.specs.Value.{ValueParts}
 use Rattle.dvvset.specs.Object.{Entry}
-use Rattle.dvvset.specs.Clock.{join, counter, raise}
+use Rattle.dvvset.specs.Clock.{join, count_for, raise}
 use Rattle.dvvset.specs.Writer.{count_of}
 use Rattle.dvvset.specs.Place.{IsPlace}
 use Rattle.dvvset.proofs.Rising.{drop_is}
@@ -60,13 +60,13 @@ counter-lower w [] (suc a) le lower = absurd (omega arith)
 counter-lower w (x ∷ xs) (suc a) le lower =
     let low : x.id < w = lower 0 x (omega arith) in
     let other : (x.id ≡ w → ⊥) = λ e. absurd (omega arith) in
-    (λ i. cond (ne_eqb x.id w other i) x.count (counter (join xs) w))
+    (λ i. cond (ne_eqb x.id w other i) x.count (count_for (join xs) w))
     ∙ counter-lower w xs a (omega arith) (λ k d lt. lower (suc k) d (omega arith))
 
 pub count_of-same : (w : ℕ) (es : List Entry) (at : ℕ) (x : Entry) → IsPlace w es at → at < length es → x ≡ get_or es at x → x.id ≡ w → count_of es w ≡ x.count
 count_of-same w es at x r lt is same =
     counter-lower w es at r.within r.lower ∙ ap (λ l. count_of l w) (drop_is es at x lt is)
-    ∙ (λ i. cond (eq-eqb x.id w same i) x.count (counter (join (drop (at + 1) es)) w))
+    ∙ (λ i. cond (eq-eqb x.id w same i) x.count (count_for (join (drop (at + 1) es)) w))
 
 -- two reads of one place
 pub same_read : (es : List Entry) (at : ℕ) (x y : Entry) → at < length es → x ≡ get_or es at x → y ≡ get_or es at y → x ≡ y

@@ -7,7 +7,7 @@ use Rattle.std.proofs.lemmas.List.Concat.{flat_map-cons}
 use Rattle.meta_types.specs.Node.{IsNode}
 use Rattle.meta_types.specs.Value.{ValueParts, IsValue}
 use Rattle.dvvset.specs.Object.{Entry, Counter, RisesFrom, ids_of, ids_counted, IsEntry, IsObject, IsCounter, IsVector}
-use Rattle.dvvset.specs.Clock.{join, cover, cut, counter, sync_entry, sync_from, sync, blanks, raise, update, values_of}
+use Rattle.dvvset.specs.Clock.{join, cover, cut, count_for, sync_entry, sync_from, sync, blanks, raise, update, values_of}
 use Rattle.dvvset.specs.Writer.{entry_of, count_of, IsMerged, MergesAt, unread, shown, IsWritten}
 use Rattle.dvvset.proofs.Objects.{object_from_rest}
 use Rattle.dvvset.proofs.Showing.{back_none}
@@ -259,9 +259,9 @@ pub IsObject-blanks : (cs : List Counter) → IsVector cs → IsObject (blanks c
 IsObject-blanks cs is = object_from_rest (blanks cs) (record { rising = Rises-blanks cs 0 is.rising; lawful = All-blanks cs is.counters })
 
 -- what a write knows of each writer before its event
-pub known_counts : (read : List Counter) (object : List Entry) → IsVector read → IsObject object → (w : ℕ) → count_of (sync (blanks read) object) w ≡ max (counter read w) (count_of object w)
+pub known_counts : (read : List Counter) (object : List Entry) → IsVector read → IsObject object → (w : ℕ) → count_of (sync (blanks read) object) w ≡ max (count_for read w) (count_of object w)
 known_counts read object left right w =
-    count_of-sync (blanks read) object (IsObject-blanks read left) right w ∙ ap (λ cs. max (counter cs w) (count_of object w)) (blanks-length read)
+    count_of-sync (blanks read) object (IsObject-blanks read left) right w ∙ ap (λ cs. max (count_for cs w) (count_of object w)) (blanks-length read)
 
 -- an entry that shows nothing
 abbrev IsBlank : Option Entry → Type 0
@@ -296,11 +296,11 @@ unread_at w None (Some e) blank is = sym (take_all (e.count - 0) e.values (let w
 unread_at w (Some b) None blank is = blank
 unread_at w (Some b) (Some e) blank is = unread_entry b e is.0 blank
 
-pub known_values : (read : List Counter) (object : List Entry) → IsVector read → IsObject object → (w : ℕ) → shown (entry_of (sync (blanks read) object) w) ≡ unread (counter read w) (entry_of object w)
+pub known_values : (read : List Counter) (object : List Entry) → IsVector read → IsObject object → (w : ℕ) → shown (entry_of (sync (blanks read) object) w) ≡ unread (count_for read w) (entry_of object w)
 known_values read object left right w =
     ap shown (entry_of-sync (blanks read) object 0 w (Rises-blanks read 0 left.rising) right.rising)
     ∙ unread_at w (entry_of (blanks read) w) (entry_of object w) (entry_is_blank read w) (entry_is_of object w right.entries)
-    ∙ ap (λ n. unread n (entry_of object w)) (sym (count_of-entry (blanks read) w) ∙ ap (λ cs. counter cs w) (blanks-length read))
+    ∙ ap (λ n. unread n (entry_of object w)) (sym (count_of-entry (blanks read) w) ∙ ap (λ cs. count_for cs w) (blanks-length read))
 
 -- one more event of an entry, and the first of a writer
 abbrev pub grown : Entry → ValueParts → Entry

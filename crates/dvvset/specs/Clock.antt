@@ -49,25 +49,28 @@ raise w value [] = (record { id = w; count = 1; values = value ∷ [] }) ∷ []
 raise w value (x ∷ xs) =
     if nat_lt w x.id
     then (record { id = w; count = 1; values = value ∷ [] }) ∷ (x ∷ xs)
-    else (if x.id == w then (record { id = x.id; count = x.count + 1; values = value ∷ x.values }) ∷ xs else x ∷ raise w value xs)
+    else (if x.id == w
+    then (record { id = x.id; count = x.count + 1; values = value ∷ x.values }) ∷ xs
+    else x ∷ raise w value xs)
 
 -- a write by `w` of a value that has read the vector
 abbrev pub update : List Counter → List Entry → ℕ → ValueParts → List Entry
 update read es w value = raise w value (sync (blanks read) es)
 
 -- a writer's counter, 0 where it is absent
-abbrev pub counter : List Counter → ℕ → ℕ
-counter [] w = 0
-counter (c ∷ cs) w = if c.id == w then c.count else counter cs w
+abbrev pub count_for : List Counter → ℕ → ℕ
+count_for [] w = 0
+count_for (c ∷ cs) w = if c.id == w then c.count else count_for cs w
 
 -- each counter of the second is at most that of the first
 abbrev pub descends : List Counter → List Counter → Bool
 descends a [] = true
-descends a (c ∷ cs) = nat_le c.count (counter a c.id) && descends a cs
+descends a (c ∷ cs) = nat_le c.count (count_for a c.id) && descends a cs
 
 -- equal writers, counters and numbers of values
 abbrev pub same : List Entry → List Entry → Bool
 same [] [] = true
 same [] (y ∷ ys) = false
 same (x ∷ xs) [] = false
-same (x ∷ xs) (y ∷ ys) = ((x.id == y.id) && ((x.count == y.count) && (length x.values == length y.values))) && same xs ys
+same (x ∷ xs) (y ∷ ys) = ((x.id == y.id)
+    && ((x.count == y.count) && (length x.values == length y.values))) && same xs ys

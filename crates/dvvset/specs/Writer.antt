@@ -2,7 +2,7 @@
 use Rattle.std.specs.Prelude.{◌≡◌, ℕ, ◌+◌, ◌-◌, ◌==◌, nat_le, max, if◌then◌else◌, List, [], ◌∷◌, ◌++◌, length, take, map, Option, Some, None}
 use Rattle.meta_types.specs.Value.{ValueParts}
 use Rattle.dvvset.specs.Object.{Entry, Counter}
-use Rattle.dvvset.specs.Clock.{join, cover, counter}
+use Rattle.dvvset.specs.Clock.{join, cover, count_for}
 
 -- a writer's entry, if there is one
 abbrev pub entry_of : List Entry → ℕ → Option Entry
@@ -11,7 +11,7 @@ entry_of (x ∷ xs) w = if x.id == w then Some x else entry_of xs w
 
 -- how many events of a writer an object knows
 abbrev pub count_of : List Entry → ℕ → ℕ
-count_of es w = counter (join es) w
+count_of es w = count_for (join es) w
 
 -- ---- a merge
 
@@ -45,8 +45,10 @@ shown (Some e) = e.values
 -- a write of `v` by `id` that has read the vector: of each writer the events that either knows are known, and the
 -- values that were not read stay; the write is one more event of its writer, and its value stands in front
 pub record IsWritten (read : List Counter) (object : List Entry) (id : ℕ) (v : ValueParts) (written : List Entry) : Type 0 where
-  pub counts : (w : ℕ) → count_of written w ≡ max (counter read w) (count_of object w) + (if w == id then 1 else 0)
-  pub values : (w : ℕ) → shown (entry_of written w) ≡ (if w == id then v ∷ [] else []) ++ unread (counter read w) (entry_of object w)
+  pub counts : (w : ℕ) → count_of written w
+      ≡ max (count_for read w) (count_of object w) + (if w == id then 1 else 0)
+  pub values : (w : ℕ) → shown (entry_of written w) ≡ (if w == id then v ∷ [] else [])
+      ++ unread (count_for read w) (entry_of object w)
 
 -- ---- equal clocks
 

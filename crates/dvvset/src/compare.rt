@@ -2,7 +2,7 @@
 
 ghost use Rattle.std.specs.Prelude.{◌≡◌, ◌≤◌, ◌↔◌, ◌∷◌, [], ℕ, IsTrue};
 ghost use Rattle.dvvset.specs.Object.{IsVector};
-ghost use Rattle.dvvset.specs.Clock.{counter, descends, same};
+ghost use Rattle.dvvset.specs.Clock.{count_for, descends, same};
 ghost use Rattle.dvvset.specs.Writer.{count_of, shapes};
 
 use crate::entries::Entries;
@@ -22,11 +22,11 @@ pub fn count_of(entries: &[Entry], id: NodeId) -> u64
     0
 }
 
-/// Tells whether each counter of the second is at most that of the first, so that whoever has read the
+/// Returns whether each counter of the second is at most that of the first, so that whoever has read the
 /// first has read all that the second has. An absent counter is 0. One pass over both.
 pub fn descends(a: &Vector, b: &Vector) -> bool
     ensures value { result ≡ descends a.now b.now }
-    ensures counters { IsTrue result ↔ ((w : ℕ) → counter b.now w ≤ counter a.now w) }
+    ensures counters { IsTrue result ↔ ((w : ℕ) → count_for b.now w ≤ count_for a.now w) }
 {
     descends_from(a.counters(), b.counters())
 }
@@ -56,7 +56,7 @@ fn descends_from(a: &[Counter], b: &[Counter]) -> bool
     true
 }
 
-/// Tells whether two objects have the same writers, each with as many events and as many values.
+/// Returns whether two objects have the same writers, each with as many events and as many values.
 pub fn same(a: &Entries, b: &Entries) -> bool
     ensures value { result ≡ same a.now b.now }
     ensures shapes { IsTrue result ↔ (shapes a.now ≡ shapes b.now) }

@@ -80,14 +80,14 @@ impl Entries {
         self.entries.as_slice()
     }
 
-    /// Tells whether the object is the absent one.
+    /// Returns whether the object is the absent one.
     pub fn is_empty(&self) -> bool
         ensures { IsTrue result ↔ (self.now ≡ []) }
     {
         self.entries.is_empty()
     }
 
-    /// Tells whether the object shows a value.
+    /// Returns whether the object shows a value.
     pub fn has_value(&self) -> bool
         ensures { IsTrue result ↔ (values_of self.now ≢ []) }
     {
@@ -133,7 +133,7 @@ fn copy_entries(alloc: Global, entries: &[Entry]) -> Result<Vec<Entry>, AllocErr
     Ok(copy)
 }
 
-/// Tells whether entries are an object.
+/// Returns whether entries are an object.
 fn is_object(entries: &[Entry]) -> bool
     ensures { IsTrue result ↔ IsObject entries.now }
 {
@@ -148,7 +148,7 @@ fn is_object(entries: &[Entry]) -> bool
     true
 }
 
-/// Tells whether an entry is lawful by itself.
+/// Returns whether an entry is lawful by itself.
 fn is_entry(entry: &Entry) -> bool
     ensures { IsTrue result ↔ IsEntry entry.now }
 {

@@ -1,10 +1,11 @@
 ghost use Rattle.std.specs.Prelude.{◌≡◌, ◌<◌, ◌+◌, ◌⊎◌, ◌++◌, ◌∷◌, IfOk, IfErr, OnOk};
+ghost use Rattle.meta_types.specs.Failing.{FailsWith};
 ghost use Rattle.dvvset.specs.Clock.{cover, cut};
 ghost use Rattle.dvvset.specs.declared.fault.ClockFault.TheVariants.{CounterSpent, Memory};
 
 use crate::fault::ClockFault;
 use meta_types::{NodeId, Value};
-use std::alloc::AllocError;
+use std::alloc::{AllocError, Global};
 use std::marker::Model;
 
 /// The events of one writer: how many there were, and the values of the newest of them, newest first.
@@ -53,11 +54,18 @@ impl Entry {
         self.values.as_slice()
     }
 
+    /// The writer, its count and its values, without taking memory.
+    pub fn into_parts(self) -> (NodeId, u64, Vec<Value>)
+        ensures writer { (result.0 ≡ self.id) × (result.1 ≡ self.count) }
+        ensures values { result.2.items ≡ self.values }
+    {
+        (self.id, self.count, self.values)
+    }
+
     pub fn copy(&self) -> Result<Self, AllocError>
         ensures { IfOk result (λ copy. copy ≡ self.now) }
     {
-        let mut values = Vec::with_capacity(*self.values.allocator(), self.values.len())?;
-        push_copies(&mut values, self.values.as_slice())?;
+        let values = copy_values(*self.values.allocator(), self.values.as_slice())?;
         Ok(Entry {
             id: self.id,
             count: self.count,
@@ -77,8 +85,7 @@ impl Entry {
         ensures { IfOk result (λ entry. entry ≡ cut self.now low) }
     {
         let kept = self.count.saturating_sub(low).min(self.values.len() as u64) as usize;
-        let mut values = Vec::with_capacity(*self.values.allocator(), kept)?;
-        push_copies(&mut values, &self.values[..kept])?;
+        let values = copy_values(*self.values.allocator(), &self.values[..kept])?;
         Ok(Entry {
             id: self.id,
             count: self.count,
@@ -88,9 +95,15 @@ impl Entry {
 
     /// The entry with one more event, whose value goes in front. No value is copied.
     pub(crate) fn raised(self, value: Value) -> Result<Self, ClockFault>
-        ensures value { IfOk result (λ entry. entry ≡ record { id = self.id; count = self.count + 1; values = value ∷ self.values }) }
-        ensures room { OnOk result (self.count < 18446744073709551615) }
-        ensures fault { IfErr result (λ fault. (fault ≡ Memory) ⊎ ((fault ≡ CounterSpent) × (self.count ≡ 18446744073709551615))) }
+        ensures value { IfOk result
+            (λ entry. entry ≡ record {
+              id = self.id;
+              count = self.count + 1;
+              values = value ∷ self.values;
+            }) }
+        ensures room { OnOk result (self.count < u64.MAX) }
+        ensures fault { FailsWith Memory (λ fault. (fault ≡ CounterSpent)
+            × (self.count ≡ u64.MAX)) result }
     {
         let Entry {
             id,
@@ -109,9 +122,18 @@ impl Entry {
     }
 }
 
-/// Adds copies of values at the end, in their order. It takes memory, with the refusal of which alone it is
-/// refused; some of them may have been added then.
-pub fn push_copies(copies: &mut Vec<Value>, values: &[Value]) -> Result<(), AllocError>
+/// Copies of values, in their order. Fails only when memory runs out.
+pub fn copy_values(alloc: Global, values: &[Value]) -> Result<Vec<Value>, AllocError>
+    ensures { IfOk result (λ copies. copies.items ≡ values.now) }
+{
+    let mut copies = Vec::with_capacity(alloc, values.len())?;
+    push_copies(&mut copies, values)?;
+    Ok(copies)
+}
+
+/// Adds copies of values at the end, in their order. Where memory runs out some of them may have been
+/// added.
+pub(crate) fn push_copies(copies: &mut Vec<Value>, values: &[Value]) -> Result<(), AllocError>
     ensures { OnOk result (copies.new.items ≡ copies.old.items ++ values.now) }
 {
     for value in values {

@@ -15,7 +15,7 @@ pub mod write;
 
 pub use compare::{count_of, descends, same};
 pub use entries::{Entries, values};
-pub use entry::{Entry, push_copies};
+pub use entry::{Entry, copy_values};
 pub use fault::ClockFault;
 pub use merge::sync;
 pub use vector::{Counter, Vector, join};

@@ -63,8 +63,10 @@ pub(crate) fn merge(alloc: Global, xs: &[Entry], ys: &[Entry]) -> Result<Vec<Ent
 pub fn sync(alloc: Global, a: &Entries, b: &Entries) -> Result<Entries, AllocError>
     ensures value { IfOk result (λ merged. merged ≡ sync a.now b.now) }
     ensures lawful { IfOk result (λ merged. IsObject merged) }
-    ensures writers { IfOk result (λ merged. (w : ℕ) → MergesAt (entry_of a.now w) (entry_of b.now w) (entry_of merged w)) }
-    ensures counts { IfOk result (λ merged. (w : ℕ) → count_of merged w ≡ max (count_of a.now w) (count_of b.now w)) }
+    ensures writers { IfOk result (λ merged. (w : ℕ)
+        → MergesAt (entry_of a.now w) (entry_of b.now w) (entry_of merged w)) }
+    ensures counts { IfOk result (λ merged. (w : ℕ)
+        → count_of merged w ≡ max (count_of a.now w) (count_of b.now w)) }
 {
     let merged = merge(alloc, a.entries(), b.entries())?;
     Ok(Entries::new(merged))

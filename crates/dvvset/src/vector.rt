@@ -117,7 +117,7 @@ impl Vector {
         self.counters.as_slice()
     }
 
-    /// Tells whether the vector has read nothing.
+    /// Returns whether the vector has read nothing.
     pub fn is_empty(&self) -> bool
         ensures { IsTrue result ↔ (self.now ≡ []) }
     {
@@ -152,7 +152,7 @@ fn counters_of(alloc: Global, entries: &[Entry]) -> Result<Vec<Counter>, AllocEr
     Ok(counters)
 }
 
-/// Tells whether counters are a vector.
+/// Returns whether counters are a vector.
 fn is_vector(counters: &[Counter]) -> bool
     ensures { IsTrue result ↔ IsVector counters.now }
 {

@@ -1,8 +1,9 @@
 //! One more event of a writer.
 
 ghost use Rattle.std.specs.Prelude.{◌≡◌, ◌≢◌, ◌<◌, ◌⊎◌, [], max, IfOk, IfErr, OnOk};
+ghost use Rattle.meta_types.specs.Failing.{FailsWith};
 ghost use Rattle.dvvset.specs.Object.{IsObject};
-ghost use Rattle.dvvset.specs.Clock.{blanks, raise, counter, update, values_of};
+ghost use Rattle.dvvset.specs.Clock.{blanks, raise, count_for, update, values_of};
 ghost use Rattle.dvvset.specs.Writer.{count_of, IsWritten};
 ghost use Rattle.dvvset.specs.Place.{IsPlace};
 ghost use Rattle.dvvset.specs.declared.fault.ClockFault.TheVariants.{CounterSpent, Memory};
@@ -42,8 +43,9 @@ fn place(entries: &[Entry], id: NodeId) -> usize
 fn raise(entries: Vec<Entry>, id: NodeId, value: Value) -> Result<Vec<Entry>, ClockFault>
     requires { IsObject entries.items }
     ensures value { IfOk result (λ raised. raised.items ≡ raise id value entries.items) }
-    ensures room { OnOk result (count_of entries.items id < 18446744073709551615) }
-    ensures fault { IfErr result (λ fault. (fault ≡ Memory) ⊎ ((fault ≡ CounterSpent) × (count_of entries.items id ≡ 18446744073709551615))) }
+    ensures room { OnOk result (count_of entries.items id < u64.MAX) }
+    ensures fault { FailsWith Memory (λ fault. (fault ≡ CounterSpent)
+        × (count_of entries.items id ≡ u64.MAX)) result }
 {
     let mut entries = entries;
     let at = place(entries.as_slice(), id);
@@ -74,8 +76,9 @@ pub fn update(
     ensures lawful { IfOk result (λ written. IsObject written) }
     ensures writers { IfOk result (λ written. IsWritten read.now object.now id value written) }
     ensures shows { IfOk result (λ written. values_of written ≢ []) }
-    ensures room { OnOk result (max (counter read.now id) (count_of object.now id) < 18446744073709551615) }
-    ensures fault { IfErr result (λ fault. (fault ≡ Memory) ⊎ ((fault ≡ CounterSpent) × (max (counter read.now id) (count_of object.now id) ≡ 18446744073709551615))) }
+    ensures room { OnOk result (max (count_for read.now id) (count_of object.now id) < u64.MAX) }
+    ensures fault { FailsWith Memory (λ fault. (fault ≡ CounterSpent)
+        × (max (count_for read.now id) (count_of object.now id) ≡ u64.MAX)) result }
 {
     let _ = (id.number(), value.stamp());
     let read = blanks(alloc, read.counters())?;

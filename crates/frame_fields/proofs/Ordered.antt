@@ -43,7 +43,7 @@ both_tests Less p = refl
 both_tests Equal p = refl
 both_tests Greater p = refl
 
--- what is asked of both parts is that the prefix stands behind
+-- what is asked of both parts is that the prefix stands after
 above_is : (low p : Prefix) → (not (is_before p.prefix low.prefix) && (is_before low.prefix p.prefix || is_before low.sub p.sub)) ≡ is_lt (prefix_cmp low p)
 above_is low p =
     ap (λ o. not (is_lt o) && (is_before low.prefix p.prefix || is_before low.sub p.sub)) (nat_list_cmp_total.antisymm p.prefix low.prefix)
@@ -70,7 +70,7 @@ empty_before (x ∷ xs) least = inl (record { next = x; rest = xs; split = refl 
 
 -- ---- rows
 
--- a form for each row that asks a fact of the row, and that it stands behind the one before
+-- a form for each row that asks a fact of the row, and that it stands after the one before
 record Orders {S A : Type 0} (form : S → Form A) (next : A → S) (start : S) (Row : A → Type 0) (Before : A → A → Type 0) : Type 0 where
   lawful : (s : S) (x : A) → (form s).Fits x → Row x
   behind : (x y : A) → (form (next x)).Fits y → Before x y

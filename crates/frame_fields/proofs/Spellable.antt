@@ -14,7 +14,7 @@ use Rattle.std.proofs.lemmas.List.Concat.{flat_map-cons}
 use Rattle.frame_fields.specs.declared.prefixes.PrefixDigest.{PrefixDigest}
 use Rattle.frame_fields.specs.declared.keys.KeyDigest.{KeyDigest}
 use Rattle.frame_fields.specs.Form.{Form, EachFits, spell_each}
-use Rattle.frame_fields.specs.Field.{number, name, key, counter, above_counter, vector, greatest_count, none, forget, body_form, tag_of, bytes_or_none, value, entry, above_entry, object, is_bare, has_value, node, nodes, digest, digests, place, prefix_row, prefix_of, lowest, prefixes, key_row, key_bytes, keys}
+use Rattle.frame_fields.specs.Field.{number, name, key, counter_form, above_counter, vector, greatest_count, no_state, forget, body_form, tag_of, bytes_or_none, value, entry, above_entry, object, is_bare, has_value, node, nodes, digest, digests, place, prefix_row, prefix_of, lowest, prefixes, key_row, key_bytes, keys}
 use Rattle.frame_fields.specs.Size.{IsShort, IsShortKey}
 
 -- what a number with a rule keeps
@@ -61,11 +61,11 @@ value_in_range v fits = (fits.1.0, body_in_range v.body fits.1.1)
 pub value_fits : (v : ValueParts) → IsValue v → value.Fits v
 value_fits v is = (tag_fits v.body, (is.0, body_fits v.body is.1))
 
-values_in_range : (vs : List ValueParts) → EachFits (λ (_ : ℕ). value) forget none vs → All IsValue vs
+values_in_range : (vs : List ValueParts) → EachFits (λ (_ : ℕ). value) forget no_state vs → All IsValue vs
 values_in_range [] fits = All-nil IsValue
 values_in_range (v ∷ vs) fits = All-cons IsValue v vs (value_in_range v fits.0) (values_in_range vs fits.1)
 
-values_fit : (vs : List ValueParts) → All IsValue vs → EachFits (λ (_ : ℕ). value) forget none vs
+values_fit : (vs : List ValueParts) → All IsValue vs → EachFits (λ (_ : ℕ). value) forget no_state vs
 values_fit [] all = tt
 values_fit (v ∷ vs) all = (value_fits v (All-head IsValue v vs all), values_fit vs (All-tail IsValue v vs all))
 
@@ -77,14 +77,14 @@ count_in_range n fits = let within = number_within w64 1 greatest_count n fits i
 count_fits : (n : ℕ) → IsCount n → (number w64 1 greatest_count).Fits n
 count_fits n is = number_fits w64 1 greatest_count n is.most is.least (omega (arith, is.most))
 
-counter_in_range : (low : ℕ) (c : Counter) → (counter low).Fits c → IsCounter c
+counter_in_range : (low : ℕ) (c : Counter) → (counter_form low).Fits c → IsCounter c
 counter_in_range low c fits = let within = number_within w16 low 15 c.id fits.0 in record { node = omega (arith, within.most); counted = count_in_range c.count fits.1 }
 
-counters_rise : (low : ℕ) (cs : List Counter) → EachFits counter above_counter low cs → RisesFrom low (ids_counted cs)
+counters_rise : (low : ℕ) (cs : List Counter) → EachFits counter_form above_counter low cs → RisesFrom low (ids_counted cs)
 counters_rise low [] fits = tt
 counters_rise low (c ∷ cs) fits = ((number_within w16 low 15 c.id fits.0.0).least, counters_rise (c.id + 1) cs fits.1)
 
-counters_in_range : (low : ℕ) (cs : List Counter) → EachFits counter above_counter low cs → All IsCounter cs
+counters_in_range : (low : ℕ) (cs : List Counter) → EachFits counter_form above_counter low cs → All IsCounter cs
 counters_in_range low [] fits = All-nil IsCounter
 counters_in_range low (c ∷ cs) fits = All-cons IsCounter c cs (counter_in_range low c fits.0) (counters_in_range (c.id + 1) cs fits.1)
 
@@ -93,7 +93,7 @@ vector_in_range cs fits =
     let few = number_within w16 1 65535 (length cs) fits.0 in
     record { rising = counters_rise 0 cs fits.1.1; counters = counters_in_range 0 cs fits.1.1; few = omega (arith, few.most) }
 
-counters_fit : (low : ℕ) (cs : List Counter) → RisesFrom low (ids_counted cs) → All IsCounter cs → EachFits counter above_counter low cs
+counters_fit : (low : ℕ) (cs : List Counter) → RisesFrom low (ids_counted cs) → All IsCounter cs → EachFits counter_form above_counter low cs
 counters_fit low [] rises all = tt
 counters_fit low (c ∷ cs) rises all =
     let one = All-head IsCounter c cs all in
@@ -108,12 +108,12 @@ some_vector [] empty is tells = ((λ h. absurd (let yes : empty ≡ true = tells
 some_vector (c ∷ cs) true is tells = absurd (let no : c ∷ cs ≡ [] = tells.0 refl in cc)
 some_vector (c ∷ cs) false is tells = ((λ h. vector_fits (c ∷ cs) is (omega arith)), (λ fits. refl))
 
-counters_size : (low : ℕ) (cs : List Counter) → length (spell_each counter above_counter low cs) ≡ 10 * length cs
+counters_size : (low : ℕ) (cs : List Counter) → length (spell_each counter_form above_counter low cs) ≡ 10 * length cs
 counters_size low [] = refl
-counters_size low (c ∷ cs) = let rest : length (spell_each counter above_counter (c.id + 1) cs) ≡ 10 * length cs = counters_size (c.id + 1) cs in omega arith
+counters_size low (c ∷ cs) = let rest : length (spell_each counter_form above_counter (c.id + 1) cs) ≡ 10 * length cs = counters_size (c.id + 1) cs in omega arith
 
 pub vector_size : (cs : List Counter) → 2 + 10 * length cs ≡ length (vector.spell cs)
-vector_size cs = let n : length (spell_each counter above_counter 0 cs) ≡ 10 * length cs = counters_size 0 cs in omega arith
+vector_size cs = let n : length (spell_each counter_form above_counter 0 cs) ≡ 10 * length cs = counters_size 0 cs in omega arith
 
 -- ---- objects
 
@@ -180,11 +180,11 @@ spell_any form next spell same s [] = refl
 spell_any form next spell same s (x ∷ xs) =
     (λ i. same s x i ++ spell_each form next (next x) xs) ∙ ap (λ bytes. spell x ++ bytes) (spell_any form next spell same (next x) xs) ∙ sym (flat_map-cons spell x xs)
 
-pub spell_plain : {A : Type 0} (form : Form A) (xs : List A) → spell_each (λ (_ : ℕ). form) forget none xs ≡ flat_map form.spell xs
-spell_plain form xs = spell_any (λ (_ : ℕ). form) forget form.spell (λ s x. refl) none xs
+pub spell_plain : {A : Type 0} (form : Form A) (xs : List A) → spell_each (λ (_ : ℕ). form) forget no_state xs ≡ flat_map form.spell xs
+spell_plain form xs = spell_any (λ (_ : ℕ). form) forget form.spell (λ s x. refl) no_state xs
 
-pub spell_counters : (low : ℕ) (cs : List Counter) → spell_each counter above_counter low cs ≡ flat_map (counter 0).spell cs
-spell_counters low cs = spell_any counter above_counter (counter 0).spell (λ s x. refl) low cs
+pub spell_counters : (low : ℕ) (cs : List Counter) → spell_each counter_form above_counter low cs ≡ flat_map (counter_form 0).spell cs
+spell_counters low cs = spell_any counter_form above_counter (counter_form 0).spell (λ s x. refl) low cs
 
 pub spell_entries : (low : ℕ) (es : List Entry) → spell_each entry above_entry low es ≡ flat_map (entry 0).spell es
 spell_entries low es = spell_any entry above_entry (entry 0).spell (λ s x. refl) low es
@@ -197,23 +197,23 @@ spell_keys low rows = spell_any key_row key_bytes (key_row []).spell (λ s x. re
 
 -- ---- nodes, digests and rows
 
-nodes_size : (ns : List ℕ) → length (spell_each (λ (_ : ℕ). node) forget none ns) ≡ 2 * length ns
+nodes_size : (ns : List ℕ) → length (spell_each (λ (_ : ℕ). node) forget no_state ns) ≡ 2 * length ns
 nodes_size [] = refl
-nodes_size (n ∷ ns) = let rest : length (spell_each (λ (_ : ℕ). node) forget none ns) ≡ 2 * length ns = nodes_size ns in omega arith
+nodes_size (n ∷ ns) = let rest : length (spell_each (λ (_ : ℕ). node) forget no_state ns) ≡ 2 * length ns = nodes_size ns in omega arith
 
 pub all_nodes_size : (ns : List ℕ) → 2 + 2 * length ns ≡ length (nodes.spell ns)
-all_nodes_size ns = let n : length (spell_each (λ (_ : ℕ). node) forget none ns) ≡ 2 * length ns = nodes_size ns in omega arith
+all_nodes_size ns = let n : length (spell_each (λ (_ : ℕ). node) forget no_state ns) ≡ 2 * length ns = nodes_size ns in omega arith
 
-digests_size : (ds : List (List ℕ)) → EachFits (λ (_ : ℕ). digest) forget none ds → length (spell_each (λ (_ : ℕ). digest) forget none ds) ≡ 32 * length ds
+digests_size : (ds : List (List ℕ)) → EachFits (λ (_ : ℕ). digest) forget no_state ds → length (spell_each (λ (_ : ℕ). digest) forget no_state ds) ≡ 32 * length ds
 digests_size [] fits = refl
 digests_size (d ∷ ds) fits =
-    let rest : length (spell_each (λ (_ : ℕ). digest) forget none ds) ≡ 32 * length ds = digests_size ds fits.1 in
+    let rest : length (spell_each (λ (_ : ℕ). digest) forget no_state ds) ≡ 32 * length ds = digests_size ds fits.1 in
     let one : length d ≡ 32 = fits.0 in
-    omega (arith, length-append d (spell_each (λ (_ : ℕ). digest) forget none ds))
+    omega (arith, length-append d (spell_each (λ (_ : ℕ). digest) forget no_state ds))
 
 pub sixteen_size : (ds : List (List ℕ)) → digests.Fits ds → 512 ≡ length (digests.spell ds)
 sixteen_size ds fits =
-    let n : length (spell_each (λ (_ : ℕ). digest) forget none ds) ≡ 32 * length ds = digests_size ds fits.1 in
+    let n : length (spell_each (λ (_ : ℕ). digest) forget no_state ds) ≡ 32 * length ds = digests_size ds fits.1 in
     let many : length ds ≡ 16 = fits.0 in
     omega arith
 

@@ -8,7 +8,7 @@ use Rattle.dvvset.specs.Object.{Entry, Counter}
 use Rattle.frame_fields.specs.declared.prefixes.PrefixDigest.{PrefixDigest}
 use Rattle.frame_fields.specs.declared.keys.KeyDigest.{KeyDigest}
 use Rattle.frame_fields.specs.Form.{spell_each}
-use Rattle.frame_fields.specs.Field.{value, entry, object, above_entry, counter, above_counter, vector, forget, none, node, nodes, digest, digests, prefix_row, prefix_of, lowest, prefixes, key_row, key_bytes, keys}
+use Rattle.frame_fields.specs.Field.{value, entry, object, above_entry, counter_form, above_counter, vector, forget, no_state, node, nodes, digest, digests, prefix_row, prefix_of, lowest, prefixes, key_row, key_bytes, keys}
 use Rattle.frame_fields.proofs.Spellable.{spell_plain, spell_entries, spell_counters, spell_prefixes, spell_keys}
 
 pub written_entry : (front : List ℕ) (e : Entry) → (((front ++ to_be_bytes w16 e.id) ++ to_be_bytes w64 e.count) ++ to_be_bytes w16 (length e.values)) ++ flat_map value.spell e.values ≡ front ++ (entry 0).spell e
@@ -42,11 +42,11 @@ written_object front es = counted_bytes_of front (length es) (spell_each entry a
 pub object_size : (n : ℕ) (es : List Entry) → n ≡ length (flat_map (entry 0).spell es) → 2 + n ≡ length (object.spell es)
 object_size n es e = let same : length (spell_each entry above_entry 0 es) ≡ length (flat_map (entry 0).spell es) = ap length (spell_entries 0 es) in omega arith
 
-pub written_vector : (front : List ℕ) (cs : List Counter) → (front ++ to_be_bytes w16 (length cs)) ++ flat_map (counter 0).spell cs ≡ front ++ vector.spell cs
-written_vector front cs = counted_bytes_of front (length cs) (spell_each counter above_counter 0 cs) (flat_map (counter 0).spell cs) (spell_counters 0 cs)
+pub written_vector : (front : List ℕ) (cs : List Counter) → (front ++ to_be_bytes w16 (length cs)) ++ flat_map (counter_form 0).spell cs ≡ front ++ vector.spell cs
+written_vector front cs = counted_bytes_of front (length cs) (spell_each counter_form above_counter 0 cs) (flat_map (counter_form 0).spell cs) (spell_counters 0 cs)
 
 pub written_nodes : (front : List ℕ) (ns : List ℕ) → (front ++ to_be_bytes w16 (length ns)) ++ flat_map node.spell ns ≡ front ++ nodes.spell ns
-written_nodes front ns = counted_bytes_of front (length ns) (spell_each (λ (_ : ℕ). node) forget none ns) (flat_map node.spell ns) (spell_plain node ns)
+written_nodes front ns = counted_bytes_of front (length ns) (spell_each (λ (_ : ℕ). node) forget no_state ns) (flat_map node.spell ns) (spell_plain node ns)
 
 pub written_digests : (front : List ℕ) (ds : List (List ℕ)) → front ++ flat_map digest.spell ds ≡ front ++ digests.spell ds
 written_digests front ds = ap (λ bytes. front ++ bytes) (sym (spell_plain digest ds))

@@ -9,11 +9,11 @@ use Rattle.meta_types.specs.Value.{ValueParts}
 use Rattle.dvvset.specs.Object.{Entry, Counter}
 use Rattle.frame_fields.specs.declared.neighbor.Priority.{Priority}
 use Rattle.frame_fields.specs.declared.neighbor.Priority.TheVariants.{Low, High}
-use Rattle.frame_fields.specs.declared.neighbor.Answer.{Answer}
-use Rattle.frame_fields.specs.declared.neighbor.Answer.TheVariants.{No, Yes}
+use Rattle.frame_fields.specs.declared.neighbor.NeighborAnswer.{NeighborAnswer}
+use Rattle.frame_fields.specs.declared.neighbor.NeighborAnswer.TheVariants.{No, Yes}
 use Rattle.frame_fields.specs.declared.prefixes.PrefixDigest.{PrefixDigest}
 use Rattle.frame_fields.specs.declared.keys.KeyDigest.{KeyDigest}
-use Rattle.frame_fields.specs.Form.{Form, any_number, some_bytes, nothing, ruled, then_form, seen_as, each}
+use Rattle.frame_fields.specs.Form.{Form, any_number, some_bytes, no_bytes, ruled, then_form, seen_as, each}
 
 -- a number from `low` to `high`
 abbrev pub number : Width → ℕ → ℕ → Form ℕ
@@ -29,11 +29,11 @@ priority_number High = 1
 abbrev pub priority : Form Priority
 priority = seen_as (number w8 0 1) priority_number
 
-abbrev pub answer_number : Answer → ℕ
+abbrev pub answer_number : NeighborAnswer → ℕ
 answer_number No = 0
 answer_number Yes = 1
 
-abbrev pub answer : Form Answer
+abbrev pub answer : Form NeighborAnswer
 answer = seen_as (number w8 0 1) answer_number
 
 -- a length and so many bytes: two fields
@@ -63,15 +63,15 @@ abbrev pub list : {S A : Type 0} → ℕ → ℕ → (S → Form A) → (A → S
 list low high form next s = seen_as (then_form (number w16 low high) (each form next s)) counted
 
 -- values whose forms depend on nothing
-abbrev pub none : ℕ
-none = 0
+abbrev pub no_state : ℕ
+no_state = 0
 
 abbrev pub forget : {A : Type 0} → A → ℕ
-forget x = none
+forget x = no_state
 
 -- node numbers in any order, repeats too
 abbrev pub nodes : Form (List ℕ)
-nodes = list 0 16 (λ (_ : ℕ). node) forget none
+nodes = list 0 16 (λ (_ : ℕ). node) forget no_state
 
 -- ---- digests
 
@@ -80,7 +80,7 @@ digest = some_bytes 32
 
 -- sixteen fields, without a count
 abbrev pub digests : Form (List (List ℕ))
-digests = each (λ (_ : ℕ). digest) forget none 16
+digests = each (λ (_ : ℕ). digest) forget no_state 16
 
 -- which of sixteen
 abbrev pub place : Form ℕ
@@ -98,16 +98,16 @@ is_before one other = is_lt (bytes_cmp one other)
 abbrev pub first_above : List ℕ → Form (List ℕ)
 first_above low = named 1 64 (λ first. not (is_before first low))
 
--- a second part that lies above another, or behind a first part that does
+-- a second part that lies above another, or after a first part that does
 abbrev pub second_above : Prefix → List ℕ → Form (List ℕ)
 second_above low first = named 1 64 (λ sub. is_before low.prefix first || is_before low.sub sub)
 
--- a prefix that stands behind another. One that doesn't is at fault at the bytes of its first part where these stand
+-- a prefix that stands after another. One that doesn't is at fault at the bytes of its first part where these stand
 -- before the other's, and otherwise at the bytes of its second part; never at a length
 abbrev pub prefix_above : Prefix → Form Prefix
 prefix_above low = seen_as (then_form (first_above low.prefix) (second_above low)) prefix_parts
 
--- a prefix behind another, and its digest: a field of its own
+-- a prefix after another, and its digest: a field of its own
 abbrev pub prefix_row_parts : PrefixDigest → Prefix × List ℕ
 prefix_row_parts row = (row.prefix, row.digest)
 
@@ -129,7 +129,7 @@ most_rows = 8192
 abbrev pub prefixes : Form (List PrefixDigest)
 prefixes = list 0 most_rows prefix_row prefix_of lowest
 
--- the bytes of a key behind another, and its digest
+-- the bytes of a key after another, and its digest
 abbrev pub key_row_parts : KeyDigest → List ℕ × List ℕ
 key_row_parts row = (row.key, row.digest)
 
@@ -151,14 +151,14 @@ counter_parts c = (c.id, c.count)
 abbrev pub greatest_count : ℕ
 greatest_count = 18446744073709551615
 
-abbrev pub counter : ℕ → Form Counter
-counter low = seen_as (then_form (number w16 low 15) (λ _. number w64 1 greatest_count)) counter_parts
+abbrev pub counter_form : ℕ → Form Counter
+counter_form low = seen_as (then_form (number w16 low 15) (λ _. number w64 1 greatest_count)) counter_parts
 
 abbrev pub above_counter : Counter → ℕ
 above_counter c = c.id + 1
 
 abbrev pub vector : Form (List Counter)
-vector = list 1 65535 counter above_counter 0
+vector = list 1 65535 counter_form above_counter 0
 
 -- ---- objects
 
@@ -173,7 +173,7 @@ bytes_or_none (Some bytes) = bytes
 
 -- the length and the bytes of a body, or nothing for a tombstone
 abbrev pub body_form : ℕ → Form (List ℕ)
-body_form zero = nothing []
+body_form zero = no_bytes []
 body_form (suc tag) = name 0 1024
 
 abbrev pub value_parts : ValueParts → ℕ × (ℕ × List ℕ)
@@ -187,7 +187,7 @@ entry_parts e = (e.id, (e.count, e.values))
 
 -- at most as many values as the count
 abbrev pub entry : ℕ → Form Entry
-entry low = seen_as (then_form (number w16 low 15) (λ _. then_form (number w64 1 greatest_count) (λ count. list 0 count (λ (_ : ℕ). value) forget none))) entry_parts
+entry low = seen_as (then_form (number w16 low 15) (λ _. then_form (number w64 1 greatest_count) (λ count. list 0 count (λ (_ : ℕ). value) forget no_state))) entry_parts
 
 abbrev pub above_entry : Entry → ℕ
 above_entry e = e.id + 1

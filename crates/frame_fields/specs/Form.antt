@@ -4,7 +4,7 @@
 --
 -- The rule of faults is our own: fields are read from left to right, and the first one that is cut by the
 -- end of the bytes, or whose value its rule forbids, is at fault. An object without any value is at fault at its
--- count, after all its fields were read. Bytes behind the last field come after all of these.
+-- count, after all its fields were read. Bytes after the last field come after all of these.
 use Rattle.std.specs.Prelude.{◌≡◌, ℕ, ◌<◌, ◌^◌, ◌*◌, ◌⊎◌, List, [], ◌∷◌, ◌++◌, length, Bool, true, false}
 use Rattle.std.specs.Int.{Width, byte_len, to_be_bytes}
 
@@ -20,8 +20,9 @@ pub record Form (A : Type 0) : Type 1 where
 abbrev pub IsCut : ℕ → List ℕ → ℕ → Type 0
 IsCut size bytes left = (length bytes < size) × (left ≡ length bytes)
 
--- behind a field that is right, what follows is at fault
-pub record BadBehind {A : Type 0} (form : Form A) (behind : A → List ℕ → ℕ → Type 0) (bytes : List ℕ) (left : ℕ) : Type 0 where
+-- after a field that is right, what follows is at fault
+pub record BadBehind {A : Type 0} (form : Form A) (behind : A → List ℕ → ℕ → Type 0)
+    (bytes : List ℕ) (left : ℕ) : Type 0 where
   pub value : A
   pub rest : List ℕ
   pub fits : form.Fits value
@@ -45,11 +46,12 @@ some_bytes size = record {
 }
 
 -- no bytes: they spell this value alone, and are never at fault
-abbrev pub nothing : {A : Type 0} → A → Form A
-nothing x = record { spell = λ _. []; Fits = λ y. y ≡ x; Bad = λ _ _. ⊥ }
+abbrev pub no_bytes : {A : Type 0} → A → Form A
+no_bytes x = record { spell = λ _. []; Fits = λ y. y ≡ x; Bad = λ _ _. ⊥ }
 
 -- a field is spelled, but breaks a further rule
-pub record BreaksRule {A : Type 0} (form : Form A) (rule : A → Bool) (bytes : List ℕ) (left : ℕ) : Type 0 where
+pub record BreaksRule {A : Type 0} (form : Form A) (rule : A → Bool)
+    (bytes : List ℕ) (left : ℕ) : Type 0 where
   pub value : A
   pub rest : List ℕ
   pub fits : form.Fits value
@@ -87,13 +89,14 @@ abbrev pub spell_each : {S A : Type 0} → (S → Form A) → (A → S) → S �
 spell_each form next s [] = []
 spell_each form next s (x ∷ xs) = (form s).spell x ++ spell_each form next (next x) xs
 
--- what the form of the value behind these depends on
+-- what the form of the value after these depends on
 abbrev pub state_behind : {S A : Type 0} → (A → S) → S → List A → S
 state_behind next s [] = s
 state_behind next s (x ∷ xs) = state_behind next (next x) xs
 
--- behind some values that are right, fewer than there are to be, the next is at fault
-pub record BadAmong {S A : Type 0} (form : S → Form A) (next : A → S) (count : ℕ) (s : S) (bytes : List ℕ) (left : ℕ) : Type 0 where
+-- after some values that are right, fewer than there are to be, the next is at fault
+pub record BadAmong {S A : Type 0} (form : S → Form A) (next : A → S)
+    (count : ℕ) (s : S) (bytes : List ℕ) (left : ℕ) : Type 0 where
   pub before : List A
   pub rest : List ℕ
   pub fewer : length before < count

@@ -9,11 +9,13 @@ use Rattle.frame_fields.specs.Digest.{IsDigest}
 
 -- each element stands before the next
 abbrev pub IsRising : {A : Type 0} → (A → A → Type 0) → List A → Type 0
-IsRising {A} Before xs = (i : ℕ) (d : A) → i + 1 < length xs → Before (get_or xs i d) (get_or xs (i + 1) d)
+IsRising {A} Before xs = (i : ℕ) (d : A) → i + 1 < length xs
+    → Before (get_or xs i d) (get_or xs (i + 1) d)
 
 -- each element stands before all that follow it
 abbrev pub IsRisingThroughout : {A : Type 0} → (A → A → Type 0) → List A → Type 0
-IsRisingThroughout {A} Before xs = (i j : ℕ) (d : A) → i < j → j < length xs → Before (get_or xs i d) (get_or xs j d)
+IsRisingThroughout {A} Before xs = (i j : ℕ) (d : A) → i < j → j < length xs
+    → Before (get_or xs i d) (get_or xs j d)
 
 -- a lawful prefix, and a digest
 pub record IsPrefixRow (row : PrefixDigest) : Type 0 where

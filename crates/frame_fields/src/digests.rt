@@ -50,6 +50,13 @@ impl Digests {
         }
     }
 
+    /// The parts, without taking memory.
+    pub fn into_vec(self) -> Vec<Digest>
+        ensures { result.items ≡ self }
+    {
+        self.parts
+    }
+
     pub fn as_slice(&self) -> &[Digest]
         ensures value { result.now ≡ self.now }
         ensures lawful { digests.Fits self.now }
@@ -65,7 +72,7 @@ impl Digests {
     }
 }
 
-/// Tells whether digests are sixteen. What is asked of each digest its type keeps, as for node numbers.
+/// Returns whether digests are sixteen. What is asked of each digest its type keeps, as for node numbers.
 fn are_digests(parts: &[Digest]) -> bool
     ensures { IsTrue result ↔ digests.Fits parts.now }
 {

@@ -69,6 +69,13 @@ impl KeyDigests {
         }
     }
 
+    /// The parts, without taking memory.
+    pub fn into_vec(self) -> Vec<KeyDigest>
+        ensures { result.items ≡ self }
+    {
+        self.rows
+    }
+
     pub fn as_slice(&self) -> &[KeyDigest]
         ensures value { result.now ≡ self.now }
         ensures lawful { keys.Fits self.now }
@@ -95,7 +102,7 @@ fn push_copies(copies: &mut Vec<KeyDigest>, rows: &[KeyDigest]) -> Result<(), Al
     Ok(())
 }
 
-/// Tells whether rows rise strictly, have keys of lawful lengths, and are few enough.
+/// Returns whether rows rise strictly, have keys of lawful lengths, and are few enough.
 fn are_rows(rows: &[KeyDigest]) -> bool
     ensures { IsTrue result ↔ keys.Fits rows.now }
 {
@@ -112,7 +119,7 @@ fn are_rows(rows: &[KeyDigest]) -> bool
     true
 }
 
-/// Tells whether the key of a row has a lawful length and stands behind these bytes. What is asked of
+/// Returns whether the key of a row has a lawful length and stands after these bytes. What is asked of
 /// its digest the digest's type keeps.
 fn is_row_above(low: &[u8], row: &KeyDigest) -> bool
     ensures { IsTrue result ↔ (key_row low.now).Fits row.now }

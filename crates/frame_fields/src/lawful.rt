@@ -10,7 +10,7 @@ ghost use Rattle.frame_fields.specs.Size.{IsShort};
 use crate::digest::Digest;
 use crate::digests::Digests;
 use crate::keys::KeyDigests;
-use crate::neighbor::{Answer, Priority};
+use crate::neighbor::{NeighborAnswer, Priority};
 use crate::nodes::Nodes;
 use crate::prefixes::PrefixDigests;
 use dvvset::{Entries, Entry, Vector};
@@ -51,16 +51,16 @@ pub fn is_priority(p: &Priority) -> bool
 }
 
 /// Always true, as for `is_node`.
-pub fn is_answer(a: &Answer) -> bool
+pub fn is_answer(a: &NeighborAnswer) -> bool
     ensures { IsTrue result ↔ answer.Fits a.now }
 {
     match a {
-        Answer::No => true,
-        Answer::Yes => true,
+        NeighborAnswer::No => true,
+        NeighborAnswer::Yes => true,
     }
 }
 
-/// Tells whether a number is that of one of sixteen: below 16.
+/// Returns whether a number is that of one of sixteen: below 16.
 pub fn is_place(number: &u8) -> bool
     ensures { IsTrue result ↔ place.Fits number.now }
 {
@@ -123,7 +123,7 @@ pub fn is_key(k: &MetaKey) -> bool
     true
 }
 
-/// Tells whether a vector has a spelling in frames: it counts some writer.
+/// Returns whether a vector has a spelling in frames: it counts some writer.
 pub fn is_vector(v: &Vector) -> bool
     ensures { IsTrue result ↔ vector.Fits v.now }
 {
@@ -131,7 +131,7 @@ pub fn is_vector(v: &Vector) -> bool
     !v.is_empty()
 }
 
-/// Tells whether an object has a spelling in frames: it shows a value, and no entry shows more than
+/// Returns whether an object has a spelling in frames: it shows a value, and no entry shows more than
 /// 65,535.
 pub fn is_object(o: &Entries) -> bool
     ensures { IsTrue result ↔ object.Fits o.now }
@@ -151,7 +151,7 @@ fn all_are_short(entries: &[Entry]) -> bool
     true
 }
 
-/// Tells whether no entry shows a value.
+/// Returns whether no entry shows a value.
 pub fn all_are_bare(entries: &[Entry]) -> bool
     ensures { result ≡ list_all is_bare entries.now }
 {

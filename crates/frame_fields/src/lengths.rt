@@ -3,7 +3,7 @@
 ghost use Rattle.std.specs.Prelude.{◌≡◌, ◌+◌, ◌*◌, ◌≤◌, ◌<◌, ◌^◌, [], length, All};
 ghost use Rattle.std.specs.List.{flat_map};
 ghost use Rattle.frame_fields.specs.Form.{spell_each};
-ghost use Rattle.frame_fields.specs.Field.{digests, entry, forget, key, key_row, keys, lowest, nodes, none, object, prefix, prefix_row, prefixes, value, vector};
+ghost use Rattle.frame_fields.specs.Field.{digests, entry, forget, key, key_row, keys, lowest, nodes, no_state, object, prefix, prefix_row, prefixes, value, vector};
 ghost use Rattle.frame_fields.specs.Size.{IsShort, IsShortKey};
 
 use crate::digest::DIGEST_LEN;
@@ -52,7 +52,7 @@ fn value_len(v: &Value) -> usize
 
 fn values_len(values: &[Value]) -> usize
     requires { length values.now < 2 ^ 16 }
-    ensures value { result ≡ length (spell_each (λ _. value) forget none values.now) }
+    ensures value { result ≡ length (spell_each (λ _. value) forget no_state values.now) }
     ensures small { result ≤ 1035 * length values.now }
 {
     let mut len = 0;

@@ -1,5 +1,5 @@
 //! The fields that frames are made of: their forms, which values have a spelling, how long it is,
-//! and how it is written. What reads them is `field_readers`. Their tests are the crate
+//! and how it is written. What reads them is `frame_readers`. Their tests are the crate
 //! `frame_tests`.
 #![tactic(auto)]
 
@@ -18,6 +18,6 @@ pub mod writing;
 pub use digest::Digest;
 pub use digests::Digests;
 pub use keys::{KeyDigest, KeyDigests};
-pub use neighbor::{Answer, Priority};
+pub use neighbor::{NeighborAnswer, Priority};
 pub use nodes::Nodes;
 pub use prefixes::{PrefixDigest, PrefixDigests};

@@ -11,7 +11,7 @@ pub enum Priority {
 
 /// Whether a node takes another as a neighbor.
 #[derive(Clone, Copy, Debug, PartialEq, Eq)]
-pub enum Answer {
+pub enum NeighborAnswer {
     /// 0
     No,
     /// 1

@@ -50,6 +50,13 @@ impl Nodes {
         }
     }
 
+    /// The parts, without taking memory.
+    pub fn into_vec(self) -> Vec<NodeId>
+        ensures { result.items ≡ self }
+    {
+        self.numbers
+    }
+
     pub fn as_slice(&self) -> &[NodeId]
         ensures value { result.now ≡ self.now }
         ensures lawful { nodes.Fits self.now }
@@ -65,7 +72,7 @@ impl Nodes {
     }
 }
 
-/// Tells whether node numbers are at most 16. What is asked of each number its type keeps; it is asked
+/// Returns whether node numbers are at most 16. What is asked of each number its type keeps; it is asked
 /// here so that the list can say it of all its numbers.
 fn are_nodes(numbers: &[NodeId]) -> bool
     ensures { IsTrue result ↔ nodes.Fits numbers.now }

@@ -68,6 +68,13 @@ impl PrefixDigests {
         }
     }
 
+    /// The parts, without taking memory.
+    pub fn into_vec(self) -> Vec<PrefixDigest>
+        ensures { result.items ≡ self }
+    {
+        self.rows
+    }
+
     pub fn as_slice(&self) -> &[PrefixDigest]
         ensures value { result.now ≡ self.now }
         ensures lawful { prefixes.Fits self.now }
@@ -94,7 +101,7 @@ fn push_copies(copies: &mut Vec<PrefixDigest>, rows: &[PrefixDigest]) -> Result<
     Ok(())
 }
 
-/// Tells whether rows rise strictly and are few enough.
+/// Returns whether rows rise strictly and are few enough.
 fn are_rows(rows: &[PrefixDigest]) -> bool
     ensures { IsTrue result ↔ prefixes.Fits rows.now }
 {
@@ -113,18 +120,20 @@ fn are_rows(rows: &[PrefixDigest]) -> bool
     true
 }
 
-/// Tells whether the prefix of a row stands behind these two parts. What is asked of its digest the
+/// Returns whether the prefix of a row stands after these two parts. What is asked of its digest the
 /// digest's type keeps.
 fn is_row_above(low: &[u8], low_sub: &[u8], row: &PrefixDigest) -> bool
-    ensures { IsTrue result ↔ (prefix_row (record { prefix = low.now; sub = low_sub.now })).Fits row.now }
+    ensures { IsTrue result ↔ (prefix_row
+        (record { prefix = low.now; sub = low_sub.now })).Fits row.now }
 {
     let _ = row.digest.bytes();
     is_above(low, low_sub, &row.prefix)
 }
 
-/// Tells whether a prefix stands behind these two parts.
+/// Returns whether a prefix stands after these two parts.
 fn is_above(low: &[u8], low_sub: &[u8], p: &FullPrefix) -> bool
-    ensures { IsTrue result ↔ (prefix_above (record { prefix = low.now; sub = low_sub.now })).Fits p.now }
+    ensures { IsTrue result ↔ (prefix_above
+        (record { prefix = low.now; sub = low_sub.now })).Fits p.now }
 {
     let first = p.prefix();
     !is_before(first, low) && (is_before(low, first) || is_before(low_sub, p.sub()))

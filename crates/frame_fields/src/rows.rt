@@ -8,7 +8,7 @@ use std::cmp::Ordering;
 /// The most rows of a list.
 pub(crate) const MAX_ROWS: usize = 8192;
 
-/// Tells whether one string stands before another in byte order.
+/// Returns whether one string stands before another in byte order.
 pub(crate) fn is_before(one: &[u8], other: &[u8]) -> bool
     ensures { result ≡ is_before one.now other.now }
 {

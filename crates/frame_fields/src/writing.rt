@@ -3,13 +3,13 @@
 ghost use Rattle.std.specs.Prelude.{◌≡◌, ◌++◌, ◌∷◌, [], ◌<◌, ◌≤◌, ◌^◌, List, length, OnOk, All};
 ghost use Rattle.std.specs.Int.{w8, w16, w32, w64, to_be_bytes};
 ghost use Rattle.std.specs.List.{flat_map};
-ghost use Rattle.frame_fields.specs.Field.{answer, name, prefix, priority, key, value, entry, object, counter, vector, node, nodes, digest, digests, prefix_row, prefixes, lowest, key_row, keys};
+ghost use Rattle.frame_fields.specs.Field.{answer, name, prefix, priority, key, value, entry, object, counter_form, vector, node, nodes, digest, digests, prefix_row, prefixes, lowest, key_row, keys};
 ghost use Rattle.frame_fields.specs.Size.{IsShort, IsShortKey};
 
 use crate::digest::Digest;
 use crate::digests::Digests;
 use crate::keys::{KeyDigest, KeyDigests};
-use crate::neighbor::{Answer, Priority};
+use crate::neighbor::{NeighborAnswer, Priority};
 use crate::nodes::Nodes;
 use crate::prefixes::{PrefixDigest, PrefixDigests};
 use dvvset::{Counter, Entries, Entry, Vector};
@@ -55,12 +55,12 @@ pub fn write_priority(out: &mut Vec<u8>, p: Priority) -> Result<(), AllocError>
     }
 }
 
-pub fn write_answer(out: &mut Vec<u8>, a: Answer) -> Result<(), AllocError>
+pub fn write_answer(out: &mut Vec<u8>, a: NeighborAnswer) -> Result<(), AllocError>
     ensures { OnOk result (out.new.items ≡ out.old.items ++ answer.spell a) }
 {
     match a {
-        Answer::No => write_u8(out, 0),
-        Answer::Yes => write_u8(out, 1),
+        NeighborAnswer::No => write_u8(out, 0),
+        NeighborAnswer::Yes => write_u8(out, 1),
     }
 }
 
@@ -90,7 +90,8 @@ pub fn write_key(out: &mut Vec<u8>, k: &MetaKey) -> Result<(), AllocError>
 }
 
 fn write_counters(out: &mut Vec<u8>, counters: &[Counter]) -> Result<(), AllocError>
-    ensures { OnOk result (out.new.items ≡ out.old.items ++ flat_map (counter 0).spell counters.now) }
+    ensures { OnOk result (out.new.items ≡ out.old.items
+        ++ flat_map (counter_form 0).spell counters.now) }
 {
     for counter in counters {
         write_node(out, counter.id())?;
@@ -204,7 +205,8 @@ pub fn write_digests(out: &mut Vec<u8>, d: &Digests) -> Result<(), AllocError>
 }
 
 fn write_each_prefix(out: &mut Vec<u8>, rows: &[PrefixDigest]) -> Result<(), AllocError>
-    ensures { OnOk result (out.new.items ≡ out.old.items ++ flat_map (prefix_row lowest).spell rows.now) }
+    ensures { OnOk result (out.new.items ≡ out.old.items
+        ++ flat_map (prefix_row lowest).spell rows.now) }
 {
     for row in rows {
         write_prefix(out, &row.prefix)?;

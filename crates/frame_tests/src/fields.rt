@@ -1,7 +1,6 @@
 //! Fields at the front of bytes, and the names of the refusals.
 
-use meta_frame::FrameFault;
-use meta_frame::field::{get_prefix, get_vector};
+use meta_frame::{FrameFault, get_prefix, get_vector};
 use std::alloc::Global;
 
 fn is_prefix_read(alloc: Global, bytes: &[u8], left: usize) -> bool {

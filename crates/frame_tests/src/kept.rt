@@ -1,9 +1,6 @@
 //! What is asked of the bytes of a frame.
 
-use meta_frame::Frame;
-use meta_frame::decode::decode;
-use meta_frame::encode::encode;
-use meta_frame::lawful::is_lawful;
+use meta_frame::{Frame, decode, encode, is_lawful};
 use std::alloc::{AllocError, Global};
 
 /// The bytes of a frame from 0 to 1, number 1, of this kind and body.
@@ -16,7 +13,7 @@ pub(crate) fn framed(alloc: Global, kind: u8, body: &[u8]) -> Result<Vec<u8>, Al
     Ok(bytes)
 }
 
-/// Tells whether there is a copy, and it is equal to its source. It takes any type, since that is
+/// Returns whether there is a copy, and it is equal to its source. It takes any type, since that is
 /// proved sooner than for the kinds of a frame.
 fn is_copy<T: PartialEq + Drop, E: Drop>(copy: Result<T, E>, source: &T) -> bool {
     match copy {
@@ -29,12 +26,12 @@ fn is_copied(frame: &Frame) -> bool {
     is_copy(frame.copy(), frame)
 }
 
-/// Tells whether the frame is spelled by just these bytes.
+/// Returns whether the frame is spelled by just these bytes.
 fn is_spelled(alloc: Global, frame: &Frame, bytes: &[u8]) -> bool {
     is_lawful(frame) && matches!(encode(alloc, frame), Ok(found) if found.as_slice() == bytes)
 }
 
-/// Tells whether the frame is spelled by just these bytes, and copied where that is asked for.
+/// Returns whether the frame is spelled by just these bytes, and copied where that is asked for.
 fn is_whole(alloc: Global, frame: Frame, bytes: &[u8], with_copy: bool) -> bool {
     (!with_copy || is_copied(&frame)) && is_spelled(alloc, &frame, bytes)
 }
@@ -50,7 +47,7 @@ fn is_body_read(alloc: Global, kind: u8, body: &[u8], with_copy: bool) -> bool {
     matches!(framed(alloc, kind, body), Ok(bytes) if is_read(alloc, bytes.as_slice(), with_copy))
 }
 
-/// Tells whether the frame of this kind and body is read, copied, and spelled by the same bytes
+/// Returns whether the frame of this kind and body is read, copied, and spelled by the same bytes
 /// again.
 pub(crate) fn is_body_kept(alloc: Global, kind: u8, body: &[u8]) -> bool {
     is_body_read(alloc, kind, body, true)

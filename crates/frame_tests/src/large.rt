@@ -3,10 +3,7 @@
 
 use crate::kept::{is_body_kept, is_body_written};
 use dvvset::Entries;
-use meta_frame::encode::encode;
-use meta_frame::field::{get_key, get_object};
-use meta_frame::lawful::is_lawful;
-use meta_frame::{Frame, FrameFault, Message};
+use meta_frame::{Frame, FrameFault, Message, encode, get_key, get_object, is_lawful};
 use meta_types::{MetaKey, NodeId};
 use std::alloc::{AllocError, Global};
 
@@ -82,7 +79,7 @@ const SIXTEEN: Rows = (1, &[Piece::Bytes(1, b"\0\x10")]);
 // A counter of eight letters for each number.
 const COUNTERS: Rows = (16, &[Piece::Number, Piece::Bytes(1, b"xxxxxxxx")]);
 
-// And behind each three values of 1,024 letters, with a stamp of eight.
+// And after each three values of 1,024 letters, with a stamp of eight.
 const ENTRIES: Rows = (
     16,
     &[
@@ -207,7 +204,7 @@ fn is_too_long_with(alloc: Global, object: Entries, bytes: &[u8]) -> bool {
     }
 }
 
-/// Tells whether the XOBJECT of the object and the key at the front of bytes is lawful, and too
+/// Returns whether the XOBJECT of the object and the key at the front of bytes is lawful, and too
 /// long.
 fn is_too_long(alloc: Global, bytes: &[u8]) -> bool {
     match get_object(alloc, bytes) {

@@ -3,9 +3,8 @@
 use crate::kept::is_body_kept_again;
 use crate::kinds::{GOSSIP, IHAVE, SHUFFLE, XBUCKET, XLEAVES, XPREFIXES};
 use dvvset::Entries;
-use meta_frame::encode::put_object;
-use meta_frame::field::get_object;
 use meta_frame::lawful::is_object;
+use meta_frame::{get_object, put_object};
 use std::alloc::Global;
 
 // Allocates at most 20 times.
@@ -49,7 +48,7 @@ fn is_added(alloc: Global, object: Entries, bytes: &[u8]) -> bool {
     is_object(&object) && put_object(&mut out, &object).is_ok() && out.as_slice() == bytes
 }
 
-/// Tells whether the bytes are read as an object, and added as the same bytes again.
+/// Returns whether the bytes are read as an object, and added as the same bytes again.
 fn is_object_kept(alloc: Global, bytes: &[u8]) -> bool {
     match get_object(alloc, bytes) {
         Ok((object, _)) => is_added(alloc, object, bytes),

@@ -10,9 +10,9 @@ use Rattle.meta_frame.specs.declared.message.Message.{Message}
 use Rattle.meta_frame.specs.declared.message.Frame.{Frame}
 use Rattle.meta_frame.specs.declared.fault.FrameFault.{FrameFault}
 use Rattle.meta_frame.specs.declared.fault.FrameFault.TheVariants.{Short, BadMagic, BadVersion, BadKind, TooLong, BadBody, LeftOver, Memory}
-use Rattle.meta_frame.specs.Frame.{kind_of, body, is_kind, limit, header, spelling, IsLawful, Spells, number_in, kind_in, from_in, to_in, len_in, header_tests, IsBodyFault, Refuses}
-use Rattle.meta_frame.specs.Reading.{message_at, framed, whole, checked, decode_of, Decodes}
-use Rattle.field_readers.proofs.Readers.{IsBytes, IsBytes-drop, IsBytes-take, IsWide, wide8, wide16, wide32, wide64}
+use Rattle.meta_frame.specs.Frame.{kind_of, body, is_kind, limit, header, spelling, IsLawful, Spells, number_in, kind_in, from_in, to_in, len_in, header_tests, IsBodyFault, RefusesBytes}
+use Rattle.meta_frame.specs.Reading.{message_reader, framed, whole, checked, decode_of, Decodes}
+use Rattle.frame_readers.proofs.Readers.{IsBytes, IsBytes-drop, IsBytes-take, IsWide, wide8, wide16, wide32, wide64}
 use Rattle.meta_frame.proofs.Rows.{message_again, message_refuses, message_takes, message_faulty, known_kind, small_kind}
 
 chosen : {A : Type 0} (b : Bool) (x y z : A) → cond b x y ≡ z → ((b ≡ true) × (x ≡ z)) ⊎ ((b ≡ false) × (y ≡ z))
@@ -114,7 +114,7 @@ whole_ok bytes (Ok p) f e =
       | inr some ↦ absurd (no_answer (BadBody (length bytes - length p.1)) f some.1)
     ]
 
-checked_ok : (bytes : List ℕ) (o : Option FrameFault) (f : Frame) → checked bytes o ≡ Ok f → (o ≡ None) × (whole bytes (message_at (kind_in bytes) (drop 20 bytes)) ≡ Ok f)
+checked_ok : (bytes : List ℕ) (o : Option FrameFault) (f : Frame) → checked bytes o ≡ Ok f → (o ≡ None) × (whole bytes (message_reader (kind_in bytes) (drop 20 bytes)) ≡ Ok f)
 checked_ok bytes (Some fault) f e = absurd cc
 checked_ok bytes None f e = (refl, e)
 
@@ -124,7 +124,7 @@ unfolding decode_of
 decode_takes bytes f is e =
     let a = checked_ok bytes (first_that_applies (header_tests bytes)) f e in
     let p = passes bytes a.0 in
-    let w = whole_ok bytes (message_at (kind_in bytes) (drop 20 bytes)) f a.1 in
+    let w = whole_ok bytes (message_reader (kind_in bytes) (drop 20 bytes)) f a.1 in
     let t = message_takes (kind_in bytes) (drop 20 bytes) w.0 (IsBytes-drop 20 bytes is) w.1.0 in
     let nothing_left : w.0.1 ≡ [] = nil_from_length w.0.1 w.1.1.0 in
     let body_is : drop 20 bytes ≡ body w.0.0 = t.spelled ∙ ap (λ rest. body w.0.0 ++ rest) nothing_left ∙ append-nil (body w.0.0) in
@@ -171,19 +171,19 @@ unfolding decode_of
 decode_again f bytes s =
     let short : length (spelling f) ≤ limit = subst (λ bs. length bs ≤ limit) s.spelled s.short in
     let kind : kind_in (spelling f) ≡ kind_of f.message = wide8.again (kind_of f.message) (small_kind f.message) in
-    let m : message_at (kind_in (spelling f)) (body f.message) ≡ Ok (f.message, []) =
-    ap (λ k. message_at k (body f.message)) kind ∙ ap (message_at (kind_of f.message)) (sym (append-nil (body f.message))) ∙ message_again f.message [] s.lawful.message in
+    let m : message_reader (kind_in (spelling f)) (body f.message) ≡ Ok (f.message, []) =
+    ap (λ k. message_reader k (body f.message)) kind ∙ ap (message_reader (kind_of f.message)) (sym (append-nil (body f.message))) ∙ message_again f.message [] s.lawful.message in
     ap decode_of s.spelled
     ∙ ap (checked (spelling f)) (tests_pass f s.lawful short)
     ∙ ap (whole (spelling f)) m
     ∙ ap (λ g. Ok g) (frame_is f s.lawful)
 
--- a header that passed, a message behind it, and nothing left
-pub decoded : (bytes part : List ℕ) (kind : ℕ) (m : Message) (rest : List ℕ) (f : Frame) → None ≡ first_that_applies (header_tests bytes) → kind ≡ kind_in bytes → part ≡ drop 20 bytes → message_at kind part ≡ Ok (m, rest) → true ≡ eqb (length rest) 0 → f ≡ framed bytes m → decode_of bytes ≡ answer f
+-- a header that passed, a message after it, and nothing left
+pub decoded : (bytes part : List ℕ) (kind : ℕ) (m : Message) (rest : List ℕ) (f : Frame) → None ≡ first_that_applies (header_tests bytes) → kind ≡ kind_in bytes → part ≡ drop 20 bytes → message_reader kind part ≡ Ok (m, rest) → true ≡ eqb (length rest) 0 → f ≡ framed bytes m → decode_of bytes ≡ answer f
 unfolding decode_of
 decoded bytes part kind m rest f tests kind_is part_is read_is none f_is =
     ap (checked bytes) (sym tests)
-    ∙ ap (whole bytes) ((λ i. message_at (sym kind_is i) (sym part_is i)) ∙ read_is)
+    ∙ ap (whole bytes) ((λ i. message_reader (sym kind_is i) (sym part_is i)) ∙ read_is)
     ∙ ap (λ b. cond b (answer (framed bytes m)) (refusal (BadBody (length bytes - length rest)))) (sym none)
     ∙ ap answer (sym f_is)
 
@@ -192,7 +192,7 @@ decoded bytes part kind m rest f tests kind_is part_is read_is none f_is =
 refusal_is : (x y : FrameFault) → refusal x ≡ refusal y → x ≡ y
 refusal_is x y e = cc
 
-whole_err : (bytes : List ℕ) (r : Result (Message × List ℕ) ℕ) (fault : FrameFault) → IsBytes bytes → is_kind (kind_in bytes) ≡ true → message_at (kind_in bytes) (drop 20 bytes) ≡ r → whole bytes r ≡ refusal fault → IsBodyFault bytes fault
+whole_err : (bytes : List ℕ) (r : Result (Message × List ℕ) ℕ) (fault : FrameFault) → IsBytes bytes → is_kind (kind_in bytes) ≡ true → message_reader (kind_in bytes) (drop 20 bytes) ≡ r → whole bytes r ≡ refusal fault → IsBodyFault bytes fault
 whole_err bytes (Err left) fault is known read e =
     subst (IsBodyFault bytes) (refusal_is (BadBody (length bytes - left)) fault e)
     (record { left = left; offset = refl; bad = inl (message_faulty (kind_in bytes) (drop 20 bytes) left (IsBytes-drop 20 bytes is) known read) })
@@ -212,20 +212,20 @@ whole_err bytes (Ok p) fault is known read e =
 
 checked_err : (bytes : List ℕ) (o : Option FrameFault) (fault : FrameFault) → IsBytes bytes → (o ≡ None → is_kind (kind_in bytes) ≡ true) → checked bytes o ≡ refusal fault → MatchOption o (IsBodyFault bytes fault) (λ first. fault ≡ first)
 checked_err bytes (Some first) fault is known e = sym (refusal_is first fault e)
-checked_err bytes None fault is known e = whole_err bytes (message_at (kind_in bytes) (drop 20 bytes)) fault is (known refl) refl e
+checked_err bytes None fault is known e = whole_err bytes (message_reader (kind_in bytes) (drop 20 bytes)) fault is (known refl) refl e
 
 -- what the reader refuses is refused so
-pub decode_faulty : (bytes : List ℕ) (fault : FrameFault) → IsBytes bytes → decode_of bytes ≡ refusal fault → Refuses bytes fault
+pub decode_faulty : (bytes : List ℕ) (fault : FrameFault) → IsBytes bytes → decode_of bytes ≡ refusal fault → RefusesBytes bytes fault
 unfolding decode_of
 decode_faulty bytes fault is e = checked_err bytes (first_that_applies (header_tests bytes)) fault is (λ none. (passes bytes none).kind) e
 
-body_refuses : (bytes : List ℕ) (fault : FrameFault) → IsBodyFault bytes fault → whole bytes (message_at (kind_in bytes) (drop 20 bytes)) ≡ refusal fault
+body_refuses : (bytes : List ℕ) (fault : FrameFault) → IsBodyFault bytes fault → whole bytes (message_reader (kind_in bytes) (drop 20 bytes)) ≡ refusal fault
 body_refuses bytes (BadBody at) bad =
     elim bad.bad [
       | inl fields ↦ ap (whole bytes) (message_refuses (kind_in bytes) (drop 20 bytes) bad.left fields) ∙ ap (λ n. refusal (BadBody n)) (sym bad.offset)
       | inr over ↦
-          let read : message_at (kind_in bytes) (drop 20 bytes) ≡ Ok (over.message, over.rest) =
-          (λ i. message_at (over.kind_is i) (over.spelled i)) ∙ message_again over.message over.rest over.fits in
+          let read : message_reader (kind_in bytes) (drop 20 bytes) ≡ Ok (over.message, over.rest) =
+          (λ i. message_reader (over.kind_is i) (over.spelled i)) ∙ message_again over.message over.rest over.fits in
           let some : eqb (length over.rest) 0 ≡ false = ne_eqb (length over.rest) 0 (λ none. absurd (omega (arith, over.more, none))) in
           ap (whole bytes) read
           ∙ ap (λ b. cond b (answer (framed bytes over.message)) (refusal (BadBody (length bytes - length over.rest)))) some
@@ -245,7 +245,7 @@ checked_refuses bytes (Some first) fault same = ap refusal (sym same)
 checked_refuses bytes None fault bad = body_refuses bytes fault bad
 
 -- what is refused so the reader refuses
-pub decode_refuses : (bytes : List ℕ) (fault : FrameFault) → Refuses bytes fault → decode_of bytes ≡ refusal fault
+pub decode_refuses : (bytes : List ℕ) (fault : FrameFault) → RefusesBytes bytes fault → decode_of bytes ≡ refusal fault
 unfolding decode_of
 decode_refuses bytes fault bad = checked_refuses bytes (first_that_applies (header_tests bytes)) fault bad
 
@@ -257,10 +257,10 @@ one_frame f g bytes s t = answer_is f g (sym (decode_again f bytes s) ∙ decode
 pub one_spelling : (f : Frame) (bytes others : List ℕ) → Spells f bytes → Spells f others → bytes ≡ others
 one_spelling f bytes others s t = s.spelled ∙ sym t.spelled
 
-pub one_refusal : (bytes : List ℕ) (x y : FrameFault) → Refuses bytes x → Refuses bytes y → x ≡ y
+pub one_refusal : (bytes : List ℕ) (x y : FrameFault) → RefusesBytes bytes x → RefusesBytes bytes y → x ≡ y
 one_refusal bytes x y a b = refusal_is x y (sym (decode_refuses bytes x a) ∙ decode_refuses bytes y b)
 
-pub never_both : (f : Frame) (bytes : List ℕ) (x : FrameFault) → Spells f bytes → Refuses bytes x → ⊥
+pub never_both : (f : Frame) (bytes : List ℕ) (x : FrameFault) → Spells f bytes → RefusesBytes bytes x → ⊥
 never_both f bytes x s bad = no_answer x f (sym (decode_refuses bytes x bad) ∙ decode_again f bytes s)
 
 pub no_proper_prefix : (f g : Frame) (bytes rest : List ℕ) → Spells f bytes → Spells g (bytes ++ rest) → rest ≡ []
@@ -280,7 +280,7 @@ pub answers_frame : (bytes : List ℕ) (r : Result Frame FrameFault) → IsBytes
 answers_frame bytes (Ok f) is given = decode_takes bytes f is given
 answers_frame bytes (Err e) is given = tt
 
-pub answers_refusal : (bytes : List ℕ) (r : Result Frame FrameFault) → IsBytes bytes → Decodes r (decode_of bytes) → IfErr r (λ x. (x ≡ Memory) ⊎ Refuses bytes x)
+pub answers_refusal : (bytes : List ℕ) (r : Result Frame FrameFault) → IsBytes bytes → Decodes r (decode_of bytes) → IfErr r (λ x. (x ≡ Memory) ⊎ RefusesBytes bytes x)
 answers_refusal bytes (Ok f) is given = tt
 answers_refusal bytes (Err x) is given = elim given [ inl memory ↦ inl memory | inr read ↦ inr (decode_faulty bytes x is read) ]
 
@@ -291,10 +291,10 @@ bytes_are bytes all i =
       | inr le ↦ rw (get_or_past bytes i 0 le) (omega arith)
     ]
 
-pub frame_or_refusal : (bytes : List ℕ) → All (λ b. b < 256) bytes → ((f : Frame) × Spells f bytes) ⊎ ((x : FrameFault) × Refuses bytes x)
+pub frame_or_refusal : (bytes : List ℕ) → All (λ b. b < 256) bytes → ((f : Frame) × Spells f bytes) ⊎ ((x : FrameFault) × RefusesBytes bytes x)
 frame_or_refusal bytes all =
     let is : IsBytes bytes = bytes_are bytes all in
-    elim (decode_of bytes) as (λ r. decode_of bytes ≡ r → ((f : Frame) × Spells f bytes) ⊎ ((x : FrameFault) × Refuses bytes x)) [
+    elim (decode_of bytes) as (λ r. decode_of bytes ≡ r → ((f : Frame) × Spells f bytes) ⊎ ((x : FrameFault) × RefusesBytes bytes x)) [
       | Ok f ↦ λ e. inl (f, decode_takes bytes f is e)
       | Err x ↦ λ e. inr (x, decode_faulty bytes x is e)
     ] refl

@@ -2,13 +2,13 @@
 use Rattle.std.proofs.Common.{◌≡◌, length, ◌-◌, ℕ, ◌⊎◌, List, Ok, Err, refl, subst, sym, ap, ◌∙◌, inl, inr}
 use Rattle.meta_frame.specs.declared.fault.FrameFault.{FrameFault}
 use Rattle.meta_frame.specs.declared.fault.FrameFault.TheVariants.{Memory}
-use Rattle.field_readers.specs.declared.fault.FieldFault.{FieldFault}
-use Rattle.field_readers.specs.declared.fault.FieldFault.TheVariants as faults
+use Rattle.frame_readers.specs.declared.fault.FieldFault.{FieldFault}
+use Rattle.frame_readers.specs.declared.fault.FieldFault.TheVariants as faults
 use Rattle.frame_fields.specs.Form.{Form}
 use Rattle.meta_frame.specs.Front.{Begins, RefusesField, IsUnambiguous}
-use Rattle.field_readers.specs.Reader.{Reader, Fails}
+use Rattle.frame_readers.specs.Reader.{Reader, Fails}
 use Rattle.meta_frame.specs.Reading.{offset_of}
-use Rattle.field_readers.proofs.Readers.{IsBytes, Reads, ok_is, err_is, done}
+use Rattle.frame_readers.proofs.Readers.{IsBytes, Reads, ok_is, err_is, done}
 
 pub begins : {A : Type 0} (form : Form A) (read : Reader A) → Reads form read → (bytes : List ℕ) (x : A) (rest : List ℕ) → IsBytes bytes → read bytes ≡ Ok (x, rest) → Begins form bytes x rest
 begins form read reads bytes x rest is e = let t = reads.takes bytes x rest is e in record { fits = t.0; spelled = t.1 }

@@ -1,5 +1,5 @@
 -- readers and the forms that they read, and how they are put together
-pub use Rattle.field_readers.proofs.Readers
+pub use Rattle.frame_readers.proofs.Readers
 -- the table of kinds, with the laws of each reader
 pub mod Rows
 -- frames: what is read is spelled so, and the refusals are the first that apply

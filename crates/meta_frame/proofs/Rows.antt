@@ -1,181 +1,197 @@
 -- The table of kinds: a row for each, with the laws of its reader.
-use Rattle.std.proofs.Common.{◌≡◌, ℕ, ◌^◌, ◌<◌, true, false, cond, eqb, ◌||◌, List, [], ◌∷◌, ◌++◌, length, Ok, Err, refl, sym, ap, subst, ◌∙◌, arith, inl, inr}
+use Rattle.std.proofs.Common.{◌≡◌, ◌≢◌, ℕ, ◌+◌, ◌^◌, ◌<◌, ◌≤◌, true, false, cond, eqb, leb, List, [], ◌∷◌, ◌++◌, length, Ok, Err, refl, sym, ap, subst, ◌∙◌, arith, inl, inr}
 use Rattle.std.specs.Int.{w8, w16}
-use Rattle.std.proofs.lemmas.Bool.{eqb-true, eq-eqb, ne_eqb, or_right, false≢true}
+use Rattle.std.proofs.lemmas.Bool.{eqb-true, eqb-false, leb-true, and_parts}
 use Rattle.meta_frame.specs.declared.message.Message.{Message}
 use Rattle.meta_frame.specs.declared.message.Message.TheVariants.{Gossip, IHave, Graft, Prune, Join, ForwardJoin, Disconnect, Neighbor, NeighborReply, Shuffle, ShuffleReply, XRoot, XPrefixes, XInner, XLeaves, XBucket, XObject, XWant}
 use Rattle.frame_fields.specs.Form.{Form, any_number, then_form}
 use Rattle.frame_fields.specs.Field.{node, nodes, priority, answer, digest, digests, place, prefix, prefixes, keys, key, vector, object}
-use Rattle.meta_frame.specs.Frame.{Row, kind_of, gossip, announced, forwarded, shuffle, inner, leaves, bucket, carried, body, IsMessage, NoField, rows, BadIn, BadFields, is_in, is_kind}
-use Rattle.field_readers.specs.Reader.{Reader, ◌>>=◌, number_at, then_at, made_at, within_at, node_at, nodes_at, priority_at, answer_at, digest_at, digests_at, prefix_at, prefixes_at, keys_at, key_at, vector_at, object_at}
-use Rattle.meta_frame.specs.Reading.{gossip_at, announced_at, forwarded_at, shuffle_at, inner_at, leaves_at, bucket_at, carried_at, message_at}
-use Rattle.field_readers.proofs.Readers.{IsBytes, Reads, wide8, wide16, number_reads, then_reads, bind_ok, bind_err, ok_is, done}
-use Rattle.field_readers.proofs.Listed.{nodes_reads, digest_reads, digests_reads, prefixes_reads, keys_reads}
-use Rattle.field_readers.proofs.Fields.{within_reads, prefix_reads, node_reads, priority_reads, answer_reads, key_reads, vector_reads, object_reads}
+use Rattle.meta_types.specs.Name.{Prefix, Key}
+use Rattle.frame_fields.specs.declared.neighbor.Priority.TheVariants.{Low}
+use Rattle.frame_fields.specs.declared.neighbor.NeighborAnswer.TheVariants.{No}
+use Rattle.meta_frame.specs.Frame.{row_of, kind_of, gossip, announcement, forward_join, shuffle, inner_digests, leaf_digests, bucket, key_and_object, body, IsMessage, BadFields, last_kind, is_kind}
+use Rattle.frame_readers.specs.Reader.{Reader, ◌>>=◌, number_reader, then_reader, made_reader, within_reader, node_reader, nodes_reader, priority_reader, answer_reader, digest_reader, digests_reader, prefix_reader, prefixes_reader, keys_reader, key_reader, vector_reader, object_reader}
+use Rattle.meta_frame.specs.Reading.{gossip_reader, announced_reader, forwarded_reader, shuffle_reader, inner_reader, leaves_reader, bucket_reader, carried_reader, message_reader}
+use Rattle.frame_readers.proofs.Readers.{IsBytes, Reads, wide8, wide16, number_reads, then_reads, bind_ok, bind_err, ok_is, done}
+use Rattle.frame_readers.proofs.Listed.{nodes_reads, digest_reads, digests_reads, prefixes_reads, keys_reads}
+use Rattle.frame_readers.proofs.Fields.{within_reads, prefix_reads, node_reads, priority_reads, answer_reads, key_reads, vector_reads, object_reads}
 
 -- what reading a body of one kind took
-pub record Took (kind : ℕ) (bytes : List ℕ) (m : Message) (rest : List ℕ) : Type 0 where
-  pub kind_is : kind ≡ kind_of m
+pub record Took (number : ℕ) (bytes : List ℕ) (m : Message) (rest : List ℕ) : Type 0 where
+  pub kind_is : number ≡ kind_of m
   pub fits : IsMessage m
   pub spelled : bytes ≡ body m ++ rest
 
 abbrev TookBoth : ℕ → List ℕ → Message × List ℕ → Type 0
-TookBoth kind bytes p = Took kind bytes p.0 p.1
+TookBoth number bytes p = Took number bytes p.0 p.1
 
--- the laws of the reader of one kind
-record ReadsKind (row : Row) (read : Reader Message) : Type 0 where
-  pub takes : (bytes : List ℕ) (p : Message × List ℕ) → IsBytes bytes → read bytes ≡ Ok p → TookBoth row.kind bytes p
-  pub faulty : (bytes : List ℕ) (left : ℕ) → IsBytes bytes → read bytes ≡ Err left → row.Bad bytes left
-  pub refuses : (bytes : List ℕ) (left : ℕ) → row.Bad bytes left → read bytes ≡ Err left
+-- the laws of the reader of one kind, which is that of `some`
+record ReadsKind (some : Message) (read : Reader Message) : Type 0 where
+  pub takes : (bytes : List ℕ) (p : Message × List ℕ) → IsBytes bytes → read bytes ≡ Ok p → TookBoth (kind_of some) bytes p
+  pub faulty : (bytes : List ℕ) (left : ℕ) → IsBytes bytes → read bytes ≡ Err left → (row_of some).Bad bytes left
+  pub refuses : (bytes : List ℕ) (left : ℕ) → (row_of some).Bad bytes left → read bytes ≡ Err left
 
--- a message made of what a form spells
-record IsMade {A : Type 0} (kind : ℕ) (form : Form A) (make : A → Message) : Type 0 where
-  pub kind_is : (x : A) → kind_of (make x) ≡ kind
+-- messages made of what a form spells, all of the kind of `some`
+record IsMade {A : Type 0} (some : Message) (form : Form A) (make : A → Message) : Type 0 where
+  pub kind_is : (x : A) → kind_of (make x) ≡ kind_of some
   pub fits : (x : A) → form.Fits x → IsMessage (make x)
   pub spelled : (x : A) → body (make x) ≡ form.spell x
+  pub bad : (bytes : List ℕ) (left : ℕ) → form.Bad bytes left → (row_of some).Bad bytes left
+  pub bad_back : (bytes : List ℕ) (left : ℕ) → (row_of some).Bad bytes left → form.Bad bytes left
 
-kind_reads : {A : Type 0} (kind : ℕ) (form : Form A) (read : Reader A) (make : A → Message) → Reads form read → IsMade kind form make → ReadsKind (record { kind = kind; Bad = form.Bad }) (made_at read make)
-kind_reads kind form read make reads made = record {
+kind_reads : {A : Type 0} (some : Message) (form : Form A) (read : Reader A) (make : A → Message) → Reads form read → IsMade some form make → ReadsKind some (made_reader read make)
+kind_reads some form read make reads made = record {
   takes = λ bytes p is e.
       let b = bind_ok (read bytes) (λ x. Ok (make x.0, x.1)) p e in
       let t = reads.takes bytes b.0.0 b.0.1 is b.1.0 in
-      subst (TookBoth kind bytes) (ok_is (make b.0.0, b.0.1) p b.1.1)
+      subst (TookBoth (kind_of some) bytes) (ok_is (make b.0.0, b.0.1) p b.1.1)
       (record { kind_is = sym (made.kind_is b.0.0); fits = made.fits b.0.0 t.0; spelled = t.1 ∙ ap (λ bs. bs ++ b.0.1) (sym (made.spelled b.0.0)) });
   faulty = λ bytes left is e.
       elim (bind_err (read bytes) (λ x. Ok (make x.0, x.1)) left e) [
-        | inl bad ↦ reads.faulty bytes left is bad
+        | inl bad ↦ made.bad bytes left (reads.faulty bytes left is bad)
         | inr b ↦ absurd (let no : done (make b.0.0, b.0.1) ≡ Err left = b.1.1 in cc)
       ];
-  refuses = λ bytes left bad. ap (λ r. r >>= λ x. Ok (make x.0, x.1)) (reads.refuses bytes left bad);
+  refuses = λ bytes left bad. ap (λ r. r >>= λ x. Ok (make x.0, x.1)) (reads.refuses bytes left (made.bad_back bytes left bad));
 }
 
--- a kind without fields
-bare_reads : (m : Message) → IsMessage m → body m ≡ [] → ReadsKind (record { kind = kind_of m; Bad = NoField }) (λ bytes. Ok (m, bytes))
-bare_reads m fits none = record {
-  takes = λ bytes p is e. subst (TookBoth (kind_of m) bytes) (ok_is (m, bytes) p e) (record { kind_is = refl; fits = fits; spelled = ap (λ bs. bs ++ bytes) (sym none) });
+-- a kind without fields, of which there is one message
+record IsBare (m : Message) : Type 0 where
+  pub fits : IsMessage m
+  pub spelled : body m ≡ []
+  pub bad : (bytes : List ℕ) (left : ℕ) → (row_of m).Bad bytes left → ⊥
+
+bare_reads : (m : Message) → IsBare m → ReadsKind m (λ bytes. Ok (m, bytes))
+bare_reads m bare = record {
+  takes = λ bytes p is e. subst (TookBoth (kind_of m) bytes) (ok_is (m, bytes) p e) (record { kind_is = refl; fits = bare.fits; spelled = ap (λ bs. bs ++ bytes) (sym bare.spelled) });
   faulty = λ bytes left is e. absurd (let no : done (m, bytes) ≡ Err left = e in cc);
-  refuses = λ bytes left bad. absurd bad;
+  refuses = λ bytes left bad. absurd (bare.bad bytes left bad);
 }
+
+some_prefix : Prefix
+some_prefix = record { prefix = []; sub = [] }
+
+some_key : Key
+some_key = record { prefix = some_prefix; key = [] }
 
 -- ---- one law for each row
 
-gossip_reads : Reads gossip (then_at (number_at w16) (λ _. then_at key_at (λ _. object_at)))
+gossip_reads : Reads gossip (then_reader (number_reader w16) (λ _. then_reader key_reader (λ _. object_reader)))
 gossip_reads =
-    then_reads (any_number w16) (λ _. then_form key (λ _. object)) (number_at w16) (λ _. then_at key_at (λ _. object_at)) (number_reads w16 wide16)
-    (λ _. then_reads key (λ _. object) key_at (λ _. object_at) key_reads (λ _. object_reads))
+    then_reads (any_number w16) (λ _. then_form key (λ _. object)) (number_reader w16) (λ _. then_reader key_reader (λ _. object_reader)) (number_reads w16 wide16)
+    (λ _. then_reads key (λ _. object) key_reader (λ _. object_reader) key_reads (λ _. object_reads))
 
-announced_reads : Reads announced (then_at (number_at w16) (λ _. then_at key_at (λ _. vector_at)))
+announced_reads : Reads announcement (then_reader (number_reader w16) (λ _. then_reader key_reader (λ _. vector_reader)))
 announced_reads =
-    then_reads (any_number w16) (λ _. then_form key (λ _. vector)) (number_at w16) (λ _. then_at key_at (λ _. vector_at)) (number_reads w16 wide16)
-    (λ _. then_reads key (λ _. vector) key_at (λ _. vector_at) key_reads (λ _. vector_reads))
+    then_reads (any_number w16) (λ _. then_form key (λ _. vector)) (number_reader w16) (λ _. then_reader key_reader (λ _. vector_reader)) (number_reads w16 wide16)
+    (λ _. then_reads key (λ _. vector) key_reader (λ _. vector_reader) key_reads (λ _. vector_reads))
 
-carried_reads : Reads carried (then_at key_at (λ _. object_at))
-carried_reads = then_reads key (λ _. object) key_at (λ _. object_at) key_reads (λ _. object_reads)
+carried_reads : Reads key_and_object (then_reader key_reader (λ _. object_reader))
+carried_reads = then_reads key (λ _. object) key_reader (λ _. object_reader) key_reads (λ _. object_reads)
 
-gossip_kind : ReadsKind (record { kind = 1; Bad = gossip.Bad }) gossip_at
-unfolding gossip_at
+gossip_kind : ReadsKind (Gossip 0 some_key []) gossip_reader
+unfolding gossip_reader
 gossip_kind =
-    kind_reads 1 gossip (then_at (number_at w16) (λ _. then_at key_at (λ _. object_at))) (λ p. Gossip p.0 p.1.0 p.1.1) gossip_reads
-    (record { kind_is = λ x. refl; fits = λ x fits. fits; spelled = λ x. refl })
+    kind_reads (Gossip 0 some_key []) gossip (then_reader (number_reader w16) (λ _. then_reader key_reader (λ _. object_reader))) (λ p. Gossip p.0 p.1.0 p.1.1) gossip_reads
+    (record { kind_is = λ x. refl; fits = λ x fits. fits; spelled = λ x. refl; bad = λ bytes left bad. bad; bad_back = λ bytes left bad. bad })
 
-ihave_kind : ReadsKind (record { kind = 2; Bad = announced.Bad }) (announced_at IHave)
-unfolding announced_at
+ihave_kind : ReadsKind (IHave 0 some_key []) (announced_reader IHave)
+unfolding announced_reader
 ihave_kind =
-    kind_reads 2 announced (then_at (number_at w16) (λ _. then_at key_at (λ _. vector_at))) (λ p. IHave p.0 p.1.0 p.1.1) announced_reads
-    (record { kind_is = λ x. refl; fits = λ x fits. fits; spelled = λ x. refl })
+    kind_reads (IHave 0 some_key []) announcement (then_reader (number_reader w16) (λ _. then_reader key_reader (λ _. vector_reader))) (λ p. IHave p.0 p.1.0 p.1.1) announced_reads
+    (record { kind_is = λ x. refl; fits = λ x fits. fits; spelled = λ x. refl; bad = λ bytes left bad. bad; bad_back = λ bytes left bad. bad })
 
-graft_kind : ReadsKind (record { kind = 3; Bad = announced.Bad }) (announced_at Graft)
-unfolding announced_at
+graft_kind : ReadsKind (Graft 0 some_key []) (announced_reader Graft)
+unfolding announced_reader
 graft_kind =
-    kind_reads 3 announced (then_at (number_at w16) (λ _. then_at key_at (λ _. vector_at))) (λ p. Graft p.0 p.1.0 p.1.1) announced_reads
-    (record { kind_is = λ x. refl; fits = λ x fits. fits; spelled = λ x. refl })
+    kind_reads (Graft 0 some_key []) announcement (then_reader (number_reader w16) (λ _. then_reader key_reader (λ _. vector_reader))) (λ p. Graft p.0 p.1.0 p.1.1) announced_reads
+    (record { kind_is = λ x. refl; fits = λ x fits. fits; spelled = λ x. refl; bad = λ bytes left bad. bad; bad_back = λ bytes left bad. bad })
 
-prune_kind : ReadsKind (record { kind = 4; Bad = NoField }) (λ bytes. Ok (Prune, bytes))
-prune_kind = bare_reads Prune tt refl
+prune_kind : ReadsKind Prune (λ bytes. Ok (Prune, bytes))
+prune_kind = bare_reads Prune (record { fits = refl; spelled = refl; bad = λ bytes left bad. bad })
 
-join_kind : ReadsKind (record { kind = 5; Bad = NoField }) (λ bytes. Ok (Join, bytes))
-join_kind = bare_reads Join tt refl
+join_kind : ReadsKind Join (λ bytes. Ok (Join, bytes))
+join_kind = bare_reads Join (record { fits = refl; spelled = refl; bad = λ bytes left bad. bad })
 
-disconnect_kind : ReadsKind (record { kind = 7; Bad = NoField }) (λ bytes. Ok (Disconnect, bytes))
-disconnect_kind = bare_reads Disconnect tt refl
+disconnect_kind : ReadsKind Disconnect (λ bytes. Ok (Disconnect, bytes))
+disconnect_kind = bare_reads Disconnect (record { fits = refl; spelled = refl; bad = λ bytes left bad. bad })
 
-forwarded_reads : Reads forwarded (then_at node_at (λ _. number_at w8))
-forwarded_reads = then_reads node (λ _. any_number w8) node_at (λ _. number_at w8) node_reads (λ _. number_reads w8 wide8)
+forwarded_reads : Reads forward_join (then_reader node_reader (λ _. number_reader w8))
+forwarded_reads = then_reads node (λ _. any_number w8) node_reader (λ _. number_reader w8) node_reads (λ _. number_reads w8 wide8)
 
-forward_join_kind : ReadsKind (record { kind = 6; Bad = forwarded.Bad }) forwarded_at
-unfolding forwarded_at
+forward_join_kind : ReadsKind (ForwardJoin 0 0) forwarded_reader
+unfolding forwarded_reader
 forward_join_kind =
-    kind_reads 6 forwarded (then_at node_at (λ _. number_at w8)) (λ p. ForwardJoin p.0 p.1) forwarded_reads
-    (record { kind_is = λ x. refl; fits = λ x fits. fits; spelled = λ x. refl })
+    kind_reads (ForwardJoin 0 0) forward_join (then_reader node_reader (λ _. number_reader w8)) (λ p. ForwardJoin p.0 p.1) forwarded_reads
+    (record { kind_is = λ x. refl; fits = λ x fits. fits; spelled = λ x. refl; bad = λ bytes left bad. bad; bad_back = λ bytes left bad. bad })
 
-neighbor_kind : ReadsKind (record { kind = 8; Bad = priority.Bad }) (made_at priority_at (λ p. Neighbor p))
-neighbor_kind = kind_reads 8 priority priority_at (λ p. Neighbor p) priority_reads (record { kind_is = λ x. refl; fits = λ x fits. fits; spelled = λ x. refl })
+neighbor_kind : ReadsKind (Neighbor Low) (made_reader priority_reader (λ p. Neighbor p))
+neighbor_kind = kind_reads (Neighbor Low) priority priority_reader (λ p. Neighbor p) priority_reads (record { kind_is = λ x. refl; fits = λ x fits. fits; spelled = λ x. refl; bad = λ bytes left bad. bad; bad_back = λ bytes left bad. bad })
 
-neighbor_reply_kind : ReadsKind (record { kind = 9; Bad = answer.Bad }) (made_at answer_at (λ a. NeighborReply a))
-neighbor_reply_kind = kind_reads 9 answer answer_at (λ a. NeighborReply a) answer_reads (record { kind_is = λ x. refl; fits = λ x fits. fits; spelled = λ x. refl })
+neighbor_reply_kind : ReadsKind (NeighborReply No) (made_reader answer_reader (λ a. NeighborReply a))
+neighbor_reply_kind = kind_reads (NeighborReply No) answer answer_reader (λ a. NeighborReply a) answer_reads (record { kind_is = λ x. refl; fits = λ x fits. fits; spelled = λ x. refl; bad = λ bytes left bad. bad; bad_back = λ bytes left bad. bad })
 
-shuffle_reads : Reads shuffle (then_at node_at (λ _. then_at (number_at w8) (λ _. nodes_at)))
+shuffle_reads : Reads shuffle (then_reader node_reader (λ _. then_reader (number_reader w8) (λ _. nodes_reader)))
 shuffle_reads =
-    then_reads node (λ _. then_form (any_number w8) (λ _. nodes)) node_at (λ _. then_at (number_at w8) (λ _. nodes_at)) node_reads
-    (λ _. then_reads (any_number w8) (λ _. nodes) (number_at w8) (λ _. nodes_at) (number_reads w8 wide8) (λ _. nodes_reads))
+    then_reads node (λ _. then_form (any_number w8) (λ _. nodes)) node_reader (λ _. then_reader (number_reader w8) (λ _. nodes_reader)) node_reads
+    (λ _. then_reads (any_number w8) (λ _. nodes) (number_reader w8) (λ _. nodes_reader) (number_reads w8 wide8) (λ _. nodes_reads))
 
-inner_reads : Reads inner (then_at prefix_at (λ _. digests_at))
-inner_reads = then_reads prefix (λ _. digests) prefix_at (λ _. digests_at) prefix_reads (λ _. digests_reads)
+inner_reads : Reads inner_digests (then_reader prefix_reader (λ _. digests_reader))
+inner_reads = then_reads prefix (λ _. digests) prefix_reader (λ _. digests_reader) prefix_reads (λ _. digests_reads)
 
-leaves_reads : Reads leaves (then_at prefix_at (λ _. then_at (within_at w8 0 15) (λ _. digests_at)))
+leaves_reads : Reads leaf_digests (then_reader prefix_reader (λ _. then_reader (within_reader w8 0 15) (λ _. digests_reader)))
 leaves_reads =
-    then_reads prefix (λ _. then_form place (λ _. digests)) prefix_at (λ _. then_at (within_at w8 0 15) (λ _. digests_at)) prefix_reads
-    (λ _. then_reads place (λ _. digests) (within_at w8 0 15) (λ _. digests_at) (within_reads w8 wide8 0 15) (λ _. digests_reads))
+    then_reads prefix (λ _. then_form place (λ _. digests)) prefix_reader (λ _. then_reader (within_reader w8 0 15) (λ _. digests_reader)) prefix_reads
+    (λ _. then_reads place (λ _. digests) (within_reader w8 0 15) (λ _. digests_reader) (within_reads w8 wide8 0 15) (λ _. digests_reads))
 
-bucket_reads : Reads bucket (then_at prefix_at (λ _. then_at (number_at w8) (λ _. keys_at)))
+bucket_reads : Reads bucket (then_reader prefix_reader (λ _. then_reader (number_reader w8) (λ _. keys_reader)))
 bucket_reads =
-    then_reads prefix (λ _. then_form (any_number w8) (λ _. keys)) prefix_at (λ _. then_at (number_at w8) (λ _. keys_at)) prefix_reads
-    (λ _. then_reads (any_number w8) (λ _. keys) (number_at w8) (λ _. keys_at) (number_reads w8 wide8) (λ _. keys_reads))
+    then_reads prefix (λ _. then_form (any_number w8) (λ _. keys)) prefix_reader (λ _. then_reader (number_reader w8) (λ _. keys_reader)) prefix_reads
+    (λ _. then_reads (any_number w8) (λ _. keys) (number_reader w8) (λ _. keys_reader) (number_reads w8 wide8) (λ _. keys_reads))
 
-shuffle_kind : ReadsKind (record { kind = 10; Bad = shuffle.Bad }) shuffle_at
-unfolding shuffle_at
+shuffle_kind : ReadsKind (Shuffle 0 0 []) shuffle_reader
+unfolding shuffle_reader
 shuffle_kind =
-    kind_reads 10 shuffle (then_at node_at (λ _. then_at (number_at w8) (λ _. nodes_at))) (λ p. Shuffle p.0 p.1.0 p.1.1) shuffle_reads
-    (record { kind_is = λ x. refl; fits = λ x fits. fits; spelled = λ x. refl })
+    kind_reads (Shuffle 0 0 []) shuffle (then_reader node_reader (λ _. then_reader (number_reader w8) (λ _. nodes_reader))) (λ p. Shuffle p.0 p.1.0 p.1.1) shuffle_reads
+    (record { kind_is = λ x. refl; fits = λ x fits. fits; spelled = λ x. refl; bad = λ bytes left bad. bad; bad_back = λ bytes left bad. bad })
 
-shuffle_reply_kind : ReadsKind (record { kind = 11; Bad = nodes.Bad }) (made_at nodes_at (λ ns. ShuffleReply ns))
-shuffle_reply_kind = kind_reads 11 nodes nodes_at (λ ns. ShuffleReply ns) nodes_reads (record { kind_is = λ x. refl; fits = λ x fits. fits; spelled = λ x. refl })
+shuffle_reply_kind : ReadsKind (ShuffleReply []) (made_reader nodes_reader (λ ns. ShuffleReply ns))
+shuffle_reply_kind = kind_reads (ShuffleReply []) nodes nodes_reader (λ ns. ShuffleReply ns) nodes_reads (record { kind_is = λ x. refl; fits = λ x fits. fits; spelled = λ x. refl; bad = λ bytes left bad. bad; bad_back = λ bytes left bad. bad })
 
-xroot_kind : ReadsKind (record { kind = 12; Bad = digest.Bad }) (made_at digest_at (λ d. XRoot d))
-xroot_kind = kind_reads 12 digest digest_at (λ d. XRoot d) digest_reads (record { kind_is = λ x. refl; fits = λ x fits. fits; spelled = λ x. refl })
+xroot_kind : ReadsKind (XRoot []) (made_reader digest_reader (λ d. XRoot d))
+xroot_kind = kind_reads (XRoot []) digest digest_reader (λ d. XRoot d) digest_reads (record { kind_is = λ x. refl; fits = λ x fits. fits; spelled = λ x. refl; bad = λ bytes left bad. bad; bad_back = λ bytes left bad. bad })
 
-xprefixes_kind : ReadsKind (record { kind = 13; Bad = prefixes.Bad }) (made_at prefixes_at (λ rows. XPrefixes rows))
-xprefixes_kind = kind_reads 13 prefixes prefixes_at (λ rows. XPrefixes rows) prefixes_reads (record { kind_is = λ x. refl; fits = λ x fits. fits; spelled = λ x. refl })
+xprefixes_kind : ReadsKind (XPrefixes []) (made_reader prefixes_reader (λ rows. XPrefixes rows))
+xprefixes_kind = kind_reads (XPrefixes []) prefixes prefixes_reader (λ rows. XPrefixes rows) prefixes_reads (record { kind_is = λ x. refl; fits = λ x fits. fits; spelled = λ x. refl; bad = λ bytes left bad. bad; bad_back = λ bytes left bad. bad })
 
-xinner_kind : ReadsKind (record { kind = 14; Bad = inner.Bad }) inner_at
-unfolding inner_at
+xinner_kind : ReadsKind (XInner some_prefix []) inner_reader
+unfolding inner_reader
 xinner_kind =
-    kind_reads 14 inner (then_at prefix_at (λ _. digests_at)) (λ p. XInner p.0 p.1) inner_reads
-    (record { kind_is = λ x. refl; fits = λ x fits. fits; spelled = λ x. refl })
+    kind_reads (XInner some_prefix []) inner_digests (then_reader prefix_reader (λ _. digests_reader)) (λ p. XInner p.0 p.1) inner_reads
+    (record { kind_is = λ x. refl; fits = λ x fits. fits; spelled = λ x. refl; bad = λ bytes left bad. bad; bad_back = λ bytes left bad. bad })
 
-xleaves_kind : ReadsKind (record { kind = 15; Bad = leaves.Bad }) leaves_at
-unfolding leaves_at
+xleaves_kind : ReadsKind (XLeaves some_prefix 0 []) leaves_reader
+unfolding leaves_reader
 xleaves_kind =
-    kind_reads 15 leaves (then_at prefix_at (λ _. then_at (within_at w8 0 15) (λ _. digests_at))) (λ p. XLeaves p.0 p.1.0 p.1.1) leaves_reads
-    (record { kind_is = λ x. refl; fits = λ x fits. fits; spelled = λ x. refl })
+    kind_reads (XLeaves some_prefix 0 []) leaf_digests (then_reader prefix_reader (λ _. then_reader (within_reader w8 0 15) (λ _. digests_reader))) (λ p. XLeaves p.0 p.1.0 p.1.1) leaves_reads
+    (record { kind_is = λ x. refl; fits = λ x fits. fits; spelled = λ x. refl; bad = λ bytes left bad. bad; bad_back = λ bytes left bad. bad })
 
-xbucket_kind : ReadsKind (record { kind = 16; Bad = bucket.Bad }) bucket_at
-unfolding bucket_at
+xbucket_kind : ReadsKind (XBucket some_prefix 0 []) bucket_reader
+unfolding bucket_reader
 xbucket_kind =
-    kind_reads 16 bucket (then_at prefix_at (λ _. then_at (number_at w8) (λ _. keys_at))) (λ p. XBucket p.0 p.1.0 p.1.1) bucket_reads
-    (record { kind_is = λ x. refl; fits = λ x fits. fits; spelled = λ x. refl })
+    kind_reads (XBucket some_prefix 0 []) bucket (then_reader prefix_reader (λ _. then_reader (number_reader w8) (λ _. keys_reader))) (λ p. XBucket p.0 p.1.0 p.1.1) bucket_reads
+    (record { kind_is = λ x. refl; fits = λ x fits. fits; spelled = λ x. refl; bad = λ bytes left bad. bad; bad_back = λ bytes left bad. bad })
 
-xobject_kind : ReadsKind (record { kind = 17; Bad = carried.Bad }) carried_at
-unfolding carried_at
+xobject_kind : ReadsKind (XObject some_key []) carried_reader
+unfolding carried_reader
 xobject_kind =
-    kind_reads 17 carried (then_at key_at (λ _. object_at)) (λ p. XObject p.0 p.1) carried_reads
-    (record { kind_is = λ x. refl; fits = λ x fits. fits; spelled = λ x. refl })
+    kind_reads (XObject some_key []) key_and_object (then_reader key_reader (λ _. object_reader)) (λ p. XObject p.0 p.1) carried_reads
+    (record { kind_is = λ x. refl; fits = λ x fits. fits; spelled = λ x. refl; bad = λ bytes left bad. bad; bad_back = λ bytes left bad. bad })
 
-xwant_kind : ReadsKind (record { kind = 18; Bad = key.Bad }) (made_at key_at (λ k. XWant k))
-xwant_kind = kind_reads 18 key key_at (λ k. XWant k) key_reads (record { kind_is = λ x. refl; fits = λ x fits. fits; spelled = λ x. refl })
+xwant_kind : ReadsKind (XWant some_key) (made_reader key_reader (λ k. XWant k))
+xwant_kind = kind_reads (XWant some_key) key key_reader (λ k. XWant k) key_reads (record { kind_is = λ x. refl; fits = λ x fits. fits; spelled = λ x. refl; bad = λ bytes left bad. bad; bad_back = λ bytes left bad. bad })
 
-pub message_again : (m : Message) (rest : List ℕ) → IsMessage m → message_at (kind_of m) (body m ++ rest) ≡ Ok (m, rest)
-unfolding message_at gossip_at announced_at carried_at forwarded_at shuffle_at inner_at leaves_at bucket_at
+pub message_again : (m : Message) (rest : List ℕ) → IsMessage m → message_reader (kind_of m) (body m ++ rest) ≡ Ok (m, rest)
+unfolding message_reader gossip_reader announced_reader carried_reader forwarded_reader shuffle_reader inner_reader leaves_reader bucket_reader
 message_again (Gossip round k o) rest fits = rw (gossip_reads.again (round, (k, o)) rest fits) refl
 message_again (IHave round k v) rest fits = rw (announced_reads.again (round, (k, v)) rest fits) refl
 message_again (Graft round k v) rest fits = rw (announced_reads.again (round, (k, v)) rest fits) refl
@@ -235,108 +251,104 @@ small_kind (XBucket p leaf rs) = omega arith
 small_kind (XObject k o) = omega arith
 small_kind (XWant k) = omega arith
 
--- ---- any kind: the reader takes the first row of the kind
+-- ---- any kind
 
-record Line : Type 1 where
-  pub row : Row
+-- a message of each kind, and the reader of the kind
+record Line : Type 0 where
+  pub some : Message
   pub read : Reader Message
-  pub reads : ReadsKind row read
+  pub reads : ReadsKind some read
 
 abbrev lines : List Line
 lines =
-    (record { row = record { kind = 1; Bad = gossip.Bad }; read = gossip_at; reads = gossip_kind })
-    ∷ (record { row = record { kind = 2; Bad = announced.Bad }; read = announced_at IHave; reads = ihave_kind })
-    ∷ (record { row = record { kind = 3; Bad = announced.Bad }; read = announced_at Graft; reads = graft_kind })
-    ∷ (record { row = record { kind = 4; Bad = NoField }; read = λ bytes. Ok (Prune, bytes); reads = prune_kind })
-    ∷ (record { row = record { kind = 5; Bad = NoField }; read = λ bytes. Ok (Join, bytes); reads = join_kind })
-    ∷ (record { row = record { kind = 6; Bad = forwarded.Bad }; read = forwarded_at; reads = forward_join_kind })
-    ∷ (record { row = record { kind = 7; Bad = NoField }; read = λ bytes. Ok (Disconnect, bytes); reads = disconnect_kind })
-    ∷ (record { row = record { kind = 8; Bad = priority.Bad }; read = made_at priority_at (λ p. Neighbor p); reads = neighbor_kind })
-    ∷ (record { row = record { kind = 9; Bad = answer.Bad }; read = made_at answer_at (λ a. NeighborReply a); reads = neighbor_reply_kind })
-    ∷ (record { row = record { kind = 10; Bad = shuffle.Bad }; read = shuffle_at; reads = shuffle_kind })
-    ∷ (record { row = record { kind = 11; Bad = nodes.Bad }; read = made_at nodes_at (λ ns. ShuffleReply ns); reads = shuffle_reply_kind })
-    ∷ (record { row = record { kind = 12; Bad = digest.Bad }; read = made_at digest_at (λ d. XRoot d); reads = xroot_kind })
-    ∷ (record { row = record { kind = 13; Bad = prefixes.Bad }; read = made_at prefixes_at (λ rows. XPrefixes rows); reads = xprefixes_kind })
-    ∷ (record { row = record { kind = 14; Bad = inner.Bad }; read = inner_at; reads = xinner_kind })
-    ∷ (record { row = record { kind = 15; Bad = leaves.Bad }; read = leaves_at; reads = xleaves_kind })
-    ∷ (record { row = record { kind = 16; Bad = bucket.Bad }; read = bucket_at; reads = xbucket_kind })
-    ∷ (record { row = record { kind = 17; Bad = carried.Bad }; read = carried_at; reads = xobject_kind })
-    ∷ (record { row = record { kind = 18; Bad = key.Bad }; read = made_at key_at (λ k. XWant k); reads = xwant_kind })
+    (record { some = Gossip 0 some_key []; read = gossip_reader; reads = gossip_kind })
+    ∷ (record { some = IHave 0 some_key []; read = announced_reader IHave; reads = ihave_kind })
+    ∷ (record { some = Graft 0 some_key []; read = announced_reader Graft; reads = graft_kind })
+    ∷ (record { some = Prune; read = λ bytes. Ok (Prune, bytes); reads = prune_kind })
+    ∷ (record { some = Join; read = λ bytes. Ok (Join, bytes); reads = join_kind })
+    ∷ (record { some = ForwardJoin 0 0; read = forwarded_reader; reads = forward_join_kind })
+    ∷ (record { some = Disconnect; read = λ bytes. Ok (Disconnect, bytes); reads = disconnect_kind })
+    ∷ (record { some = Neighbor Low; read = made_reader priority_reader (λ p. Neighbor p); reads = neighbor_kind })
+    ∷ (record { some = NeighborReply No; read = made_reader answer_reader (λ a. NeighborReply a); reads = neighbor_reply_kind })
+    ∷ (record { some = Shuffle 0 0 []; read = shuffle_reader; reads = shuffle_kind })
+    ∷ (record { some = ShuffleReply []; read = made_reader nodes_reader (λ ns. ShuffleReply ns); reads = shuffle_reply_kind })
+    ∷ (record { some = XRoot []; read = made_reader digest_reader (λ d. XRoot d); reads = xroot_kind })
+    ∷ (record { some = XPrefixes []; read = made_reader prefixes_reader (λ rows. XPrefixes rows); reads = xprefixes_kind })
+    ∷ (record { some = XInner some_prefix []; read = inner_reader; reads = xinner_kind })
+    ∷ (record { some = XLeaves some_prefix 0 []; read = leaves_reader; reads = xleaves_kind })
+    ∷ (record { some = XBucket some_prefix 0 []; read = bucket_reader; reads = xbucket_kind })
+    ∷ (record { some = XObject some_key []; read = carried_reader; reads = xobject_kind })
+    ∷ (record { some = XWant some_key; read = made_reader key_reader (λ k. XWant k); reads = xwant_kind })
     ∷ []
 
 -- the reader of these lines
 abbrev read_by : List Line → ℕ → Reader Message
-read_by [] kind bytes = Err (length bytes)
-read_by (l ∷ ls) kind bytes = cond (eqb kind l.row.kind) (l.read bytes) (read_by ls kind bytes)
+read_by [] number bytes = Err (length bytes)
+read_by (l ∷ ls) number bytes = cond (eqb number (kind_of l.some)) (l.read bytes) (read_by ls number bytes)
 
-abbrev rows_of : List Line → List Row
-rows_of [] = []
-rows_of (l ∷ ls) = l.row ∷ rows_of ls
+by_lines : (number : ℕ) (bytes : List ℕ) → message_reader number bytes ≡ read_by lines number bytes
+unfolding message_reader
+by_lines number bytes = refl
 
-by_lines : (kind : ℕ) (bytes : List ℕ) → message_at kind bytes ≡ read_by lines kind bytes
-unfolding message_at
-by_lines kind bytes = refl
+as_kind : (number n : ℕ) (bytes : List ℕ) (p : Message × List ℕ) → eqb number n ≡ true → TookBoth n bytes p → TookBoth number bytes p
+as_kind number n bytes p e t = record { kind_is = eqb-true number n e ∙ t.kind_is; fits = t.fits; spelled = t.spelled }
 
-rows_are : rows_of lines ≡ rows
-rows_are = refl
-
-as_kind : (kind n : ℕ) (bytes : List ℕ) (p : Message × List ℕ) → eqb kind n ≡ true → TookBoth n bytes p → TookBoth kind bytes p
-as_kind kind n bytes p e t = record { kind_is = eqb-true kind n e ∙ t.kind_is; fits = t.fits; spelled = t.spelled }
-
-takes_by : (ls : List Line) (kind : ℕ) (bytes : List ℕ) (p : Message × List ℕ) → IsBytes bytes → read_by ls kind bytes ≡ Ok p → TookBoth kind bytes p
-takes_by [] kind bytes p is e = absurd cc
-takes_by (l ∷ ls) kind bytes p is e =
-    elim (eqb kind l.row.kind) as (λ b. eqb kind l.row.kind ≡ b → cond b (l.read bytes) (read_by ls kind bytes) ≡ Ok p → TookBoth kind bytes p) [
-      | true ↦ λ same read. as_kind kind l.row.kind bytes p same (l.reads.takes bytes p is read)
-      | false ↦ λ other read. takes_by ls kind bytes p is read
+takes_by : (ls : List Line) (number : ℕ) (bytes : List ℕ) (p : Message × List ℕ) → IsBytes bytes → read_by ls number bytes ≡ Ok p → TookBoth number bytes p
+takes_by [] number bytes p is e = absurd cc
+takes_by (l ∷ ls) number bytes p is e =
+    elim (eqb number (kind_of l.some)) as (λ b. eqb number (kind_of l.some) ≡ b → cond b (l.read bytes) (read_by ls number bytes) ≡ Ok p → TookBoth number bytes p) [
+      | true ↦ λ same read. as_kind number (kind_of l.some) bytes p same (l.reads.takes bytes p is read)
+      | false ↦ λ other read. takes_by ls number bytes p is read
     ] refl e
 
-faulty_by : (ls : List Line) (kind : ℕ) (bytes : List ℕ) (left : ℕ) → IsBytes bytes → is_in (rows_of ls) kind ≡ true → read_by ls kind bytes ≡ Err left → BadIn (rows_of ls) kind bytes left
-faulty_by [] kind bytes left is known e = absurd cc
-faulty_by (l ∷ ls) kind bytes left is known e =
-    elim (eqb kind l.row.kind) as (λ b. eqb kind l.row.kind ≡ b → (b || is_in (rows_of ls) kind) ≡ true → cond b (l.read bytes) (read_by ls kind bytes) ≡ Err left → BadIn (rows_of (l ∷ ls)) kind bytes left) [
-      | true ↦ λ same known read. inl (eqb-true kind l.row.kind same, l.reads.faulty bytes left is read)
-      | false ↦ λ other known read. inr (faulty_by ls kind bytes left is known read)
-    ] refl known e
+-- the kinds of the lines are this number and those that follow it
+abbrev AreFrom : ℕ → List Line → Type 0
+AreFrom n [] = Unit {0}
+AreFrom n (l ∷ ls) = (kind_of l.some ≡ n) × AreFrom (n + 1) ls
 
--- each kind has one row
-record IsAbsent (kind : ℕ) (ls : List Line) : Type 0 where
-  pub absent : is_in (rows_of ls) kind ≡ false
+faulty_by : (ls : List Line) (n number : ℕ) (bytes : List ℕ) (left : ℕ) → IsBytes bytes → AreFrom n ls → n ≤ number → number < n + length ls → read_by ls number bytes ≡ Err left → BadFields number bytes left
+faulty_by [] n number bytes left is from low high e = absurd (omega (arith, low, high))
+faulty_by (l ∷ ls) n number bytes left is from low high e =
+    elim (eqb number (kind_of l.some)) as (λ b. eqb number (kind_of l.some) ≡ b → cond b (l.read bytes) (read_by ls number bytes) ≡ Err left → BadFields number bytes left) [
+      | true ↦ λ same read. record { message = l.some; kind_is = eqb-true number (kind_of l.some) same; bad = l.reads.faulty bytes left is read }
+      | false ↦ λ other read.
+          let apart : number ≢ n = λ same. eqb-false number (kind_of l.some) other (same ∙ sym from.0) in
+          faulty_by ls (n + 1) number bytes left is from.1 (omega (arith, low, apart)) (omega (arith, high)) read
+    ] refl e
 
-abbrev AreApart : List Line → Type 0
-AreApart [] = Unit {0}
-AreApart (l ∷ ls) = IsAbsent l.row.kind ls × AreApart ls
+from_one : AreFrom 1 lines
+from_one = (refl, (refl, (refl, (refl, (refl, (refl, (refl, (refl, (refl, (refl, (refl, (refl, (refl, (refl, (refl, (refl, (refl, (refl, tt))))))))))))))))))
 
-bad_is_in : (ls : List Line) (kind : ℕ) (bytes : List ℕ) (left : ℕ) → BadIn (rows_of ls) kind bytes left → is_in (rows_of ls) kind ≡ true
-bad_is_in [] kind bytes left bad = absurd bad
-bad_is_in (l ∷ ls) kind bytes left bad =
-    elim bad [
-      | inl here ↦ ap (λ b. b || is_in (rows_of ls) kind) (eq-eqb kind l.row.kind here.0)
-      | inr there ↦ or_right (eqb kind l.row.kind) (is_in (rows_of ls) kind) (bad_is_in ls kind bytes left there)
-    ]
+-- each kind refuses what is at fault in its bodies
+refuses_message : (m : Message) (bytes : List ℕ) (left : ℕ) → (row_of m).Bad bytes left → message_reader (kind_of m) bytes ≡ Err left
+unfolding message_reader
+refuses_message (Gossip round k o) bytes left bad = gossip_kind.refuses bytes left bad
+refuses_message (IHave round k v) bytes left bad = ihave_kind.refuses bytes left bad
+refuses_message (Graft round k v) bytes left bad = graft_kind.refuses bytes left bad
+refuses_message Prune bytes left bad = prune_kind.refuses bytes left bad
+refuses_message Join bytes left bad = join_kind.refuses bytes left bad
+refuses_message (ForwardJoin n ttl) bytes left bad = forward_join_kind.refuses bytes left bad
+refuses_message Disconnect bytes left bad = disconnect_kind.refuses bytes left bad
+refuses_message (Neighbor p) bytes left bad = neighbor_kind.refuses bytes left bad
+refuses_message (NeighborReply a) bytes left bad = neighbor_reply_kind.refuses bytes left bad
+refuses_message (Shuffle origin ttl ns) bytes left bad = shuffle_kind.refuses bytes left bad
+refuses_message (ShuffleReply ns) bytes left bad = shuffle_reply_kind.refuses bytes left bad
+refuses_message (XRoot d) bytes left bad = xroot_kind.refuses bytes left bad
+refuses_message (XPrefixes rs) bytes left bad = xprefixes_kind.refuses bytes left bad
+refuses_message (XInner p ds) bytes left bad = xinner_kind.refuses bytes left bad
+refuses_message (XLeaves p i ds) bytes left bad = xleaves_kind.refuses bytes left bad
+refuses_message (XBucket p leaf rs) bytes left bad = xbucket_kind.refuses bytes left bad
+refuses_message (XObject k o) bytes left bad = xobject_kind.refuses bytes left bad
+refuses_message (XWant k) bytes left bad = xwant_kind.refuses bytes left bad
 
-refuses_by : (ls : List Line) (kind : ℕ) (bytes : List ℕ) (left : ℕ) → AreApart ls → BadIn (rows_of ls) kind bytes left → read_by ls kind bytes ≡ Err left
-refuses_by [] kind bytes left apart bad = absurd bad
-refuses_by (l ∷ ls) kind bytes left apart bad =
-    elim bad [
-      | inl here ↦ ap (λ b. cond b (l.read bytes) (read_by ls kind bytes)) (eq-eqb kind l.row.kind here.0) ∙ l.reads.refuses bytes left here.1
-      | inr there ↦
-          let other : (kind ≡ l.row.kind → ⊥) = λ same. false≢true (sym (apart.0.absent) ∙ ap (is_in (rows_of ls)) (sym same) ∙ bad_is_in ls kind bytes left there) in
-          ap (λ b. cond b (l.read bytes) (read_by ls kind bytes)) (ne_eqb kind l.row.kind other) ∙ refuses_by ls kind bytes left apart.1 there
-    ]
+pub message_takes : (number : ℕ) (bytes : List ℕ) (p : Message × List ℕ) → IsBytes bytes → message_reader number bytes ≡ Ok p → TookBoth number bytes p
+message_takes number bytes p is e = takes_by lines number bytes p is (sym (by_lines number bytes) ∙ e)
 
-pub message_takes : (kind : ℕ) (bytes : List ℕ) (p : Message × List ℕ) → IsBytes bytes → message_at kind bytes ≡ Ok p → TookBoth kind bytes p
-message_takes kind bytes p is e = takes_by lines kind bytes p is (sym (by_lines kind bytes) ∙ e)
+pub message_faulty : (number : ℕ) (bytes : List ℕ) (left : ℕ) → IsBytes bytes → is_kind number ≡ true → message_reader number bytes ≡ Err left → BadFields number bytes left
+message_faulty number bytes left is known e =
+    let range = and_parts (leb 1 number) (leb number last_kind) known in
+    let high : number ≤ last_kind = leb-true number last_kind range.1 in
+    faulty_by lines 1 number bytes left is from_one (leb-true 1 number range.0) (omega (arith, high)) (sym (by_lines number bytes) ∙ e)
 
-pub message_faulty : (kind : ℕ) (bytes : List ℕ) (left : ℕ) → IsBytes bytes → is_kind kind ≡ true → message_at kind bytes ≡ Err left → BadFields kind bytes left
-message_faulty kind bytes left is known e = faulty_by lines kind bytes left is known (sym (by_lines kind bytes) ∙ e)
-
-absent : (kind : ℕ) (ls : List Line) → is_in (rows_of ls) kind ≡ false → IsAbsent kind ls
-absent kind ls e = record { absent = e }
-
-pub message_refuses : (kind : ℕ) (bytes : List ℕ) (left : ℕ) → BadFields kind bytes left → message_at kind bytes ≡ Err left
-message_refuses kind bytes left bad =
-    by_lines kind bytes
-    ∙ refuses_by lines kind bytes left
-    (record { absent = refl }, (record { absent = refl }, (record { absent = refl }, (record { absent = refl }, (record { absent = refl }, (record { absent = refl }, (record { absent = refl }, (record { absent = refl }, (record { absent = refl }, (record { absent = refl }, (record { absent = refl }, (record { absent = refl }, (record { absent = refl }, (record { absent = refl }, (record { absent = refl }, (record { absent = refl }, (record { absent = refl }, (record { absent = refl }, tt))))))))))))))))))
-    bad
+pub message_refuses : (number : ℕ) (bytes : List ℕ) (left : ℕ) → BadFields number bytes left → message_reader number bytes ≡ Err left
+message_refuses number bytes left bad = ap (λ k. message_reader k bytes) bad.kind_is ∙ refuses_message bad.message bytes left bad.bad

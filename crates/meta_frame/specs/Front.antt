@@ -21,6 +21,9 @@ RefusesField form bytes fault = ⊥
 
 -- bytes begin with at most one value of the form, have at most one fault, and never both
 pub record IsUnambiguous {A : Type 0} (form : Form A) : Type 0 where
-  pub one_value : (bytes : List ℕ) (x y : A) (rest others : List ℕ) → Begins form bytes x rest → Begins form bytes y others → (x ≡ y) × (rest ≡ others)
-  pub one_fault : (bytes : List ℕ) (at other : ℕ) → FaultAt form bytes at → FaultAt form bytes other → at ≡ other
-  pub never_both : (bytes : List ℕ) (x : A) (rest : List ℕ) (at : ℕ) → Begins form bytes x rest → FaultAt form bytes at → ⊥
+  pub one_value : (bytes : List ℕ) (x y : A) (rest others : List ℕ) → Begins form bytes x rest
+      → Begins form bytes y others → (x ≡ y) × (rest ≡ others)
+  pub one_fault : (bytes : List ℕ) (at other : ℕ) → FaultAt form bytes at → FaultAt form bytes other
+      → at ≡ other
+  pub never_both : (bytes : List ℕ) (x : A) (rest : List ℕ) (at : ℕ) → Begins form bytes x rest
+      → FaultAt form bytes at → ⊥

@@ -3,154 +3,155 @@
 
 ghost use Rattle.std.specs.Prelude.{◌≡◌};
 ghost use Rattle.meta_frame.specs.declared.message.Message.TheVariants.{IHave, Graft, Neighbor, NeighborReply, ShuffleReply, XRoot, XPrefixes, XWant};
-ghost use Rattle.field_readers.specs.Reader.{Gives, made_at, priority_at, answer_at, nodes_at, digest_at, prefixes_at, key_at};
-ghost use Rattle.meta_frame.specs.Reading.{message_at, gossip_at, announced_at, forwarded_at, shuffle_at, inner_at, leaves_at, bucket_at, carried_at};
+ghost use Rattle.frame_readers.specs.Reader.{MatchesReader, made_reader, priority_reader, answer_reader, nodes_reader, digest_reader, prefixes_reader, key_reader};
+ghost use Rattle.meta_frame.specs.Reading.{message_reader, gossip_reader, announced_reader, forwarded_reader, shuffle_reader, inner_reader, leaves_reader, bucket_reader, carried_reader};
 
 use crate::message::Message;
-use field_readers::FieldFault;
-use field_readers::listing::{digest_of, digests_of, keys_of, nodes_of, prefixes_of};
-use field_readers::reading::{
-    answer_of, key_of, node_from, node_of, object_of, place_of, prefix_of, priority_of, u8_of,
-    u16_of, vector_of,
-};
 use frame_fields::Digest;
+use frame_readers::FieldFault;
+use frame_readers::listing::{read_digest, read_digests, read_keys, read_nodes, read_prefixes};
+use frame_readers::reading::{
+    node_from, read_answer, read_key, read_node, read_object, read_place, read_prefix,
+    read_priority, read_u8, read_u16, read_vector,
+};
 use std::alloc::Global;
 
 /// The message of this kind at the front of the bytes.
-#[tactic(auto, unfolding(crate::specs::Reading::message_at))]
-pub(crate) fn message_of(
+#[tactic(auto, unfolding(crate::specs::Reading::message_reader))]
+pub(crate) fn read_message(
     alloc: Global,
     kind: u8,
     bytes: &[u8],
 ) -> Result<(Message, &[u8]), FieldFault>
-    ensures { Gives (λ x. (x.0, x.1.now)) result (message_at kind bytes.now) }
+    ensures { MatchesReader result (message_reader kind bytes.now) }
 {
     match kind {
-        1 => gossip_of(alloc, bytes),
-        2 => ihave_of(alloc, bytes),
-        3 => graft_of(alloc, bytes),
+        1 => read_gossip(alloc, bytes),
+        2 => read_ihave(alloc, bytes),
+        3 => read_graft(alloc, bytes),
         4 => Ok((Message::Prune, bytes)),
         5 => Ok((Message::Join, bytes)),
-        6 => forward_join_of(bytes),
+        6 => read_forward_join(bytes),
         7 => Ok((Message::Disconnect, bytes)),
-        8 => neighbor_of(bytes),
-        9 => neighbor_reply_of(bytes),
-        10 => shuffle_of(alloc, bytes),
-        11 => shuffle_reply_of(alloc, bytes),
-        12 => root_of(bytes),
-        13 => many_prefixes_of(alloc, bytes),
-        14 => inner_of(alloc, bytes),
-        15 => leaves_of(alloc, bytes),
-        16 => bucket_of(alloc, bytes),
-        17 => carried_of(alloc, bytes),
-        18 => wanted_of(alloc, bytes),
+        8 => read_neighbor(bytes),
+        9 => read_neighbor_reply(bytes),
+        10 => read_shuffle(alloc, bytes),
+        11 => read_shuffle_reply(alloc, bytes),
+        12 => read_root(bytes),
+        13 => read_many_prefixes(alloc, bytes),
+        14 => read_inner(alloc, bytes),
+        15 => read_leaves(alloc, bytes),
+        16 => read_bucket(alloc, bytes),
+        17 => read_carried(alloc, bytes),
+        18 => read_wanted(alloc, bytes),
         _ => Err(FieldFault::Left(bytes.len())),
     }
 }
 
-#[tactic(auto, unfolding(crate::specs::Reading::gossip_at))]
-fn gossip_of(alloc: Global, bytes: &[u8]) -> Result<(Message, &[u8]), FieldFault>
-    ensures { Gives (λ x. (x.0, x.1.now)) result (gossip_at bytes.now) }
+#[tactic(auto, unfolding(crate::specs::Reading::gossip_reader))]
+fn read_gossip(alloc: Global, bytes: &[u8]) -> Result<(Message, &[u8]), FieldFault>
+    ensures { MatchesReader result (gossip_reader bytes.now) }
 {
-    let (round, rest) = u16_of(bytes)?;
-    let (key, rest) = key_of(alloc, rest)?;
-    let (object, rest) = object_of(alloc, rest)?;
+    let (round, rest) = read_u16(bytes)?;
+    let (key, rest) = read_key(alloc, rest)?;
+    let (object, rest) = read_object(alloc, rest)?;
     Ok((Message::Gossip { round, key, object }, rest))
 }
 
-#[tactic(auto, unfolding(crate::specs::Reading::announced_at))]
-fn ihave_of(alloc: Global, bytes: &[u8]) -> Result<(Message, &[u8]), FieldFault>
-    ensures { Gives (λ x. (x.0, x.1.now)) result (announced_at IHave bytes.now) }
+#[tactic(auto, unfolding(crate::specs::Reading::announced_reader))]
+fn read_ihave(alloc: Global, bytes: &[u8]) -> Result<(Message, &[u8]), FieldFault>
+    ensures { MatchesReader result (announced_reader IHave bytes.now) }
 {
-    let (round, rest) = u16_of(bytes)?;
-    let (key, rest) = key_of(alloc, rest)?;
-    let (vector, rest) = vector_of(alloc, rest)?;
+    let (round, rest) = read_u16(bytes)?;
+    let (key, rest) = read_key(alloc, rest)?;
+    let (vector, rest) = read_vector(alloc, rest)?;
     Ok((Message::IHave { round, key, vector }, rest))
 }
 
-#[tactic(auto, unfolding(crate::specs::Reading::announced_at))]
-fn graft_of(alloc: Global, bytes: &[u8]) -> Result<(Message, &[u8]), FieldFault>
-    ensures { Gives (λ x. (x.0, x.1.now)) result (announced_at Graft bytes.now) }
+#[tactic(auto, unfolding(crate::specs::Reading::announced_reader))]
+fn read_graft(alloc: Global, bytes: &[u8]) -> Result<(Message, &[u8]), FieldFault>
+    ensures { MatchesReader result (announced_reader Graft bytes.now) }
 {
-    let (round, rest) = u16_of(bytes)?;
-    let (key, rest) = key_of(alloc, rest)?;
-    let (vector, rest) = vector_of(alloc, rest)?;
+    let (round, rest) = read_u16(bytes)?;
+    let (key, rest) = read_key(alloc, rest)?;
+    let (vector, rest) = read_vector(alloc, rest)?;
     Ok((Message::Graft { round, key, vector }, rest))
 }
 
-#[tactic(auto, unfolding(crate::specs::Reading::forwarded_at))]
-fn forward_join_of(bytes: &[u8]) -> Result<(Message, &[u8]), FieldFault>
-    ensures { Gives (λ x. (x.0, x.1.now)) result (forwarded_at bytes.now) }
+#[tactic(auto, unfolding(crate::specs::Reading::forwarded_reader))]
+fn read_forward_join(bytes: &[u8]) -> Result<(Message, &[u8]), FieldFault>
+    ensures { MatchesReader result (forwarded_reader bytes.now) }
 {
-    let (number, rest) = node_of(bytes)?;
-    let (ttl, rest) = u8_of(rest)?;
+    let (number, rest) = read_node(bytes)?;
+    let (ttl, rest) = read_u8(rest)?;
     let node = node_from(number);
     Ok((Message::ForwardJoin { node, ttl }, rest))
 }
 
-fn neighbor_of(bytes: &[u8]) -> Result<(Message, &[u8]), FieldFault>
-    ensures { Gives (λ x. (x.0, x.1.now)) result (made_at priority_at (λ p. Neighbor p) bytes.now) }
+fn read_neighbor(bytes: &[u8]) -> Result<(Message, &[u8]), FieldFault>
+    ensures { MatchesReader result (made_reader priority_reader (λ p. Neighbor p) bytes.now) }
 {
-    let (priority, rest) = priority_of(bytes)?;
+    let (priority, rest) = read_priority(bytes)?;
     Ok((Message::Neighbor { priority }, rest))
 }
 
-fn neighbor_reply_of(bytes: &[u8]) -> Result<(Message, &[u8]), FieldFault>
-    ensures { Gives (λ x. (x.0, x.1.now)) result (made_at answer_at (λ a. NeighborReply a) bytes.now) }
+fn read_neighbor_reply(bytes: &[u8]) -> Result<(Message, &[u8]), FieldFault>
+    ensures { MatchesReader result (made_reader answer_reader (λ a. NeighborReply a) bytes.now) }
 {
-    let (answer, rest) = answer_of(bytes)?;
+    let (answer, rest) = read_answer(bytes)?;
     Ok((Message::NeighborReply { answer }, rest))
 }
 
-#[tactic(auto, unfolding(crate::specs::Reading::shuffle_at))]
-fn shuffle_of(alloc: Global, bytes: &[u8]) -> Result<(Message, &[u8]), FieldFault>
-    ensures { Gives (λ x. (x.0, x.1.now)) result (shuffle_at bytes.now) }
+#[tactic(auto, unfolding(crate::specs::Reading::shuffle_reader))]
+fn read_shuffle(alloc: Global, bytes: &[u8]) -> Result<(Message, &[u8]), FieldFault>
+    ensures { MatchesReader result (shuffle_reader bytes.now) }
 {
-    let (number, rest) = node_of(bytes)?;
-    let (ttl, rest) = u8_of(rest)?;
-    let (nodes, rest) = nodes_of(alloc, rest)?;
+    let (number, rest) = read_node(bytes)?;
+    let (ttl, rest) = read_u8(rest)?;
+    let (nodes, rest) = read_nodes(alloc, rest)?;
     let origin = node_from(number);
     Ok((Message::Shuffle { origin, ttl, nodes }, rest))
 }
 
-fn shuffle_reply_of(alloc: Global, bytes: &[u8]) -> Result<(Message, &[u8]), FieldFault>
-    ensures { Gives (λ x. (x.0, x.1.now)) result (made_at nodes_at (λ ns. ShuffleReply ns) bytes.now) }
+fn read_shuffle_reply(alloc: Global, bytes: &[u8]) -> Result<(Message, &[u8]), FieldFault>
+    ensures { MatchesReader result (made_reader nodes_reader (λ ns. ShuffleReply ns) bytes.now) }
 {
-    let (nodes, rest) = nodes_of(alloc, bytes)?;
+    let (nodes, rest) = read_nodes(alloc, bytes)?;
     Ok((Message::ShuffleReply { nodes }, rest))
 }
 
-fn root_of(bytes: &[u8]) -> Result<(Message, &[u8]), FieldFault>
-    ensures { Gives (λ x. (x.0, x.1.now)) result (made_at digest_at (λ d. XRoot d) bytes.now) }
+fn read_root(bytes: &[u8]) -> Result<(Message, &[u8]), FieldFault>
+    ensures { MatchesReader result (made_reader digest_reader (λ d. XRoot d) bytes.now) }
 {
-    let (digest, rest) = digest_of(bytes)?;
+    let (digest, rest) = read_digest(bytes)?;
     let root = Digest::new(digest);
     Ok((Message::XRoot { root }, rest))
 }
 
-fn many_prefixes_of(alloc: Global, bytes: &[u8]) -> Result<(Message, &[u8]), FieldFault>
-    ensures { Gives (λ x. (x.0, x.1.now)) result (made_at prefixes_at (λ rows. XPrefixes rows) bytes.now) }
+fn read_many_prefixes(alloc: Global, bytes: &[u8]) -> Result<(Message, &[u8]), FieldFault>
+    ensures { MatchesReader result
+        (made_reader prefixes_reader (λ rows. XPrefixes rows) bytes.now) }
 {
-    let (prefixes, rest) = prefixes_of(alloc, bytes)?;
+    let (prefixes, rest) = read_prefixes(alloc, bytes)?;
     Ok((Message::XPrefixes { prefixes }, rest))
 }
 
-#[tactic(auto, unfolding(crate::specs::Reading::inner_at))]
-fn inner_of(alloc: Global, bytes: &[u8]) -> Result<(Message, &[u8]), FieldFault>
-    ensures { Gives (λ x. (x.0, x.1.now)) result (inner_at bytes.now) }
+#[tactic(auto, unfolding(crate::specs::Reading::inner_reader))]
+fn read_inner(alloc: Global, bytes: &[u8]) -> Result<(Message, &[u8]), FieldFault>
+    ensures { MatchesReader result (inner_reader bytes.now) }
 {
-    let (prefix, rest) = prefix_of(alloc, bytes)?;
-    let (digests, rest) = digests_of(alloc, rest)?;
+    let (prefix, rest) = read_prefix(alloc, bytes)?;
+    let (digests, rest) = read_digests(alloc, rest)?;
     Ok((Message::XInner { prefix, digests }, rest))
 }
 
-#[tactic(auto, unfolding(crate::specs::Reading::leaves_at))]
-fn leaves_of(alloc: Global, bytes: &[u8]) -> Result<(Message, &[u8]), FieldFault>
-    ensures { Gives (λ x. (x.0, x.1.now)) result (leaves_at bytes.now) }
+#[tactic(auto, unfolding(crate::specs::Reading::leaves_reader))]
+fn read_leaves(alloc: Global, bytes: &[u8]) -> Result<(Message, &[u8]), FieldFault>
+    ensures { MatchesReader result (leaves_reader bytes.now) }
 {
-    let (prefix, rest) = prefix_of(alloc, bytes)?;
-    let (inner, rest) = place_of(rest)?;
-    let (digests, rest) = digests_of(alloc, rest)?;
+    let (prefix, rest) = read_prefix(alloc, bytes)?;
+    let (inner, rest) = read_place(rest)?;
+    let (digests, rest) = read_digests(alloc, rest)?;
     Ok((
         Message::XLeaves {
             prefix,
@@ -161,28 +162,28 @@ fn leaves_of(alloc: Global, bytes: &[u8]) -> Result<(Message, &[u8]), FieldFault
     ))
 }
 
-#[tactic(auto, unfolding(crate::specs::Reading::bucket_at))]
-fn bucket_of(alloc: Global, bytes: &[u8]) -> Result<(Message, &[u8]), FieldFault>
-    ensures { Gives (λ x. (x.0, x.1.now)) result (bucket_at bytes.now) }
+#[tactic(auto, unfolding(crate::specs::Reading::bucket_reader))]
+fn read_bucket(alloc: Global, bytes: &[u8]) -> Result<(Message, &[u8]), FieldFault>
+    ensures { MatchesReader result (bucket_reader bytes.now) }
 {
-    let (prefix, rest) = prefix_of(alloc, bytes)?;
-    let (leaf, rest) = u8_of(rest)?;
-    let (keys, rest) = keys_of(alloc, rest)?;
+    let (prefix, rest) = read_prefix(alloc, bytes)?;
+    let (leaf, rest) = read_u8(rest)?;
+    let (keys, rest) = read_keys(alloc, rest)?;
     Ok((Message::XBucket { prefix, leaf, keys }, rest))
 }
 
-#[tactic(auto, unfolding(crate::specs::Reading::carried_at))]
-fn carried_of(alloc: Global, bytes: &[u8]) -> Result<(Message, &[u8]), FieldFault>
-    ensures { Gives (λ x. (x.0, x.1.now)) result (carried_at bytes.now) }
+#[tactic(auto, unfolding(crate::specs::Reading::carried_reader))]
+fn read_carried(alloc: Global, bytes: &[u8]) -> Result<(Message, &[u8]), FieldFault>
+    ensures { MatchesReader result (carried_reader bytes.now) }
 {
-    let (key, rest) = key_of(alloc, bytes)?;
-    let (object, rest) = object_of(alloc, rest)?;
+    let (key, rest) = read_key(alloc, bytes)?;
+    let (object, rest) = read_object(alloc, rest)?;
     Ok((Message::XObject { key, object }, rest))
 }
 
-fn wanted_of(alloc: Global, bytes: &[u8]) -> Result<(Message, &[u8]), FieldFault>
-    ensures { Gives (λ x. (x.0, x.1.now)) result (made_at key_at (λ k. XWant k) bytes.now) }
+fn read_wanted(alloc: Global, bytes: &[u8]) -> Result<(Message, &[u8]), FieldFault>
+    ensures { MatchesReader result (made_reader key_reader (λ k. XWant k) bytes.now) }
 {
-    let (key, rest) = key_of(alloc, bytes)?;
+    let (key, rest) = read_key(alloc, bytes)?;
     Ok((Message::XWant { key }, rest))
 }

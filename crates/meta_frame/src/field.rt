@@ -1,57 +1,58 @@
 //! The fields that other formats are made of too, from the front of bytes.
 
 ghost use Rattle.std.specs.Prelude.{◌≡◌, ◌⊎◌, IfOk, IfErr};
+ghost use Rattle.meta_types.specs.Failing.{FailsWith};
 ghost use Rattle.frame_fields.specs.Field.{prefix, key, vector, object};
 ghost use Rattle.meta_frame.specs.Reading.{offset_of};
 ghost use Rattle.meta_frame.specs.Front.{Begins, RefusesField};
 
 use crate::fault::FrameFault;
 use dvvset::{Entries, Vector};
-use field_readers::FieldFault;
-use field_readers::reading::{key_of, object_of, prefix_of, vector_of};
+use frame_readers::FieldFault;
+use frame_readers::reading::{read_key, read_object, read_prefix, read_vector};
 use meta_types::{FullPrefix, MetaKey};
 use std::alloc::Global;
 
-/// The full prefix at the front of the bytes, and the bytes behind it. Otherwise 15 `BadBody` at the
+/// The full prefix at the front of the bytes, and the bytes after it. Otherwise 15 `BadBody` at the
 /// first byte of the first field that is at fault, counted from the front of these bytes.
 pub fn get_prefix(alloc: Global, bytes: &[u8]) -> Result<(FullPrefix, &[u8]), FrameFault>
     ensures found { IfOk result (λ x. Begins prefix bytes.now x.0 x.1.now) }
-    ensures refused { IfErr result (λ fault. (fault ≡ FrameFault.Memory) ⊎ RefusesField prefix bytes.now fault) }
+    ensures refused { FailsWith FrameFault.Memory (RefusesField prefix bytes.now) result }
 {
-    match prefix_of(alloc, bytes) {
+    match read_prefix(alloc, bytes) {
         Ok(found) => Ok(found),
         Err(fault) => Err(offset(bytes, fault)),
     }
 }
 
-/// The key at the front of the bytes, and the bytes behind it; refused as `get_prefix` is.
+/// The key at the front of the bytes, and the bytes after it; refused as `get_prefix` is.
 pub fn get_key(alloc: Global, bytes: &[u8]) -> Result<(MetaKey, &[u8]), FrameFault>
     ensures found { IfOk result (λ x. Begins key bytes.now x.0 x.1.now) }
-    ensures refused { IfErr result (λ fault. (fault ≡ FrameFault.Memory) ⊎ RefusesField key bytes.now fault) }
+    ensures refused { FailsWith FrameFault.Memory (RefusesField key bytes.now) result }
 {
-    match key_of(alloc, bytes) {
+    match read_key(alloc, bytes) {
         Ok(found) => Ok(found),
         Err(fault) => Err(offset(bytes, fault)),
     }
 }
 
-/// The vector at the front of the bytes, and the bytes behind it; refused as `get_prefix` is.
+/// The vector at the front of the bytes, and the bytes after it; refused as `get_prefix` is.
 pub fn get_vector(alloc: Global, bytes: &[u8]) -> Result<(Vector, &[u8]), FrameFault>
     ensures found { IfOk result (λ x. Begins vector bytes.now x.0 x.1.now) }
-    ensures refused { IfErr result (λ fault. (fault ≡ FrameFault.Memory) ⊎ RefusesField vector bytes.now fault) }
+    ensures refused { FailsWith FrameFault.Memory (RefusesField vector bytes.now) result }
 {
-    match vector_of(alloc, bytes) {
+    match read_vector(alloc, bytes) {
         Ok(found) => Ok(found),
         Err(fault) => Err(offset(bytes, fault)),
     }
 }
 
-/// The object at the front of the bytes, and the bytes behind it; refused as `get_prefix` is.
+/// The object at the front of the bytes, and the bytes after it; refused as `get_prefix` is.
 pub fn get_object(alloc: Global, bytes: &[u8]) -> Result<(Entries, &[u8]), FrameFault>
     ensures found { IfOk result (λ x. Begins object bytes.now x.0 x.1.now) }
-    ensures refused { IfErr result (λ fault. (fault ≡ FrameFault.Memory) ⊎ RefusesField object bytes.now fault) }
+    ensures refused { FailsWith FrameFault.Memory (RefusesField object bytes.now) result }
 {
-    match object_of(alloc, bytes) {
+    match read_object(alloc, bytes) {
         Ok(found) => Ok(found),
         Err(fault) => Err(offset(bytes, fault)),
     }

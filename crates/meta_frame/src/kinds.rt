@@ -52,7 +52,7 @@ macro_rules! known_kind {
     };
 }
 
-/// Tells whether there is such a kind.
+/// Returns whether there is such a kind.
 pub(crate) fn is_known(kind: u8) -> bool
     ensures { result ≡ is_kind kind }
 {
@@ -148,7 +148,7 @@ macro_rules! kind_fits {
     };
 }
 
-/// Tells whether the fields of the message have a spelling.
+/// Returns whether the fields of the message have a spelling.
 pub(crate) fn message_fits(message: &Message) -> bool
     ensures { IsTrue result ↔ IsMessage message.now }
 {

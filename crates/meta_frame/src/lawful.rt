@@ -7,7 +7,7 @@ use crate::kinds::message_fits;
 use crate::message::Frame;
 pub use frame_fields::lawful::is_object;
 
-/// Tells whether the fields of a frame have a spelling, whatever its length: the sender isn't the
+/// Returns whether the fields of a frame have a spelling, whatever its length: the sender isn't the
 /// addressee, and a message's object has a spelling.
 pub fn is_lawful(frame: &Frame) -> bool
     ensures { IsTrue result ↔ IsLawful frame.now }

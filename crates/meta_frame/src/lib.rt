@@ -3,8 +3,8 @@
 
 mod bodies;
 mod copies;
-pub mod decode;
-pub mod encode;
+pub mod decoding;
+pub mod encoding;
 pub mod fault;
 pub mod field;
 mod kinds;
@@ -12,7 +12,11 @@ pub mod lawful;
 pub mod laws;
 pub mod message;
 
+pub use decoding::{HEADER_LEN, MAX_FRAME_LEN, decode};
+pub use encoding::{encode, put_object};
 pub use fault::FrameFault;
-pub use frame_fields::{Answer, Priority};
+pub use field::{get_key, get_object, get_prefix, get_vector};
+pub use frame_fields::{NeighborAnswer, Priority};
 pub use kinds::kind_name;
+pub use lawful::is_lawful;
 pub use message::{Frame, Message};

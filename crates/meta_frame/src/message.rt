@@ -2,7 +2,7 @@ ghost use Rattle.std.specs.Prelude.{◌≡◌, IfOk};
 
 use crate::kinds::copy_message;
 use dvvset::{Entries, Vector};
-use frame_fields::{Answer, Digest, Digests, KeyDigests, Nodes, PrefixDigests, Priority};
+use frame_fields::{Digest, Digests, KeyDigests, NeighborAnswer, Nodes, PrefixDigests, Priority};
 use meta_types::{FullPrefix, MetaKey, NodeId};
 use std::alloc::AllocError;
 
@@ -44,7 +44,7 @@ pub enum Message {
     },
     /// 9: whether the sender took the addressee into its active view.
     NeighborReply {
-        answer: Answer,
+        answer: NeighborAnswer,
     },
     /// 10: some nodes that `origin` knows, on a walk that `ttl` bounds.
     Shuffle {

@@ -49,7 +49,7 @@ here_or_later table rows row w k Less e here later = later
 here_or_later table rows row w k Equal e here later = subst (λ l. count_of row.1 w ≤ count_of (object_at table l) w) (sym (same_key k row.0 e)) here
 here_or_later table rows row w k Greater e here later = later
 
--- a row and all behind it
+-- a row and all after it
 pub with_row : (table rows : Table) (row : Key × List Entry) (w : ℕ) → count_of row.1 w ≤ count_of (object_at table row.0) w → Counts table rows w → Counts table (row ∷ rows) w
 with_row table rows row w here later = record {
   counts = λ k. here_or_later table rows row w k (key_cmp k row.0) refl here (later.counts k);
@@ -96,7 +96,7 @@ next table other rows row w walked here = record {
   needed = λ c. of_rest table rows row w walked.rising (walked.needed c);
 }
 
--- the row at a place of the walk, and all behind it
+-- the row at a place of the walk, and all after it
 pub at : (table other : Table) (i : ℕ) (row : Key × List Entry) (w : ℕ) → i < length other → row ≡ get_or other i row
     → Walked table other (drop i other) w → Walked table other (row ∷ drop (i + 1) other) w
 at table other i row w low is walked =

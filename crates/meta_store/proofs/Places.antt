@@ -20,7 +20,7 @@ use Rattle.meta_store.proofs.Keys.{key_total, same_key, flipped}
 abbrev pub Row : Type 0
 Row = Key × List Entry
 
--- any row, where a list is read behind its end
+-- any row, where a list is read after its end
 pub no_row : Row
 no_row = (record { prefix = record { prefix = []; sub = [] }; key = [] }, [])
 
@@ -96,7 +96,7 @@ module _ (table : Table) (sorted : is_sorted key_cmp table ≡ true) (k : Key) w
 
 -- ---- what is found and put there
 
--- behind a lower row
+-- after a lower row
 at_rest : (row : Row) (rows : Table) (k : Key) (at : ℕ) → IsAt (row ∷ rows) k (suc at) → IsAt rows k at
 at_rest row rows k at is = record {
   within = omega (arith, is.within);

@@ -2,6 +2,8 @@
 use Rattle.std.specs.Prelude.{List, [], Option, Some, None}
 use Rattle.meta_types.specs.Name.{Key}
 use Rattle.dvvset.specs.Object.{Counter}
+use Rattle.dvvset.specs.Clock.{join}
+use Rattle.meta_store.specs.Table.{Table, object_at}
 use Rattle.meta_store.specs.declared.source.Source.{Source}
 
 -- the key that was read, the vector of the object there, and who read
@@ -9,6 +11,10 @@ pub record Reading : Type 0 where
   pub key : Key
   pub vector : List Counter
   pub source : Source
+
+-- what a read of a table under the key hands out
+abbrev pub reading_at : Table → Key → Source → Reading
+reading_at table key source = record { key = key; vector = join (object_at table key); source = source }
 
 -- the vector that a write has read: that of its context, or none
 abbrev pub vector_read : Option Reading → List Counter

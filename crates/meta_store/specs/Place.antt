@@ -16,4 +16,5 @@ pub record IsAt (table : Table) (key : Key) (at : ℕ) : Type 0 where
 pub record IsGap (table : Table) (key : Key) (at : ℕ) : Type 0 where
   pub within : at ≤ length table
   pub lower : (j : ℕ) (d : Key × List Entry) → j < at → key_cmp (get_or table j d).0 key ≡ Less
-  pub greater : (j : ℕ) (d : Key × List Entry) → at ≤ j → j < length table → key_cmp (get_or table j d).0 key ≡ Greater
+  pub greater : (j : ℕ) (d : Key × List Entry) → at ≤ j → j < length table
+      → key_cmp (get_or table j d).0 key ≡ Greater

@@ -6,7 +6,7 @@ use Rattle.meta_types.specs.Value.{ValueParts}
 use Rattle.meta_types.specs.Order.{key_cmp}
 use Rattle.meta_types.specs.First.{first_that_applies}
 use Rattle.dvvset.specs.Object.{Entry}
-use Rattle.dvvset.specs.Clock.{counter, join, sync, update}
+use Rattle.dvvset.specs.Clock.{count_for, join, sync, update}
 use Rattle.dvvset.specs.Writer.{count_of}
 use Rattle.frame_fields.specs.Field.{has_value, greatest_count}
 use Rattle.past_model.specs.Sets.{key_eq}
@@ -24,8 +24,8 @@ is_full_for table key = is_none (find key_cmp key table) && nat_le most_keys (le
 -- ---- a write
 
 -- the object that a write leaves under its key, whether or not the key is held
-abbrev pub written : Table → ℕ → Key → ValueParts → Option Reading → List Entry
-written table id key value context = update (vector_read context) (object_at table key) id value
+abbrev pub object_after_put : Table → ℕ → Key → ValueParts → Option Reading → List Entry
+object_after_put table id key value context = update (vector_read context) (object_at table key) id value
 
 -- there is a context, and it is of another key
 abbrev pub is_of_another_key : Key → Option Reading → Bool
@@ -34,14 +34,14 @@ is_of_another_key key (Some context) = not (key_eq context.key key)
 
 -- the writer's counter, in what was read or in what is held, is the greatest that there is
 abbrev pub is_spent : Table → ℕ → Key → Option Reading → Bool
-is_spent table id key context = max (counter (vector_read context) id) (count_of (object_at table key) id) == greatest_count
+is_spent table id key context = max (count_for (vector_read context) id) (count_of (object_at table key) id) == greatest_count
 
 abbrev pub refusal_of_put : Table → ℕ → Key → ValueParts → Option Reading → Option StoreFault
 refusal_of_put table id key value context = first_that_applies (
     (is_of_another_key key context, WrongKey)
     ∷ (is_full_for table key, StoreFull)
     ∷ (is_spent table id key context, CounterSpent)
-    ∷ (not (is_small_enough most_written (written table id key value context)), ObjectTooLarge)
+    ∷ (not (is_small_enough most_written (object_after_put table id key value context)), ObjectTooLarge)
     ∷ [])
 
 -- ---- a merge
@@ -50,9 +50,12 @@ refusal_of_put table id key value context = first_that_applies (
 abbrev pub merge_of : Table → Key → List Entry → List Entry
 merge_of table key came = sync (object_at table key) came
 
--- what came is stale where its vector is: then nothing changes
-abbrev pub after_merge : Table → Key → List Entry → Table
-after_merge table key came = if is_stale table key (join came) then table else with_object key (merge_of table key came) table
+-- what stands under the key after a merge; what came is stale where its vector is, and then nothing changes
+abbrev pub object_after_merge : Table → Key → List Entry → List Entry
+object_after_merge table key came = if is_stale table key (join came) then object_at table key else merge_of table key came
+
+abbrev pub table_after_merge : Table → Key → List Entry → Table
+table_after_merge table key came = if is_stale table key (join came) then table else with_object key (merge_of table key came) table
 
 abbrev pub answer_of_merge : Table → Key → List Entry → Merged
 answer_of_merge table key came = if is_stale table key (join came) then Stale else Fresh

@@ -57,7 +57,7 @@ impl Context {
         self.source
     }
 
-    /// It takes memory, with the refusal of which alone it is refused.
+    /// Fails only when memory runs out.
     pub fn copy(&self) -> Result<Self, AllocError>
         ensures { IfOk result (λ copy. copy ≡ self.now) }
     {

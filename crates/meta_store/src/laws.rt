@@ -1,18 +1,29 @@
-//! Laws of tables. Each function does nothing: its contract is the law.
+//! Laws of tables and of faults. The contract of a function is the law; its body does nothing, or compares.
 
-ghost use Rattle.std.specs.Prelude.{◌≡◌, ℕ, ◌<◌, List, length, get_or};
+ghost use Rattle.std.specs.Prelude.{◌≡◌, ◌↔◌, ℕ, ◌<◌, List, length, get_or, IsTrue};
 ghost use Rattle.meta_types.specs.Name.{Key, IsKey};
 ghost use Rattle.meta_types.specs.Order.{KeyBefore};
 ghost use Rattle.dvvset.specs.Object.{Entry};
 ghost use Rattle.meta_store.specs.Table.{IsTable, Table, object_at};
 
+use crate::fault::StoreFault;
+
 /// Tables that show the same under every key are equal, so what `here` and `elsewhere` of `put` and `merge`
 /// say determines what a store holds.
 pub fn look_ups_determine_a_table()
-    ensures { (table other : Table) → IsTable table → IsTable other → ((key : Key) → IsKey key → object_at table key ≡ object_at other key) → table ≡ other }
+    ensures { (table other : Table) → IsTable table → IsTable other
+        → ((key : Key) → IsKey key → object_at table key ≡ object_at other key) → table ≡ other }
 {}
 
 /// Each key of a table stands before each later one.
 pub fn keys_rise()
-    ensures { (table : Table) → IsTable table → (i j : ℕ) (d : Key × List Entry) → i < j → j < length table → KeyBefore (get_or table i d).0 (get_or table j d).0 }
+    ensures { (table : Table) → IsTable table → (i j : ℕ) (d : Key × List Entry) → i < j
+        → j < length table → KeyBefore (get_or table i d).0 (get_or table j d).0 }
 {}
+
+/// Faults are equal exactly where they are the same.
+pub fn equal_faults_are_the_same(one: &StoreFault, other: &StoreFault) -> bool
+    ensures { IsTrue result ↔ (one.now ≡ other.now) }
+{
+    one == other
+}

@@ -1,6 +1,7 @@
 //! Merges.
 
 ghost use Rattle.std.specs.Prelude.{◌≡◌, ◌≢◌, ◌⊎◌, if◌then◌else◌, true, false, List, Ok, Some, None, IfOk, IfErr, OnOk, OnErr};
+ghost use Rattle.meta_types.specs.Failing.{FailsBy};
 ghost use Rattle.meta_types.specs.Name.{Key};
 ghost use Rattle.dvvset.specs.Clock.{join};
 ghost use Rattle.past_model.specs.declared.happening.Happening.{Happening};
@@ -9,7 +10,7 @@ ghost use Rattle.past_model.specs.Past.{writes};
 ghost use Rattle.past_model.specs.History.{RestartsKeepOwnWrites};
 ghost use Rattle.past_model.specs.Shown.{IsObjectOf};
 ghost use Rattle.meta_store.specs.Table.{IsHeld, is_stale, object_at};
-ghost use Rattle.meta_store.specs.Step.{after_merge, answer_of_merge, merge_of, refusal_of_merge};
+ghost use Rattle.meta_store.specs.Step.{table_after_merge, answer_of_merge, merge_of, object_after_merge, refusal_of_merge};
 ghost use Rattle.meta_store.specs.declared.fault.StoreFault.TheVariants.{Memory};
 ghost use Rattle.meta_store.specs.declared.merge.Merged.TheVariants.{Stale};
 
@@ -44,15 +45,19 @@ impl Store {
     /// are dropped with a refusal.
     pub fn merge(&mut self, key: MetaKey, object: Entries) -> Result<Merged, StoreFault>
         ensures stale { is_stale self.old key (join object) ≡ true → result ≡ Ok Stale }
-        ensures value { OnOk result (self.new ≡ after_merge self.old key object) }
+        ensures value { OnOk result (self.new ≡ table_after_merge self.old key object) }
         ensures answer { IfOk result (λ answer. answer ≡ answer_of_merge self.old key object) }
-        ensures here { OnOk result (object_at self.new key ≡ (if is_stale self.old key (join object) then object_at self.old key else merge_of self.old key object)) }
-        ensures elsewhere { OnOk result ((other : Key) → other ≢ key → object_at self.new other ≡ object_at self.old other) }
-        ensures union { OnOk result ((hs : List Happening) → RestartsKeepOwnWrites hs → (S T : Places)
-            → IsObjectOf (writes hs) key S (object_at self.old key) → IsObjectOf (writes hs) key T object
+        ensures here { OnOk result
+            (object_at self.new key ≡ object_after_merge self.old key object) }
+        ensures elsewhere { OnOk result ((other : Key) → other ≢ key
+            → object_at self.new other ≡ object_at self.old other) }
+        ensures union { OnOk result ((hs : List Happening) → RestartsKeepOwnWrites hs
+            → (S T : Places)
+            → IsObjectOf (writes hs) key S (object_at self.old key)
+            → IsObjectOf (writes hs) key T object
             → IsObjectOf (writes hs) key (union S T) (object_at self.new key)) }
         ensures no_refusal { OnOk result (refusal_of_merge self.old key object ≡ None) }
-        ensures fault { IfErr result (λ fault. (fault ≡ Memory) ⊎ (refusal_of_merge self.old key object ≡ Some fault)) }
+        ensures fault { FailsBy Memory (refusal_of_merge self.old key object) result }
         ensures same { OnErr result (self.new ≡ self.old) }
     {
         if self.knows(&key, &object) {
@@ -69,7 +74,7 @@ impl Store {
         ensures value { IfOk result (λ object. object ≡ merge_of self.now key.now came.now) }
         ensures held { IfOk result IsHeld }
         ensures no_refusal { OnOk result (refusal_of_merge self.now key.now came.now ≡ None) }
-        ensures fault { IfErr result (λ fault. (fault ≡ Memory) ⊎ (refusal_of_merge self.now key.now came.now ≡ Some fault)) }
+        ensures fault { FailsBy Memory (refusal_of_merge self.now key.now came.now) result }
     {
         let alloc = self.allocator();
         let absent = Entries::empty(alloc);

@@ -1,10 +1,11 @@
 //! Writes.
 
 ghost use Rattle.std.specs.Prelude.{◌≡◌, ◌≢◌, ◌⊎◌, Some, None, IfOk, IfErr, OnOk, OnErr};
+ghost use Rattle.meta_types.specs.Failing.{FailsBy};
 ghost use Rattle.std.specs.Option.{option_copied};
 ghost use Rattle.meta_types.specs.Name.{Key};
 ghost use Rattle.meta_store.specs.Table.{IsHeld, object_at, with_object};
-ghost use Rattle.meta_store.specs.Step.{refusal_of_put, written};
+ghost use Rattle.meta_store.specs.Step.{refusal_of_put, object_after_put};
 ghost use Rattle.meta_store.specs.declared.fault.StoreFault.TheVariants.{Memory};
 
 use crate::context::Context;
@@ -27,10 +28,14 @@ impl Store {
         value: Value,
         context: Option<&Context>,
     ) -> Result<Entries, StoreFault>
-        ensures value { IfOk result (λ object. object ≡ written self.now id key.now value (option_copied context.entry)) }
+        ensures value { IfOk result
+            (λ object. object ≡ object_after_put self.now id key.now value
+            (option_copied context.entry)) }
         ensures held { IfOk result IsHeld }
-        ensures no_refusal { OnOk result (refusal_of_put self.now id key.now value (option_copied context.entry) ≡ None) }
-        ensures fault { IfErr result (λ fault. (fault ≡ Memory) ⊎ (refusal_of_put self.now id key.now value (option_copied context.entry) ≡ Some fault)) }
+        ensures no_refusal { OnOk result
+            (refusal_of_put self.now id key.now value (option_copied context.entry) ≡ None) }
+        ensures fault { FailsBy Memory
+            (refusal_of_put self.now id key.now value (option_copied context.entry)) result }
     {
         if context.is_some_and(|context| context.key() != key) {
             return Err(StoreFault::WrongKey);
@@ -64,11 +69,18 @@ impl Store {
         value: Value,
         context: Option<&Context>,
     ) -> Result<(), StoreFault>
-        ensures value { OnOk result (self.new ≡ with_object key (written self.old id key value (option_copied context.entry)) self.old) }
-        ensures here { OnOk result (object_at self.new key ≡ written self.old id key value (option_copied context.entry)) }
-        ensures elsewhere { OnOk result ((other : Key) → other ≢ key → object_at self.new other ≡ object_at self.old other) }
-        ensures no_refusal { OnOk result (refusal_of_put self.old id key value (option_copied context.entry) ≡ None) }
-        ensures fault { IfErr result (λ fault. (fault ≡ Memory) ⊎ (refusal_of_put self.old id key value (option_copied context.entry) ≡ Some fault)) }
+        ensures value { OnOk result
+            (self.new ≡ with_object key
+            (object_after_put self.old id key value (option_copied context.entry)) self.old) }
+        ensures here { OnOk result
+            (object_at self.new key ≡ object_after_put self.old id key value
+            (option_copied context.entry)) }
+        ensures elsewhere { OnOk result ((other : Key) → other ≢ key
+            → object_at self.new other ≡ object_at self.old other) }
+        ensures no_refusal { OnOk result
+            (refusal_of_put self.old id key value (option_copied context.entry) ≡ None) }
+        ensures fault { FailsBy Memory
+            (refusal_of_put self.old id key value (option_copied context.entry)) result }
         ensures same { OnErr result (self.new ≡ self.old) }
     {
         let object = self.preview_put(id, &key, value, context)?;

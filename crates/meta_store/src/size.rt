@@ -12,7 +12,7 @@ use frame_fields::lengths::object_len;
 /// The most values of one writer that an object may show.
 pub const MAX_VALUES_OF_A_WRITER: usize = 65_535;
 
-/// Tells whether no entry shows more values than a frame can count.
+/// Returns whether no entry shows more values than a frame can count.
 fn have_few_values(entries: &[Entry]) -> bool
     ensures { result ≡ list_all has_few_values entries.now }
 {
@@ -21,8 +21,8 @@ fn have_few_values(entries: &[Entry]) -> bool
         .all(|entry| entry.values().len() <= MAX_VALUES_OF_A_WRITER)
 }
 
-/// Tells whether an object that shows a value has few enough values of each writer, and as a field of a
-/// frame at most so many bytes. It goes over the values once, and takes no memory.
+/// Returns whether an object that shows a value has few enough values of each writer, and as a field of a
+/// frame at most `most` bytes. It goes over the values once, and takes no memory.
 pub(crate) fn is_small_enough(object: &Entries, most: usize) -> bool
     requires { has_value object.now ≡ true }
     ensures { result ≡ is_small_enough most object.now }

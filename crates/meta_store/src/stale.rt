@@ -5,7 +5,7 @@ ghost use Rattle.dvvset.specs.Clock.{descends, join};
 
 use dvvset::{Counter, Entry, count_of};
 
-/// Tells whether the entries know each event that is counted.
+/// Returns whether the entries know each event that is counted.
 pub(crate) fn has_read(entries: &[Entry], counters: &[Counter]) -> bool
     ensures { result ≡ descends (join entries.now) counters.now }
 {
@@ -17,7 +17,7 @@ pub(crate) fn has_read(entries: &[Entry], counters: &[Counter]) -> bool
     true
 }
 
-/// Tells whether the entries know each event that the others know.
+/// Returns whether the entries know each event that the others know.
 pub(crate) fn knows(entries: &[Entry], others: &[Entry]) -> bool
     ensures { result ≡ descends (join entries.now) (join others.now) }
 {

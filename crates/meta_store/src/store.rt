@@ -6,6 +6,7 @@ ghost use Rattle.meta_types.specs.Order.{key_cmp};
 ghost use Rattle.dvvset.specs.Clock.{join, values_of};
 ghost use Rattle.dvvset.specs.Writer.{count_of};
 ghost use Rattle.meta_store.specs.Table.{IsHeld, IsTable, is_stale, object_at, with_object};
+ghost use Rattle.meta_store.specs.Context.{reading_at};
 ghost use Rattle.meta_store.specs.Step.{is_full_for};
 ghost use Rattle.meta_store.specs.Place.{IsAt, IsGap};
 
@@ -55,7 +56,7 @@ impl Store {
         self.rows.len()
     }
 
-    /// Tells whether no key is held.
+    /// Returns whether no key is held.
     pub fn is_empty(&self) -> bool
         ensures { IsTrue result ↔ (self.now ≡ []) }
     {
@@ -82,10 +83,11 @@ impl Store {
     }
 
     /// The values under the key, which are siblings if there are several, by writer and of each the newest first,
-    /// and the vector of their object; both are empty where nothing is held. They are copies, and take memory,
-    /// with the refusal of which alone it is refused.
+    /// and the vector of their object; both are empty where nothing is held. They are copies. Fails only
+    /// when memory runs out.
     pub fn get(&self, key: &MetaKey) -> Result<(Vec<Value>, Vector), AllocError>
-        ensures values { IfOk result (λ read. read.0.items ≡ values_of (object_at self.now key.now)) }
+        ensures values { IfOk result
+            (λ read. read.0.items ≡ values_of (object_at self.now key.now)) }
         ensures vector { IfOk result (λ read. read.1 ≡ join (object_at self.now key.now)) }
     {
         let alloc = *self.rows.allocator();
@@ -99,31 +101,34 @@ impl Store {
     /// nothing is held its vector has read nothing. `source` says who reads. It takes memory, with the refusal
     /// of which alone it is refused.
     pub fn look(&self, key: &MetaKey, source: Source) -> Result<(Vec<Value>, Context), AllocError>
-        ensures values { IfOk result (λ read. read.0.items ≡ values_of (object_at self.now key.now)) }
-        ensures context { IfOk result (λ read. read.1 ≡ record { key = key.now; vector = join (object_at self.now key.now); source = source }) }
+        ensures values { IfOk result
+            (λ read. read.0.items ≡ values_of (object_at self.now key.now)) }
+        ensures context { IfOk result (λ read. read.1 ≡ reading_at self.now key.now source) }
     {
         let (values, vector) = self.get(key)?;
         Ok((values, Context::new(key.copy()?, vector, source)))
     }
 
-    /// Tells whether the object under the key has read all that the vector has. It takes no memory.
+    /// Returns whether the object under the key has read all that the vector has. It takes no memory.
     pub fn is_stale(&self, key: &MetaKey, vector: &Vector) -> bool
         ensures { result ≡ is_stale self.now key.now vector.now }
     {
         has_read(self.entries_under(key), vector.counters())
     }
 
-    /// Tells whether the object under the key knows each event that the other knows. It takes no memory.
+    /// Returns whether the object under the key knows each event that the other knows. It takes no memory.
     pub(crate) fn knows(&self, key: &MetaKey, other: &Entries) -> bool
         ensures { result ≡ is_stale self.now key.now (join other.now) }
     {
         knows(self.entries_under(key), other.entries())
     }
 
-    /// Tells whether this store counts, under each key, at least as many events of the writer as the other does.
+    /// Returns whether this store counts, under each key, at least as many events of the writer as the other does.
     /// It takes no memory.
     pub fn counts_as_many(&self, other: &Store, writer: NodeId) -> bool
-        ensures { IsTrue result ↔ ((key : Key) → count_of (object_at other.now key) writer ≤ count_of (object_at self.now key) writer) }
+        ensures { IsTrue result ↔ ((key : Key)
+            → count_of (object_at other.now key) writer
+            ≤ count_of (object_at self.now key) writer) }
     {
         self.counts_rows(other.rows.as_slice(), writer)
     }
@@ -131,7 +136,8 @@ impl Store {
     /// As `counts_as_many`, of rows whose keys rise.
     fn counts_rows(&self, rows: &[(MetaKey, Entries)], writer: NodeId) -> bool
         requires { is_sorted key_cmp rows.now ≡ true }
-        ensures { IsTrue result ↔ ((key : Key) → count_of (object_at rows.now key) writer ≤ count_of (object_at self.now key) writer) }
+        ensures { IsTrue result ↔ ((key : Key)
+            → count_of (object_at rows.now key) writer ≤ count_of (object_at self.now key) writer) }
     {
         for (key, object) in rows {
             if count_of(self.entries_under(key), writer) < count_of(object.entries(), writer) {
@@ -152,8 +158,8 @@ impl Store {
     }
 
     /// Holds the object under the key, in place of what is held there, as a store is filled from what another
-    /// one has held. For a new key it may take memory, with the refusal of which alone it is refused; then nothing
-    /// changes. A key that is held is never refused.
+    /// one has held. Fails only when memory runs out for a new key, and then nothing changes. A key that is held is
+    /// never refused.
     pub fn hold(&mut self, key: MetaKey, object: Entries) -> Result<(), AllocError>
         requires held { IsHeld object }
         requires room { is_full_for self.old key ≡ false }
@@ -170,14 +176,14 @@ impl Store {
         Ok(())
     }
 
-    /// Tells whether the key would be one too many.
+    /// Returns whether the key would be one too many.
     pub(crate) fn is_full_for(&self, key: &MetaKey) -> bool
         ensures { result ≡ is_full_for self.now key.now }
     {
         MAX_KEYS <= self.rows.len() && self.object(key).is_none()
     }
 
-    /// The object under the key, the absent one where nothing is held. `absent` is lent for it.
+    /// The object under the key, the absent one where nothing is held. `absent` is borrowed for it.
     pub(crate) fn object_or<'a>(&'a self, key: &MetaKey, absent: &'a Entries) -> &'a Entries
         requires { absent.now ≡ [] }
         ensures { result.now ≡ object_at self.now key.now }

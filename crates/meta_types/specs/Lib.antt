@@ -9,6 +9,8 @@ pub mod Value
 pub mod Order
 -- a lemma, which stands here since impls cite it: two values tie exactly where they are equal
 pub mod Ties
+-- how a call fails
+pub mod Failing
 -- which of several refusals comes first
 pub mod First
 -- the numbers of refusals

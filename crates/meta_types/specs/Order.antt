@@ -13,7 +13,7 @@ pub record IsProperStart (shorter longer : List ℕ) : Type 0 where
   pub rest : List ℕ
   pub split : longer ≡ shorter ++ next ∷ rest
 
--- behind a common front, the first byte that differs is less in `lesser`
+-- after a common front, the first byte that differs is less in `lesser`
 pub record IsLessAtFirstDifference (lesser greater : List ℕ) : Type 0 where
   pub front : List ℕ
   pub low : ℕ

@@ -24,6 +24,13 @@ impl ByteString {
         ByteString { bytes }
     }
 
+    /// The bytes, without taking memory.
+    pub fn into_vec(self) -> Vec<u8>
+        ensures { result.items ≡ self }
+    {
+        self.bytes
+    }
+
     pub fn as_slice(&self) -> &[u8]
         ensures { result.now ≡ self.now }
     {

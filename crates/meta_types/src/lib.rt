@@ -7,6 +7,7 @@
 pub mod bytes;
 pub mod fault;
 pub mod key;
+pub mod laws;
 pub mod node;
 pub mod prefix;
 pub mod value;

@@ -31,7 +31,7 @@ impl Model for FullPrefix {
     ghost inverse = { λ p. record { prefix = p.prefix; sub = p.sub } };
 }
 
-/// Tells whether a name has a length in range.
+/// Returns whether a name has a length in range.
 pub(crate) fn is_name(bytes: &[u8], most: usize) -> bool
     ensures { IsTrue result ↔ IsName most bytes.now }
 {
@@ -46,7 +46,8 @@ impl FullPrefix {
     /// Refused with 1 `BadName` where a length is out of range, and only then. What was handed in
     /// is dropped with a refusal: whoever needs it afterwards compares its length first.
     pub fn new(prefix: Vec<u8>, sub: Vec<u8>) -> Result<Self, TypeFault>
-        ensures range { IsOk result ↔ IsFullPrefix (record { prefix = prefix.items; sub = sub.items }) }
+        ensures range { IsOk result
+            ↔ IsFullPrefix (record { prefix = prefix.items; sub = sub.items }) }
         ensures value { IfOk result (λ p. p ≡ record { prefix = prefix.items; sub = sub.items }) }
         ensures fault { IfErr result (λ fault. fault ≡ BadName) }
     {

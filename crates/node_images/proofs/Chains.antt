@@ -6,7 +6,7 @@ use Rattle.dvvset.specs.Object.{Entry}
 use Rattle.past_model.specs.Sets.{set_at, key_eq}
 use Rattle.past_model.proofs.Sound.{set_at-here}
 use Rattle.past_model.proofs.Walking.{set_at-other}
-use Rattle.object_machine.specs.Objects.{Holding, nothing}
+use Rattle.past_objects.specs.Objects.{Holding, holds_nothing}
 use Rattle.node_images.specs.Images.{Image, ChangeEarlier, changed, instead, holdings, holdings_from}
 
 -- later images leave earlier ones as they are
@@ -40,7 +40,7 @@ pub step : (images : List Image) (at : ℕ) (d : Image) → at < length images �
     → holdings images (at + 1) ≡ changed (holdings images (get_or images at d).base) (get_or images at d).change
 step images at d low earlier =
     ap (holdings images) (let e : at + 1 ≡ 0 + at + 1 = omega arith in e)
-    ∙ step_from (λ j. nothing) 0 images at d low (λ j below. let b : (get_or images j d).base ≤ j = earlier.earlier j d below in omega arith)
+    ∙ step_from (λ j. holds_nothing) 0 images at d low (λ j below. let b : (get_or images j d).base ≤ j = earlier.earlier j d below in omega arith)
 
 -- one more image
 snoc_from : (there : ℕ → Holding) (last : ℕ) (images : List Image) (image : Image)
@@ -56,7 +56,7 @@ snoc_from there last (first ∷ later) image =
 pub holdings_snoc : (images : List Image) (image : Image)
     → holdings (images ++ image ∷ []) ≡ set_at (holdings images) (length images + 1) (changed (holdings images image.base) image.change)
 holdings_snoc images image =
-    snoc_from (λ j. nothing) 0 images image
+    snoc_from (λ j. holds_nothing) 0 images image
     ∙ ap (λ n. set_at (holdings images) n (changed (holdings images image.base) image.change)) (let e : 0 + length images + 1 ≡ length images + 1 = omega arith in e)
 
 -- ---- under one key
@@ -79,7 +79,7 @@ here images at d k o low earlier e =
 
 -- image 0 is empty
 pub none : (images : List Image) (k : Key) → holdings images 0 k ≡ []
-none images k = ap (λ h. h k) (stays (λ j. nothing) 0 images 0 (omega arith))
+none images k = ap (λ h. h k) (stays (λ j. holds_nothing) 0 images 0 (omega arith))
 
 -- the walk from one image down to its base
 pub down : (images : List Image) (at number : ℕ) (image : Image) (k : Key) (o : Option (List Entry)) → 0 < at → at ≤ length images → ChangeEarlier images

@@ -18,21 +18,21 @@ use Rattle.past_model.specs.History.{RestartsKeepOwnWrites}
 use Rattle.past_model.proofs.Keys.{key_eq-true, key_eq-self}
 use Rattle.meta_store.specs.Context.{Reading, vector_read}
 use Rattle.meta_store.specs.Table.{Table, is_stale, object_at, with_object}
-use Rattle.meta_store.specs.Step.{after_merge, merge_of, written}
+use Rattle.meta_store.specs.Step.{table_after_merge, merge_of, object_after_put}
 use Rattle.meta_store.proofs.Tables.{object_at-elsewhere, object_at-here}
-use Rattle.object_machine.specs.Objects.{held, image_object, last_image, read_object, sent_object, standing_object}
-use Rattle.object_machine.specs.Laws.{MakesImage}
+use Rattle.past_objects.specs.Objects.{held_object, image_object, last_image, read_object, sent_object, standing_object}
+use Rattle.past_objects.specs.Laws.{MakesImage}
 use Rattle.node_images.specs.Images.{change_of, changed, holdings}
-use Rattle.node_images.specs.Node.{Node, IsNode, change_at, with_image, with_kept, with_merge, with_restart, with_write}
+use Rattle.node_images.specs.Node.{Node, IsImagedNode, change_at, with_image, with_kept, with_merge, with_restart, with_write}
 use Rattle.node_images.specs.Follows.{Follows}
-use Rattle.object_machine.proofs.Changes.{after_write, after_look, after_sending, after_delivery, after_keeping, after_restart}
-use Rattle.object_machine.proofs.Deliveries.{stale_unchanged}
-use Rattle.object_machine.proofs.Standing.{sent_under}
+use Rattle.past_objects.proofs.Changes.{after_write, after_look, after_sending, after_delivery, after_keeping, after_restart}
+use Rattle.past_objects.proofs.Deliveries.{stale_unchanged}
+use Rattle.past_objects.proofs.Standing.{sent_under}
 use Rattle.node_images.proofs.Noding.{reads_before, reads_new}
 
 -- ---- where nothing changes for the node
 
-same : (hs more : List Happening) (n : ℕ) (node : Node) → Follows hs n node → ((k : Key) → held more n k ≡ held hs n k) → last_image more n ≡ last_image hs n
+same : (hs more : List Happening) (n : ℕ) (node : Node) → Follows hs n node → ((k : Key) → held_object more n k ≡ held_object hs n k) → last_image more n ≡ last_image hs n
     → ((j : ℕ) (k : Key) → image_object more n j k ≡ image_object hs n j k) → ((k : Key) → standing_object more n k ≡ standing_object hs n k) → Follows more n node
 same hs more n node f holds number images standing = record {
   holds = λ k. f.holds k ∙ sym (holds k);
@@ -80,7 +80,7 @@ absent_from [] never = refl
 absent_from (e ∷ es) never = absurd (never (λ is. cc))
 
 -- the new image, under the key and under others
-image_here_by : (node : Node) (table : Table) (k : Key) → IsNode node → ((l : Key) → object_at node.table l ≢ [] → object_at table l ≢ []) → (found : Option (List Entry)) → find key_cmp k table ≡ found
+image_here_by : (node : Node) (table : Table) (k : Key) → IsImagedNode node → ((l : Key) → object_at node.table l ≢ [] → object_at table l ≢ []) → (found : Option (List Entry)) → find key_cmp k table ≡ found
     → changed (holdings node.images node.standing) (change_of k found) k ≡ object_at table k
 image_here_by node table k is more None e =
     let gone : object_at table k ≡ [] = ap (λ o. unwrap_or o []) e in
@@ -95,10 +95,10 @@ image_other_by node k l ne (Some o) false e = ap (λ b. cond b o (holdings node.
 
 -- the image that the machine makes
 record Imaged (hs more : List Happening) (n : ℕ) (k : Key) (node : Node) (table : Table) : Type 0 where
-  is : IsNode node
+  is : IsImagedNode node
   grows : (l : Key) → object_at node.table l ≢ [] → object_at table l ≢ []
   before : Follows hs n node
-  now : (l : Key) → object_at table l ≡ held more n l
+  now : (l : Key) → object_at table l ≡ held_object more n l
 
 new_image_by : (hs : List Happening) (h : Happening) (n : ℕ) (k : Key) (node : Node) (table : Table) → MakesImage hs h n k → Imaged hs (hs ++ h ∷ []) n k node table → (l : Key) (b : Bool) → key_eq l k ≡ b
     → changed (holdings node.images node.standing) (change_at table k) l ≡ image_object (hs ++ h ∷ []) n (last_image hs n + 1) l
@@ -144,28 +144,28 @@ imaged hs h n k node table made i =
 -- ---- the four changes of a node
 
 write_by : (hs : List Happening) (n : ℕ) (k : Key) (v : ValueParts) (r : Option ℕ) (context : Option Reading) (node : Node) → Follows hs n node → vector_read context ≡ join (read_object hs k r)
-    → (l : Key) (b : Bool) → key_eq l k ≡ b → object_at (with_object k (written node.table n k v context) node.table) l ≡ held (hs ++ Wrote n k v r ∷ []) n l
+    → (l : Key) (b : Bool) → key_eq l k ≡ b → object_at (with_object k (object_after_put node.table n k v context) node.table) l ≡ held_object (hs ++ Wrote n k v r ∷ []) n l
 write_by hs n k v r context node f read l true e =
     let a = after_write hs n k v r in
-    subst (λ m. object_at (with_object k (written node.table n k v context) node.table) m ≡ held (hs ++ Wrote n k v r ∷ []) n m) (sym (key_eq-true l k e))
-    (object_at-here k (written node.table n k v context) node.table
+    subst (λ m. object_at (with_object k (object_after_put node.table n k v context) node.table) m ≡ held_object (hs ++ Wrote n k v r ∷ []) n m) (sym (key_eq-true l k e))
+    (object_at-here k (object_after_put node.table n k v context) node.table
     ∙ ap (λ vector. update vector (object_at node.table k) n v) read
     ∙ ap (λ o. update (join (read_object hs k r)) o n v) (f.holds k)
     ∙ sym a.holds.here)
 write_by hs n k v r context node f read l false e =
     let a = after_write hs n k v r in
     let ne : l ≢ k = λ same. let t : key_eq l k ≡ true = ap (λ m. key_eq l m) (sym same) ∙ key_eq-self l in let no : true ≡ false = sym t ∙ e in cc in
-    object_at-elsewhere k (written node.table n k v context) node.table l ne ∙ f.holds l ∙ sym (a.holds.other_keys l ne)
+    object_at-elsewhere k (object_after_put node.table n k v context) node.table l ne ∙ f.holds l ∙ sym (a.holds.other_keys l ne)
 
 -- a write with a context of what the Looked at place r saw
-pub follows_write : (hs : List Happening) (n : ℕ) (k : Key) (v : ValueParts) (r : Option ℕ) (context : Option Reading) (node : Node) → IsNode node
-    → ((l : Key) → object_at node.table l ≢ [] → object_at (with_object k (written node.table n k v context) node.table) l ≢ [])
+pub follows_write : (hs : List Happening) (n : ℕ) (k : Key) (v : ValueParts) (r : Option ℕ) (context : Option Reading) (node : Node) → IsImagedNode node
+    → ((l : Key) → object_at node.table l ≢ [] → object_at (with_object k (object_after_put node.table n k v context) node.table) l ≢ [])
     → Follows hs n node → vector_read context ≡ join (read_object hs k r) → Follows (hs ++ Wrote n k v r ∷ []) n (with_write n k v context node)
 follows_write hs n k v r context node is grows f read =
-    imaged hs (Wrote n k v r) n k node (with_object k (written node.table n k v context) node.table) (after_write hs n k v r).image
+    imaged hs (Wrote n k v r) n k node (with_object k (object_after_put node.table n k v context) node.table) (after_write hs n k v r).image
     (record { is = is; grows = grows; before = f; now = λ l. write_by hs n k v r context node f read l (key_eq l k) refl })
 
-pub follows_keep : (hs : List Happening) (n : ℕ) (k : Key) (node : Node) → IsNode node → Follows hs n node → Follows (hs ++ Kept n k ∷ []) n (with_kept k node)
+pub follows_keep : (hs : List Happening) (n : ℕ) (k : Key) (node : Node) → IsImagedNode node → Follows hs n node → Follows (hs ++ Kept n k ∷ []) n (with_kept k node)
 follows_keep hs n k node is f =
     let a = after_keeping hs n k in
     imaged hs (Kept n k) n k node node.table a.image (record { is = is; grows = λ l some. some; before = f; now = λ l. f.holds l ∙ sym (a.holds.same n l) })
@@ -184,30 +184,30 @@ follows_restart hs n j node table f low restored =
 -- ---- a delivery
 
 take_here_by : (hs : List Happening) (n i : ℕ) (k : Key) (came : List Entry) (node : Node) → RestartsKeepOwnWrites hs → Follows hs n node → came ≡ sent_object hs i k
-    → (b : Bool) → is_stale node.table k (join came) ≡ b → object_at (cond b node.table (with_object k (merge_of node.table k came) node.table)) k ≡ sync (held hs n k) (sent_object hs i k)
+    → (b : Bool) → is_stale node.table k (join came) ≡ b → object_at (cond b node.table (with_object k (merge_of node.table k came) node.table)) k ≡ sync (held_object hs n k) (sent_object hs i k)
 take_here_by hs n i k came node keeps f is true stale =
     f.holds k
     ∙ sym (stale_unchanged hs keeps n i k (ap (λ o. descends (join o) (join (sent_object hs i k))) (sym (f.holds k)) ∙ ap (λ c. descends (join (object_at node.table k)) (join c)) (sym is) ∙ stale))
 take_here_by hs n i k came node keeps f is false fresh =
-    object_at-here k (merge_of node.table k came) node.table ∙ ap (λ o. sync o came) (f.holds k) ∙ ap (λ c. sync (held hs n k) c) is
+    object_at-here k (merge_of node.table k came) node.table ∙ ap (λ o. sync o came) (f.holds k) ∙ ap (λ c. sync (held_object hs n k) c) is
 
 take_there_by : (node : Node) (k l : Key) (came : List Entry) → l ≢ k → (b : Bool) → object_at (cond b node.table (with_object k (merge_of node.table k came) node.table)) l ≡ object_at node.table l
 take_there_by node k l came ne true = refl
 take_there_by node k l came ne false = object_at-elsewhere k (merge_of node.table k came) node.table l ne
 
 take_by : (hs : List Happening) (n i m : ℕ) (k : Key) (came : List Entry) (node : Node) → RestartsKeepOwnWrites hs → Follows hs n node → slice_get hs i ≡ Some (Sent m k) → came ≡ sent_object hs i k
-    → (l : Key) (b : Bool) → key_eq l k ≡ b → object_at (after_merge node.table k came) l ≡ held (hs ++ Got n i ∷ []) n l
+    → (l : Key) (b : Bool) → key_eq l k ≡ b → object_at (table_after_merge node.table k came) l ≡ held_object (hs ++ Got n i ∷ []) n l
 take_by hs n i m k came node keeps f at is l true e =
     let a = after_delivery hs n i in
-    subst (λ j. object_at (after_merge node.table k came) j ≡ held (hs ++ Got n i ∷ []) n j) (sym (key_eq-true l k e))
+    subst (λ j. object_at (table_after_merge node.table k came) j ≡ held_object (hs ++ Got n i ∷ []) n j) (sym (key_eq-true l k e))
     (take_here_by hs n i k came node keeps f is (is_stale node.table k (join came)) refl ∙ sym (a.holds.here k))
 take_by hs n i m k came node keeps f at is l false e =
     let a = after_delivery hs n i in
     let ne : l ≢ k = λ same. let t : key_eq l k ≡ true = ap (λ j. key_eq l j) (sym same) ∙ key_eq-self l in let no : true ≡ false = sym t ∙ e in cc in
     take_there_by node k l came ne (is_stale node.table k (join came))
     ∙ f.holds l
-    ∙ sym (sync-nil (held hs n l))
-    ∙ ap (λ c. sync (held hs n l) c) (sym (sent_under hs i m k l at ne))
+    ∙ sym (sync-nil (held_object hs n l))
+    ∙ ap (λ c. sync (held_object hs n l) c) (sym (sent_under hs i m k l at ne))
     ∙ sym (a.holds.here l)
 
 -- what the Sent at place i has sent was taken, stale or fresh

@@ -5,7 +5,7 @@ use Rattle.meta_types.specs.Name.{Key}
 use Rattle.dvvset.specs.Object.{Entry}
 use Rattle.past_model.specs.Sets.{set_at, key_eq}
 use Rattle.meta_store.specs.Table.{Table, IsHeld, IsTable, object_at}
-use Rattle.object_machine.specs.Objects.{Holding, nothing, with_held}
+use Rattle.past_objects.specs.Objects.{Holding, holds_nothing, with_held}
 
 -- the image that is changed, and the object that stands under a key instead; none where nothing is changed
 pub record Image : Type 0 where
@@ -38,7 +38,7 @@ holdings_from there last [] = there
 holdings_from there last (image ∷ later) = holdings_from (set_at there (last + 1) (changed (there image.base) image.change)) (last + 1) later
 
 abbrev pub holdings : List Image → ℕ → Holding
-holdings images = holdings_from (λ j. nothing) 0 images
+holdings images = holdings_from (λ j. holds_nothing) 0 images
 
 -- each image changes an earlier one
 pub record ChangeEarlier (images : List Image) : Type 0 where

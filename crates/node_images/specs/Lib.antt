@@ -6,7 +6,7 @@ pub use Rattle.dvvset.specs.Object
 pub use Rattle.dvvset.specs.Clock
 pub use Rattle.meta_store.specs.Table
 pub use Rattle.meta_store.specs.Step
-pub use Rattle.object_machine.specs.Objects
+pub use Rattle.past_objects.specs.Objects
 -- images as they are kept
 pub mod Images
 -- what is kept of one node

@@ -8,7 +8,7 @@ use Rattle.meta_types.specs.Order.{key_cmp}
 use Rattle.dvvset.specs.Object.{Entry}
 use Rattle.meta_store.specs.Context.{Reading}
 use Rattle.meta_store.specs.Table.{Table, object_at, with_object}
-use Rattle.meta_store.specs.Step.{after_merge, written}
+use Rattle.meta_store.specs.Step.{table_after_merge, object_after_put}
 use Rattle.node_images.specs.Images.{Image, change_of, ChangeEarlier, IsTabled, holdings}
 
 pub record Node : Type 0 where
@@ -17,7 +17,7 @@ pub record Node : Type 0 where
   pub standing : ℕ
 
 -- images can be read and restored; under each key where the standing one has an object the node has one
-pub record IsNode (node : Node) : Type 0 where
+pub record IsImagedNode (node : Node) : Type 0 where
   pub earlier : ChangeEarlier node.images
   pub standing : node.standing ≤ length node.images
   pub tabled : (number : ℕ) → number ≤ length node.images → IsTabled (holdings node.images number)
@@ -40,11 +40,11 @@ with_image table key node = record {
 
 -- the image that a write leaves: the standing one with what the write leaves under its key
 abbrev pub image_of_write : ℕ → Key → ValueParts → Option Reading → Node → Image
-image_of_write id key value context node = record { base = node.standing; change = Some (key, written node.table id key value context) }
+image_of_write id key value context node = record { base = node.standing; change = Some (key, object_after_put node.table id key value context) }
 
 -- after a write: its object stands under its key, and the next image has it
 abbrev pub with_write : ℕ → Key → ValueParts → Option Reading → Node → Node
-with_write id key value context node = with_image (with_object key (written node.table id key value context) node.table) key node
+with_write id key value context node = with_image (with_object key (object_after_put node.table id key value context) node.table) key node
 
 -- after keeping what is held under a key: the next image has it
 abbrev pub with_kept : Key → Node → Node
@@ -52,7 +52,7 @@ with_kept key node = with_image node.table key node
 
 -- after a delivery
 abbrev pub with_merge : Key → List Entry → Node → Node
-with_merge key came node = record node { table = after_merge node.table key came }
+with_merge key came node = record node { table = table_after_merge node.table key came }
 
 -- after a restart from the image of that number, with its table
 abbrev pub with_restart : Table → ℕ → Node → Node

@@ -1,15 +1,16 @@
 //! What the world keeps of one node.
 
 ghost use Rattle.std.specs.Prelude.{◌≡◌, ◌≤◌, ◌⊎◌, [], length, true, Ok, None, IfOk, IfErr, OnOk, OnErr};
+ghost use Rattle.meta_types.specs.Failing.{FailsBy};
 ghost use Rattle.std.specs.Option.{option_copied};
 ghost use Rattle.meta_types.specs.Name.{Key};
 ghost use Rattle.dvvset.specs.Clock.{join};
 ghost use Rattle.meta_store.specs.Table.{IsHeld, IsTable, is_stale, object_at};
-ghost use Rattle.meta_store.specs.Step.{answer_of_merge, refusal_of_merge, refusal_of_put, written};
+ghost use Rattle.meta_store.specs.Step.{answer_of_merge, refusal_of_merge, refusal_of_put, object_after_put};
 ghost use Rattle.meta_store.specs.declared.fault.StoreFault.TheVariants.{Memory};
 ghost use Rattle.meta_store.specs.declared.merge.Merged.TheVariants.{Stale};
 ghost use Rattle.node_images.specs.Images.{IsChange, holdings};
-ghost use Rattle.node_images.specs.Node.{IsNode, change_at, new_node, image_of_write, with_kept, with_merge, with_restart, with_write};
+ghost use Rattle.node_images.specs.Node.{IsImagedNode, change_at, new_node, image_of_write, with_kept, with_merge, with_restart, with_write};
 
 use crate::image::Image;
 use crate::restore::restore;
@@ -29,13 +30,13 @@ pub struct Node {
 }
 
 impl Model for Node {
-    ghost use Rattle.node_images.specs.Node.{Node as Parts, IsNode};
+    ghost use Rattle.node_images.specs.Node.{Node as Parts, IsImagedNode};
 
     ghost Value = { Parts };
 
     ghost view = { λ n. record { table = n.store; images = n.images.items; standing = n.standing } };
 
-    ghost invariant = { λ n. IsNode (record { table = n.store; images = n.images.items; standing = n.standing }) };
+    ghost invariant = { λ n. IsImagedNode (record { table = n.store; images = n.images.items; standing = n.standing }) };
 }
 
 impl Node {
@@ -60,16 +61,16 @@ impl Node {
     /// The images of the node, but for image 0, which is empty.
     pub fn images(&self) -> &[Image]
         ensures value { result.now ≡ self.now.images }
-        ensures is_node { IsNode self.now }
+        ensures is_node { IsImagedNode self.now }
     {
         self.images.as_slice()
     }
 
-    /// Keeps what the node holds under the key in its next image; nothing else changes. It takes memory for a
-    /// copy of that, with the refusal of which alone it is refused; then nothing changes.
+    /// Keeps what the node holds under the key in its next image; nothing else changes. Fails only when memory
+    /// runs out for a copy of that, and then nothing changes.
     pub fn keep(&mut self, key: &MetaKey) -> Result<(), AllocError>
         ensures value { OnOk result (self.new ≡ with_kept key.now self.old) }
-        ensures is_node { IsNode self.old }
+        ensures is_node { IsImagedNode self.old }
         ensures same { OnErr result (self.new ≡ self.old) }
     {
         let change = change_at(&self.store, key)?;
@@ -87,12 +88,20 @@ impl Node {
         value: Value,
         context: Option<&Context>,
     ) -> Result<(Image, Vector), StoreFault>
-        ensures image { IfOk result (λ next. next.0 ≡ image_of_write id key.now value (option_copied context.entry) self.now) }
-        ensures vector { IfOk result (λ next. next.1 ≡ join (written self.now.table id key.now value (option_copied context.entry))) }
-        ensures held { OnOk result (IsHeld (written self.now.table id key.now value (option_copied context.entry))) }
-        ensures is_node { IsNode self.now }
-        ensures no_refusal { OnOk result (refusal_of_put self.now.table id key.now value (option_copied context.entry) ≡ None) }
-        ensures fault { IfErr result (λ fault. (fault ≡ Memory) ⊎ (refusal_of_put self.now.table id key.now value (option_copied context.entry) ≡ Some fault)) }
+        ensures image { IfOk result
+            (λ next. next.0 ≡ image_of_write id key.now value
+            (option_copied context.entry) self.now) }
+        ensures vector { IfOk result
+            (λ next. next.1 ≡ join (object_after_put self.now.table id key.now value
+            (option_copied context.entry))) }
+        ensures held { OnOk result
+            (IsHeld (object_after_put self.now.table id key.now value
+            (option_copied context.entry))) }
+        ensures is_node { IsImagedNode self.now }
+        ensures no_refusal { OnOk result
+            (refusal_of_put self.now.table id key.now value (option_copied context.entry) ≡ None) }
+        ensures fault { FailsBy Memory
+            (refusal_of_put self.now.table id key.now value (option_copied context.entry)) result }
     {
         let object = self.store.preview_put(id, key, value, context)?;
         let vector = join(*self.images.allocator(), &object)?;
@@ -111,9 +120,12 @@ impl Node {
         context: Option<&Context>,
     ) -> Result<(), StoreFault>
         requires { image ≡ image_of_write id key value (option_copied context) self.old }
-        ensures value { OnOk result (self.new ≡ with_write id key value (option_copied context.entry) self.old) }
-        ensures no_refusal { OnOk result (refusal_of_put self.old.table id key value (option_copied context.entry) ≡ None) }
-        ensures fault { IfErr result (λ fault. (fault ≡ Memory) ⊎ (refusal_of_put self.old.table id key value (option_copied context.entry) ≡ Some fault)) }
+        ensures value { OnOk result
+            (self.new ≡ with_write id key value (option_copied context.entry) self.old) }
+        ensures no_refusal { OnOk result
+            (refusal_of_put self.old.table id key value (option_copied context.entry) ≡ None) }
+        ensures fault { FailsBy Memory
+            (refusal_of_put self.old.table id key value (option_copied context.entry)) result }
         ensures same { OnErr result (self.new ≡ self.old) }
     {
         self.images.reserve(1)?;
@@ -129,19 +141,20 @@ impl Node {
     pub fn take(&mut self, key: MetaKey, object: Entries) -> Result<Merged, StoreFault>
         ensures value { OnOk result (self.new ≡ with_merge key object self.old) }
         ensures stale { is_stale self.old.table key (join object) ≡ true → result ≡ Ok Stale }
-        ensures answer { IfOk result (λ answer. answer ≡ answer_of_merge self.old.table key object) }
+        ensures answer { IfOk result
+            (λ answer. answer ≡ answer_of_merge self.old.table key object) }
         ensures no_refusal { OnOk result (refusal_of_merge self.old.table key object ≡ None) }
-        ensures fault { IfErr result (λ fault. (fault ≡ Memory) ⊎ (refusal_of_merge self.old.table key object ≡ Some fault)) }
+        ensures fault { FailsBy Memory (refusal_of_merge self.old.table key object) result }
         ensures same { OnErr result (self.new ≡ self.old) }
     {
         self.store.merge(key, object)
     }
 
-    /// A store that holds what the image of that number has. It takes memory, with the refusal of which alone it
-    /// is refused.
+    /// A store that holds what the image of that number has. Fails only when memory runs out.
     pub fn restored(&self, number: usize) -> Result<Store, AllocError>
         requires { number ≤ length self.now.images }
-        ensures value { IfOk result (λ store. (key : Key) → object_at store key ≡ holdings self.now.images number key) }
+        ensures value { IfOk result (λ store. (key : Key)
+            → object_at store key ≡ holdings self.now.images number key) }
     {
         restore(*self.images.allocator(), self.images.as_slice(), number)
     }
@@ -150,7 +163,8 @@ impl Node {
     /// images stay.
     pub fn restart(&mut self, store: Store, number: usize)
         requires number { number ≤ length self.old.images }
-        requires restored { (key : Key) → object_at store key ≡ holdings self.old.images number key }
+        requires restored { (key : Key)
+            → object_at store key ≡ holdings self.old.images number key }
         ensures { self.new ≡ with_restart store number self.old }
     {
         self.store = store;

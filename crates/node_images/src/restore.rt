@@ -25,13 +25,13 @@ fn fill(store: &mut Store, image: &Image) -> Result<(), AllocError>
     Ok(())
 }
 
-/// A store that holds what the image of that number has. It takes memory, with the refusal of which alone it
-/// is refused.
+/// A store that holds what the image of that number has. Fails only when memory runs out.
 pub(crate) fn restore(alloc: Global, images: &[Image], number: usize) -> Result<Store, AllocError>
     requires number { number ≤ length images.now }
     requires earlier { ChangeEarlier images.now }
     requires tabled { IsTabled (holdings images.now number) }
-    ensures value { IfOk result (λ store. (key : Key) → object_at store key ≡ holdings images.now number key) }
+    ensures value { IfOk result (λ store. (key : Key)
+        → object_at store key ≡ holdings images.now number key) }
 {
     let mut store = Store::new(alloc);
     let mut at = number;

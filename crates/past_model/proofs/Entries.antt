@@ -6,7 +6,7 @@ use Rattle.std.proofs.lemmas.List.Elements.{All-nil, All-cons, All-head, All-tai
 use Rattle.meta_types.specs.Name.{Key}
 use Rattle.meta_types.specs.Value.{ValueParts}
 use Rattle.dvvset.specs.Object.{Entry, Counter, RisesFrom, ids_counted}
-use Rattle.dvvset.specs.Clock.{join, counter}
+use Rattle.dvvset.specs.Clock.{join, count_for}
 use Rattle.dvvset.specs.Writer.{entry_of, shown}
 use Rattle.dvvset.proofs.Objects.{ids_counted-join}
 use Rattle.dvvset.proofs.Writers.{Rises, entry_of-low, count_at, count_of-entry}
@@ -19,18 +19,18 @@ use Rattle.past_model.proofs.Closed.{entry_in}
 
 -- ---- lists by what stands under each writer
 
-pub counter-low : (cs : List Counter) (low w : ℕ) → RisesFrom low (ids_counted cs) → w < low → counter cs w ≡ 0
+pub counter-low : (cs : List Counter) (low w : ℕ) → RisesFrom low (ids_counted cs) → w < low → count_for cs w ≡ 0
 counter-low [] low w rises lt = refl
 counter-low (c ∷ cs) low w rises lt =
     let first : low ≤ c.id = rises.0 in
     let other : (c.id ≡ w → ⊥) = λ e. absurd (omega arith) in
     rw (ne_eqb c.id w other) (counter-low cs (c.id + 1) w rises.1 (omega arith))
 
-pub counter_first : (c : Counter) (cs : List Counter) → counter (c ∷ cs) c.id ≡ c.count
-counter_first c cs = ap (λ b. cond b c.count (counter cs c.id)) (eq-eqb c.id c.id refl)
+pub counter_first : (c : Counter) (cs : List Counter) → count_for (c ∷ cs) c.id ≡ c.count
+counter_first c cs = ap (λ b. cond b c.count (count_for cs c.id)) (eq-eqb c.id c.id refl)
 
 -- rising counters, none of them 0, that count the same for each writer are the same
-pub same_counters : (cs ds : List Counter) (low : ℕ) → RisesFrom low (ids_counted cs) → RisesFrom low (ids_counted ds) → All (λ (c : Counter). 1 ≤ c.count) cs → All (λ (c : Counter). 1 ≤ c.count) ds → ((w : ℕ) → counter cs w ≡ counter ds w) → cs ≡ ds
+pub same_counters : (cs ds : List Counter) (low : ℕ) → RisesFrom low (ids_counted cs) → RisesFrom low (ids_counted ds) → All (λ (c : Counter). 1 ≤ c.count) cs → All (λ (c : Counter). 1 ≤ c.count) ds → ((w : ℕ) → count_for cs w ≡ count_for ds w) → cs ≡ ds
 same_counters [] [] low left right held also same = refl
 same_counters [] (d ∷ ds) low left right held also same =
     let one : 1 ≤ d.count = All-head (λ (c : Counter). 1 ≤ c.count) d ds also in
@@ -54,15 +54,15 @@ same_counters (c ∷ cs) (d ∷ ds) low left right held also same =
     absurd (omega arith))
     (λ le.
     let id : c.id ≡ d.id = omega arith in
-    let count : c.count ≡ d.count = sym (counter_first c cs) ∙ same c.id ∙ ap (λ i. counter (d ∷ ds) i) id ∙ counter_first d ds in
-    let rest : (w : ℕ) → counter cs w ≡ counter ds w = λ w.
+    let count : c.count ≡ d.count = sym (counter_first c cs) ∙ same c.id ∙ ap (λ i. count_for (d ∷ ds) i) id ∙ counter_first d ds in
+    let rest : (w : ℕ) → count_for cs w ≡ count_for ds w = λ w.
     ⊎_elim
     (λ e.
     let below : w < c.id + 1 = omega arith in
     counter-low cs (c.id + 1) w left.1 below ∙ sym (counter-low ds (d.id + 1) w right.1 (omega arith)))
     (λ ne.
     let there : (d.id ≡ w → ⊥) = λ e. ne (id ∙ e) in
-    sym (ap (λ b. cond b c.count (counter cs w)) (ne_eqb c.id w ne)) ∙ same w ∙ ap (λ b. cond b d.count (counter ds w)) (ne_eqb d.id w there))
+    sym (ap (λ b. cond b c.count (count_for cs w)) (ne_eqb c.id w ne)) ∙ same w ∙ ap (λ b. cond b d.count (count_for ds w)) (ne_eqb d.id w there))
     (cases_eq c.id w) in
     λ i. record { id = id i; count = count i }
     ∷ same_counters cs ds (c.id + 1) left.1 (subst (λ n. RisesFrom (n + 1) (ids_counted ds)) (sym id) right.1)
@@ -73,7 +73,7 @@ same_counters (c ∷ cs) (d ∷ ds) low left right held also same =
 shown_first : (x : Entry) (xs : List Entry) → shown (entry_of (x ∷ xs) x.id) ≡ x.values
 shown_first x xs = ap (λ b. shown (cond b (Some x) (entry_of xs x.id))) (eq-eqb x.id x.id refl)
 
--- what a list shows behind its first entry
+-- what a list shows after its first entry
 shown_behind : (x : Entry) (xs : List Entry) (w : ℕ) → (x.id ≡ w → ⊥) → shown (entry_of (x ∷ xs) w) ≡ shown (entry_of xs w)
 shown_behind x xs w ne = ap (λ b. shown (cond b (Some x) (entry_of xs w))) (ne_eqb x.id w ne)
 

@@ -5,7 +5,7 @@ use Rattle.std.proofs.lemmas.Bool.{cases_eq}
 use Rattle.std.proofs.lemmas.Option.{get_or_from_slice_get}
 use Rattle.past_model.specs.declared.happening.Happening.{Happening}
 use Rattle.past_model.specs.Past.{Past, happens, past}
-use Rattle.past_model.specs.Moment.{Marks, Gives, GivesBoth, AreMoments, IsLatest, IsImage, node_of, makes_image}
+use Rattle.past_model.specs.Moment.{Marks, GivesSets, GivesBoth, AreMoments, IsLatest, IsImage, node_of, makes_image}
 use Rattle.past_model.proofs.Walking.{take_next, known-other, standing-other, last_step, image_after, first_image, image_made, made_by_node}
 
 -- the happening at a place
@@ -124,7 +124,7 @@ image_none hs places n j images made c =
     }
 
 -- what the moment of an image gives: its standing image
-pub at_image : (hs : List Happening) (ms : List Marks) (places n j m : ℕ) (d : Marks) → AreMoments hs ms → places ≤ length hs → m < length ms → IsImage hs places n j m → Gives hs (get_or ms m d).standing ((past (take places hs)).images n j)
+pub at_image : (hs : List Happening) (ms : List Marks) (places n j m : ℕ) (d : Marks) → AreMoments hs ms → places ≤ length hs → m < length ms → IsImage hs places n j m → GivesSets hs (get_or ms m d).standing ((past (take places hs)).images n j)
 at_image hs ms places n j zero d are le lt l = record { gives = λ k p. (are.first n d).standing.gives k p ∙ ap (λ v. v k p) (sym l.image) }
 at_image hs ms places n j (suc q) d are le lt l =
     let within : suc q ≤ places = l.within in

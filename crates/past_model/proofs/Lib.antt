@@ -56,7 +56,7 @@ pub mod Listing
 pub mod Fitting
 -- what was seen and sent before
 pub mod Told
--- the moment behind one more happening
+-- the moment after one more happening
 pub mod Moving
 -- marks of unions and of sets under a key
 pub mod Marking

@@ -11,14 +11,14 @@ use Rattle.std.proofs.lemmas.List.Folds.{list_any-append}
 use Rattle.meta_types.specs.Node.{IsNode}
 use Rattle.meta_types.specs.Value.{ValueParts}
 use Rattle.dvvset.specs.Object.{Counter, RisesFrom, ids_counted, IsCounter, IsVector}
-use Rattle.dvvset.specs.Clock.{counter}
+use Rattle.dvvset.specs.Clock.{count_for}
 use Rattle.dvvset.proofs.Objects.{vector_from_rest}
 use Rattle.past_model.specs.declared.happening.Happening.{Happening}
 use Rattle.past_model.specs.declared.happening.Happening.TheVariants.{Wrote, Looked, Sent, Got, Kept, Restarted}
 use Rattle.past_model.specs.Sets.{Places}
 use Rattle.past_model.specs.Past.{Past, Write, In, start, happens, run, past, writes}
 use Rattle.past_model.specs.Shown.{ArePlaces, was_read, is_sibling, InOrder, Shows, count_in, IsContext, siblings_by}
-use Rattle.past_model.specs.Moment.{made, node_of}
+use Rattle.past_model.specs.Moment.{writes_of_happening, node_of}
 use Rattle.past_model.proofs.Orderly.{IsFalling}
 use Rattle.past_model.proofs.Placed.{written, ordered}
 use Rattle.past_model.proofs.Members.{in_filter, of_filter}
@@ -58,7 +58,7 @@ none_kept true = refl
 none_kept false = refl
 
 -- the write that a happening makes is kept where its place is a sibling's
-filter_made : (s : Past) (h : Happening) (ws : List Write) (S : Places) (w : ℕ) (b : Bool) → (S s.next && not (was_read ws S s.next)) ≡ b → filter (λ x. eqb x.writer w && is_sibling ws S x) (made s h) ≡ cond b (filter (λ x. eqb x.writer w) (made s h)) []
+filter_made : (s : Past) (h : Happening) (ws : List Write) (S : Places) (w : ℕ) (b : Bool) → (S s.next && not (was_read ws S s.next)) ≡ b → filter (λ x. eqb x.writer w && is_sibling ws S x) (writes_of_happening s h) ≡ cond b (filter (λ x. eqb x.writer w) (writes_of_happening s h)) []
 filter_made s (Wrote n k v r) ws S w b e =
     ap (λ t. cond (eqb n w && t) (written s n k v r ∷ []) []) e ∙ one_kept (eqb n w) b (written s n k v r)
 filter_made s (Looked n k) ws S w b e = none_kept b
@@ -67,19 +67,19 @@ filter_made s (Got n i) ws S w b e = none_kept b
 filter_made s (Kept n k) ws S w b e = none_kept b
 filter_made s (Restarted n j) ws S w b e = none_kept b
 
-below_place-next : (hs : List Happening) (S : Places) (w i : ℕ) (h : Happening) (b : Bool) → i < length hs → h ≡ get_or hs i h → b ≡ (S i && not (was_read (writes hs) S i)) → below_place hs S w (i + 1) ≡ map (λ x. x.value) (cond b (filter (λ x. eqb x.writer w) (made (past (take i hs)) h)) []) ++ below_place hs S w i
+below_place-next : (hs : List Happening) (S : Places) (w i : ℕ) (h : Happening) (b : Bool) → i < length hs → h ≡ get_or hs i h → b ≡ (S i && not (was_read (writes hs) S i)) → below_place hs S w (i + 1) ≡ map (λ x. x.value) (cond b (filter (λ x. eqb x.writer w) (writes_of_happening (past (take i hs)) h)) []) ++ below_place hs S w i
 below_place-next hs S w i h b lt is sibling =
     let P : Write → Bool = λ x. eqb x.writer w && is_sibling (writes hs) S x in
     let s : Past = past (take i hs) in
     let at : (S s.next && not (was_read (writes hs) S s.next)) ≡ b = ap (λ p. S p && not (was_read (writes hs) S p)) (next_at hs i (omega arith)) ∙ sym sibling in
     ap (λ ws. map (λ x. x.value) (filter P ws)) (writes_next hs i h lt is)
-    ∙ ap (λ ws. map (λ x. x.value) ws) (filter-append P (made s h) (writes (take i hs)))
-    ∙ map-append (λ x. x.value) (filter P (made s h)) (filter P (writes (take i hs)))
+    ∙ ap (λ ws. map (λ x. x.value) ws) (filter-append P (writes_of_happening s h) (writes (take i hs)))
+    ∙ map-append (λ x. x.value) (filter P (writes_of_happening s h)) (filter P (writes (take i hs)))
     ∙ ap (λ l. map (λ x. x.value) l ++ below_place hs S w i) (filter_made s h (writes hs) S w b at)
 
-pub Listed-sibling : (hs : List Happening) (S : Places) (w : ℕ) (old values more : List ValueParts) (i j : ℕ) (h : Happening) → i < length hs → h ≡ get_or hs i h → j ≡ i + 1 → true ≡ (S i && not (was_read (writes hs) S i)) → more ≡ values ++ map (λ x. x.value) (filter (λ x. eqb x.writer w) (made (past (take i hs)) h)) → Listed hs S w old values j → Listed hs S w old more i
+pub Listed-sibling : (hs : List Happening) (S : Places) (w : ℕ) (old values more : List ValueParts) (i j : ℕ) (h : Happening) → i < length hs → h ≡ get_or hs i h → j ≡ i + 1 → true ≡ (S i && not (was_read (writes hs) S i)) → more ≡ values ++ map (λ x. x.value) (filter (λ x. eqb x.writer w) (writes_of_happening (past (take i hs)) h)) → Listed hs S w old values j → Listed hs S w old more i
 Listed-sibling hs S w old values more i j h lt is next sibling pushed l =
-    let new : List ValueParts = map (λ x. x.value) (filter (λ x. eqb x.writer w) (made (past (take i hs)) h)) in
+    let new : List ValueParts = map (λ x. x.value) (filter (λ x. eqb x.writer w) (writes_of_happening (past (take i hs)) h)) in
     record {
       whole =
           ap (λ vs. vs ++ below_place hs S w i) pushed
@@ -156,7 +156,7 @@ writers_ordered ws S (suc n) falling =
 
 -- ---- all writers are nodes
 
-made_by : (s : Past) (h : Happening) (x : Write) → In x (made s h) → x.writer ≡ node_of h
+made_by : (s : Past) (h : Happening) (x : Write) → In x (writes_of_happening s h) → x.writer ≡ node_of h
 made_by s (Wrote n k v r) x m = ⊎_elim (λ here. ap (λ z. z.writer) here) (λ later. absurd later) m
 made_by s (Looked n k) x m = absurd m
 made_by s (Sent n k) x m = absurd m
@@ -175,7 +175,7 @@ writers_run s (h ∷ hs) nodes w =
       nodes = λ x m. ⊎_elim
           (λ new. let node : node_of h < 16 = nodes 0 h refl in let by : x.writer ≡ node_of h = made_by s h x new in omega arith)
           (λ old. w.nodes x old)
-          (in_append (made s h) s.writes x (subst (λ ws. In x ws) (writes_made s h) m));
+          (in_append (writes_of_happening s h) s.writes x (subst (λ ws. In x ws) (writes_made s h) m));
     })
 
 pub writers_are_nodes : (hs : List Happening) → ((p : ℕ) (h : Happening) → slice_get hs p ≡ Some h → IsNode (node_of h)) → Writers (writes hs)
@@ -301,41 +301,41 @@ counters_rise ws S (suc n) =
       | false ↦ rise_more n (ids_counted (counters_to ws S n)) (counters_rise ws S n)
     ])
 
-counter_left : (xs ys : List Counter) (w : ℕ) → counter ys w ≡ 0 → counter (xs ++ ys) w ≡ counter xs w
+counter_left : (xs ys : List Counter) (w : ℕ) → count_for ys w ≡ 0 → count_for (xs ++ ys) w ≡ count_for xs w
 counter_left [] ys w none = none
 counter_left (x ∷ xs) ys w none = ap (λ n. cond (eqb x.id w) x.count n) (counter_left xs ys w none)
 
-counter_right : (xs ys : List Counter) (w n : ℕ) → n ≤ w → All (λ k. k < n) (ids_counted xs) → counter (xs ++ ys) w ≡ counter ys w
+counter_right : (xs ys : List Counter) (w n : ℕ) → n ≤ w → All (λ k. k < n) (ids_counted xs) → count_for (xs ++ ys) w ≡ count_for ys w
 counter_right [] ys w n le below = refl
 counter_right (x ∷ xs) ys w n le below =
     let lt : x.id < n = All-head (λ k. k < n) x.id (ids_counted xs) below in
     let other : (x.id ≡ w → ⊥) = λ e. absurd (omega arith) in
-    ap (λ b. cond b x.count (counter (xs ++ ys) w)) (ne_eqb x.id w other) ∙ counter_right xs ys w n le (All-tail (λ k. k < n) x.id (ids_counted xs) below)
+    ap (λ b. cond b x.count (count_for (xs ++ ys) w)) (ne_eqb x.id w other) ∙ counter_right xs ys w n le (All-tail (λ k. k < n) x.id (ids_counted xs) below)
 
 some_counter : (w n : ℕ) → counter_of w (suc n) ≡ (record { id = w; count = suc n }) ∷ []
 some_counter w n = ap (λ b. cond b [] ((record { id = w; count = suc n }) ∷ [])) (ne_eqb (suc n) 0 (λ e. absurd (omega arith)))
 
-counter_here : (w n : ℕ) → counter (counter_of w n) w ≡ n
+counter_here : (w n : ℕ) → count_for (counter_of w n) w ≡ n
 counter_here w zero = refl
-counter_here w (suc n) = ap (λ l. counter l w) (some_counter w n) ∙ ap (λ b. cond b (suc n) 0) (eq-eqb w w refl)
+counter_here w (suc n) = ap (λ l. count_for l w) (some_counter w n) ∙ ap (λ b. cond b (suc n) 0) (eq-eqb w w refl)
 
-counter_there : (v n w : ℕ) → (v ≡ w → ⊥) → counter (counter_of v n) w ≡ 0
+counter_there : (v n w : ℕ) → (v ≡ w → ⊥) → count_for (counter_of v n) w ≡ 0
 counter_there v zero w ne = refl
-counter_there v (suc n) w ne = ap (λ l. counter l w) (some_counter v n) ∙ ap (λ b. cond b (suc n) 0) (ne_eqb v w ne)
+counter_there v (suc n) w ne = ap (λ l. count_for l w) (some_counter v n) ∙ ap (λ b. cond b (suc n) 0) (ne_eqb v w ne)
 
-counters_past : (ws : List Write) (S : Places) (n w : ℕ) → n ≤ w → counter (counters_to ws S n) w ≡ 0
+counters_past : (ws : List Write) (S : Places) (n w : ℕ) → n ≤ w → count_for (counters_to ws S n) w ≡ 0
 counters_past ws S zero w le = refl
 counters_past ws S (suc n) w le =
     counter_left (counters_to ws S n) (counter_of n (count_in ws S n)) w (counter_there n (count_in ws S n) w (λ e. absurd (omega arith)))
     ∙ counters_past ws S n w (omega arith)
 
-counters_in : (ws : List Write) (S : Places) (n w : ℕ) → w < n → counter (counters_to ws S n) w ≡ count_in ws S w
+counters_in : (ws : List Write) (S : Places) (n w : ℕ) → w < n → count_for (counters_to ws S n) w ≡ count_in ws S w
 counters_in ws S zero w lt = absurd (omega arith)
 counters_in ws S (suc n) w lt =
     ⊎_elim
     (λ (same : n ≡ w).
     counter_right (counters_to ws S n) (counter_of n (count_in ws S n)) w n (omega arith) (counters_rise ws S n).below
-    ∙ ap (λ m. counter (counter_of m (count_in ws S m)) w) same
+    ∙ ap (λ m. count_for (counter_of m (count_in ws S m)) w) same
     ∙ counter_here w (count_in ws S w))
     (λ ne.
     counter_left (counters_to ws S n) (counter_of n (count_in ws S n)) w (counter_there n (count_in ws S n) w ne)

@@ -1,4 +1,4 @@
--- The moment behind one more happening.
+-- The moment after one more happening.
 use Rattle.std.proofs.Common.{◌≡◌, ℕ, ◌+◌, ◌<◌, ◌≤◌, Bool, true, false, cond, List, [], ◌∷◌, ◌++◌, length, length-append, take, get_or, sym, ap, refl, subst, ◌∙◌, arith, ⊎_elim, Option, Some, None, Result, Ok, Err}
 use Rattle.std.specs.Prelude.{slice_get, ◌||◌, IfOk, IfSome}
 use Rattle.std.proofs.Math.Bool.{or-false, and-false}
@@ -9,17 +9,17 @@ use Rattle.meta_types.specs.Name.{Key}
 use Rattle.meta_types.specs.Value.{ValueParts}
 use Rattle.past_model.specs.declared.happening.Happening.{Happening}
 use Rattle.past_model.specs.declared.happening.Happening.TheVariants.{Wrote, Looked, Sent, Got, Kept, Restarted}
-use Rattle.past_model.specs.Sets.{Knowledge, key_eq, nothing, singleton, union, with_set, union_by_key}
-use Rattle.past_model.specs.Past.{Past, happens, past, read_of, knows_write}
+use Rattle.past_model.specs.Sets.{Knowledge, key_eq, knows_nothing, singleton, union, with_set, union_by_key}
+use Rattle.past_model.specs.Past.{Past, happens, past, read_of, with_write_known}
 use Rattle.past_model.specs.History.{Fits, IsHistory}
-use Rattle.past_model.specs.Moment.{Marks, Gives, GivesBoth, AreMoments, IsAccount, node_of, moment_read, is_write_under}
+use Rattle.past_model.specs.Moment.{Marks, GivesSets, GivesBoth, AreMoments, IsAccount, node_of, moment_read, is_write_under}
 use Rattle.std.proofs.lemmas.Bool.{cases_lt}
 use Rattle.meta_types.specs.Node.{IsNode}
 use Rattle.past_model.proofs.Keys.{key_eq-true}
 use Rattle.past_model.proofs.Sound.{set_at-here}
 use Rattle.past_model.proofs.Told.{of_front, next_at, take_at, seen_at, load_at}
 
--- the marks are those of the moment behind the happening at the place
+-- the marks are those of the moment after the happening at the place
 pub record IsBehind (hs : List Happening) (place : ℕ) (m : Marks) : Type 0 where
   pub behind : (h : Happening) → slice_get hs place ≡ Some h → GivesBoth hs m (past (take (place + 1) hs)) (node_of h)
 
@@ -27,7 +27,7 @@ pub if_both : {X Y : Type 0} (r : Result X Y) (P Q R : X → Type 0) → ((x : X
 if_both (Ok x) P Q R f p q = f x p q
 if_both (Err e) P Q R f p q = tt
 
-pub behind_step : (hs : List Happening) (place : ℕ) (h : Happening) (m : Marks) → slice_get hs place ≡ Some h → Gives hs m.known ((happens (past (take place hs)) h).known (node_of h)) → Gives hs m.standing ((happens (past (take place hs)) h).standing (node_of h)) → IsBehind hs place m
+pub behind_step : (hs : List Happening) (place : ℕ) (h : Happening) (m : Marks) → slice_get hs place ≡ Some h → GivesSets hs m.known ((happens (past (take place hs)) h).known (node_of h)) → GivesSets hs m.standing ((happens (past (take place hs)) h).standing (node_of h)) → IsBehind hs place m
 behind_step hs place h m at known standing = record {
   behind = λ g also.
       let it : h ≡ g = (let both : Some h ≡ Some g = sym at ∙ also in cc) in
@@ -50,8 +50,8 @@ read_small hs place n k v None small fits = tt
 read_small hs place n k v (Some r) small fits = let lt : r < place = (of_front hs place r (Looked fits.0 k) fits.1).0 in omega arith
 
 -- what a write has read is what its moment knows
-pub read_gives : (hs : List Happening) (ms : List Marks) (place n : ℕ) (k : Key) (v : ValueParts) (seen : Option ℕ) (d : Marks) → AreMoments hs ms → length ms ≡ place + 1 → Fits (take place hs) (Wrote n k v seen) → (w : Knowledge) × (Gives hs (get_or ms (moment_read seen) d).known w × (w k ≡ read_of (past (take place hs)) k seen))
-read_gives hs ms place n k v None d are len fits = (nothing, ((are.first 0 d).known, refl))
+pub read_gives : (hs : List Happening) (ms : List Marks) (place n : ℕ) (k : Key) (v : ValueParts) (seen : Option ℕ) (d : Marks) → AreMoments hs ms → length ms ≡ place + 1 → Fits (take place hs) (Wrote n k v seen) → (w : Knowledge) × (GivesSets hs (get_or ms (moment_read seen) d).known w × (w k ≡ read_of (past (take place hs)) k seen))
+read_gives hs ms place n k v None d are len fits = (knows_nothing, ((are.first 0 d).known, refl))
 read_gives hs ms place n k v (Some r) d are len fits =
     let front : (r < place) × (slice_get hs r ≡ Some (Looked fits.0 k)) = of_front hs place r (Looked fits.0 k) fits.1 in
     let inside : r + 1 < length ms = omega (arith, front.0) in (
@@ -63,28 +63,28 @@ read_gives hs ms place n k v (Some r) d are len fits =
     )
 
 pub behind_write : (hs : List Happening) (place n : ℕ) (k : Key) (v : ValueParts) (seen : Option ℕ) (m : Marks) (w : Knowledge) → place < length hs → slice_get hs place ≡ Some (Wrote n k v seen) → w k ≡ read_of (past (take place hs)) k seen
-    → Gives hs m.known (with_set ((past (take place hs)).known n) k (union ((past (take place hs)).known n k) (union (w k) (singleton place))))
-    → ((u : Knowledge) → Gives hs m.known u → Gives hs m.standing (with_set ((past (take place hs)).standing n) k (u k)))
+    → GivesSets hs m.known (with_set ((past (take place hs)).known n) k (union ((past (take place hs)).known n k) (union (w k) (singleton place))))
+    → ((u : Knowledge) → GivesSets hs m.known u → GivesSets hs m.standing (with_set ((past (take place hs)).standing n) k (u k)))
     → IsBehind hs place m
 behind_write hs place n k v seen m w lt at read known standing =
     let s : Past = past (take place hs) in
     let here : (past (take place hs)).next ≡ place = next_at hs place (omega arith) in
     let set : Knowledge = with_set (s.known n) k (union (s.known n k) (union (read_of s k seen) (singleton s.next))) in
-    let after : Gives hs m.known ((happens (past (take place hs)) (Wrote n k v seen)).known n) =
-    subst (Gives hs m.known)
+    let after : GivesSets hs m.known ((happens (past (take place hs)) (Wrote n k v seen)).known n) =
+    subst (GivesSets hs m.known)
     ((λ i. with_set ((past (take place hs)).known n) k (union ((past (take place hs)).known n k) (union (read i) (singleton (sym here i)))))
     ∙ sym (set_at-here (past (take place hs)).known n (with_set ((past (take place hs)).known n) k (union ((past (take place hs)).known n k) (union (read_of (past (take place hs)) k seen) (singleton (past (take place hs)).next))))))
     known in
     behind_step hs place (Wrote n k v seen) m at after
-    (subst (Gives hs m.standing)
-    (sym (set_at-here (past (take place hs)).standing n (with_set ((past (take place hs)).standing n) k ((knows_write n k v seen (past (take place hs))).known n k))))
+    (subst (GivesSets hs m.standing)
+    (sym (set_at-here (past (take place hs)).standing n (with_set ((past (take place hs)).standing n) k ((with_write_known n k v seen (past (take place hs))).known n k))))
     (standing ((happens (past (take place hs)) (Wrote n k v seen)).known n) after))
 
 -- ---- a delivery
 
-got_set : (v w : Knowledge) (k : Key) → with_set v k (union (v k) (w k)) ≡ union_by_key v (with_set nothing k (w k))
+got_set : (v w : Knowledge) (k : Key) → with_set v k (union (v k) (w k)) ≡ union_by_key v (with_set knows_nothing k (w k))
 got_set v w k = λ i l p.
-    (elim (key_eq l k) as (λ b. key_eq l k ≡ b → cond b (union (v k) (w k)) (v l) p ≡ (v l p || cond b (w k) (nothing l) p)) [
+    (elim (key_eq l k) as (λ b. key_eq l k ≡ b → cond b (union (v k) (w k)) (v l) p ≡ (v l p || cond b (w k) (knows_nothing l) p)) [
       | true ↦ λ e. ap (λ x. v x p || w k p) (sym (key_eq-true l k e))
       | false ↦ λ e. sym (or-false (v l p))
     ] refl) i
@@ -96,21 +96,21 @@ pub sent_at : (hs : List Happening) (place n i : ℕ) (fits : Fits (take place h
 sent_at hs place n i fits = (of_front hs place i (Sent fits.0 fits.1.0) fits.1.1).1
 
 pub behind_delivery : (hs : List Happening) (ms : List Marks) (place n i : ℕ) (now m : Marks) → place < length hs → length ms ≡ place + 1 → AreMoments hs ms → slice_get hs place ≡ Some (Got n i) → (fits : Fits (take place hs) (Got n i)) → GivesBoth hs now (past (take place hs)) n
-    → ((v w : Knowledge) (q : ℕ) (k : Key) (d : Marks) → slice_get hs i ≡ Some (Sent q k) → Gives hs now.known v → Gives hs (get_or ms (i + 1) d).known w → Gives hs m.known (with_set v k (union (v k) (w k))))
+    → ((v w : Knowledge) (q : ℕ) (k : Key) (d : Marks) → slice_get hs i ≡ Some (Sent q k) → GivesSets hs now.known v → GivesSets hs (get_or ms (i + 1) d).known w → GivesSets hs m.known (with_set v k (union (v k) (w k))))
     → m.standing ≡ now.standing → IsBehind hs place m
 behind_delivery hs ms place n i now m lt len are at fits both known standing =
     let k : Key = fits.1.0 in
     let front : (i < place) × (slice_get hs i ≡ Some (Sent fits.0 fits.1.0)) = of_front hs place i (Sent fits.0 fits.1.0) fits.1.1 in
     let inside : i + 1 < length ms = omega (arith, front.0) in
-    let gained : Gives hs m.known (with_set ((past (take place hs)).known n) fits.1.0 (union ((past (take place hs)).known n fits.1.0) ((past (take (i + 1) hs)).known fits.0 fits.1.0))) =
+    let gained : GivesSets hs m.known (with_set ((past (take place hs)).known n) fits.1.0 (union ((past (take place hs)).known n fits.1.0) ((past (take (i + 1) hs)).known fits.0 fits.1.0))) =
     known ((past (take place hs)).known n) ((past (take (i + 1) hs)).known fits.0) fits.0 fits.1.0 now front.1 both.known (are.later i (Sent fits.0 fits.1.0) now inside front.1).known in
     behind_step hs place (Got n i) m at
-    (subst (Gives hs m.known)
+    (subst (GivesSets hs m.known)
     (got_set ((past (take place hs)).known n) ((past (take (i + 1) hs)).known fits.0) fits.1.0
     ∙ ap (union_by_key ((past (take place hs)).known n)) (sym (load_at hs i place fits.0 fits.1.0 front.0 front.1))
     ∙ sym (set_at-here (past (take place hs)).known n (union_by_key ((past (take place hs)).known n) ((past (take place hs)).load i))))
     gained)
-    (subst (λ l. Gives hs l ((past (take place hs)).standing n)) (sym standing) both.standing)
+    (subst (λ l. GivesSets hs l ((past (take place hs)).standing n)) (sym standing) both.standing)
 
 -- ---- the other happenings
 
@@ -122,20 +122,20 @@ behind_sending hs place n k m at both = behind_step hs place (Sent n k) m at bot
 
 pub behind_keeping : (hs : List Happening) (place n : ℕ) (k : Key) (now m : Marks) → slice_get hs place ≡ Some (Kept n k) → GivesBoth hs now (past (take place hs)) n
     → m.known ≡ now.known
-    → ((v w : Knowledge) → Gives hs now.standing v → Gives hs now.known w → Gives hs m.standing (with_set v k (w k)))
+    → ((v w : Knowledge) → GivesSets hs now.standing v → GivesSets hs now.known w → GivesSets hs m.standing (with_set v k (w k)))
     → IsBehind hs place m
 behind_keeping hs place n k now m at both known standing =
     behind_step hs place (Kept n k) m at
-    (subst (λ l. Gives hs l ((past (take place hs)).known n)) (sym known) both.known)
-    (subst (Gives hs m.standing)
+    (subst (λ l. GivesSets hs l ((past (take place hs)).known n)) (sym known) both.known)
+    (subst (GivesSets hs m.standing)
     (sym (set_at-here (past (take place hs)).standing n (with_set ((past (take place hs)).standing n) k ((past (take place hs)).known n k))))
     (standing ((past (take place hs)).standing n) ((past (take place hs)).known n) both.standing both.known))
 
-pub behind_restart : (hs : List Happening) (place n j : ℕ) (standing : List Bool) → slice_get hs place ≡ Some (Restarted n j) → Gives hs standing ((past (take place hs)).images n j) → IsBehind hs place (record { known = standing; standing = standing })
+pub behind_restart : (hs : List Happening) (place n j : ℕ) (standing : List Bool) → slice_get hs place ≡ Some (Restarted n j) → GivesSets hs standing ((past (take place hs)).images n j) → IsBehind hs place (record { known = standing; standing = standing })
 behind_restart hs place n j standing at gives =
     behind_step hs place (Restarted n j) (record { known = standing; standing = standing }) at
-    (subst (Gives hs standing) (sym (set_at-here (past (take place hs)).known n ((past (take place hs)).images n j))) gives)
-    (subst (Gives hs standing) (sym (set_at-here (past (take place hs)).standing n ((past (take place hs)).images n j))) gives)
+    (subst (GivesSets hs standing) (sym (set_at-here (past (take place hs)).known n ((past (take place hs)).images n j))) gives)
+    (subst (GivesSets hs standing) (sym (set_at-here (past (take place hs)).standing n ((past (take place hs)).images n j))) gives)
 
 -- ---- one moment more
 
@@ -154,7 +154,7 @@ nodes_next hs place here far = record {
 -- the moment before all happenings
 pub moments_start : (hs : List Happening) → AreMoments hs ((record { known = []; standing = [] }) ∷ [])
 moments_start hs =
-    let empty_marks : Gives hs [] nothing = record { gives = λ k p. and-false (is_write_under k (slice_get hs p)) } in
+    let empty_marks : GivesSets hs [] knows_nothing = record { gives = λ k p. and-false (is_write_under k (slice_get hs p)) } in
     record {
       first = λ n d. record { known = empty_marks; standing = empty_marks };
       later = λ p h d lt at. absurd (omega arith);

@@ -3,7 +3,7 @@ use Rattle.std.proofs.Common.{◌≡◌, ◌-◌, ◌≤◌, Bool, true, false, 
 use Rattle.std.specs.Prelude.{◌&&◌, ◌||◌, not, filter}
 use Rattle.std.proofs.lemmas.Bool.{or_left, or_right, or_cases}
 
--- once P holds of an element, it holds of all behind it
+-- once P holds of an element, it holds of all after it
 abbrev pub IsOlder : {X : Type 0} → (X → Bool) → List X → Type 0
 IsOlder P [] = Unit {0}
 IsOlder P (x ∷ xs) = (P x ≡ true → length (filter P xs) ≡ length xs) × IsOlder P xs

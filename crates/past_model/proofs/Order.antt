@@ -4,7 +4,7 @@ use Rattle.std.specs.Prelude.{◌&&◌, ◌↔◌}
 use Rattle.std.proofs.lemmas.Bool.{cases_eq, and_from, and_parts, or_left, or_right, or_cases, eqb-true, eq-eqb, ne_eqb, leb-true, le-leb}
 use Rattle.meta_types.specs.Name.{Key}
 use Rattle.dvvset.specs.Object.{Entry, Counter, RisesFrom, ids_counted}
-use Rattle.dvvset.specs.Clock.{join, counter, descends}
+use Rattle.dvvset.specs.Clock.{join, count_for, descends}
 use Rattle.past_model.specs.Sets.{Places, IsSubset, union, key_eq}
 use Rattle.past_model.specs.Past.{Write, In}
 use Rattle.past_model.specs.Shown.{IsClosed, IsObjectOf, count_in}
@@ -39,43 +39,43 @@ counts_from_subset ws S T sub w =
     let parts : (eqb x.writer w ≡ true) × (S x.place ≡ true) = and_parts (eqb x.writer w) (S x.place) e in
     and_from (eqb x.writer w) (T x.place) parts.0 (sub.within x.place parts.1)) ws
 
-descends-gives : (v cs : List Counter) → descends v cs ≡ true → (w : ℕ) → counter cs w ≤ counter v w
+descends-gives : (v cs : List Counter) → descends v cs ≡ true → (w : ℕ) → count_for cs w ≤ count_for v w
 descends-gives v [] d w = omega arith
 descends-gives v (c ∷ cs) d w =
-    let both : (leb c.count (counter v c.id) ≡ true) × (descends v cs ≡ true) = and_parts (leb c.count (counter v c.id)) (descends v cs) d in
-    elim (eqb c.id w) as (λ b. eqb c.id w ≡ b → cond b c.count (counter cs w) ≤ counter v w) [
-      | true ↦ λ e. let P : ℕ → Type 0 = λ i. c.count ≤ counter v i in subst P (eqb-true c.id w e) (leb-true c.count (counter v c.id) both.0)
+    let both : (leb c.count (count_for v c.id) ≡ true) × (descends v cs ≡ true) = and_parts (leb c.count (count_for v c.id)) (descends v cs) d in
+    elim (eqb c.id w) as (λ b. eqb c.id w ≡ b → cond b c.count (count_for cs w) ≤ count_for v w) [
+      | true ↦ λ e. let P : ℕ → Type 0 = λ i. c.count ≤ count_for v i in subst P (eqb-true c.id w e) (leb-true c.count (count_for v c.id) both.0)
       | false ↦ λ e. descends-gives v cs both.1 w
     ] refl
 
-descends-from : (v cs : List Counter) (low : ℕ) → RisesFrom low (ids_counted cs) → ((w : ℕ) → counter cs w ≤ counter v w) → descends v cs ≡ true
+descends-from : (v cs : List Counter) (low : ℕ) → RisesFrom low (ids_counted cs) → ((w : ℕ) → count_for cs w ≤ count_for v w) → descends v cs ≡ true
 descends-from v [] low rises le = refl
 descends-from v (c ∷ cs) low rises le =
-    let P : ℕ → Bool → Type 0 = λ w b. cond b c.count (counter cs w) ≤ counter v w in
-    let first : c.count ≤ counter v c.id = subst (P c.id) (eq-eqb c.id c.id refl) (le c.id) in
-    let rest : (w : ℕ) → counter cs w ≤ counter v w = λ w.
+    let P : ℕ → Bool → Type 0 = λ w b. cond b c.count (count_for cs w) ≤ count_for v w in
+    let first : c.count ≤ count_for v c.id = subst (P c.id) (eq-eqb c.id c.id refl) (le c.id) in
+    let rest : (w : ℕ) → count_for cs w ≤ count_for v w = λ w.
     ⊎_elim
     (λ e.
     let below : w < c.id + 1 = omega arith in
-    let none : counter cs w ≡ 0 = counter-low cs (c.id + 1) w rises.1 below in
+    let none : count_for cs w ≡ 0 = counter-low cs (c.id + 1) w rises.1 below in
     omega arith)
     (λ ne. subst (P w) (ne_eqb c.id w ne) (le w))
     (cases_eq c.id w) in
-    and_from (leb c.count (counter v c.id)) (descends v cs) (le-leb c.count (counter v c.id) first) (descends-from v cs (c.id + 1) rises.1 rest)
+    and_from (leb c.count (count_for v c.id)) (descends v cs) (le-leb c.count (count_for v c.id) first) (descends-from v cs (c.id + 1) rises.1 rest)
 
 -- contexts descend as the sets do
 pub descends-subset : (ws : List Write) (k : Key) (S T : Places) (a b : List Entry) → IsFalling ws → IsObjectOf ws k S a → IsObjectOf ws k T b → (descends (join b) (join a) ≡ true) ↔ IsSubset S T
 descends-subset ws k S T a b falling left right = (
   λ d. subset_from_counts ws k S T falling left.closed right.closed
       (λ w.
-      let one : counter (join a) w ≡ count_in ws S w = left.context.counts w in
-      let two : counter (join b) w ≡ count_in ws T w = right.context.counts w in
-      let le : counter (join a) w ≤ counter (join b) w = descends-gives (join b) (join a) d w in
+      let one : count_for (join a) w ≡ count_in ws S w = left.context.counts w in
+      let two : count_for (join b) w ≡ count_in ws T w = right.context.counts w in
+      let le : count_for (join a) w ≤ count_for (join b) w = descends-gives (join b) (join a) d w in
       omega arith),
   λ sub. descends-from (join b) (join a) 0 left.context.rising
       (λ w.
-      let one : counter (join a) w ≡ count_in ws S w = left.context.counts w in
-      let two : counter (join b) w ≡ count_in ws T w = right.context.counts w in
+      let one : count_for (join a) w ≡ count_in ws S w = left.context.counts w in
+      let two : count_for (join b) w ≡ count_in ws T w = right.context.counts w in
       let le : count_in ws S w ≤ count_in ws T w = counts_from_subset ws S T sub w in
       omega arith),
 )
@@ -89,7 +89,7 @@ both_or_none false false there back = refl
 pub set_from_context : (ws : List Write) (k : Key) (S T : Places) (a b : List Entry) → IsFalling ws → IsObjectOf ws k S a → IsObjectOf ws k T b → join a ≡ join b → (p : ℕ) → S p ≡ T p
 set_from_context ws k S T a b falling left right same p =
     let counts : (w : ℕ) → count_in ws S w ≡ count_in ws T w = λ w.
-    sym (left.context.counts w) ∙ ap (λ cs. counter cs w) same ∙ right.context.counts w in
+    sym (left.context.counts w) ∙ ap (λ cs. count_for cs w) same ∙ right.context.counts w in
     let there : IsSubset S T = subset_from_counts ws k S T falling left.closed right.closed (λ w. let e = counts w in omega arith) in
     let back : IsSubset T S = subset_from_counts ws k T S falling right.closed left.closed (λ w. let e = counts w in omega arith) in
     both_or_none (S p) (T p) (there.within p) (back.within p)

@@ -4,8 +4,8 @@ use Rattle.meta_types.specs.Name.{Key}
 use Rattle.meta_types.specs.Value.{ValueParts}
 use Rattle.past_model.specs.declared.happening.Happening.{Happening}
 use Rattle.past_model.specs.declared.happening.Happening.TheVariants.{Wrote, Looked, Sent, Got, Kept, Restarted}
-use Rattle.past_model.specs.Sets.{Places, Knowledge, empty, singleton, union, nothing, with_set, union_by_key, set_at, key_eq}
-use Rattle.past_model.specs.Past.{Past, start, read_of, imaged, knows_write, happens}
+use Rattle.past_model.specs.Sets.{Places, Knowledge, empty, singleton, union, knows_nothing, with_set, union_by_key, set_at, key_eq}
+use Rattle.past_model.specs.Past.{Past, start, read_of, with_next_image, with_write_known, happens}
 use Rattle.past_model.proofs.Keys.{key_eq-true}
 
 -- a property of sets under keys holds of each set that the past has
@@ -34,7 +34,7 @@ set_at-keeps : (Q : Key → Places → Type 0) (f : ℕ → Knowledge) (n : ℕ)
 set_at-keeps Q f n v old new m l =
     elim (eqb m n) as (λ b. Q l (cond b v (f m) l)) [ true ↦ new l | false ↦ old m l ]
 
-imaged-keeps : (Q : Key → Places → Type 0) (s : Past) (n : ℕ) (k : Key) → Reached Q s → Reached Q (imaged n k s)
+imaged-keeps : (Q : Key → Places → Type 0) (s : Past) (n : ℕ) (k : Key) → Reached Q s → Reached Q (with_next_image n k s)
 imaged-keeps Q s n k all =
     let image : (l : Key) → Q l (with_set (s.standing n) k (s.known n k) l) = with_set-keeps Q (s.standing n) k (s.known n k) (all.standing n) (all.known n k) in
     record {
@@ -53,7 +53,7 @@ imaged-keeps Q s n k all =
 abbrev pub after_write : Past → ℕ → Key → Option ℕ → Places
 after_write s n k r = union (s.known n k) (union (read_of s k r) (singleton s.next))
 
-knows_write-keeps : (Q : Key → Places → Type 0) (s : Past) (n : ℕ) (k : Key) (v : ValueParts) (r : Option ℕ) → Reached Q s → Q k (after_write s n k r) → Reached Q (knows_write n k v r s)
+knows_write-keeps : (Q : Key → Places → Type 0) (s : Past) (n : ℕ) (k : Key) (v : ValueParts) (r : Option ℕ) → Reached Q s → Q k (after_write s n k r) → Reached Q (with_write_known n k v r s)
 knows_write-keeps Q s n k v r all new =
     record {
       known = set_at-keeps Q s.known n (with_set (s.known n) k (after_write s n k r)) all.known (with_set-keeps Q (s.known n) k (after_write s n k r) (all.known n) new);
@@ -87,12 +87,12 @@ NewKept Q s (Restarted n j) = Unit {0}
 
 pub Reached-happens : (Q : Key → Places → Type 0) → IsGathered Q → (s : Past) (h : Happening) → Reached Q s → NewKept Q s h → Reached Q (happens s h)
 Reached-happens Q gathered s (Wrote n k v r) all new =
-    let after : Reached Q (imaged n k (knows_write n k v r s)) = imaged-keeps Q (knows_write n k v r s) n k (knows_write-keeps Q s n k v r all new) in
+    let after : Reached Q (with_next_image n k (with_write_known n k v r s)) = imaged-keeps Q (with_write_known n k v r s) n k (knows_write-keeps Q s n k v r all new) in
     record { known = after.known; seen = after.seen; load = after.load; images = after.images; standing = after.standing }
 Reached-happens Q gathered s (Looked n k) all new =
     record {
       known = all.known;
-      seen = set_at-keeps Q s.seen s.next (with_set nothing k (s.known n k)) all.seen (with_set-keeps Q nothing k (s.known n k) gathered.none (all.known n k));
+      seen = set_at-keeps Q s.seen s.next (with_set knows_nothing k (s.known n k)) all.seen (with_set-keeps Q knows_nothing k (s.known n k) gathered.none (all.known n k));
       load = all.load;
       images = all.images;
       standing = all.standing;
@@ -101,7 +101,7 @@ Reached-happens Q gathered s (Sent n k) all new =
     record {
       known = all.known;
       seen = all.seen;
-      load = set_at-keeps Q s.load s.next (with_set nothing k (s.known n k)) all.load (with_set-keeps Q nothing k (s.known n k) gathered.none (all.known n k));
+      load = set_at-keeps Q s.load s.next (with_set knows_nothing k (s.known n k)) all.load (with_set-keeps Q knows_nothing k (s.known n k) gathered.none (all.known n k));
       images = all.images;
       standing = all.standing;
     }
@@ -114,7 +114,7 @@ Reached-happens Q gathered s (Got n i) all new =
       standing = all.standing;
     }
 Reached-happens Q gathered s (Kept n k) all new =
-    let after : Reached Q (imaged n k s) = imaged-keeps Q s n k all in
+    let after : Reached Q (with_next_image n k s) = imaged-keeps Q s n k all in
     record { known = after.known; seen = after.seen; load = after.load; images = after.images; standing = after.standing }
 Reached-happens Q gathered s (Restarted n j) all new =
     record {

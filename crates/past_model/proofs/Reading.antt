@@ -14,7 +14,7 @@ use Rattle.past_model.specs.Sets.{Places}
 use Rattle.past_model.specs.Past.{Past, Write, past, writes, known, read, read_of}
 use Rattle.past_model.specs.History.{IsHistory}
 use Rattle.past_model.specs.Shown.{was_read}
-use Rattle.past_model.specs.Moment.{Marks, GivesBoth, IsAccount, IsLatest, made, marked, is_write_under, moment_read}
+use Rattle.past_model.specs.Moment.{Marks, GivesBoth, IsAccount, IsLatest, writes_of_happening, marked_places, is_write_under, moment_read}
 use Rattle.past_model.proofs.Latest.{at_latest}
 use Rattle.past_model.proofs.Keys.{key_eq-true}
 use Rattle.past_model.proofs.Staying.{stays}
@@ -54,7 +54,7 @@ moment_bound None bound lt = tt
 moment_bound (Some q) bound lt = lt
 
 -- the marks of that moment
-pub read_at : (hs : List Happening) (ms : List Marks) (i n : ℕ) (k : Key) (v : ValueParts) (r : Option ℕ) (d : Marks) (p : ℕ) → IsAccount hs ms → slice_get hs i ≡ Some (Wrote n k v r) → (is_write_under k (slice_get hs p) && marked (get_or ms (moment_read r) d).known p) ≡ read (take i hs) k r p
+pub read_at : (hs : List Happening) (ms : List Marks) (i n : ℕ) (k : Key) (v : ValueParts) (r : Option ℕ) (d : Marks) (p : ℕ) → IsAccount hs ms → slice_get hs i ≡ Some (Wrote n k v r) → (is_write_under k (slice_get hs p) && marked_places (get_or ms (moment_read r) d).known p) ≡ read (take i hs) k r p
 read_at hs ms i n k v None d p is at = (is.moments.first n d).known.gives k p
 read_at hs ms i n k v (Some q) d p is at =
     let whole : length ms ≡ length hs + 1 = is.whole in
@@ -82,7 +82,7 @@ write_under k (Some (Got n i)) e = absurd (cc)
 write_under k (Some (Kept n l)) e = absurd (cc)
 write_under k (Some (Restarted n j)) e = absurd (cc)
 
-unmarked_made : (s : Past) (h : Happening) (ws : List Write) (S : Places) (p : ℕ) → S s.next ≡ false → was_read (made s h ++ ws) S p ≡ was_read ws S p
+unmarked_made : (s : Past) (h : Happening) (ws : List Write) (S : Places) (p : ℕ) → S s.next ≡ false → was_read (writes_of_happening s h ++ ws) S p ≡ was_read ws S p
 unmarked_made s (Wrote n k v r) ws S p e = ap (λ b. (b && read_of s k r p) || was_read ws S p) e
 unmarked_made s (Looked n k) ws S p e = refl
 unmarked_made s (Sent n k) ws S p e = refl
@@ -118,14 +118,14 @@ read_here hs i n k v r S p lt at mark e =
 -- ---- what a node knows now
 
 -- the marks of its latest moment, under the key
-pub latest_known : (hs : List Happening) (ms : List Marks) (n m : ℕ) (k : Key) (d : Marks) (marks found : List Bool) → IsAccount hs ms → IsLatest hs (length hs) n m → d ≡ get_or ms m d → marks ≡ d.known → ((p : ℕ) → marked found p ≡ (is_write_under k (slice_get hs p) && marked marks p)) → marked found ≡ known hs n k
+pub latest_known : (hs : List Happening) (ms : List Marks) (n m : ℕ) (k : Key) (d : Marks) (marks found : List Bool) → IsAccount hs ms → IsLatest hs (length hs) n m → d ≡ get_or ms m d → marks ≡ d.known → ((p : ℕ) → marked_places found p ≡ (is_write_under k (slice_get hs p) && marked_places marks p)) → marked_places found ≡ known hs n k
 latest_known hs ms n m k d marks found is latest read of under =
     let whole : length ms ≡ length hs + 1 = is.whole in
     let within : m ≤ length hs = latest.within in
     let gives : GivesBoth hs (get_or ms m d) (past (take (length hs) hs)) n = at_latest hs ms (length hs) n m d is.moments (omega arith) (omega arith) latest in
-    let same : (p : ℕ) → marked found p ≡ known hs n k p = λ p.
+    let same : (p : ℕ) → marked_places found p ≡ known hs n k p = λ p.
     under p
-    ∙ ap (λ l. is_write_under k (slice_get hs p) && marked l p) (of ∙ ap (λ x. x.known) read)
+    ∙ ap (λ l. is_write_under k (slice_get hs p) && marked_places l p) (of ∙ ap (λ x. x.known) read)
     ∙ gives.known.gives k p
     ∙ ap (λ l. known l n k p) (take-length hs) in
     λ i p. same p i

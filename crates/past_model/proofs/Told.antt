@@ -5,7 +5,7 @@ use Rattle.std.proofs.lemmas.Option.{slice_get_within, get_or_from_slice_get}
 use Rattle.meta_types.specs.Name.{Key}
 use Rattle.past_model.specs.declared.happening.Happening.{Happening}
 use Rattle.past_model.specs.declared.happening.Happening.TheVariants.{Wrote, Looked, Sent, Got, Kept, Restarted}
-use Rattle.past_model.specs.Sets.{nothing, with_set, set_at}
+use Rattle.past_model.specs.Sets.{knows_nothing, with_set, set_at}
 use Rattle.past_model.specs.Past.{Past, start, happens, run, past}
 use Rattle.past_model.proofs.Sound.{set_at-here, with_set-at}
 use Rattle.past_model.proofs.Staying.{run_append, past-next}
@@ -23,7 +23,7 @@ next_at hs i le = past-next (take i hs) ∙ length-take i hs ∙ (let least : mi
 
 seen_step : (s : Past) (h : Happening) (r : ℕ) → r < s.next → (happens s h).seen r ≡ s.seen r
 seen_step s (Wrote n k v q) r lt = refl
-seen_step s (Looked n k) r lt = set_at-other s.seen s.next r (with_set nothing k (s.known n k)) (λ e. absurd (omega arith))
+seen_step s (Looked n k) r lt = set_at-other s.seen s.next r (with_set knows_nothing k (s.known n k)) (λ e. absurd (omega arith))
 seen_step s (Sent n k) r lt = refl
 seen_step s (Got n i) r lt = refl
 seen_step s (Kept n k) r lt = refl
@@ -32,7 +32,7 @@ seen_step s (Restarted n j) r lt = refl
 load_step : (s : Past) (h : Happening) (r : ℕ) → r < s.next → (happens s h).load r ≡ s.load r
 load_step s (Wrote n k v q) r lt = refl
 load_step s (Looked n k) r lt = refl
-load_step s (Sent n k) r lt = set_at-other s.load s.next r (with_set nothing k (s.known n k)) (λ e. absurd (omega arith))
+load_step s (Sent n k) r lt = set_at-other s.load s.next r (with_set knows_nothing k (s.known n k)) (λ e. absurd (omega arith))
 load_step s (Got n i) r lt = refl
 load_step s (Kept n k) r lt = refl
 load_step s (Restarted n j) r lt = refl
@@ -60,12 +60,12 @@ seen_at hs r places m k lt at =
     ∙ ap (λ t. t.seen r k) (run_append start (take (r + 1) hs) (drop (r + 1) (take places hs)))
     ∙ ap (λ v. v k) (seen_stays (past (take (r + 1) hs)) (drop (r + 1) (take places hs)) r (omega arith))
     ∙ ap (λ t. t.seen r k) step
-    ∙ ap (λ p. set_at (past (take r hs)).seen p (with_set nothing k ((past (take r hs)).known m k)) r k) here
-    ∙ ap (λ v. v k) (set_at-here (past (take r hs)).seen r (with_set nothing k ((past (take r hs)).known m k)))
-    ∙ with_set-at nothing k ((past (take r hs)).known m k)
+    ∙ ap (λ p. set_at (past (take r hs)).seen p (with_set knows_nothing k ((past (take r hs)).known m k)) r k) here
+    ∙ ap (λ v. v k) (set_at-here (past (take r hs)).seen r (with_set knows_nothing k ((past (take r hs)).known m k)))
+    ∙ with_set-at knows_nothing k ((past (take r hs)).known m k)
     ∙ sym (ap (λ t. t.known m k) step)
 
-pub load_at : (hs : List Happening) (r places m : ℕ) (k : Key) → r < places → slice_get hs r ≡ Some (Sent m k) → (past (take places hs)).load r ≡ with_set nothing k ((past (take (r + 1) hs)).known m k)
+pub load_at : (hs : List Happening) (r places m : ℕ) (k : Key) → r < places → slice_get hs r ≡ Some (Sent m k) → (past (take places hs)).load r ≡ with_set knows_nothing k ((past (take (r + 1) hs)).known m k)
 load_at hs r places m k lt at =
     let within : r < length hs = slice_get_within hs r (Sent m k) at in
     let step : past (take (r + 1) hs) ≡ happens (past (take r hs)) (Sent m k) = take_at hs r (Sent m k) at in
@@ -75,6 +75,6 @@ load_at hs r places m k lt at =
     ∙ ap (λ t. t.load r) (run_append start (take (r + 1) hs) (drop (r + 1) (take places hs)))
     ∙ load_stays (past (take (r + 1) hs)) (drop (r + 1) (take places hs)) r (omega arith)
     ∙ ap (λ t. t.load r) step
-    ∙ ap (λ p. set_at (past (take r hs)).load p (with_set nothing k ((past (take r hs)).known m k)) r) here
-    ∙ set_at-here (past (take r hs)).load r (with_set nothing k ((past (take r hs)).known m k))
-    ∙ sym (ap (λ t. with_set nothing k (t.known m k)) step)
+    ∙ ap (λ p. set_at (past (take r hs)).load p (with_set knows_nothing k ((past (take r hs)).known m k)) r) here
+    ∙ set_at-here (past (take r hs)).load r (with_set knows_nothing k ((past (take r hs)).known m k))
+    ∙ sym (ap (λ t. with_set knows_nothing k (t.known m k)) step)

@@ -4,8 +4,8 @@ use Rattle.std.proofs.lemmas.Bool.{cases_eq, eq-eqb, ne_eqb, eqb-true}
 use Rattle.std.proofs.lemmas.List.{take_more, take-append-drop}
 use Rattle.past_model.specs.declared.happening.Happening.{Happening}
 use Rattle.past_model.specs.declared.happening.Happening.TheVariants.{Wrote, Looked, Sent, Got, Kept, Restarted}
-use Rattle.past_model.specs.Sets.{Knowledge, nothing, singleton, union, with_set, union_by_key, set_at}
-use Rattle.past_model.specs.Past.{Past, start, happens, run, past, read_of, knows_write}
+use Rattle.past_model.specs.Sets.{Knowledge, knows_nothing, singleton, union, with_set, union_by_key, set_at}
+use Rattle.past_model.specs.Past.{Past, start, happens, run, past, read_of, with_write_known}
 use Rattle.past_model.specs.Moment.{node_of, makes_image}
 use Rattle.past_model.proofs.Rendered.{take-min}
 use Rattle.past_model.proofs.Staying.{past_snoc, run_append}
@@ -37,7 +37,7 @@ known-other s (Kept m k) n ne = refl
 known-other s (Restarted m j) n ne = set_at-other s.known m n (s.images m j) ne
 
 pub standing-other : (s : Past) (h : Happening) (n : ℕ) → (node_of h ≡ n → ⊥) → (happens s h).standing n ≡ s.standing n
-standing-other s (Wrote m k v r) n ne = set_at-other s.standing m n (with_set (s.standing m) k ((knows_write m k v r s).known m k)) ne
+standing-other s (Wrote m k v r) n ne = set_at-other s.standing m n (with_set (s.standing m) k ((with_write_known m k v r s).known m k)) ne
 standing-other s (Looked m k) n ne = refl
 standing-other s (Sent m k) n ne = refl
 standing-other s (Got m i) n ne = refl
@@ -73,7 +73,7 @@ put_image f last m n j image le =
     (cases_eq m n)
 
 image_step : (s : Past) (h : Happening) (n j : ℕ) → j ≤ s.last n → (happens s h).images n j ≡ s.images n j
-image_step s (Wrote m k v r) n j le = put_image s.images s.last m n j (with_set (s.standing m) k ((knows_write m k v r s).known m k)) le
+image_step s (Wrote m k v r) n j le = put_image s.images s.last m n j (with_set (s.standing m) k ((with_write_known m k v r s).known m k)) le
 image_step s (Looked m k) n j le = refl
 image_step s (Sent m k) n j le = refl
 image_step s (Got m i) n j le = refl
@@ -100,7 +100,7 @@ image_after hs i places n j le made =
     ∙ image_stays (past (take i hs)) (drop i (take places hs)) n j made
 
 -- image 0 is the empty one
-pub first_image : (hs : List Happening) (n : ℕ) → (past hs).images n 0 ≡ nothing
+pub first_image : (hs : List Happening) (n : ℕ) → (past hs).images n 0 ≡ knows_nothing
 first_image hs n = image_stays start hs n 0 (omega arith)
 
 put_new : (f : ℕ → ℕ → Knowledge) (g : ℕ → Knowledge) (last : ℕ → ℕ) (m n : ℕ) (image : Knowledge) → eqb m n ≡ true → set_at f m (set_at (f m) (last m + 1) image) n (last n + 1) ≡ set_at g m image n
@@ -110,7 +110,7 @@ put_new f g last m n image same =
 
 -- a new image is the standing one
 pub image_made : (s : Past) (h : Happening) (n : ℕ) → makes_image n h ≡ true → (happens s h).images n (s.last n + 1) ≡ (happens s h).standing n
-image_made s (Wrote m k v r) n e = put_new s.images s.standing s.last m n (with_set (s.standing m) k ((knows_write m k v r s).known m k)) e
+image_made s (Wrote m k v r) n e = put_new s.images s.standing s.last m n (with_set (s.standing m) k ((with_write_known m k v r s).known m k)) e
 image_made s (Looked m k) n e = absurd (cc)
 image_made s (Sent m k) n e = absurd (cc)
 image_made s (Got m i) n e = absurd (cc)

@@ -28,7 +28,8 @@ pub record IsBelow (hs : List Happening) (k : Key) (lower upper : List Entry) : 
 pub record IsLeastUpperBound (hs : List Happening) (k : Key) (a b bound : List Entry) : Type 0 where
   pub first : IsBelow hs k a bound
   pub second : IsBelow hs k b bound
-  pub least : (c : List Entry) → IsArisen hs k c → IsBelow hs k a c → IsBelow hs k b c → IsBelow hs k bound c
+  pub least : (c : List Entry) → IsArisen hs k c → IsBelow hs k a c → IsBelow hs k b c
+      → IsBelow hs k bound c
 
 -- each set that the past has under the key is closed
 pub record ReachesClosed (hs : List Happening) (k : Key) : Type 0 where

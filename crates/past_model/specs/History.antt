@@ -17,7 +17,8 @@ Fits before (Restarted n j) = j ≤ (past before).last n
 
 -- a well-formed history: each happening fits those before it
 pub record IsHistory (hs : List Happening) : Type 0 where
-  pub fits : (before after : List Happening) (h : Happening) → hs ≡ before ++ h ∷ after → Fits before h
+  pub fits : (before after : List Happening) (h : Happening) → hs ≡ before ++ h ∷ after
+      → Fits before h
 
 -- the node knows each write that is its own
 pub record KnowsOwn (s : Past) (n : ℕ) : Type 0 where
@@ -25,4 +26,5 @@ pub record KnowsOwn (s : Past) (n : ℕ) : Type 0 where
 
 -- the restart premise: no restart leaves a node without a write of its own
 pub record RestartsKeepOwnWrites (hs : List Happening) : Type 0 where
-  pub keeps : (before after : List Happening) (n j : ℕ) → hs ≡ before ++ Restarted n j ∷ after → KnowsOwn (happens (past before) (Restarted n j)) n
+  pub keeps : (before after : List Happening) (n j : ℕ) → hs ≡ before ++ Restarted n j ∷ after
+      → KnowsOwn (happens (past before) (Restarted n j)) n

@@ -57,17 +57,17 @@ is_sending (Some (Kept n k)) = false
 is_sending (Some (Restarted n j)) = false
 
 -- the write that a happening makes, if it is one
-abbrev pub made : Past → Happening → List Write
-made s (Wrote n k v r) = (record { place = s.next; writer = writer_of s n; key = k; value = v; read = read_of s k r }) ∷ []
-made s (Looked n k) = []
-made s (Sent n k) = []
-made s (Got n i) = []
-made s (Kept n k) = []
-made s (Restarted n j) = []
+abbrev pub writes_of_happening : Past → Happening → List Write
+writes_of_happening s (Wrote n k v r) = (record { place = s.next; writer = writer_of s n; key = k; value = v; read = read_of s k r }) ∷ []
+writes_of_happening s (Looked n k) = []
+writes_of_happening s (Sent n k) = []
+writes_of_happening s (Got n i) = []
+writes_of_happening s (Kept n k) = []
+writes_of_happening s (Restarted n j) = []
 
 -- the set of the places that are marked
-abbrev pub marked : List Bool → Places
-marked marks p = get_or marks p false
+abbrev pub marked_places : List Bool → Places
+marked_places marks p = get_or marks p false
 
 -- what a node knows, and its standing image, under all keys at once: a place is marked where its write is in the set of
 -- its key
@@ -76,18 +76,20 @@ pub record Marks : Type 0 where
   pub standing : List Bool
 
 -- the marks give the set of each key
-pub record Gives (hs : List Happening) (marks : List Bool) (v : Knowledge) : Type 0 where
-  pub gives : (k : Key) (p : ℕ) → (is_write_under k (slice_get hs p) && marked marks p) ≡ v k p
+pub record GivesSets (hs : List Happening) (marks : List Bool) (v : Knowledge) : Type 0 where
+  pub gives : (k : Key) (p : ℕ) → (is_write_under k (slice_get hs p) && marked_places marks p)
+      ≡ v k p
 
 pub record GivesBoth (hs : List Happening) (m : Marks) (s : Past) (n : ℕ) : Type 0 where
-  pub known : Gives hs m.known (s.known n)
-  pub standing : Gives hs m.standing (s.standing n)
+  pub known : GivesSets hs m.known (s.known n)
+  pub standing : GivesSets hs m.standing (s.standing n)
 
--- the marks of moments: the first is the one before all happenings, for any node; each other stands behind a happening,
+-- the marks of moments: the first is the one before all happenings, for any node; each other stands after a happening,
 -- for its node
 pub record AreMoments (hs : List Happening) (ms : List Marks) : Type 0 where
   pub first : (n : ℕ) (d : Marks) → GivesBoth hs (get_or ms 0 d) (past []) n
-  pub later : (p : ℕ) (h : Happening) (d : Marks) → p + 1 < length ms → slice_get hs p ≡ Some h → GivesBoth hs (get_or ms (p + 1) d) (past (take (p + 1) hs)) (node_of h)
+  pub later : (p : ℕ) (h : Happening) (d : Marks) → p + 1 < length ms → slice_get hs p ≡ Some h
+      → GivesBoth hs (get_or ms (p + 1) d) (past (take (p + 1) hs)) (node_of h)
 
 -- a whole account of a well-formed history
 pub record IsAccount (hs : List Happening) (ms : List Marks) : Type 0 where

@@ -6,7 +6,7 @@ use Rattle.meta_types.specs.Name.{Key}
 use Rattle.meta_types.specs.Value.{ValueParts}
 use Rattle.past_model.specs.declared.happening.Happening.{Happening}
 use Rattle.past_model.specs.declared.happening.Happening.TheVariants.{Wrote, Looked, Sent, Got, Kept, Restarted}
-use Rattle.past_model.specs.Sets.{Places, Knowledge, empty, singleton, union, nothing, with_set, union_by_key, set_at}
+use Rattle.past_model.specs.Sets.{Places, Knowledge, empty, singleton, union, knows_nothing, with_set, union_by_key, set_at}
 
 -- a write: its place, whose it is, and the places of the writes that it had read
 pub record Write : Type 0 where
@@ -38,12 +38,12 @@ abbrev pub start : Past
 start = record {
   next = 0;
   writes = [];
-  known = λ n. nothing;
-  seen = λ p. nothing;
-  load = λ p. nothing;
+  known = λ n. knows_nothing;
+  seen = λ p. knows_nothing;
+  load = λ p. knows_nothing;
   last = λ n. 0;
-  images = λ n j. nothing;
-  standing = λ n. nothing;
+  images = λ n j. knows_nothing;
+  standing = λ n. knows_nothing;
 }
 
 -- the writer of a write that the node makes now: today, the node
@@ -56,12 +56,12 @@ read_of s k None = empty
 read_of s k (Some r) = s.seen r k
 
 -- the node knows S under the key, and nothing else changes
-abbrev pub knows : ℕ → Key → Places → Past → Past
-knows n k S s = record s { known = set_at s.known n (with_set (s.known n) k S) }
+abbrev pub with_known : ℕ → Key → Places → Past → Past
+with_known n k S s = record s { known = set_at s.known n (with_set (s.known n) k S) }
 
 -- the node makes its next image: the standing one, with what it knows now under the key
-abbrev pub imaged : ℕ → Key → Past → Past
-imaged n k s =
+abbrev pub with_next_image : ℕ → Key → Past → Past
+with_next_image n k s =
     let image : Knowledge = with_set (s.standing n) k (s.known n k) in
     record s {
       last = set_at s.last n (s.last n + 1);
@@ -70,19 +70,19 @@ imaged n k s =
     }
 
 -- the write stands in the list, and its node knows it and what it had read
-abbrev pub knows_write : ℕ → Key → ValueParts → Option ℕ → Past → Past
-knows_write n k v r s =
-    record (knows n k (union (s.known n k) (union (read_of s k r) (singleton s.next))) s) {
+abbrev pub with_write_known : ℕ → Key → ValueParts → Option ℕ → Past → Past
+with_write_known n k v r s =
+    record (with_known n k (union (s.known n k) (union (read_of s k r) (singleton s.next))) s) {
       writes = (record { place = s.next; writer = writer_of s n; key = k; value = v; read = read_of s k r }) ∷ s.writes;
     }
 
 -- what a happening changes, but for the next place
 abbrev pub happens_at : Past → Happening → Past
-happens_at s (Wrote n k v r) = imaged n k (knows_write n k v r s)
-happens_at s (Looked n k) = record s { seen = set_at s.seen s.next (with_set nothing k (s.known n k)) }
-happens_at s (Sent n k) = record s { load = set_at s.load s.next (with_set nothing k (s.known n k)) }
+happens_at s (Wrote n k v r) = with_next_image n k (with_write_known n k v r s)
+happens_at s (Looked n k) = record s { seen = set_at s.seen s.next (with_set knows_nothing k (s.known n k)) }
+happens_at s (Sent n k) = record s { load = set_at s.load s.next (with_set knows_nothing k (s.known n k)) }
 happens_at s (Got n i) = record s { known = set_at s.known n (union_by_key (s.known n) (s.load i)) }
-happens_at s (Kept n k) = imaged n k s
+happens_at s (Kept n k) = with_next_image n k s
 happens_at s (Restarted n j) = record s { known = set_at s.known n (s.images n j); standing = set_at s.standing n (s.images n j) }
 
 abbrev pub happens : Past → Happening → Past

@@ -23,12 +23,13 @@ pub record IsSubset (S T : Places) : Type 0 where
 abbrev pub Knowledge : Type 0
 Knowledge = Key → Places
 
-abbrev pub nothing : Knowledge
-nothing k = empty
+abbrev pub knows_nothing : Knowledge
+knows_nothing k = empty
 
 -- the keys have the same bytes
 abbrev pub key_eq : Key → Key → Bool
-key_eq a b = (pointwise nat_eq a.prefix.prefix b.prefix.prefix && pointwise nat_eq a.prefix.sub b.prefix.sub) && pointwise nat_eq a.key b.key
+key_eq a b = (pointwise nat_eq a.prefix.prefix b.prefix.prefix
+    && pointwise nat_eq a.prefix.sub b.prefix.sub) && pointwise nat_eq a.key b.key
 
 -- the set S under k, and under each other key what there was
 abbrev pub with_set : Knowledge → Key → Places → Knowledge

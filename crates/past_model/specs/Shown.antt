@@ -4,7 +4,7 @@ use Rattle.std.specs.List.{list_any}
 use Rattle.meta_types.specs.Name.{Key}
 use Rattle.meta_types.specs.Value.{ValueParts}
 use Rattle.dvvset.specs.Object.{Entry, Counter, RisesFrom, ids_counted}
-use Rattle.dvvset.specs.Clock.{join, counter}
+use Rattle.dvvset.specs.Clock.{join, count_for}
 use Rattle.dvvset.specs.Writer.{entry_of, shown}
 use Rattle.past_model.specs.Sets.{Places}
 use Rattle.past_model.specs.Past.{Write, In}
@@ -14,7 +14,8 @@ use Rattle.past_model.specs.Past.{Write, In}
 pub record IsClosed (ws : List Write) (k : Key) (S : Places) : Type 0 where
   pub of_writes : (p : ℕ) → S p ≡ true → (x : Write) × (In x ws × ((x.place ≡ p) × (x.key ≡ k)))
   pub reads : (x : Write) → In x ws → S x.place ≡ true → (p : ℕ) → x.read p ≡ true → S p ≡ true
-  pub earlier : (x y : Write) → In x ws → In y ws → S x.place ≡ true → y.writer ≡ x.writer → y.key ≡ k → y.place < x.place → S y.place ≡ true
+  pub earlier : (x y : Write) → In x ws → In y ws → S x.place ≡ true → y.writer ≡ x.writer
+      → y.key ≡ k → y.place < x.place → S y.place ≡ true
 
 -- the places of a set, rising
 pub record ArePlaces (S : Places) (places : List ℕ) : Type 0 where
@@ -60,7 +61,7 @@ count_in ws S w = length (filter (λ x. x.writer == w && S x.place) ws)
 -- in the set
 pub record IsContext (ws : List Write) (S : Places) (counters : List Counter) : Type 0 where
   pub rising : RisesFrom 0 (ids_counted counters)
-  pub counts : (w : ℕ) → counter counters w ≡ count_in ws S w
+  pub counts : (w : ℕ) → count_for counters w ≡ count_in ws S w
   pub held : All (λ c. 1 ≤ c.count) counters
 
 -- ---- the object

@@ -60,7 +60,7 @@ impl Happening {
         node
     }
 
-    /// Tells whether it makes an image of the node: a write, or keeping what is known.
+    /// Returns whether it makes an image of the node: a write, or keeping what is known.
     pub(crate) fn makes_image(&self, of: NodeId) -> bool
         ensures { result ≡ makes_image of self.now }
     {
@@ -74,7 +74,7 @@ impl Happening {
         }
     }
 
-    /// Tells whether it is a write under the key.
+    /// Returns whether it is a write under the key.
     pub(crate) fn is_write_under(&self, key: &MetaKey) -> bool
         ensures { result ≡ is_write_under key.now (Some self.now) }
     {
@@ -88,7 +88,7 @@ impl Happening {
         }
     }
 
-    /// Tells whether it is a `Looked` under the key.
+    /// Returns whether it is a `Looked` under the key.
     pub(crate) fn is_look_under(&self, key: &MetaKey) -> bool
         ensures { result ≡ is_look_under key.now (Some self.now) }
     {
@@ -102,7 +102,7 @@ impl Happening {
         }
     }
 
-    /// Tells whether it is a `Sent`.
+    /// Returns whether it is a `Sent`.
     pub(crate) fn is_sending(&self) -> bool
         ensures { result ≡ is_sending (Some self.now) }
     {

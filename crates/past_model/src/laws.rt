@@ -25,7 +25,8 @@ pub fn what_the_past_reaches_is_closed()
 /// A closed set of writes has an object, and only one; the empty set has the absent object. It stays the
 /// object of that set while the history goes on.
 pub fn a_closed_set_has_one_object()
-    ensures exists { (hs : List H) → RestartsKeepOwnWrites hs → (k : Key) (S : Places) → IsClosed (writes hs) k S
+    ensures exists { (hs : List H) → RestartsKeepOwnWrites hs
+        → (k : Key) (S : Places) → IsClosed (writes hs) k S
         → (object : List Entry) × IsObjectOf (writes hs) k S object }
     ensures absent { (hs : List H) (k : Key) → IsObjectOf (writes hs) k empty [] }
     ensures one { (hs : List H) (k : Key) (S : Places) (a b : List Entry)
@@ -48,20 +49,25 @@ pub fn an_object_shows_the_siblings()
 pub fn an_object_with_a_write_shows_a_value()
     ensures of_a_set { (hs : List H) (k : Key) (S : Places) (a : List Entry) (p : ℕ)
         → IsObjectOf (writes hs) k S a → S p ≡ true → values_of a ≢ [] }
-    ensures arisen { (hs : List H) (k : Key) (a : List Entry) → IsArisen hs k a → a ≢ [] → values_of a ≢ [] }
+    ensures arisen { (hs : List H) (k : Key) (a : List Entry) → IsArisen hs k a → a ≢ []
+        → values_of a ≢ [] }
 {}
 
 /// Merging the objects of two closed sets gives the object of their union.
 pub fn merging_is_union()
     ensures { (hs : List H) → RestartsKeepOwnWrites hs → (k : Key) (S T : Places) (a b : List Entry)
-        → IsObjectOf (writes hs) k S a → IsObjectOf (writes hs) k T b → IsObjectOf (writes hs) k (union S T) (sync a b) }
+        → IsObjectOf (writes hs) k S a → IsObjectOf (writes hs) k T b
+        → IsObjectOf (writes hs) k (union S T) (sync a b) }
 {}
 
 /// On the objects that arise in one history under one key.
 pub fn merging_is_commutative_associative_and_idempotent()
-    ensures arisen { (hs : List H) (k : Key) (a b : List Entry) → IsArisen hs k a → IsArisen hs k b → IsArisen hs k (sync a b) }
-    ensures commutative { (hs : List H) (k : Key) (a b : List Entry) → IsArisen hs k a → IsArisen hs k b → sync a b ≡ sync b a }
-    ensures associative { (hs : List H) (k : Key) (a b c : List Entry) → IsArisen hs k a → IsArisen hs k b → IsArisen hs k c
+    ensures arisen { (hs : List H) (k : Key) (a b : List Entry) → IsArisen hs k a → IsArisen hs k b
+        → IsArisen hs k (sync a b) }
+    ensures commutative { (hs : List H) (k : Key) (a b : List Entry) → IsArisen hs k a
+        → IsArisen hs k b → sync a b ≡ sync b a }
+    ensures associative { (hs : List H) (k : Key) (a b c : List Entry) → IsArisen hs k a
+        → IsArisen hs k b → IsArisen hs k c
         → sync (sync a b) c ≡ sync a (sync b c) }
     ensures idempotent { (hs : List H) (k : Key) (a : List Entry) → IsArisen hs k a → sync a a ≡ a }
 {}
@@ -75,7 +81,8 @@ pub fn merging_is_the_least_upper_bound()
 /// A context descends another exactly where the other's set is a subset, and so exactly where the other
 /// object is below.
 pub fn descending_is_inclusion()
-    ensures sets { (hs : List H) → RestartsKeepOwnWrites hs → (k : Key) (S T : Places) (a b : List Entry)
+    ensures sets { (hs : List H) → RestartsKeepOwnWrites hs
+        → (k : Key) (S T : Places) (a b : List Entry)
         → IsObjectOf (writes hs) k S a → IsObjectOf (writes hs) k T b
         → (descends (join b) (join a) ≡ true) ↔ IsSubset S T }
     ensures order { (hs : List H) (k : Key) (a b : List Entry) → IsArisen hs k a → IsArisen hs k b
@@ -84,16 +91,20 @@ pub fn descending_is_inclusion()
 
 /// Closed sets with equal contexts are equal, and so are their objects.
 pub fn the_context_determines_the_set()
-    ensures set { (hs : List H) → RestartsKeepOwnWrites hs → (k : Key) (S T : Places) (a b : List Entry)
+    ensures set { (hs : List H) → RestartsKeepOwnWrites hs
+        → (k : Key) (S T : Places) (a b : List Entry)
         → IsObjectOf (writes hs) k S a → IsObjectOf (writes hs) k T b → join a ≡ join b
         → (p : ℕ) → S p ≡ T p }
-    ensures object { (hs : List H) (k : Key) (a b : List Entry) → IsArisen hs k a → IsArisen hs k b → join a ≡ join b → a ≡ b }
+    ensures object { (hs : List H) (k : Key) (a b : List Entry) → IsArisen hs k a → IsArisen hs k b
+        → join a ≡ join b → a ≡ b }
 {}
 
 /// Once a node got what was sent, it knows that too, and its object is the merge of both.
 pub fn a_delivery_adds_what_was_sent()
-    ensures known { (hs : List H) (n i : ℕ) (k : Key) → known (hs ++ Got n i ∷ []) n k ≡ union (known hs n k) (load hs i k) }
-    ensures object { (hs : List H) → RestartsKeepOwnWrites hs → (n i : ℕ) (k : Key) (a b : List Entry)
+    ensures known { (hs : List H) (n i : ℕ) (k : Key)
+        → known (hs ++ Got n i ∷ []) n k ≡ union (known hs n k) (load hs i k) }
+    ensures object { (hs : List H) → RestartsKeepOwnWrites hs
+        → (n i : ℕ) (k : Key) (a b : List Entry)
         → IsObjectOf (writes hs) k (known hs n k) a → IsObjectOf (writes hs) k (load hs i k) b
         → IsObjectOf (writes (hs ++ Got n i ∷ [])) k (known (hs ++ Got n i ∷ []) n k) (sync a b) }
 {}
@@ -113,7 +124,8 @@ pub fn a_write_adds_what_it_read_and_itself()
     ensures counter { (hs : List H) → RestartsKeepOwnWrites hs
         → (n : ℕ) (k : Key) (v : ValueParts) (r : Option ℕ) (a b : List Entry)
         → IsObjectOf (writes hs) k (known hs n k) a → IsObjectOf (writes hs) k (read hs k r) b
-        → count_of (update (join b) a (writer_of (past hs) n) v) (writer_of (past hs) n) ≡ counter_of hs n k v r }
+        → count_of (update (join b) a (writer_of (past hs) n) v) (writer_of (past hs) n)
+        ≡ counter_of hs n k v r }
 {}
 
 /// Two writes of one writer under one key have unequal counters.

@@ -9,7 +9,7 @@ ghost use Rattle.past_model.specs.declared.happening.Happening.TheVariants.{Sent
 ghost use Rattle.past_model.specs.Sets.{Knowledge, singleton, union, with_set};
 ghost use Rattle.past_model.specs.Past.{past};
 ghost use Rattle.past_model.specs.History.{IsHistory};
-ghost use Rattle.past_model.specs.Moment.{AreMoments, Gives, GivesBoth, IsAccount, IsImage, IsLatest, Marks, is_sending, is_write_under, marked, moment_read, node_of};
+ghost use Rattle.past_model.specs.Moment.{AreMoments, GivesSets, GivesBoth, IsAccount, IsImage, IsLatest, Marks, is_sending, is_write_under, marked_places, moment_read, node_of};
 
 use crate::happening::Happening;
 use meta_types::{MetaKey, NodeId};
@@ -50,9 +50,9 @@ impl Moment {
     }
 }
 
-/// Tells whether the place is marked.
+/// Returns whether the place is marked.
 pub fn is_marked(marks: &[bool], place: usize) -> bool
-    ensures { result ≡ marked marks.now place }
+    ensures { result ≡ marked_places marks.now place }
 {
     match marks.get(place) {
         None => false,
@@ -60,7 +60,7 @@ pub fn is_marked(marks: &[bool], place: usize) -> bool
     }
 }
 
-/// Tells whether there is a write under the key at the place.
+/// Returns whether there is a write under the key at the place.
 pub fn is_write_under(history: &[Happening], place: usize, key: &MetaKey) -> bool
     ensures { result ≡ is_write_under key.now (slice_get history.now place) }
 {
@@ -77,7 +77,9 @@ pub fn under(
     marks: &[bool],
     key: &MetaKey,
 ) -> Result<Vec<bool>, AllocError>
-    ensures { IfOk result (λ found. (p : ℕ) → marked found.items p ≡ (is_write_under key.now (slice_get history.now p) && marked marks.now p)) }
+    ensures { IfOk result (λ found. (p : ℕ)
+        → marked_places found.items p
+        ≡ (is_write_under key.now (slice_get history.now p) && marked_places marks.now p)) }
 {
     let mut found = Vec::with_capacity(alloc, history.len())?;
     for place in 0..history.len() {
@@ -86,9 +88,10 @@ pub fn under(
     Ok(found)
 }
 
-/// The marks of either, over so many places.
+/// The marks of either, over the first `places` places.
 fn either(alloc: Global, places: usize, a: &[bool], b: &[bool]) -> Result<Vec<bool>, AllocError>
-    ensures marks { IfOk result (λ both. (p : ℕ) → p < places → marked both.items p ≡ (marked a.now p || marked b.now p)) }
+    ensures marks { IfOk result (λ both. (p : ℕ) → p < places
+        → marked_places both.items p ≡ (marked_places a.now p || marked_places b.now p)) }
     ensures len { IfOk result (λ both. length both.items ≡ places) }
 {
     let mut both = Vec::with_capacity(alloc, places)?;
@@ -106,7 +109,10 @@ fn replaced(
     key: &MetaKey,
     new: &[bool],
 ) -> Result<Vec<bool>, AllocError>
-    ensures { IfOk result (λ marks. (p : ℕ) → p < length history.now → marked marks.items p ≡ (if is_write_under key.now (slice_get history.now p) then marked new.now p else marked old.now p)) }
+    ensures { IfOk result (λ marks. (p : ℕ) → p < length history.now
+        → marked_places marks.items p
+        ≡ (if is_write_under key.now
+        (slice_get history.now p) then marked_places new.now p else marked_places old.now p)) }
 {
     let mut marks = Vec::with_capacity(alloc, history.len())?;
     for place in 0..history.len() {
@@ -120,7 +126,7 @@ fn replaced(
     Ok(marks)
 }
 
-/// The moment behind the node's last happening among the first `places`.
+/// The moment after the node's last happening among the first `places`.
 pub fn latest(history: &[Happening], places: usize, node: NodeId) -> usize
     requires { places ≤ length history.now }
     ensures { IsLatest history.now places node result }
@@ -152,7 +158,7 @@ fn image(history: &[Happening], places: usize, node: NodeId, number: usize) -> u
     0
 }
 
-/// The account of a history: the first moment is the one before all happenings, each other stands behind a
+/// The account of a history: the first moment is the one before all happenings, each other stands after a
 /// happening.
 pub fn account(alloc: Global, history: &[Happening]) -> Result<Vec<Moment>, AllocError>
     requires { IsHistory history.now }
@@ -167,7 +173,7 @@ pub fn account(alloc: Global, history: &[Happening]) -> Result<Vec<Moment>, Allo
     Ok(moments)
 }
 
-/// The moment behind the happening at the place.
+/// The moment after the happening at the place.
 fn next(
     alloc: Global,
     history: &[Happening],
@@ -178,8 +184,10 @@ fn next(
     requires history { IsHistory history.now }
     requires before { length moments.now ≡ place + 1 }
     requires moments { AreMoments history.now moments.now }
-    ensures node { OnOk result ((h : H) → slice_get history.now place ≡ Some h → IsNode (node_of h)) }
-    ensures moment { IfOk result (λ moment. (h : H) → slice_get history.now place ≡ Some h → GivesBoth history.now moment (past (take (place + 1) history.now)) (node_of h)) }
+    ensures node { OnOk result ((h : H) → slice_get history.now place ≡ Some h
+        → IsNode (node_of h)) }
+    ensures moment { IfOk result (λ moment. (h : H) → slice_get history.now place ≡ Some h
+        → GivesBoth history.now moment (past (take (place + 1) history.now)) (node_of h)) }
 {
     let happening = &history[place];
     let now = &moments[latest(history, place, happening.node())];
@@ -214,7 +222,8 @@ pub fn moment_read(seen: Option<usize>) -> usize
 }
 
 fn same(alloc: Global, known: &[bool], standing: &[bool]) -> Result<Moment, AllocError>
-    ensures { IfOk result (λ moment. moment ≡ record { known = known.now; standing = standing.now }) }
+    ensures { IfOk result (λ moment. moment
+        ≡ record { known = known.now; standing = standing.now }) }
 {
     let known = Vec::from_slice(alloc, known)?;
     let standing = Vec::from_slice(alloc, standing)?;
@@ -231,8 +240,13 @@ fn after_write(
 ) -> Result<Moment, AllocError>
     requires inside { place < length history.now }
     requires write { is_write_under key.now (slice_get history.now place) ≡ true }
-    ensures known { IfOk result (λ after. (v r : Knowledge) → Gives history.now now.now.known v → Gives history.now read.now.known r → Gives history.now after.known (with_set v key.now (union (v key.now) (union (r key.now) (singleton place))))) }
-    ensures standing { IfOk result (λ after. (v w : Knowledge) → Gives history.now now.now.standing v → Gives history.now after.known w → Gives history.now after.standing (with_set v key.now (w key.now))) }
+    ensures known { IfOk result (λ after. (v r : Knowledge) → GivesSets history.now now.now.known v
+        → GivesSets history.now read.now.known r
+        → GivesSets history.now after.known
+        (with_set v key.now (union (v key.now) (union (r key.now) (singleton place))))) }
+    ensures standing { IfOk result (λ after. (v w : Knowledge)
+        → GivesSets history.now now.now.standing v → GivesSets history.now after.known w
+        → GivesSets history.now after.standing (with_set v key.now (w key.now))) }
 {
     let read = under(alloc, history, read.known(), key)?;
     let mut known = either(alloc, history.len(), now.known(), read.as_slice())?;
@@ -250,7 +264,10 @@ fn after_delivery(
 ) -> Result<Moment, AllocError>
     requires inside { sent + 1 < length moments.now }
     requires sending { is_sending (slice_get history.now sent) ≡ true }
-    ensures known { IfOk result (λ after. (v w : Knowledge) (m : ℕ) (k : Key) (d : Marks) → slice_get history.now sent ≡ Some (Sent m k) → Gives history.now now.now.known v → Gives history.now (get_or moments.now (sent + 1) d).known w → Gives history.now after.known (with_set v k (union (v k) (w k)))) }
+    ensures known { IfOk result (λ after. (v w : Knowledge) (m : ℕ) (k : Key) (d : Marks)
+        → slice_get history.now sent ≡ Some (Sent m k) → GivesSets history.now now.now.known v
+        → GivesSets history.now (get_or moments.now (sent + 1) d).known w
+        → GivesSets history.now after.known (with_set v k (union (v k) (w k)))) }
     ensures standing { IfOk result (λ after. after.standing ≡ now.now.standing) }
 {
     match &history[sent] {
@@ -275,7 +292,9 @@ fn after_keeping(
     key: &MetaKey,
 ) -> Result<Moment, AllocError>
     ensures known { IfOk result (λ after. after.known ≡ now.now.known) }
-    ensures standing { IfOk result (λ after. (v w : Knowledge) → Gives history.now now.now.standing v → Gives history.now now.now.known w → Gives history.now after.standing (with_set v key.now (w key.now))) }
+    ensures standing { IfOk result (λ after. (v w : Knowledge)
+        → GivesSets history.now now.now.standing v → GivesSets history.now now.now.known w
+        → GivesSets history.now after.standing (with_set v key.now (w key.now))) }
 {
     let known = Vec::from_slice(alloc, now.known())?;
     let standing = replaced(alloc, history, now.standing(), key, now.known())?;

@@ -10,7 +10,7 @@ ghost use Rattle.past_model.specs.declared.happening.Happening.TheVariants.{Wrot
 ghost use Rattle.past_model.specs.Past.{Past, known, read, writes};
 ghost use Rattle.past_model.specs.History.{IsHistory};
 ghost use Rattle.past_model.specs.Shown.{ArePlaces, IsContext, Shows, count_in, is_sibling, siblings_by, was_read};
-ghost use Rattle.past_model.specs.Moment.{IsAccount, is_write_under, marked, node_of, made};
+ghost use Rattle.past_model.specs.Moment.{IsAccount, is_write_under, marked_places, node_of, writes_of_happening};
 
 use crate::happening::Happening;
 use crate::moment::{Moment, account, is_marked, is_write_under, latest, moment_read, under};
@@ -70,7 +70,8 @@ impl<'a> Plain<'a> {
         node: NodeId,
         key: &MetaKey,
     ) -> Result<Vec<Value>, AllocError>
-        ensures { IfOk result (λ values. Shows (writes self.now) (known self.now node key.now) values.items) }
+        ensures { IfOk result (λ values. Shows (writes self.now)
+            (known self.now node key.now) values.items) }
     {
         let moments = self.moments.as_slice();
         let marks = marks_of(alloc, self.history, moments, node, key)?;
@@ -79,7 +80,8 @@ impl<'a> Plain<'a> {
 
     /// For each writer of whom the node knows a write under the key, how many it knows.
     pub fn context(&self, alloc: Global, node: NodeId, key: &MetaKey) -> Result<Vector, AllocError>
-        ensures { IfOk result (λ vector. IsContext (writes self.now) (known self.now node key.now) vector) }
+        ensures { IfOk result (λ vector. IsContext (writes self.now)
+            (known self.now node key.now) vector) }
     {
         let marks = marks_of(alloc, self.history, self.moments.as_slice(), node, key)?;
         context(alloc, self.history, marks.as_slice())
@@ -95,15 +97,17 @@ fn marks_of(
     key: &MetaKey,
 ) -> Result<Vec<bool>, AllocError>
     requires { IsAccount history.now moments.now }
-    ensures marks { IfOk result (λ marks. marked marks.items ≡ known history.now node key.now) }
-    ensures of_key { IfOk result (λ marks. (p : ℕ) → marked marks.items p ≡ true → is_write_under key.now (slice_get history.now p) ≡ true) }
+    ensures marks { IfOk result
+        (λ marks. marked_places marks.items ≡ known history.now node key.now) }
+    ensures of_key { IfOk result (λ marks. (p : ℕ) → marked_places marks.items p ≡ true
+        → is_write_under key.now (slice_get history.now p) ≡ true) }
 {
     let moment = &moments[latest(history, history.len(), node)];
     under(alloc, history, moment.known(), key)
 }
 
 fn places(alloc: Global, marks: &[bool]) -> Result<Vec<usize>, AllocError>
-    ensures { IfOk result (λ places. ArePlaces (marked marks.now) places.items) }
+    ensures { IfOk result (λ places. ArePlaces (marked_places marks.now) places.items) }
 {
     let mut places = Vec::new(alloc);
     for (place, mark) in marks.iter().enumerate() {
@@ -122,8 +126,10 @@ fn siblings(
     key: &MetaKey,
 ) -> Result<Vec<Value>, AllocError>
     requires account { IsAccount history.now moments.now }
-    requires of_key { (p : ℕ) → marked marks.now p ≡ true → is_write_under key.now (slice_get history.now p) ≡ true }
-    ensures { IfOk result (λ values. Shows (writes history.now) (marked marks.now) values.items) }
+    requires of_key { (p : ℕ) → marked_places marks.now p ≡ true
+        → is_write_under key.now (slice_get history.now p) ≡ true }
+    ensures { IfOk result (λ values. Shows (writes history.now)
+        (marked_places marks.now) values.items) }
 {
     let mut values = Vec::new(alloc);
     for writer in 0..16 {
@@ -142,8 +148,10 @@ fn push_siblings(
     writer: u16,
 ) -> Result<(), AllocError>
     requires account { IsAccount history.now moments.now }
-    requires of_key { (p : ℕ) → marked marks.now p ≡ true → is_write_under key.now (slice_get history.now p) ≡ true }
-    ensures { OnOk result (values.new.items ≡ values.old.items ++ siblings_by (writes history.now) (marked marks.now) writer) }
+    requires of_key { (p : ℕ) → marked_places marks.now p ≡ true
+        → is_write_under key.now (slice_get history.now p) ≡ true }
+    ensures { OnOk result (values.new.items ≡ values.old.items
+        ++ siblings_by (writes history.now) (marked_places marks.now) writer) }
 {
     for back in 0..history.len() {
         let place = history.len() - 1 - back;
@@ -156,7 +164,10 @@ fn push_siblings(
 
 /// The value of a write by that writer.
 fn push_by(values: &mut Vec<Value>, happening: &Happening, writer: u16) -> Result<(), AllocError>
-    ensures { OnOk result ((s : Past) → values.new.items ≡ values.old.items ++ map (λ x. x.value) (filter (λ x. x.writer == writer) (made s happening.now))) }
+    ensures { OnOk result ((s : Past)
+        → values.new.items ≡ values.old.items
+        ++ map (λ x. x.value) (filter (λ x. x.writer == writer)
+        (writes_of_happening s happening.now))) }
 {
     match happening {
         Happening::Wrote { node, value, .. } => {
@@ -173,7 +184,7 @@ fn push_by(values: &mut Vec<Value>, happening: &Happening, writer: u16) -> Resul
     }
 }
 
-/// Tells whether the write at the place is in the set, and none of the set had read it.
+/// Returns whether the write at the place is in the set, and none of the set had read it.
 fn is_sibling(
     history: &[Happening],
     moments: &[Moment],
@@ -182,13 +193,15 @@ fn is_sibling(
     place: usize,
 ) -> bool
     requires account { IsAccount history.now moments.now }
-    requires of_key { (p : ℕ) → marked marks.now p ≡ true → is_write_under key.now (slice_get history.now p) ≡ true }
-    ensures { result ≡ (marked marks.now place && not (was_read (writes history.now) (marked marks.now) place)) }
+    requires of_key { (p : ℕ) → marked_places marks.now p ≡ true
+        → is_write_under key.now (slice_get history.now p) ≡ true }
+    ensures { result ≡ (marked_places marks.now place && not
+        (was_read (writes history.now) (marked_places marks.now) place)) }
 {
     is_marked(marks, place) && !was_read(history, moments, marks, key, place)
 }
 
-/// Tells whether a write of the set had read the one at the place.
+/// Returns whether a write of the set had read the one at the place.
 fn was_read(
     history: &[Happening],
     moments: &[Moment],
@@ -197,8 +210,9 @@ fn was_read(
     place: usize,
 ) -> bool
     requires account { IsAccount history.now moments.now }
-    requires of_key { (p : ℕ) → marked marks.now p ≡ true → is_write_under key.now (slice_get history.now p) ≡ true }
-    ensures { result ≡ was_read (writes history.now) (marked marks.now) place }
+    requires of_key { (p : ℕ) → marked_places marks.now p ≡ true
+        → is_write_under key.now (slice_get history.now p) ≡ true }
+    ensures { result ≡ was_read (writes history.now) (marked_places marks.now) place }
 {
     for reader in 0..history.len() {
         if is_marked(marks, reader) && had_read(history, moments, reader, key, place) {
@@ -208,7 +222,7 @@ fn was_read(
     false
 }
 
-/// Tells whether the write of `reader`, which is under the key, had read the one at the place.
+/// Returns whether the write of `reader`, which is under the key, had read the one at the place.
 fn had_read(
     history: &[Happening],
     moments: &[Moment],
@@ -218,7 +232,9 @@ fn had_read(
 ) -> bool
     requires account { IsAccount history.now moments.now }
     requires inside { reader < length history.now }
-    ensures { (n : ℕ) (v : ValueParts) (r : Option ℕ) → slice_get history.now reader ≡ Some (Wrote n key.now v r) → result ≡ read (take reader history.now) key.now r place }
+    ensures { (n : ℕ) (v : ValueParts) (r : Option ℕ)
+        → slice_get history.now reader ≡ Some (Wrote n key.now v r)
+        → result ≡ read (take reader history.now) key.now r place }
 {
     match &history[reader] {
         Happening::Wrote { seen, .. } => {
@@ -235,7 +251,8 @@ fn had_read(
 
 fn context(alloc: Global, history: &[Happening], marks: &[bool]) -> Result<Vector, AllocError>
     requires { (p : ℕ) (h : H) → slice_get history.now p ≡ Some h → IsNode (node_of h) }
-    ensures { IfOk result (λ vector. IsContext (writes history.now) (marked marks.now) vector) }
+    ensures { IfOk result (λ vector. IsContext (writes history.now)
+        (marked_places marks.now) vector) }
 {
     let mut counters = Vec::new(alloc);
     for writer in 0..16 {
@@ -247,7 +264,8 @@ fn context(alloc: Global, history: &[Happening], marks: &[bool]) -> Result<Vecto
 /// A counter, where there is something to count.
 fn push_counter(counters: &mut Vec<Counter>, writer: u16, count: u64) -> Result<(), AllocError>
     requires { IsNode writer }
-    ensures { OnOk result (counters.new.items ≡ counters.old.items ++ (if count == 0 then [] else (record { id = writer; count = count }) ∷ [])) }
+    ensures { OnOk result (counters.new.items ≡ counters.old.items
+        ++ (if count == 0 then [] else (record { id = writer; count = count }) ∷ [])) }
 {
     if count > 0 {
         if let Ok(writer) = NodeId::new(writer) {
@@ -259,7 +277,7 @@ fn push_counter(counters: &mut Vec<Counter>, writer: u16, count: u64) -> Result<
 
 /// How many writes of the set are by that writer.
 fn count(history: &[Happening], marks: &[bool], writer: u16) -> u64
-    ensures { result ≡ count_in (writes history.now) (marked marks.now) writer }
+    ensures { result ≡ count_in (writes history.now) (marked_places marks.now) writer }
 {
     let mut count = 0;
     for (place, happening) in history.iter().enumerate() {
@@ -270,9 +288,10 @@ fn count(history: &[Happening], marks: &[bool], writer: u16) -> u64
     count
 }
 
-/// Tells whether it is a write by that writer.
+/// Returns whether it is a write by that writer.
 fn is_write_by(happening: &Happening, writer: u16) -> bool
-    ensures { (s : Past) → result ≡ list_any (λ x. x.writer == writer) (made s happening.now) }
+    ensures { (s : Past) → result
+        ≡ list_any (λ x. x.writer == writer) (writes_of_happening s happening.now) }
 {
     match happening {
         Happening::Wrote { node, .. } => node.number() == writer,

@@ -1,10 +1,10 @@
 //! What the arguments ask for.
 
-use clap::Command;
 use clap::error::ErrorKind;
+use clap::{Command, Error};
 use std::alloc::{AllocError, Global};
 use std::io;
-use streams::StreamFault;
+use streams::{StreamFault, write_fault};
 
 /// What the arguments ask for.
 #[derive(Drop)]
@@ -17,12 +17,17 @@ pub enum Asked {
 /// The exit status of wrong arguments.
 const USAGE: u8 = 2;
 
+const VERSION: &str = "0.1.0";
+
+/// What a wrong argument of `frame` is told besides.
+const NO_FILE: &str = "tip: frame reads standard input, as in 'plumctl frame <FILE'";
+
 const HELP: &str = "Example:
   plumctl frame <frames.hex";
 
 const FRAME_HELP: &str =
     "Each line gives one line: the frame that its digits spell, or the refusal that comes first.
-Spaces are skipped, and digits may be of either case.
+Spaces are skipped, and digits may be of either case. A carriage return is no digit.
 
 Example:
   echo 50540104 0001 0000 0000000000000005 00000000 | plumctl frame
@@ -30,7 +35,7 @@ prints
   PRUNE from 1 to 0 number 5
 
 A refusal prints as its number and name, as `error 10 Short`; `error 15 BadBody at 35` says where in
-the frame the field at fault begins.
+the frame the field at fault begins. No line number is printed: line N of the output is for line N.
 
 Exit status: 0 each line was a frame, 1 a line was refused or the input is longer than
 67,108,864 bytes, 2 wrong arguments, 3 reading or writing failed, 4 want of memory.";
@@ -42,6 +47,7 @@ fn command<'a>(alloc: Global) -> Result<Command<'a>, AllocError> {
         .after_help(FRAME_HELP);
     Command::new(alloc, "plumctl")
         .about("The commands of Zomtagi, a cluster metadata store")
+        .version(VERSION)
         .after_help(HELP)
         .subcommand_required(true)
         .subcommand(frame)
@@ -56,7 +62,26 @@ fn words(rt: &HostRuntime) -> Result<Option<Vec<String>>, StreamFault> {
     }
 }
 
-/// What the arguments ask for. Help goes to standard output, a usage fault to standard error.
+/// Prints help or the version at standard output, or a usage fault at standard error, and returns the
+/// exit status.
+fn print(rt: &HostRuntime, error: &Error) -> Result<u8, StreamFault> {
+    match error.print(rt) {
+        Ok(()) => Ok(error.exit_code() as u8),
+        Err(told) => match write_fault(told.kind()) {
+            StreamFault::Memory => Err(StreamFault::Memory),
+            _ if error.use_stderr() => Ok(USAGE),
+            fault => Err(fault),
+        },
+    }
+}
+
+/// Whether an argument follows `frame`, which takes none.
+fn is_of_frame(words: &[String], error: &Error) -> bool {
+    error.kind() == ErrorKind::UnknownArgument
+        && words.get(1).is_some_and(|word| word.as_str() == "frame")
+}
+
+/// What the arguments ask for.
 pub fn read_arguments(rt: &HostRuntime) -> Result<Asked, StreamFault> {
     let Some(words) = words(rt)? else {
         let _ = eprintln!(rt; "error: the arguments are not text");
@@ -68,11 +93,12 @@ pub fn read_arguments(rt: &HostRuntime) -> Result<Asked, StreamFault> {
             _ => Ok(Asked::Nothing(USAGE)),
         },
         Err(error) if error.kind() == ErrorKind::OutOfMemory => Err(StreamFault::Memory),
-        Err(error) => match error.print(rt) {
-            Ok(()) => Ok(Asked::Nothing(error.exit_code() as u8)),
-            Err(told) if told.kind() == io::ErrorKind::OutOfMemory => Err(StreamFault::Memory),
-            Err(_) if error.use_stderr() => Ok(Asked::Nothing(USAGE)),
-            Err(_) => Err(StreamFault::Write),
-        },
+        Err(error) => {
+            let status = print(rt, &error)?;
+            if is_of_frame(words.as_slice(), &error) {
+                let _ = eprintln!(rt; "{NO_FILE}");
+            }
+            Ok(Asked::Nothing(status))
+        }
     }
 }

@@ -1,37 +1,19 @@
-//! The commands of the store, at the command line.
+//! The commands of the store, at the command line. Each exit status, and each line at standard error but those about
+//! arguments, is that of a call of `plumctl_core`.
 #![tactic(auto)]
 
 mod arguments;
 mod command;
 
 use arguments::{Asked, read_arguments};
-pub use plumctl_core::frame_lines;
-use plumctl_core::status_of_fault;
+use plumctl_core::tell;
 use std::process::ExitCode;
-use streams::StreamFault;
+use streams::MayFail;
 
 fn main(rt: HostRuntime) -> ExitCode {
-    match run(&rt) {
-        Ok(status) => ExitCode::from(status),
-        Err(fault) => {
-            tell(&rt, fault);
-            ExitCode::from(status_of_fault(fault))
-        }
-    }
-}
-
-/// Does what the arguments ask for, and answers the exit status.
-fn run(rt: &HostRuntime) -> Result<u8, StreamFault> {
-    match read_arguments(rt)? {
-        Asked::Nothing(status) => Ok(status),
-        Asked::Frame => command::frame(rt),
-    }
-}
-
-/// Names a fault that has a number at standard error. Nothing is done where that fails.
-fn tell(rt: &HostRuntime, fault: StreamFault) {
-    if let Some(code) = fault.code() {
-        let name = fault.name();
-        let _ = eprintln!(rt; "error {code} {name}");
-    }
+    ExitCode::from(match read_arguments(&rt) {
+        Ok(Asked::Frame) => command::frame(&rt),
+        Ok(Asked::Nothing(status)) => status,
+        Err(fault) => tell(&mut MayFail(rt.stderr()), fault),
+    })
 }

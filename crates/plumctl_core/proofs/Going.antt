@@ -4,8 +4,10 @@ use Rattle.std.proofs.lemmas.List.{append-nil, length-append}
 use Rattle.std.proofs.lemmas.List.Elements.{All-append, All-nil, All-cons, All-head, All-tail}
 use Rattle.std.specs.Io.KnownBytes.{Appends, Consumes, Keeps}
 use Rattle.streams.specs.declared.fault.StreamFault.{StreamFault}
-use Rattle.streams.specs.declared.fault.StreamFault.TheVariants.{Read, InputTooLong, Write, Memory}
-use Rattle.streams.specs.Fault.{HasCause, IsWriteFault, IsReadFault}
+use Rattle.streams.specs.declared.fault.StreamFault.TheVariants.{Read, InputTooLong, Write, BrokenPipe, Memory}
+use Rattle.std.specs.declared.io.ErrorKind.{ErrorKind}
+use Rattle.std.specs.declared.io.ErrorKind.TheVariants as kinds
+use Rattle.streams.specs.Fault.{Failed, HasCause, IsWriteFault, IsReadFault, IsWriterFault, fault_of_kind}
 use Rattle.streams.specs.Written.{AppendsFront}
 use Rattle.streams.specs.Line.{input_limit, lines_of, Pending, TakesLine, StopsReading}
 use Rattle.streams.proofs.Sent.{Appends-nil, Appends-then, Appends-kept}
@@ -17,19 +19,19 @@ use Rattle.plumctl_core.specs.Run.{EndsLine, Prints, Stops, WritesLine, StopsLin
 use Rattle.plumctl_core.proofs.LinesOf.{ends_none, ends_more, lines_more, lines_last}
 use Rattle.plumctl_core.proofs.Texts.{text_of_line, text_more}
 
-Keeps-self : (v : Option (List ℕ)) → Keeps v v
+pub Keeps-self : (v : Option (List ℕ)) → Keeps v v
 Keeps-self None = tt
 Keeps-self (Some xs) = refl
 
 -- nothing of the line was written
-pub stopped_before : (failed : Type 0) (line : List ℕ) (w : Option (List ℕ)) (fault : StreamFault) → fault ≡ Memory → StopsLine failed line w w fault
+pub stopped_before : (failed : Failed) (line : List ℕ) (w : Option (List ℕ)) (fault : StreamFault) → fault ≡ Memory → StopsLine failed line w w fault
 stopped_before failed line w fault e =
     let text = text_of_line line in
     record {
       text = text.0;
       text_is = text.1;
       appended = record { front = []; rest = text.0 ++ 10 ∷ []; parts = refl; appended = Appends-nil w };
-      cause = subst (IsWriteFault failed) (sym e) tt;
+      cause = subst (IsWriteFault failed Unit) (sym e) tt;
     }
 
 -- whole lines were read, and the output for them was written
@@ -141,7 +143,7 @@ ended_is : (all : Bool) (ended : Ended) → ended ≡ (if all then AllPrinted el
 ended_is true ended e = (λ same. refl, λ yes. e)
 ended_is false ended e = (λ same. cc (sym e ∙ same), λ yes. cc yes)
 
--- the input ended behind a line feed
+-- the input ended after a line feed
 prints_all : (passed : Type 0) (r s t w v u : Option (List ℕ)) (now new : Pending) (all : Bool) (line : List ℕ) (ended : Ended)
     → Going r s w v now all → TakesLine now new s t line false → line ≡ [] → Keeps v u → ended ≡ (if all then AllPrinted else SomeRefused) → passed → Prints passed r t w u ended
 prints_all passed r s t w v u now new all line ended so_far takes none keeps e on =
@@ -163,7 +165,7 @@ prints_all passed r s t w v u now new all line ended so_far takes none keeps e o
           subst (λ input. (ended ≡ AllPrinted) ↔ All IsFrameLine (lines_of input)) (sym done) (λ same. so_far.frames.0 (is.0 same), λ frames. is.1 (so_far.frames.1 frames));
     }
 
--- the input ended without a line feed behind its last line
+-- the input ended without a line feed after its last line
 prints_last : (passed : Type 0) (r s t w v u x : Option (List ℕ)) (now new : Pending) (all is : Bool) (line : List ℕ) (ended : Ended)
     → Going r s w v now all → TakesLine now new s t line false → 0 < length line → WritesLine line v u is → Keeps u x → ended ≡ (if all && is then AllPrinted else SomeRefused) → passed → Prints passed r t w x ended
 prints_last passed r s t w v u x now new all is line ended so_far takes some writes keeps e on =
@@ -195,17 +197,37 @@ no_text : IsTextOfAll (lines_of []) []
 unfolding lines_of
 no_text = refl
 
-cause_of_writing : (read_failed too_long write_failed : Type 0) (fault : StreamFault) → IsWriteFault write_failed fault → HasCause read_failed too_long write_failed fault
-cause_of_writing read_failed too_long write_failed Read cause = absurd cause
-cause_of_writing read_failed too_long write_failed InputTooLong cause = absurd cause
-cause_of_writing read_failed too_long write_failed Write cause = cause
-cause_of_writing read_failed too_long write_failed Memory cause = tt
+cause_of_writing : (read_failed too_long : Type 0) (failed : Failed) (fault : StreamFault) → IsWriteFault failed Unit fault → HasCause read_failed too_long failed Unit fault
+cause_of_writing read_failed too_long failed Read cause = absurd cause
+cause_of_writing read_failed too_long failed InputTooLong cause = absurd cause
+cause_of_writing read_failed too_long failed Write cause = cause
+cause_of_writing read_failed too_long failed BrokenPipe cause = cause
+cause_of_writing read_failed too_long failed Memory cause = tt
 
-cause_of_reading : (read_failed write_failed : Type 0) (a b c d : ℕ) (fault : StreamFault) → (a < b → c < d) → IsReadFault read_failed (a < b) fault → HasCause read_failed (c < d) write_failed fault
-cause_of_reading read_failed write_failed a b c d Read more cause = cause
-cause_of_reading read_failed write_failed a b c d InputTooLong more cause = more cause
-cause_of_reading read_failed write_failed a b c d Write more cause = absurd cause
-cause_of_reading read_failed write_failed a b c d Memory more cause = tt
+cause_of_reading : (read_failed : Type 0) (failed : Failed) (a b c d : ℕ) (fault : StreamFault) → (a < b → c < d) → IsReadFault read_failed (a < b) Unit fault → HasCause read_failed (c < d) failed Unit fault
+cause_of_reading read_failed failed a b c d Read more cause = cause
+cause_of_reading read_failed failed a b c d InputTooLong more cause = more cause
+cause_of_reading read_failed failed a b c d Write more cause = absurd cause.answered
+cause_of_reading read_failed failed a b c d BrokenPipe more cause = absurd cause.answered
+cause_of_reading read_failed failed a b c d Memory more cause = tt
+
+-- an error of the writer is no fault of reading
+never_read : (kind : ErrorKind) → Read ≡ fault_of_kind kind → ⊥
+never_read kinds.BrokenPipe e = cc
+never_read kinds.OutOfMemory e = cc
+never_read kind e = cc
+
+never_too_long : (kind : ErrorKind) → InputTooLong ≡ fault_of_kind kind → ⊥
+never_too_long kinds.BrokenPipe e = cc
+never_too_long kinds.OutOfMemory e = cc
+never_too_long kind e = cc
+
+pub cause_of_writer : (failed : Failed) (fault : StreamFault) → IsWriterFault failed fault → IsWriteFault failed Unit fault
+cause_of_writer failed Read cause = absurd (never_read cause.kind cause.fault_is)
+cause_of_writer failed InputTooLong cause = absurd (never_too_long cause.kind cause.fault_is)
+cause_of_writer failed Write cause = cause
+cause_of_writer failed BrokenPipe cause = cause
+cause_of_writer failed Memory cause = tt
 
 -- the output so far, and a front of more
 front_more : (w v u : Option (List ℕ)) (output more : List ℕ) → Appends w v output → AppendsFront v u more → AppendsFront w u (output ++ more)
@@ -221,9 +243,9 @@ front_all : (w v u : Option (List ℕ)) (output : List ℕ) → Appends w v outp
 front_all w v u output appended keeps = record { front = output; rest = []; parts = sym (append-nil output); appended = Appends-kept w v u output appended keeps }
 
 -- the reader failed, or gave too much
-pub stops_reading : (read_failed write_failed : Type 0) (r s t w v : Option (List ℕ)) (now : Pending) (all : Bool) (fault : StreamFault)
-    → Going r s w v now all → StopsReading read_failed now s t fault → Stops read_failed write_failed r t w v fault
-stops_reading read_failed write_failed r s t w v now all fault so_far stop =
+pub stops_reading : (read_failed : Type 0) (failed : Failed) (r s t w v : Option (List ℕ)) (now : Pending) (all : Bool) (fault : StreamFault)
+    → Going r s w v now all → StopsReading read_failed Unit now s t fault → Stops read_failed failed r t w v fault
+stops_reading read_failed failed r s t w v now all fault so_far stop =
     let read : so_far.read ++ stop.bytes ≡ so_far.done ++ (now.bytes ++ stop.bytes) =
     ap (λ (bytes : List ℕ). bytes ++ stop.bytes) so_far.parts ∙ append_assoc so_far.done now.bytes stop.bytes in
     record {
@@ -235,14 +257,14 @@ stops_reading read_failed write_failed r s t w v now all fault so_far stop =
       output_is = so_far.output_is;
       appended = front_all w v v so_far.output so_far.appended (Keeps-self v);
       cause =
-          cause_of_reading read_failed write_failed now.left (length stop.bytes) input_limit (length (so_far.done ++ (now.bytes ++ stop.bytes))) fault
+          cause_of_reading read_failed failed now.left (length stop.bytes) input_limit (length (so_far.done ++ (now.bytes ++ stop.bytes))) fault
           (λ lt. let a = so_far.counted in let same = ap length read in omega (arith, length-append so_far.read stop.bytes)) stop.cause;
     }
 
 -- passing on failed between lines
-pub stops_flushing : (read_failed write_failed : Type 0) (r s w v u : Option (List ℕ)) (now : Pending) (all : Bool) (fault : StreamFault)
-    → Going r s w v now all → Keeps v u → IsWriteFault write_failed fault → Stops read_failed write_failed r s w u fault
-stops_flushing read_failed write_failed r s w v u now all fault so_far keeps cause = record {
+pub stops_flushing : (read_failed : Type 0) (failed : Failed) (r s w v u : Option (List ℕ)) (now : Pending) (all : Bool) (fault : StreamFault)
+    → Going r s w v now all → Keeps v u → IsWriterFault failed fault → Stops read_failed failed r s w u fault
+stops_flushing read_failed failed r s w v u now all fault so_far keeps cause = record {
   lines = so_far.done;
   begun = now.bytes;
   consumed = subst (Consumes r s) so_far.parts so_far.consumed;
@@ -250,13 +272,13 @@ stops_flushing read_failed write_failed r s w v u now all fault so_far keeps cau
   output = so_far.output;
   output_is = so_far.output_is;
   appended = front_all w v u so_far.output so_far.appended keeps;
-  cause = cause_of_writing read_failed (input_limit < length (so_far.done ++ now.bytes)) write_failed fault cause;
+  cause = cause_of_writing read_failed (input_limit < length (so_far.done ++ now.bytes)) failed fault (cause_of_writer failed fault cause);
 }
 
 -- the writer failed within a line
-pub stops_line : (read_failed write_failed : Type 0) (r s t w v u : Option (List ℕ)) (now new : Pending) (all : Bool) (line : List ℕ) (fault : StreamFault)
-    → Going r s w v now all → TakesLine now new s t line true → StopsLine write_failed line v u fault → Stops read_failed write_failed r t w u fault
-stops_line read_failed write_failed r s t w v u now new all line fault so_far takes stop =
+pub stops_line : (read_failed : Type 0) (failed : Failed) (r s t w v u : Option (List ℕ)) (now new : Pending) (all : Bool) (line : List ℕ) (fault : StreamFault)
+    → Going r s w v now all → TakesLine now new s t line true → StopsLine failed line v u fault → Stops read_failed failed r t w u fault
+stops_line read_failed failed r s t w v u now new all line fault so_far takes stop =
     let more = takes.reads.bytes in
     let lines = so_far.done ++ (line ++ 10 ∷ []) in
     let read : so_far.read ++ more ≡ lines ++ new.bytes = read_line so_far.read so_far.done now.bytes more line new.bytes so_far.parts takes.answer in
@@ -270,13 +292,13 @@ stops_line read_failed write_failed r s t w v u now new all line fault so_far ta
           subst (λ ls. IsTextOfAll ls (so_far.output ++ text_written stop.text)) (sym (lines_more so_far.done line so_far.ends takes.one_line))
           (text_more (lines_of so_far.done) line so_far.output stop.text so_far.output_is stop.text_is);
       appended = front_more w v u so_far.output (text_written stop.text) so_far.appended stop.appended;
-      cause = cause_of_writing read_failed (input_limit < length (lines ++ new.bytes)) write_failed fault stop.cause;
+      cause = cause_of_writing read_failed (input_limit < length (lines ++ new.bytes)) failed fault stop.cause;
     }
 
 -- the writer failed within the last line, which lacks its line feed
-stops_last : (read_failed write_failed : Type 0) (r s t w v u : Option (List ℕ)) (now new : Pending) (all : Bool) (line : List ℕ) (fault : StreamFault)
-    → Going r s w v now all → TakesLine now new s t line false → 0 < length line → StopsLine write_failed line v u fault → Stops read_failed write_failed r t w u fault
-stops_last read_failed write_failed r s t w v u now new all line fault so_far takes some stop =
+stops_last : (read_failed : Type 0) (failed : Failed) (r s t w v u : Option (List ℕ)) (now new : Pending) (all : Bool) (line : List ℕ) (fault : StreamFault)
+    → Going r s w v now all → TakesLine now new s t line false → 0 < length line → StopsLine failed line v u fault → Stops read_failed failed r t w u fault
+stops_last read_failed failed r s t w v u now new all line fault so_far takes some stop =
     let more = takes.reads.bytes in
     let lines = so_far.done ++ line in
     let read : so_far.read ++ more ≡ lines ++ [] = read_rest so_far.read so_far.done now.bytes more line so_far.parts takes.answer.0 in
@@ -290,22 +312,22 @@ stops_last read_failed write_failed r s t w v u now new all line fault so_far ta
           subst (λ ls. IsTextOfAll ls (so_far.output ++ text_written stop.text)) (sym (lines_last so_far.done line so_far.ends takes.one_line some))
           (text_more (lines_of so_far.done) line so_far.output stop.text so_far.output_is stop.text_is);
       appended = front_more w v u so_far.output (text_written stop.text) so_far.appended stop.appended;
-      cause = cause_of_writing read_failed (input_limit < length (lines ++ [])) write_failed fault stop.cause;
+      cause = cause_of_writing read_failed (input_limit < length (lines ++ [])) failed fault stop.cause;
     }
 
 -- the last line was written, and a writer that fails then had all of it
-stops_behind : (write_failed : Type 0) (line : List ℕ) (v u x : Option (List ℕ)) (is : Bool) (fault : StreamFault) → WritesLine line v u is → Keeps u x → IsWriteFault write_failed fault → StopsLine write_failed line v x fault
-stops_behind write_failed line v u x is fault writes keeps cause = record {
+stops_behind : (failed : Failed) (line : List ℕ) (v u x : Option (List ℕ)) (is : Bool) (fault : StreamFault) → WritesLine line v u is → Keeps u x → IsWriterFault failed fault → StopsLine failed line v x fault
+stops_behind failed line v u x is fault writes keeps cause = record {
   text = writes.text;
   text_is = writes.text_is;
   appended = front_all v u x (text_written writes.text) writes.appended keeps;
-  cause = cause;
+  cause = cause_of_writer failed fault cause;
 }
 
 -- passing on failed at the end
-stops_at_end : (read_failed write_failed : Type 0) (r s t w v u : Option (List ℕ)) (now new : Pending) (all : Bool) (line : List ℕ) (fault : StreamFault)
-    → Going r s w v now all → TakesLine now new s t line false → line ≡ [] → Keeps v u → IsWriteFault write_failed fault → Stops read_failed write_failed r t w u fault
-stops_at_end read_failed write_failed r s t w v u now new all line fault so_far takes none keeps cause =
+stops_at_end : (read_failed : Type 0) (failed : Failed) (r s t w v u : Option (List ℕ)) (now new : Pending) (all : Bool) (line : List ℕ) (fault : StreamFault)
+    → Going r s w v now all → TakesLine now new s t line false → line ≡ [] → Keeps v u → IsWriterFault failed fault → Stops read_failed failed r t w u fault
+stops_at_end read_failed failed r s t w v u now new all line fault so_far takes none keeps cause =
     let more = takes.reads.bytes in
     let read : so_far.read ++ more ≡ so_far.done ++ [] =
     read_rest so_far.read so_far.done now.bytes more [] so_far.parts (takes.answer.0 ∙ none) ∙ ap (λ (bytes : List ℕ). bytes ++ []) (append-nil so_far.done) in
@@ -317,12 +339,12 @@ stops_at_end read_failed write_failed r s t w v u now new all line fault so_far 
       output = so_far.output;
       output_is = so_far.output_is;
       appended = front_all w v u so_far.output so_far.appended keeps;
-      cause = cause_of_writing read_failed (input_limit < length (so_far.done ++ [])) write_failed fault cause;
+      cause = cause_of_writing read_failed (input_limit < length (so_far.done ++ [])) failed fault (cause_of_writer failed fault cause);
     }
 
 -- nothing was read
-pub stops_none : (read_failed write_failed : Type 0) (r w : Option (List ℕ)) (fault : StreamFault) → fault ≡ Memory → Stops read_failed write_failed r r w w fault
-stops_none read_failed write_failed r w fault e = record {
+pub stops_none : (read_failed : Type 0) (failed : Failed) (r w : Option (List ℕ)) (fault : StreamFault) → fault ≡ Memory → Stops read_failed failed r r w w fault
+stops_none read_failed failed r w fault e = record {
   lines = [];
   begun = [];
   consumed = Consumes-nil r;
@@ -330,7 +352,7 @@ stops_none read_failed write_failed r w fault e = record {
   output = [];
   output_is = no_text;
   appended = front_all w w w [] (Appends-nil w) (Keeps-self w);
-  cause = subst (HasCause read_failed (input_limit < length {A = ℕ} []) write_failed) (sym e) tt;
+  cause = subst (HasCause read_failed (input_limit < length {A = ℕ} []) failed Unit) (sym e) tt;
 }
 
 Keeps-then : (v u x : Option (List ℕ)) → Keeps v u → Keeps u x → Keeps v x
@@ -355,13 +377,13 @@ prints_over passed r s t w v u x now new all is line ended so_far takes last kee
   | inr some ↦ prints_last passed r s t w v u x now new all is line ended so_far takes some.0 some.1 keeps e on
 ]
 
-pub stops_over : (read_failed write_failed : Type 0) (r s t w v u : Option (List ℕ)) (now new : Pending) (all : Bool) (line : List ℕ) (fault : StreamFault)
-    → Going r s w v now all → TakesLine now new s t line false → StopsLast write_failed line v u fault → Stops read_failed write_failed r t w u fault
-stops_over read_failed write_failed r s t w v u now new all line fault so_far takes stop = stops_last read_failed write_failed r s t w v u now new all line fault so_far takes stop.0 stop.1
+pub stops_over : (read_failed : Type 0) (failed : Failed) (r s t w v u : Option (List ℕ)) (now new : Pending) (all : Bool) (line : List ℕ) (fault : StreamFault)
+    → Going r s w v now all → TakesLine now new s t line false → StopsLast failed line v u fault → Stops read_failed failed r t w u fault
+stops_over read_failed failed r s t w v u now new all line fault so_far takes stop = stops_last read_failed failed r s t w v u now new all line fault so_far takes stop.0 stop.1
 
-pub stops_passing : (read_failed write_failed : Type 0) (r s t w v u x : Option (List ℕ)) (now new : Pending) (all is : Bool) (line : List ℕ) (fault : StreamFault)
-    → Going r s w v now all → TakesLine now new s t line false → WritesLast line v u is → Keeps u x → IsWriteFault write_failed fault → Stops read_failed write_failed r t w x fault
-stops_passing read_failed write_failed r s t w v u x now new all is line fault so_far takes last keeps cause = elim last [
-  | inl none ↦ stops_at_end read_failed write_failed r s t w v x now new all line fault so_far takes none.0 (Keeps-then v u x none.1 keeps) cause
-  | inr some ↦ stops_last read_failed write_failed r s t w v x now new all line fault so_far takes some.0 (stops_behind write_failed line v u x is fault some.1 keeps cause)
+pub stops_passing : (read_failed : Type 0) (failed : Failed) (r s t w v u x : Option (List ℕ)) (now new : Pending) (all is : Bool) (line : List ℕ) (fault : StreamFault)
+    → Going r s w v now all → TakesLine now new s t line false → WritesLast line v u is → Keeps u x → IsWriterFault failed fault → Stops read_failed failed r t w x fault
+stops_passing read_failed failed r s t w v u x now new all is line fault so_far takes last keeps cause = elim last [
+  | inl none ↦ stops_at_end read_failed failed r s t w v x now new all line fault so_far takes none.0 (Keeps-then v u x none.1 keeps) cause
+  | inr some ↦ stops_last read_failed failed r s t w v x now new all line fault so_far takes some.0 (stops_behind failed line v u x is fault some.1 keeps cause)
 ]

@@ -10,7 +10,7 @@ use Rattle.meta_frame.specs.declared.message.Frame.{Frame}
 use Rattle.meta_frame.specs.Frame.{Spells}
 use Rattle.meta_frame.proofs.Frames.{one_frame, one_refusal, never_both, frame_or_refusal}
 use Rattle.printing.specs.Frame.{frame_text, frame_fault_text}
-use Rattle.plumctl_core.specs.Output.{without_spaces, IsTextOfBytes, IsTextOf, IsTextOfAll, IsFrameLine, PutsText}
+use Rattle.plumctl_core.specs.Output.{without_spaces, IsTextOfBytes, IsTextOf, IsTextOfAll, IsFrameLine, PrintsText}
 
 text_of_bytes : (bytes : List ℕ) → All (λ b. b < 256) bytes → (text : List ℕ) × IsTextOfBytes bytes text
 text_of_bytes bytes are = elim (frame_or_refusal bytes are) [
@@ -108,7 +108,7 @@ none_found line None found e = no_spaces line found
 none_found line (Some n) found e = cc e
 
 -- the text of bytes that were read from the digits of a line, put where nothing stood
-pub line_text : {X Y : Type 0} (r : Result X Y) (line bytes slice old new : List ℕ) → decode_of (without_spaces line) ≡ Ok bytes → slice ≡ bytes → old ≡ [] → OnOk r (PutsText slice old new) → OnOk r (IsTextOf line new)
+pub line_text : {X Y : Type 0} (r : Result X Y) (line bytes slice old new : List ℕ) → decode_of (without_spaces line) ≡ Ok bytes → slice ≡ bytes → old ≡ [] → OnOk r (PrintsText slice old new) → OnOk r (IsTextOf line new)
 line_text (Ok x) line bytes slice old new digits slice_is none puts =
     let new_is : puts.0 ≡ new = sym (puts.2 ∙ ap (λ front. front ++ puts.0) none) in
     subst (λ d. MatchResult d (λ bs. IsTextOfBytes bs new) (λ _. new ≡ codes "error 9 BadHex")) (sym digits)

@@ -8,5 +8,5 @@ pub use Rattle.printing.specs.Frame
 pub mod Output
 -- how a run ends
 pub mod Run
--- the exit status of a program
+-- the exit status of a program, and what it tells at standard error
 pub mod Status

@@ -4,7 +4,7 @@ use Rattle.std.specs.List.{filter}
 use Rattle.hex.specs.Hex.{decode_of}
 use Rattle.meta_frame.specs.declared.message.Frame.{Frame}
 use Rattle.meta_frame.specs.declared.fault.FrameFault.{FrameFault}
-use Rattle.meta_frame.specs.Frame.{Spells, Refuses}
+use Rattle.meta_frame.specs.Frame.{Spells, RefusesBytes}
 use Rattle.printing.specs.Frame.{frame_text, frame_fault_text}
 use Rattle.streams.specs.Line.{lines_of}
 
@@ -16,7 +16,7 @@ without_spaces line = filter (λ b. not (b == 32)) line
 abbrev pub IsTextOfBytes : List ℕ → List ℕ → Type 0
 IsTextOfBytes bytes text =
     ((frame : Frame) × Spells frame bytes × (text ≡ frame_text frame))
-    ⊎ ((fault : FrameFault) × Refuses bytes fault × (text ≡ frame_fault_text fault))
+    ⊎ ((fault : FrameFault) × RefusesBytes bytes fault × (text ≡ frame_fault_text fault))
 
 -- the text of a line: of the bytes that its digits stand for
 abbrev pub IsTextOf : List ℕ → List ℕ → Type 0
@@ -29,10 +29,11 @@ pub record IsFrameLine (line : List ℕ) : Type 0 where
   pub frame : Frame
   pub spelled : Spells frame bytes
 
--- the text of each line, and a line feed behind each
+-- the text of each line, and a line feed after each
 abbrev pub IsTextOfAll : List (List ℕ) → List ℕ → Type 0
 IsTextOfAll [] text = text ≡ []
-IsTextOfAll (line ∷ lines) text = (first : List ℕ) × (rest : List ℕ) × IsTextOf line first × IsTextOfAll lines rest × (text ≡ first ++ 10 ∷ rest)
+IsTextOfAll (line ∷ lines) text = (first : List ℕ) × (rest : List ℕ) × IsTextOf line first
+    × IsTextOfAll lines rest × (text ≡ first ++ 10 ∷ rest)
 
 -- the output for a whole input
 abbrev pub IsOutput : List ℕ → List ℕ → Type 0
@@ -40,6 +41,6 @@ IsOutput input output = IsTextOfAll (lines_of input) output
 
 -- ---- what private functions cite
 
--- the text was put behind what stood there
-abbrev pub PutsText : List ℕ → List ℕ → List ℕ → Type 0
-PutsText bytes old new = (text : List ℕ) × IsTextOfBytes bytes text × (new ≡ old ++ text)
+-- the text was put after what stood there
+abbrev pub PrintsText : List ℕ → List ℕ → List ℕ → Type 0
+PrintsText bytes old new = (text : List ℕ) × IsTextOfBytes bytes text × (new ≡ old ++ text)

@@ -2,7 +2,7 @@
 use Rattle.std.specs.Prelude.{◌≡◌, ◌⊎◌, ◌↔◌, ◌<◌, ◌≤◌, ℕ, List, [], ◌∷◌, ◌++◌, length, All, Option, Bool, IsTrue}
 use Rattle.std.specs.Io.KnownBytes.{Appends, Keeps, Consumes, IsAtEnd}
 use Rattle.streams.specs.declared.fault.StreamFault.{StreamFault}
-use Rattle.streams.specs.Fault.{HasCause, IsWriteFault}
+use Rattle.streams.specs.Fault.{Failed, HasCause, IsWriteFault}
 use Rattle.streams.specs.Written.{AppendsFront}
 use Rattle.plumctl_core.specs.declared.frame.Ended.{Ended}
 use Rattle.plumctl_core.specs.declared.frame.Ended.TheVariants.{AllPrinted}
@@ -27,7 +27,7 @@ pub record Prints (passed_on : Type 0) (reader_old reader_new writer_old writer_
 
 -- what was read until the fault, whole lines and the beginning of another, and of the output for the whole lines a front
 -- was written; and the fault's cause. A last line without a line feed is whole where the reader is at its end.
-pub record Stops (read_failed write_failed : Type 0) (reader_old reader_new writer_old writer_new : Option (List ℕ)) (fault : StreamFault) : Type 0 where
+pub record Stops (read_failed : Type 0) (failed : Failed) (reader_old reader_new writer_old writer_new : Option (List ℕ)) (fault : StreamFault) : Type 0 where
   pub lines : List ℕ
   pub begun : List ℕ
   pub consumed : Consumes reader_old reader_new (lines ++ begun)
@@ -35,7 +35,7 @@ pub record Stops (read_failed write_failed : Type 0) (reader_old reader_new writ
   pub output : List ℕ
   pub output_is : IsOutput lines output
   pub appended : AppendsFront writer_old writer_new output
-  pub cause : HasCause read_failed (input_limit < length (lines ++ begun)) write_failed fault
+  pub cause : HasCause read_failed (input_limit < length (lines ++ begun)) failed (Unit {0}) fault
 
 -- ---- what private functions cite
 
@@ -47,16 +47,19 @@ pub record WritesLine (line : List ℕ) (writer_old writer_new : Option (List �
   pub frame : IsTrue is_frame ↔ IsFrameLine line
 
 -- a front of it was written
-pub record StopsLine (write_failed : Type 0) (line : List ℕ) (writer_old writer_new : Option (List ℕ)) (fault : StreamFault) : Type 0 where
+pub record StopsLine (failed : Failed) (line : List ℕ) (writer_old writer_new : Option (List ℕ)) (fault : StreamFault) : Type 0 where
   pub text : List ℕ
   pub text_is : IsTextOf line text
   pub appended : AppendsFront writer_old writer_new (text ++ 10 ∷ [])
-  pub cause : IsWriteFault write_failed fault
+  pub cause : IsWriteFault failed (Unit {0}) fault
 
 -- a last line was written, or it is empty and nothing was
-abbrev pub WritesLast : (line : List ℕ) (writer_old writer_new : Option (List ℕ)) (is_frame : Bool) → Type 0
+abbrev pub WritesLast : (line : List ℕ) (writer_old writer_new : Option (List ℕ)) (is_frame : Bool)
+    → Type 0
 WritesLast line writer_old writer_new is_frame =
-    ((line ≡ []) × Keeps writer_old writer_new × IsTrue is_frame) ⊎ ((0 < length line) × WritesLine line writer_old writer_new is_frame)
+    ((line ≡ []) × Keeps writer_old writer_new × IsTrue is_frame)
+    ⊎ ((0 < length line) × WritesLine line writer_old writer_new is_frame)
 
-abbrev pub StopsLast : (write_failed : Type 0) (line : List ℕ) (writer_old writer_new : Option (List ℕ)) (fault : StreamFault) → Type 0
-StopsLast write_failed line writer_old writer_new fault = (0 < length line) × StopsLine write_failed line writer_old writer_new fault
+abbrev pub StopsLast : (failed : Failed) (line : List ℕ) (writer_old writer_new : Option (List ℕ)) (fault : StreamFault) → Type 0
+StopsLast failed line writer_old writer_new fault = (0 < length line)
+    × StopsLine failed line writer_old writer_new fault

@@ -2,6 +2,7 @@
 
 ghost use Rattle.std.specs.Prelude.{◌≡◌, IfOk, IfErr, OnOk, if◌then◌else◌};
 ghost use Rattle.plumctl_core.specs.declared.frame.Ended.TheVariants.{AllPrinted, SomeRefused};
+ghost use Rattle.streams.specs.Fault.{FailsNoMore};
 ghost use Rattle.plumctl_core.specs.Run.{Prints, Stops, WritesLine, StopsLine, WritesLast, StopsLast};
 
 use crate::line::print_line;
@@ -29,16 +30,18 @@ impl Ended {
     }
 }
 
-/// Writes what is printed for a line, and a line feed, and tells whether the line stands for a frame.
+/// Writes what is printed for a line, and a line feed, and returns whether the line stands for a frame.
 fn write_line<W: Sink>(
     alloc: Global,
     line: &[u8],
     text: &mut Vec<u8>,
     writer: &mut W,
 ) -> Result<bool, StreamFault>
-    ensures ok { IfOk result (λ is. WritesLine line.now (W.contents writer.old) (W.contents writer.new) is) }
-    ensures err { IfErr result (λ fault. StopsLine (W.write_failed writer.new) line.now (W.contents writer.old) (W.contents writer.new) fault) }
-    ensures sound { OnOk result (W.write_failed writer.new → W.write_failed writer.old) }
+    ensures ok { IfOk result (λ is. WritesLine line.now (W.contents writer.old)
+        (W.contents writer.new) is) }
+    ensures err { IfErr result (λ fault. StopsLine (W.failed writer.new) line.now
+        (W.contents writer.old) (W.contents writer.new) fault) }
+    ensures sound { OnOk result (FailsNoMore (W.failed writer.old) (W.failed writer.new)) }
 {
     let is_frame = print_line(alloc, line, text)?;
     text.push(b'\n')?;
@@ -54,9 +57,11 @@ fn write_last_line<W: Sink>(
     text: &mut Vec<u8>,
     writer: &mut W,
 ) -> Result<bool, StreamFault>
-    ensures ok { IfOk result (λ is. WritesLast line.now (W.contents writer.old) (W.contents writer.new) is) }
-    ensures err { IfErr result (λ fault. StopsLast (W.write_failed writer.new) line.now (W.contents writer.old) (W.contents writer.new) fault) }
-    ensures sound { OnOk result (W.write_failed writer.new → W.write_failed writer.old) }
+    ensures ok { IfOk result (λ is. WritesLast line.now (W.contents writer.old)
+        (W.contents writer.new) is) }
+    ensures err { IfErr result (λ fault. StopsLast (W.failed writer.new) line.now
+        (W.contents writer.old) (W.contents writer.new) fault) }
+    ensures sound { OnOk result (FailsNoMore (W.failed writer.old) (W.failed writer.new)) }
 {
     if line.is_empty() {
         return Ok(true);
@@ -69,16 +74,21 @@ fn write_last_line<W: Sink>(
 /// that is not an even number of digits is `error 9 BadHex`. The writer is flushed before the reader is
 /// asked for more. Ends with 7 `Read` at the first error of the reader, an interruption too, with 8
 /// `InputTooLong` once more than 67,108,864 bytes were read, with `Write` at the first error of the
-/// writer or when it takes no more, and with 99 `Memory`. It takes memory for the longest line, its
+/// writer or when it takes no more (`BrokenPipe` where its other end is closed), and with 99 `Memory`. It takes memory for the longest line, its
 /// bytes, its frame and its text, and for one read.
 pub fn frame_lines<R: Source, W: Sink>(
     alloc: Global,
     reader: &mut R,
     writer: &mut W,
 ) -> Result<Ended, StreamFault>
-    ensures ok { IfOk result (λ ended. Prints (W.passed_on writer.new) (R.remaining reader.old) (R.remaining reader.new) (W.contents writer.old) (W.contents writer.new) ended) }
-    ensures err { IfErr result (λ fault. Stops (R.read_failed reader.new) (W.write_failed writer.new) (R.remaining reader.old) (R.remaining reader.new) (W.contents writer.old) (W.contents writer.new) fault) }
-    ensures sound { OnOk result ((R.read_failed reader.new → R.read_failed reader.old) × (W.write_failed writer.new → W.write_failed writer.old)) }
+    ensures ok { IfOk result (λ ended. Prints (W.passed_on writer.new)
+        (R.remaining reader.old) (R.remaining reader.new)
+        (W.contents writer.old) (W.contents writer.new) ended) }
+    ensures err { IfErr result (λ fault. Stops (R.read_failed reader.new) (W.failed writer.new)
+        (R.remaining reader.old) (R.remaining reader.new)
+        (W.contents writer.old) (W.contents writer.new) fault) }
+    ensures sound { OnOk result ((R.read_failed reader.new → R.read_failed reader.old)
+        × FailsNoMore (W.failed writer.old) (W.failed writer.new)) }
 {
     let mut lines = LineBuffer::new(alloc)?;
     let mut line = Vec::new(alloc);

@@ -6,5 +6,6 @@ ghost use Rattle.plumctl_core.specs.Output.{IsOutput};
 /// An input has one output.
 pub fn one_output_for_an_input()
     ensures some { (input : List ℕ) → (output : List ℕ) × IsOutput input output }
-    ensures one { (input output other : List ℕ) → IsOutput input output → IsOutput input other → output ≡ other }
+    ensures one { (input output other : List ℕ) → IsOutput input output → IsOutput input other
+        → output ≡ other }
 {}

@@ -8,4 +8,4 @@ mod line;
 mod status;
 
 pub use frame::{Ended, frame_lines};
-pub use status::status_of_fault;
+pub use status::{run_frame, status_of_fault, tell};

@@ -5,13 +5,12 @@ ghost use Rattle.hex.specs.Hex.{decode_of};
 ghost use Rattle.hex.specs.declared.error.FromHexError.TheVariants.{OutOfMemory};
 ghost use Rattle.meta_frame.specs.declared.message.Frame.{Frame};
 ghost use Rattle.meta_frame.specs.Frame.{Spells};
-ghost use Rattle.plumctl_core.specs.Output.{without_spaces, IsTextOf, PutsText, IsFrameLine};
+ghost use Rattle.plumctl_core.specs.Output.{without_spaces, IsTextOf, PrintsText, IsFrameLine};
 
 use hex::FromHexError;
 use memchr::memchr;
-use meta_frame::FrameFault;
-use meta_frame::decode::decode;
-use printing::{put_frame, put_frame_fault};
+use meta_frame::{FrameFault, decode};
+use printing::{print_frame, print_frame_fault};
 use std::alloc::{AllocError, Global};
 
 /// The bytes of a line without its spaces.
@@ -30,7 +29,8 @@ fn digits_of(alloc: Global, line: &[u8]) -> Result<Vec<u8>, AllocError>
 /// The bytes that the digits of a line stand for.
 fn bytes_of(alloc: Global, line: &[u8]) -> Result<Vec<u8>, FromHexError>
     ensures ok { IfOk result (λ bytes. decode_of (without_spaces line.now) ≡ Ok bytes.items) }
-    ensures err { IfErr result (λ e. (e ≡ OutOfMemory) ⊎ (decode_of (without_spaces line.now) ≡ Err e)) }
+    ensures err { IfErr result (λ e. (e ≡ OutOfMemory)
+        ⊎ (decode_of (without_spaces line.now) ≡ Err e)) }
 {
     if memchr(b' ', line).is_none() {
         return hex::decode(alloc, line);
@@ -41,25 +41,25 @@ fn bytes_of(alloc: Global, line: &[u8]) -> Result<Vec<u8>, FromHexError>
     }
 }
 
-/// Adds what is printed for bytes, and tells whether they spell a frame.
-fn put_text_of_bytes(alloc: Global, bytes: &[u8], text: &mut Vec<u8>) -> Result<bool, AllocError>
-    ensures text { OnOk result (PutsText bytes.now text.old.items text.new.items) }
+/// Adds what is printed for bytes, and returns whether they spell a frame.
+fn print_text_of_bytes(alloc: Global, bytes: &[u8], text: &mut Vec<u8>) -> Result<bool, AllocError>
+    ensures text { OnOk result (PrintsText bytes.now text.old.items text.new.items) }
     ensures frame { IfOk result (λ is. IsTrue is ↔ ((frame : Frame) × Spells frame bytes.now)) }
 {
     match decode(alloc, bytes) {
         Ok(frame) => {
-            put_frame(text, &frame)?;
+            print_frame(text, &frame)?;
             Ok(true)
         }
         Err(FrameFault::Memory) => Err(AllocError),
         Err(fault) => {
-            put_frame_fault(text, &fault)?;
+            print_frame_fault(text, &fault)?;
             Ok(false)
         }
     }
 }
 
-/// Puts what is printed for a line into `text`, without a line feed, and tells whether the line stands
+/// Puts what is printed for a line into `text`, without a line feed, and returns whether the line stands
 /// for a frame.
 pub(crate) fn print_line(alloc: Global, line: &[u8], text: &mut Vec<u8>) -> Result<bool, AllocError>
     ensures text { OnOk result (IsTextOf line.now text.new.items) }
@@ -67,7 +67,7 @@ pub(crate) fn print_line(alloc: Global, line: &[u8], text: &mut Vec<u8>) -> Resu
 {
     text.clear();
     match bytes_of(alloc, line) {
-        Ok(bytes) => put_text_of_bytes(alloc, bytes.as_slice(), text),
+        Ok(bytes) => print_text_of_bytes(alloc, bytes.as_slice(), text),
         Err(FromHexError::OutOfMemory) => Err(AllocError),
         Err(_) => {
             text.extend_from_slice(b"error 9 BadHex")?;

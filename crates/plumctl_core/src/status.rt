@@ -1,10 +1,13 @@
-//! The exit status of a program.
+//! How a run ends for who started the program: the exit status, and what is told at standard error.
 
-ghost use Rattle.std.specs.Prelude.{◌≡◌};
-ghost use Rattle.plumctl_core.specs.Status.{status_of_end, status_of_fault};
+ghost use Rattle.std.specs.Prelude.{◌≡◌, ◌⊎◌};
+ghost use Rattle.std.specs.Io.KnownBytes.{Keeps};
+ghost use Rattle.plumctl_core.specs.Run.{Prints, Stops};
+ghost use Rattle.plumctl_core.specs.Status.{status_of_end, status_of_fault, line_of_fault, Tells};
 
-use crate::frame::Ended;
-use streams::StreamFault;
+use crate::frame::{Ended, frame_lines};
+use std::alloc::Global;
+use streams::{Sink, Source, StreamFault, write_whole};
 
 impl Ended {
     /// 0 where each line was printed as a frame, 1 where one was refused.
@@ -24,7 +27,56 @@ pub fn status_of_fault(fault: StreamFault) -> u8
 {
     match fault {
         StreamFault::InputTooLong => 1,
-        StreamFault::Read | StreamFault::Write => 3,
+        StreamFault::Read | StreamFault::Write | StreamFault::BrokenPipe => 3,
         StreamFault::Memory => 4,
+    }
+}
+
+/// The line that tells a fault, with its line feed. Nothing tells a broken pipe: who closed it knows.
+fn line_of_fault(fault: StreamFault) -> &'static str
+    ensures { result.now ≡ line_of_fault fault }
+{
+    match fault {
+        StreamFault::Read => "error 7 Read\n",
+        StreamFault::InputTooLong => "error 8 InputTooLong\n",
+        StreamFault::Write => "error: the output could not be written\n",
+        StreamFault::BrokenPipe => "",
+        StreamFault::Memory => "error 99 Memory\n",
+    }
+}
+
+/// Tells a fault at standard error, on a line of its own, and returns the exit status. Where standard
+/// error fails nothing more is done.
+pub fn tell<E: Sink>(errors: &mut E, fault: StreamFault) -> u8
+    ensures status { result ≡ status_of_fault fault }
+    ensures told { Tells (E.failed errors.new) (E.contents errors.old)
+        (E.contents errors.new) fault }
+{
+    let _ = write_whole(errors, line_of_fault(fault).as_bytes());
+    status_of_fault(fault)
+}
+
+/// Runs `frame` as `frame_lines` does, tells a fault at `errors`, and returns the exit status: 0 where
+/// each line was a frame, 1 where one was refused or the input is too long, 3 where reading or writing
+/// failed, 4 where memory was refused.
+pub fn run_frame<R: Source, W: Sink, E: Sink>(
+    alloc: Global,
+    reader: &mut R,
+    writer: &mut W,
+    errors: &mut E,
+) -> u8
+    ensures { ((ended : Ended) × (result ≡ status_of_end ended)
+        × Keeps (E.contents errors.old) (E.contents errors.new)
+        × Prints (W.passed_on writer.new) (R.remaining reader.old) (R.remaining reader.new)
+        (W.contents writer.old) (W.contents writer.new) ended)
+        ⊎ ((fault : StreamFault) × (result ≡ status_of_fault fault)
+        × Tells (E.failed errors.new) (E.contents errors.old) (E.contents errors.new) fault
+        × Stops (R.read_failed reader.new) (W.failed writer.new)
+        (R.remaining reader.old) (R.remaining reader.new)
+        (W.contents writer.old) (W.contents writer.new) fault) }
+{
+    match frame_lines(alloc, reader, writer) {
+        Ok(ended) => ended.status(),
+        Err(fault) => tell(errors, fault),
     }
 }

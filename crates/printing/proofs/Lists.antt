@@ -3,7 +3,7 @@ use Rattle.std.proofs.Common.{◌≡◌, ℕ, zero, suc, ◌+◌, ◌<◌, ◌�
 use Rattle.std.proofs.lemmas.List.{append-nil, map-append, take_all}
 use Rattle.std.proofs.lemmas.List.Concat.{flat_map-cons}
 use Rattle.std.specs.List.{flat_map}
-use Rattle.printing.specs.Joined.{separated, are_none, PutsTexts}
+use Rattle.printing.specs.Joined.{separated, are_none, AddsTexts}
 
 and-true : (first : Bool) → (first && true) ≡ first
 and-true true = refl
@@ -30,8 +30,8 @@ are_none-append [] ys = refl
 are_none-append (x ∷ xs) ys = refl
 
 -- one list and then another
-pub put_both : (first middle next : Bool) (xs ys : List (List ℕ)) (old between new : List ℕ) → PutsTexts first xs old between middle → PutsTexts middle ys between new next → PutsTexts first (xs ++ ys) old new next
-put_both first middle next xs ys old between new a b = record {
+pub add_both : (first middle next : Bool) (xs ys : List (List ℕ)) (old between new : List ℕ) → AddsTexts first xs old between middle → AddsTexts middle ys between new next → AddsTexts first (xs ++ ys) old new next
+add_both first middle next xs ys old between new a b = record {
   text =
       b.text ∙ ap (λ bytes. bytes ++ separated middle ys) a.text ∙ append_assoc old (separated first xs) (separated middle ys)
       ∙ ap (λ f. old ++ (separated first xs ++ separated f ys)) a.next_is
@@ -41,10 +41,10 @@ put_both first middle next xs ys old between new a b = record {
       ∙ ap (λ z. first && z) (sym (are_none-append xs ys));
 }
 
--- one text, behind its comma
-pub put_one : (first : Bool) (text old new : List ℕ) → new ≡ (old ++ (if first then [] else 44 ∷ [])) ++ text → PutsTexts first (text ∷ []) old new false
-put_one true text old new e = record { text = e ∙ ap (λ bytes. bytes ++ text) (append-nil old) ∙ ap (λ bytes. old ++ bytes) (sym (append-nil text)); next_is = refl }
-put_one false text old new e = record { text = e ∙ append_assoc old (44 ∷ []) text ∙ ap (λ bytes. old ++ (44 ∷ bytes)) (sym (append-nil text)); next_is = refl }
+-- one text, after its comma
+pub add_one : (first : Bool) (text old new : List ℕ) → new ≡ (old ++ (if first then [] else 44 ∷ [])) ++ text → AddsTexts first (text ∷ []) old new false
+add_one true text old new e = record { text = e ∙ ap (λ bytes. bytes ++ text) (append-nil old) ∙ ap (λ bytes. old ++ bytes) (sym (append-nil text)); next_is = refl }
+add_one false text old new e = record { text = e ∙ append_assoc old (44 ∷ []) text ∙ ap (λ bytes. old ++ (44 ∷ bytes)) (sym (append-nil text)); next_is = refl }
 
 map-take : {A B : Type 0} (f : A → B) (xs : List A) (i : ℕ) (x : A) → i < length xs → x ≡ get_or xs i x → map f (take (suc i) xs) ≡ map f (take i xs) ++ f x ∷ []
 map-take f [] i x lt is = absurd (omega arith)
@@ -59,21 +59,21 @@ flat_map-take f (y ∷ ys) (suc i) x lt is =
     ∙ sym (append_assoc (f y) (flat_map f (take i ys)) (f x)) ∙ ap (λ zs. zs ++ f x) (sym (flat_map-cons f y (take i ys)))
 
 -- one more element of a list
-pub put_next : {A : Type 0} (f : A → List ℕ) (first next : Bool) (xs : List A) (i : ℕ) (x : A) (old between new : List ℕ) → i < length xs → x ≡ get_or xs i x
-    → PutsTexts first (map f (take i xs)) old between next → new ≡ (between ++ (if next then [] else 44 ∷ [])) ++ f x → PutsTexts first (map f (take (i + 1) xs)) old new false
-put_next f first next xs i x old between new lt is so_far e =
+pub add_next : {A : Type 0} (f : A → List ℕ) (first next : Bool) (xs : List A) (i : ℕ) (x : A) (old between new : List ℕ) → i < length xs → x ≡ get_or xs i x
+    → AddsTexts first (map f (take i xs)) old between next → new ≡ (between ++ (if next then [] else 44 ∷ [])) ++ f x → AddsTexts first (map f (take (i + 1) xs)) old new false
+add_next f first next xs i x old between new lt is so_far e =
     rw (add-one, map-take f xs i x lt is)
-    (put_both first next false (map f (take i xs)) (f x ∷ []) old between new so_far (put_one next (f x) between new e))
+    (add_both first next false (map f (take i xs)) (f x ∷ []) old between new so_far (add_one next (f x) between new e))
 
 -- the texts of one more element of a list
-pub put_more : {A B : Type 0} (f : B → List ℕ) (parts : A → List B) (first middle next : Bool) (xs : List A) (i : ℕ) (x : A) (old between new : List ℕ) → i < length xs → x ≡ get_or xs i x
-    → PutsTexts first (map f (flat_map parts (take i xs))) old between middle → PutsTexts middle (map f (parts x)) between new next
-    → PutsTexts first (map f (flat_map parts (take (i + 1) xs))) old new next
-put_more f parts first middle next xs i x old between new lt is so_far more =
+pub add_more : {A B : Type 0} (f : B → List ℕ) (parts : A → List B) (first middle next : Bool) (xs : List A) (i : ℕ) (x : A) (old between new : List ℕ) → i < length xs → x ≡ get_or xs i x
+    → AddsTexts first (map f (flat_map parts (take i xs))) old between middle → AddsTexts middle (map f (parts x)) between new next
+    → AddsTexts first (map f (flat_map parts (take (i + 1) xs))) old new next
+add_more f parts first middle next xs i x old between new lt is so_far more =
     rw (add-one, flat_map-take parts xs i x lt is, map-append f (flat_map parts (take i xs)) (parts x))
-    (put_both first middle next (map f (flat_map parts (take i xs))) (map f (parts x)) old between new so_far more)
+    (add_both first middle next (map f (flat_map parts (take i xs))) (map f (parts x)) old between new so_far more)
 
--- the elements up to a place behind the last are all
-pub put_all : {A B : Type 0} (f : B → List ℕ) (parts : List A → List B) (first next : Bool) (xs : List A) (i : ℕ) (old new : List ℕ) → length xs ≤ i
-    → PutsTexts first (map f (parts (take i xs))) old new next → PutsTexts first (map f (parts xs)) old new next
-put_all f parts first next xs i old new le p = subst (λ ys. PutsTexts first (map f (parts ys)) old new next) (take_all i xs le) p
+-- the elements up to a place after the last are all
+pub add_all : {A B : Type 0} (f : B → List ℕ) (parts : List A → List B) (first next : Bool) (xs : List A) (i : ℕ) (old new : List ℕ) → length xs ≤ i
+    → AddsTexts first (map f (parts (take i xs))) old new next → AddsTexts first (map f (parts xs)) old new next
+add_all f parts first next xs i old new le p = subst (λ ys. AddsTexts first (map f (parts ys)) old new next) (take_all i xs le) p

@@ -10,7 +10,8 @@ between low high b = nat_le low b && nat_le b high
 
 -- a letter, a digit, `.`, `_` or `-`
 abbrev pub is_plain : ℕ → Bool
-is_plain b = between 65 90 b || between 97 122 b || between 48 57 b || (b == 46) || (b == 95) || (b == 45)
+is_plain b = between 65 90 b || between 97 122 b || between 48 57 b || (b == 46) || (b == 95)
+    || (b == 45)
 
 -- there are bytes, and all are plain
 abbrev pub are_plain : List ℕ → Bool
@@ -33,7 +34,7 @@ abbrev pub body_text : Option (List ℕ) → List ℕ
 body_text None = codes "~"
 body_text (Some bytes) = bytes_text bytes
 
--- a stamp stands behind its value, as `@5`, unless it is 0
+-- a stamp stands after its value, as `@5`, unless it is 0
 abbrev pub stamp_text : ℕ → List ℕ
 stamp_text stamp = if stamp == 0 then [] else codes "@" ++ decimal stamp
 

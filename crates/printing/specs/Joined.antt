@@ -4,7 +4,8 @@ use Rattle.std.specs.Prelude.{◌≡◌, ℕ, Bool, true, false, ◌&&◌, if◌
 -- texts with a comma before each, but for one that stands first
 abbrev pub separated : Bool → List (List ℕ) → List ℕ
 separated first [] = []
-separated first (text ∷ texts) = (if first then text else codes "," ++ text) ++ separated false texts
+separated first (text ∷ texts) = (if first then text else codes "," ++ text)
+    ++ separated false texts
 
 -- texts joined by commas; no text is `-`
 abbrev pub joined : List (List ℕ) → List ℕ
@@ -17,7 +18,7 @@ abbrev pub are_none : List (List ℕ) → Bool
 are_none [] = true
 are_none (text ∷ texts) = false
 
--- what was put of a list: the texts, behind what stood there, and whether a next one stands first
-pub record PutsTexts (first : Bool) (texts : List (List ℕ)) (old new : List ℕ) (next : Bool) : Type 0 where
+-- what was put of a list: the texts, after what stood there, and whether a next one stands first
+pub record AddsTexts (first : Bool) (texts : List (List ℕ)) (old new : List ℕ) (next : Bool) : Type 0 where
   pub text : new ≡ old ++ separated first texts
   pub next_is : next ≡ (first && are_none texts)

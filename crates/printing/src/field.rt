@@ -8,7 +8,7 @@ use meta_types::{FullPrefix, MetaKey, NodeId, Value};
 use std::alloc::AllocError;
 
 /// Adds a number in decimal digits.
-pub fn put_number(out: &mut Vec<u8>, number: u64) -> Result<(), AllocError>
+pub(crate) fn add_number(out: &mut Vec<u8>, number: u64) -> Result<(), AllocError>
     ensures { OnOk result (out.new.items ≡ out.old.items ++ decimal number) }
 {
     let mut buffer = Buffer::new();
@@ -16,10 +16,10 @@ pub fn put_number(out: &mut Vec<u8>, number: u64) -> Result<(), AllocError>
 }
 
 /// Adds the number of a node.
-pub fn put_node(out: &mut Vec<u8>, node: NodeId) -> Result<(), AllocError>
+pub(crate) fn add_node(out: &mut Vec<u8>, node: NodeId) -> Result<(), AllocError>
     ensures { OnOk result (out.new.items ≡ out.old.items ++ decimal node) }
 {
-    put_number(out, u64::from(node.number()))
+    add_number(out, u64::from(node.number()))
 }
 
 fn is_plain(byte: u8) -> bool
@@ -28,7 +28,7 @@ fn is_plain(byte: u8) -> bool
     matches!(byte, b'A'..=b'Z' | b'a'..=b'z' | b'0'..=b'9' | b'.' | b'_' | b'-')
 }
 
-/// Tells whether bytes stand as they are.
+/// Returns whether bytes stand as they are.
 fn are_plain(bytes: &[u8]) -> bool
     ensures { result ≡ are_plain bytes.now }
 {
@@ -38,7 +38,7 @@ fn are_plain(bytes: &[u8]) -> bool
 /// Adds the bytes of a name or a value: as they are where there is at least one and all are letters,
 /// digits, `.`, `_` or `-`, otherwise `hex:` and their digits in lower case.
 #[tactic(auto, unfolding(crate::specs::Field::bytes_text))]
-pub fn put_bytes(out: &mut Vec<u8>, bytes: &[u8]) -> Result<(), AllocError>
+pub(crate) fn add_bytes(out: &mut Vec<u8>, bytes: &[u8]) -> Result<(), AllocError>
     ensures { OnOk result (out.new.items ≡ out.old.items ++ bytes_text bytes.now) }
 {
     if are_plain(bytes) {
@@ -50,41 +50,41 @@ pub fn put_bytes(out: &mut Vec<u8>, bytes: &[u8]) -> Result<(), AllocError>
 }
 
 /// Adds a prefix, as `a/b`.
-pub fn put_prefix(out: &mut Vec<u8>, prefix: &FullPrefix) -> Result<(), AllocError>
+pub(crate) fn add_prefix(out: &mut Vec<u8>, prefix: &FullPrefix) -> Result<(), AllocError>
     ensures { OnOk result (out.new.items ≡ out.old.items ++ prefix_text prefix.now) }
 {
-    put_bytes(out, prefix.prefix())?;
+    add_bytes(out, prefix.prefix())?;
     out.extend_from_slice(b"/")?;
-    put_bytes(out, prefix.sub())
+    add_bytes(out, prefix.sub())
 }
 
 /// Adds a key, as `a/b/k`.
-pub fn put_key(out: &mut Vec<u8>, key: &MetaKey) -> Result<(), AllocError>
+pub(crate) fn add_key(out: &mut Vec<u8>, key: &MetaKey) -> Result<(), AllocError>
     ensures { OnOk result (out.new.items ≡ out.old.items ++ key_text key.now) }
 {
-    put_prefix(out, key.prefix())?;
+    add_prefix(out, key.prefix())?;
     out.extend_from_slice(b"/")?;
-    put_bytes(out, key.key())
+    add_bytes(out, key.key())
 }
 
-fn put_stamp(out: &mut Vec<u8>, stamp: u64) -> Result<(), AllocError>
+fn add_stamp(out: &mut Vec<u8>, stamp: u64) -> Result<(), AllocError>
     ensures { OnOk result (out.new.items ≡ out.old.items ++ stamp_text stamp) }
 {
     if stamp == 0 {
         return Ok(());
     }
     out.extend_from_slice(b"@")?;
-    put_number(out, stamp)
+    add_number(out, stamp)
 }
 
-/// Adds a value: its bytes, or `~` for a tombstone, and behind them its stamp, as `@5`, unless that is 0.
+/// Adds a value: its bytes, or `~` for a tombstone, and after them its stamp, as `@5`, unless that is 0.
 #[tactic(auto, unfolding(crate::specs::Field::value_text))]
-pub fn put_value(out: &mut Vec<u8>, value: &Value) -> Result<(), AllocError>
+pub(crate) fn add_value(out: &mut Vec<u8>, value: &Value) -> Result<(), AllocError>
     ensures { OnOk result (out.new.items ≡ out.old.items ++ value_text value.now) }
 {
     match value.body() {
         None => out.extend_from_slice(b"~")?,
-        Some(bytes) => put_bytes(out, bytes)?,
+        Some(bytes) => add_bytes(out, bytes)?,
     }
-    put_stamp(out, value.stamp())
+    add_stamp(out, value.stamp())
 }

@@ -3,10 +3,10 @@
 ghost use Rattle.std.specs.Prelude.{◌≡◌, ◌++◌, OnOk};
 ghost use Rattle.printing.specs.Frame.{priority_text, answer_text, message_text, frame_text, offset_text, frame_fault_text};
 
-use crate::field::{put_key, put_node, put_number, put_prefix};
-use crate::list::{put_object, put_vector};
-use crate::row::{put_digest, put_digests, put_keys, put_nodes, put_prefixes};
-use meta_frame::{Answer, Frame, FrameFault, Message, Priority, kind_name};
+use crate::field::{add_key, add_node, add_number, add_prefix};
+use crate::list::{add_object, add_vector};
+use crate::row::{add_digest, add_digests, add_keys, add_nodes, add_prefixes};
+use meta_frame::{Frame, FrameFault, Message, NeighborAnswer, Priority, kind_name};
 use std::alloc::AllocError;
 
 macro_rules! printed_kinds {
@@ -34,49 +34,49 @@ macro_rules! printed_kinds {
     };
 }
 
-macro_rules! put_field {
+macro_rules! add_field {
     (number $out:ident $field:ident) => {
-        put_number($out, u64::from(*$field))?
+        add_number($out, u64::from(*$field))?
     };
     (key $out:ident $field:ident) => {
-        put_key($out, $field)?
+        add_key($out, $field)?
     };
     (node $out:ident $field:ident) => {
-        put_node($out, *$field)?
+        add_node($out, *$field)?
     };
     (priority $out:ident $field:ident) => {
-        put_priority($out, *$field)?
+        add_priority($out, *$field)?
     };
     (answer $out:ident $field:ident) => {
-        put_answer($out, *$field)?
+        add_answer($out, *$field)?
     };
     (nodes $out:ident $field:ident) => {
-        put_nodes($out, $field)?
+        add_nodes($out, $field)?
     };
     (digest $out:ident $field:ident) => {
-        put_digest($out, $field)?
+        add_digest($out, $field)?
     };
     (digests $out:ident $field:ident) => {
-        put_digests($out, $field)?
+        add_digests($out, $field)?
     };
     (prefix $out:ident $field:ident) => {
-        put_prefix($out, $field)?
+        add_prefix($out, $field)?
     };
     (prefixes $out:ident $field:ident) => {
-        put_prefixes($out, $field)?
+        add_prefixes($out, $field)?
     };
     (keys $out:ident $field:ident) => {
-        put_keys($out, $field)?
+        add_keys($out, $field)?
     };
     (vector $out:ident $field:ident) => {
-        put_vector($out, $field)?
+        add_vector($out, $field)?
     };
     (object $out:ident $field:ident) => {
-        put_object($out, $field)?
+        add_object($out, $field)?
     };
 }
 
-fn put_priority(out: &mut Vec<u8>, priority: Priority) -> Result<(), AllocError>
+fn add_priority(out: &mut Vec<u8>, priority: Priority) -> Result<(), AllocError>
     ensures { OnOk result (out.new.items ≡ out.old.items ++ priority_text priority) }
 {
     match priority {
@@ -85,72 +85,72 @@ fn put_priority(out: &mut Vec<u8>, priority: Priority) -> Result<(), AllocError>
     }
 }
 
-fn put_answer(out: &mut Vec<u8>, answer: Answer) -> Result<(), AllocError>
+fn add_answer(out: &mut Vec<u8>, answer: NeighborAnswer) -> Result<(), AllocError>
     ensures { OnOk result (out.new.items ≡ out.old.items ++ answer_text answer) }
 {
     match answer {
-        Answer::No => out.extend_from_slice(b"no"),
-        Answer::Yes => out.extend_from_slice(b"yes"),
+        NeighborAnswer::No => out.extend_from_slice(b"no"),
+        NeighborAnswer::Yes => out.extend_from_slice(b"yes"),
     }
 }
 
-macro_rules! put_kind {
+macro_rules! add_kind {
     (($message:ident $out:ident)
      $($variant:ident { $($label:literal $field:ident : $form:ident),* })*) => {
         match $message {
             $(Message::$variant { $($field),* } => {
                 $(
                     $out.extend_from_slice($label.as_bytes())?;
-                    put_field!($form $out $field);
+                    add_field!($form $out $field);
                 )*
             })*
         }
     };
 }
 
-/// Adds the fields of a message, each behind a space and its label.
+/// Adds the fields of a message, each after a space and its label.
 #[tactic(auto, unfolding(crate::specs::Frame::message_text))]
-fn put_message(out: &mut Vec<u8>, message: &Message) -> Result<(), AllocError>
+fn add_message(out: &mut Vec<u8>, message: &Message) -> Result<(), AllocError>
     ensures { OnOk result (out.new.items ≡ out.old.items ++ message_text message.now) }
 {
-    printed_kinds!(put_kind(message out));
+    printed_kinds!(add_kind(message out));
     Ok(())
 }
 
 /// Adds a frame: the name of its kind, sender, addressee and number, and the fields of its message, as
 /// `GOSSIP from 0 to 1 number 1 round 0 key a/b/k ctx 0:1 values x`.
-pub fn put_frame(out: &mut Vec<u8>, frame: &Frame) -> Result<(), AllocError>
+pub(crate) fn add_frame(out: &mut Vec<u8>, frame: &Frame) -> Result<(), AllocError>
     ensures { OnOk result (out.new.items ≡ out.old.items ++ frame_text frame.now) }
 {
     out.extend_from_slice(kind_name(&frame.message).as_bytes())?;
     out.extend_from_slice(b" from ")?;
-    put_node(out, frame.from)?;
+    add_node(out, frame.from)?;
     out.extend_from_slice(b" to ")?;
-    put_node(out, frame.to)?;
+    add_node(out, frame.to)?;
     out.extend_from_slice(b" number ")?;
-    put_number(out, frame.number)?;
-    put_message(out, &frame.message)
+    add_number(out, frame.number)?;
+    add_message(out, &frame.message)
 }
 
 /// Adds where the field at fault begins.
-fn put_offset(out: &mut Vec<u8>, fault: &FrameFault) -> Result<(), AllocError>
+fn add_offset(out: &mut Vec<u8>, fault: &FrameFault) -> Result<(), AllocError>
     ensures { OnOk result (out.new.items ≡ out.old.items ++ offset_text fault.now) }
 {
     if let FrameFault::BadBody { at } = fault {
         out.extend_from_slice(b" at ")?;
-        put_number(out, *at as u64)?;
+        add_number(out, *at as u64)?;
     }
     Ok(())
 }
 
 /// Adds why bytes are no frame, as `error 10 Short`, or `error 15 BadBody at 35` with the offset of the
 /// field at fault in the frame.
-pub fn put_frame_fault(out: &mut Vec<u8>, fault: &FrameFault) -> Result<(), AllocError>
+pub(crate) fn add_frame_fault(out: &mut Vec<u8>, fault: &FrameFault) -> Result<(), AllocError>
     ensures { OnOk result (out.new.items ≡ out.old.items ++ frame_fault_text fault.now) }
 {
     out.extend_from_slice(b"error ")?;
-    put_number(out, u64::from(fault.code()))?;
+    add_number(out, u64::from(fault.code()))?;
     out.extend_from_slice(b" ")?;
     out.extend_from_slice(fault.name().as_bytes())?;
-    put_offset(out, fault)
+    add_offset(out, fault)
 }

@@ -3,16 +3,16 @@
 ghost use Rattle.std.specs.Prelude.{◌≡◌, ◌++◌, ◌∷◌, [], true, map, OnOk, IfOk, if◌then◌else◌};
 ghost use Rattle.dvvset.specs.Clock.{values_of};
 ghost use Rattle.printing.specs.Field.{value_text};
-ghost use Rattle.printing.specs.Joined.{separated, PutsTexts};
+ghost use Rattle.printing.specs.Joined.{separated, AddsTexts};
 ghost use Rattle.printing.specs.Object.{counter_text, vector_text, values_text, object_text};
 
-use crate::field::{put_node, put_number, put_value};
+use crate::field::{add_node, add_number, add_value};
 use dvvset::{Counter, Entries, Entry, Vector, join};
 use meta_types::Value;
 use std::alloc::AllocError;
 
 /// Adds the comma before a text of a list, unless it stands first.
-pub(crate) fn put_comma(out: &mut Vec<u8>, first: bool) -> Result<(), AllocError>
+pub(crate) fn add_comma(out: &mut Vec<u8>, first: bool) -> Result<(), AllocError>
     ensures { OnOk result (out.new.items ≡ out.old.items ++ (if first then [] else 44 ∷ [])) }
 {
     if first {
@@ -23,71 +23,74 @@ pub(crate) fn put_comma(out: &mut Vec<u8>, first: bool) -> Result<(), AllocError
 }
 
 #[tactic(auto, unfolding(crate::specs::Object::counter_text))]
-fn put_counter(out: &mut Vec<u8>, counter: Counter) -> Result<(), AllocError>
+fn add_counter(out: &mut Vec<u8>, counter: Counter) -> Result<(), AllocError>
     ensures { OnOk result (out.new.items ≡ out.old.items ++ counter_text counter) }
 {
-    put_node(out, counter.id())?;
+    add_node(out, counter.id())?;
     out.push(b':')?;
-    put_number(out, counter.count())
+    add_number(out, counter.count())
 }
 
 /// Adds counters, a comma before each but for one that stands first.
-fn put_counters(out: &mut Vec<u8>, counters: &[Counter]) -> Result<(), AllocError>
-    ensures { OnOk result (out.new.items ≡ out.old.items ++ separated true (map counter_text counters.now)) }
+fn add_counters(out: &mut Vec<u8>, counters: &[Counter]) -> Result<(), AllocError>
+    ensures { OnOk result (out.new.items ≡ out.old.items
+        ++ separated true (map counter_text counters.now)) }
 {
     let mut first = true;
     for counter in counters {
-        put_comma(out, first)?;
-        put_counter(out, *counter)?;
+        add_comma(out, first)?;
+        add_counter(out, *counter)?;
         first = false;
     }
     Ok(())
 }
 
 /// Adds a context, as `0:2,1:1`, or `-` for the one that has read nothing.
-pub fn put_vector(out: &mut Vec<u8>, vector: &Vector) -> Result<(), AllocError>
+pub(crate) fn add_vector(out: &mut Vec<u8>, vector: &Vector) -> Result<(), AllocError>
     ensures { OnOk result (out.new.items ≡ out.old.items ++ vector_text vector.now) }
 {
     if vector.counters().is_empty() {
         return out.extend_from_slice(b"-");
     }
-    put_counters(out, vector.counters())
+    add_counters(out, vector.counters())
 }
 
-/// Adds values, a comma before each but for one that stands first, and tells whether the next one
+/// Adds values, a comma before each but for one that stands first, and returns whether the next one
 /// stands first.
-fn put_values(out: &mut Vec<u8>, values: &[Value], first: bool) -> Result<bool, AllocError>
-    ensures { IfOk result (λ next. PutsTexts first (map value_text values.now) out.old.items out.new.items next) }
+fn add_values(out: &mut Vec<u8>, values: &[Value], first: bool) -> Result<bool, AllocError>
+    ensures { IfOk result (λ next. AddsTexts first
+        (map value_text values.now) out.old.items out.new.items next) }
 {
     let mut first = first;
     for value in values {
-        put_comma(out, first)?;
-        put_value(out, value)?;
+        add_comma(out, first)?;
+        add_value(out, value)?;
         first = false;
     }
     Ok(first)
 }
 
-/// Adds the values of entries, as `put_values` does.
-fn put_entries(out: &mut Vec<u8>, entries: &[Entry]) -> Result<bool, AllocError>
-    ensures { IfOk result (λ next. PutsTexts true (map value_text (values_of entries.now)) out.old.items out.new.items next) }
+/// Adds the values of entries, as `add_values` does.
+fn add_entries(out: &mut Vec<u8>, entries: &[Entry]) -> Result<bool, AllocError>
+    ensures { IfOk result (λ next. AddsTexts true
+        (map value_text (values_of entries.now)) out.old.items out.new.items next) }
 {
     let mut first = true;
     for entry in entries {
-        first = put_values(out, entry.values(), first)?;
+        first = add_values(out, entry.values(), first)?;
     }
     Ok(first)
 }
 
 /// Adds an object: its context, and the values that it shows, as `ctx 0:2 values y,x`. It takes memory
 /// for the context.
-pub fn put_object(out: &mut Vec<u8>, object: &Entries) -> Result<(), AllocError>
+pub(crate) fn add_object(out: &mut Vec<u8>, object: &Entries) -> Result<(), AllocError>
     ensures { OnOk result (out.new.items ≡ out.old.items ++ object_text object.now) }
 {
     out.extend_from_slice(b"ctx ")?;
-    put_vector(out, &join(*out.allocator(), object)?)?;
+    add_vector(out, &join(*out.allocator(), object)?)?;
     out.extend_from_slice(b" values ")?;
-    if put_entries(out, object.entries())? {
+    if add_entries(out, object.entries())? {
         out.extend_from_slice(b"-")?;
     }
     Ok(())

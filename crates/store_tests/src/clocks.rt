@@ -32,7 +32,7 @@ fn written(rt: &impl Abort, alloc: Global, read: &Vector, object: &Entries, id: 
     .expect(rt, "a write")
 }
 
-/// Tells whether the merge of two objects is this one.
+/// Returns whether the merge of two objects is this one.
 fn merges(rt: &impl Abort, alloc: Global, a: &[Parts], b: &[Parts], merge: &[Parts]) -> bool {
     let (a, b) = (object(rt, alloc, SHORT, a), object(rt, alloc, SHORT, b));
     merged(rt, alloc, &a, &b) == object(rt, alloc, SHORT, merge)
@@ -41,7 +41,7 @@ fn merges(rt: &impl Abort, alloc: Global, a: &[Parts], b: &[Parts], merge: &[Par
 /// What a write has read, the object that it meets, the writer, and the object that it leaves.
 type Write = (&'static [Count], &'static [Parts], u16, &'static [Parts]);
 
-/// Tells whether a write of w leaves that.
+/// Returns whether a write of w leaves that.
 fn leaves(rt: &impl Abort, alloc: Global, write: Write) -> bool {
     let read = vector(rt, alloc, write.0);
     let object_before = object(rt, alloc, SHORT, write.1);
@@ -135,7 +135,7 @@ fn is_written(rt: &impl Abort, alloc: Global, read: &Vector, object: &Entries) -
     update(alloc, read, object, node(rt, 15), new).is_ok()
 }
 
-/// Tells whether each call that takes memory succeeds on the object, which shows 992 values.
+/// Returns whether each call that takes memory succeeds on the object, which shows 992 values.
 fn calls_succeed(rt: &impl Abort, alloc: Global, object: &Entries) -> bool {
     is_copied(object)
         && has_values(alloc, object, 992)

@@ -73,7 +73,7 @@ fn restart(rt: &impl Abort, at: &mut Node, image: usize) {
     at.restart(store, image);
 }
 
-/// Tells whether these values stand under the key of the letter.
+/// Returns whether these values stand under the key of the letter.
 fn shows(rt: &impl Abort, alloc: Global, at: &Node, name: u8, letters: &[u8]) -> bool {
     let key = key(rt, alloc, SHORT, name);
     let (shown, _) = match at.store().get(&key) {

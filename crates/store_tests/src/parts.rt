@@ -140,7 +140,7 @@ pub fn vector(rt: &impl Abort, alloc: Global, counts: &[Count]) -> Vector {
     Vector::from_parts(counters).expect(rt, "a vector")
 }
 
-/// Tells whether a fault prints that.
+/// Returns whether a fault prints that.
 pub fn prints(rt: &impl Abort, alloc: Global, fault: &impl Display, text: &str) -> bool {
     let printed = fault.to_string(alloc).expect(rt, "memory");
     printed.as_str() == text

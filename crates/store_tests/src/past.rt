@@ -121,7 +121,7 @@ struct Story {
     objects: Vec<Entries>,
 }
 
-/// The node's objects behind the rows, with what happens next.
+/// The node's objects after the rows, with what happens next.
 fn next(rows: &[Row], act: Act, node: u16, name: u8) -> Row {
     let mut next = Row::new(act, node, name);
     for row in rows {
@@ -322,7 +322,7 @@ fn history(rt: &impl Abort, alloc: Global, sizes: Sizes, rows: &[Row]) -> Vec<Ha
     history
 }
 
-/// Tells whether the node's object under the key shows what its set of places does.
+/// Returns whether the node's object under the key shows what its set of places does.
 fn is_shown(rt: &impl Abort, alloc: Global, story: &Story, plain: &Plain, row: Row) -> bool {
     let (id, key) = (node(rt, row.node), key(rt, alloc, story.sizes, row.name));
     let object = object_at(rt, story, row.held.at(row.name));
@@ -331,7 +331,7 @@ fn is_shown(rt: &impl Abort, alloc: Global, story: &Story, plain: &Plain, row: R
         && is_context(alloc, plain, id, &key, &context(rt, alloc, object))
 }
 
-/// Tells whether the story is a history, each of whose nodes shows by sets of places what its
+/// Returns whether the story is a history, each of whose nodes shows by sets of places what its
 /// objects show.
 fn are_shown(rt: &impl Abort, alloc: Global, story: &Story, nodes: u16) -> bool {
     let history = history(rt, alloc, story.sizes, &story.rows);
@@ -445,7 +445,7 @@ fn is_context(alloc: Global, plain: &Plain, id: NodeId, key: &MetaKey, read: &Ve
     }
 }
 
-/// Tells whether node 1 knows what it has read, and its own write, whose value alone it shows.
+/// Returns whether node 1 knows what it has read, and its own write, whose value alone it shows.
 fn is_told(rt: &impl Abort, alloc: Global, plain: &Plain) -> bool {
     let (id, key) = (node(rt, 1), key(rt, alloc, SHORT, b'k'));
     is_known(alloc, plain, id, &key, &[0, 2])

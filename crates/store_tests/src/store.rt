@@ -57,7 +57,7 @@ fn take(
     }
 }
 
-/// Tells whether these values and this vector stand under k.
+/// Returns whether these values and this vector stand under k.
 fn shows(rt: &impl Abort, alloc: Global, store: &Store, letters: &[u8], counts: &[Count]) -> bool {
     let key = key(rt, alloc, SHORT, b'k');
     let (shown, read) = match store.get(&key) {
@@ -328,7 +328,7 @@ fn is_put(rt: &impl Abort, alloc: Global, store: &mut Store, read: Option<&Conte
     store.put(node(rt, 15), key, value, read).is_ok()
 }
 
-/// Tells whether each call that reads succeeds on the store, which shows so many values.
+/// Returns whether each call that reads succeeds on the store, which shows so many values.
 fn reads_succeed(rt: &impl Abort, alloc: Global, store: &Store, many: usize) -> bool {
     let key = key(rt, alloc, LONGEST, b'k');
     is_read(store, &key, many)

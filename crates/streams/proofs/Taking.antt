@@ -4,12 +4,12 @@ use Rattle.std.proofs.lemmas.List.{append-nil, length-append}
 use Rattle.std.proofs.lemmas.List.Elements.{All-append, All-nil}
 use Rattle.std.specs.Io.KnownBytes.{IsAtEnd}
 use Rattle.streams.specs.declared.fault.StreamFault.{StreamFault}
-use Rattle.streams.specs.declared.fault.StreamFault.TheVariants.{Read, InputTooLong, Write, Memory}
-use Rattle.streams.specs.Fault.{HasCause}
+use Rattle.streams.specs.declared.fault.StreamFault.TheVariants.{Read, InputTooLong, Write, BrokenPipe, Memory}
+use Rattle.streams.specs.Fault.{IsReadFault}
 use Rattle.streams.specs.Line.{Pending, IsOneLine, Reads, Fills, Moves, TakesLine, StopsReading}
 use Rattle.streams.proofs.Pieces.{Consumes-nil, Consumes-then}
 
--- the bytes that were read, behind what was pending at first, are the line so far and what is pending now
+-- the bytes that were read, after what was pending at first, are the line so far and what is pending now
 pub record Taking (old now : Pending) (r s : Option (List ℕ)) (line : List ℕ) : Type 0 where
   pub reads : Reads r s old.left now.left
   pub parts : old.bytes ++ reads.bytes ≡ line ++ now.bytes
@@ -38,7 +38,7 @@ taking_filled old now filled r s t line more so_far fill =
       one_line = so_far.one_line;
     }
 
--- the line with a part behind it is still one
+-- the line with a part after it is still one
 whole_line : (line part new : List ℕ) → IsOneLine line → IsOneLine part → new ≡ line ++ part → IsOneLine new
 whole_line line part new a b e = subst IsOneLine (sym e) (All-append (λ x. x ≢ 10) line part a b)
 
@@ -69,28 +69,29 @@ taking_rest old filled r s line so_far none end = record {
 }
 
 -- a cause of reading within a longer one
-cause_more : (failed : Type 0) (a b c d : ℕ) (fault : StreamFault) → (a < b → c < d) → HasCause failed (a < b) ⊥ fault → HasCause failed (c < d) ⊥ fault
-cause_more failed a b c d Read more cause = cause
-cause_more failed a b c d InputTooLong more cause = more cause
-cause_more failed a b c d Write more cause = cause
-cause_more failed a b c d Memory more cause = tt
+cause_more : (failed memory : Type 0) (a b c d : ℕ) (fault : StreamFault) → (a < b → c < d) → IsReadFault failed (a < b) memory fault → IsReadFault failed (c < d) Unit fault
+cause_more failed memory a b c d Read more cause = cause
+cause_more failed memory a b c d InputTooLong more cause = more cause
+cause_more failed memory a b c d Write more cause = cause
+cause_more failed memory a b c d BrokenPipe more cause = cause
+cause_more failed memory a b c d Memory more cause = tt
 
-pub taking_stopped : (failed : Type 0) (old now : Pending) (r s t : Option (List ℕ)) (line : List ℕ) (fault : StreamFault) → Taking old now r s line → StopsReading failed now s t fault → StopsReading failed old r t fault
-taking_stopped failed old now r s t line fault so_far stop =
+pub taking_stopped : (failed memory : Type 0) (old now : Pending) (r s t : Option (List ℕ)) (line : List ℕ) (fault : StreamFault) → Taking old now r s line → StopsReading failed memory now s t fault → StopsReading failed Unit old r t fault
+taking_stopped failed memory old now r s t line fault so_far stop =
     let first = so_far.reads.bytes in
     record {
       bytes = first ++ stop.bytes;
       consumed = Consumes-then r s t first stop.bytes so_far.reads.consumed stop.consumed;
       cause =
-          cause_more failed now.left (length stop.bytes) old.left (length (first ++ stop.bytes)) fault
+          cause_more failed memory now.left (length stop.bytes) old.left (length (first ++ stop.bytes)) fault
           (λ lt. let a = so_far.reads.counted in omega (arith, length-append first stop.bytes)) stop.cause;
     }
 
-pub taking_refused : (failed : Type 0) (old now : Pending) (r s : Option (List ℕ)) (line : List ℕ) (fault : StreamFault) → Taking old now r s line → fault ≡ Memory → StopsReading failed old r s fault
+pub taking_refused : (failed : Type 0) (old now : Pending) (r s : Option (List ℕ)) (line : List ℕ) (fault : StreamFault) → Taking old now r s line → fault ≡ Memory → StopsReading failed Unit old r s fault
 taking_refused failed old now r s line fault so_far e = record {
   bytes = so_far.reads.bytes;
   consumed = so_far.reads.consumed;
-  cause = subst (HasCause failed (old.left < length so_far.reads.bytes) ⊥) (sym e) tt;
+  cause = subst (IsReadFault failed (old.left < length so_far.reads.bytes) Unit) (sym e) tt;
 }
 
 -- a piece that was moved leaves less to do

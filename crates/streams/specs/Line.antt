@@ -43,10 +43,10 @@ pub record TakesLine (old new : Pending) (reader_old reader_new : Option (List �
       ((old.bytes ++ reads.bytes ≡ line) × (new.bytes ≡ []) × IsAtEnd reader_new)
 
 -- a fault of reading: what was read until then, and the fault's cause
-pub record StopsReading (read_failed : Type 0) (old : Pending) (reader_old reader_new : Option (List ℕ)) (fault : StreamFault) : Type 0 where
+pub record StopsReading (read_failed memory : Type 0) (old : Pending) (reader_old reader_new : Option (List ℕ)) (fault : StreamFault) : Type 0 where
   pub bytes : List ℕ
   pub consumed : Consumes reader_old reader_new bytes
-  pub cause : IsReadFault read_failed (old.left < length bytes) fault
+  pub cause : IsReadFault read_failed (old.left < length bytes) memory fault
 
 -- ---- what private functions cite
 
@@ -56,10 +56,12 @@ pub record Fills (old new : Pending) (reader_old reader_new : Option (List ℕ))
   pub pending : new.bytes ≡ old.bytes ++ reads.bytes
   pub answer : MatchBool more (0 < length new.bytes) ((new.bytes ≡ []) × IsAtEnd reader_new)
 
--- what was pending up to the first line feed was moved behind the line, or all of it
+-- what was pending up to the first line feed was moved after the line, or all of it
 pub record Moves (old new : Pending) (line_old line_new : List ℕ) (ended : Bool) : Type 0 where
   pub part : List ℕ
   pub line : line_new ≡ line_old ++ part
   pub one_line : IsOneLine part
   pub left : new.left ≡ old.left
-  pub answer : MatchBool ended (old.bytes ≡ part ++ 10 ∷ new.bytes) ((old.bytes ≡ part) × (new.bytes ≡ []))
+  pub answer : MatchBool ended
+      (old.bytes ≡ part ++ 10 ∷ new.bytes)
+      ((old.bytes ≡ part) × (new.bytes ≡ []))

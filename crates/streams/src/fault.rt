@@ -13,8 +13,10 @@ pub enum StreamFault {
     Read,
     /// 8: the input has more bytes than a program reads.
     InputTooLong,
-    /// The writer failed, or takes no more. It has no number: the exit status alone tells it.
+    /// The writer failed, or takes no more. It has no number.
     Write,
+    /// The other end of the writer is closed. It has no number.
+    BrokenPipe,
     /// 99: an allocation was refused.
     Memory,
 }
@@ -27,7 +29,7 @@ impl StreamFault {
         match self {
             StreamFault::Read => Some(7),
             StreamFault::InputTooLong => Some(8),
-            StreamFault::Write => None,
+            StreamFault::Write | StreamFault::BrokenPipe => None,
             StreamFault::Memory => Some(99),
         }
     }
@@ -40,6 +42,7 @@ impl StreamFault {
             StreamFault::Read => "Read",
             StreamFault::InputTooLong => "InputTooLong",
             StreamFault::Write => "Write",
+            StreamFault::BrokenPipe => "BrokenPipe",
             StreamFault::Memory => "Memory",
         }
     }

@@ -4,11 +4,12 @@
 #![tactic(auto)]
 
 mod fault;
+pub mod laws;
 mod line;
 mod sink;
 mod source;
 
 pub use fault::StreamFault;
 pub use line::{LineBuffer, MAX_INPUT_LEN};
-pub use sink::{Sink, flush, write_whole};
+pub use sink::{Sink, flush, write_fault, write_whole};
 pub use source::{MayFail, Source};

@@ -1,7 +1,7 @@
 //! The lines of a reader, read in pieces within a limit.
 
-ghost use Rattle.std.specs.Prelude.{◌≡◌, ◌≢◌, ◌<◌, ◌⊎◌, ◌++◌, ◌∷◌, [], ℕ, List, length, IfOk, IfErr, OnOk, OnErr, IsTrue, ◌↔◌, MatchBool};
-ghost use Rattle.streams.specs.Fault.{HasCause};
+ghost use Rattle.std.specs.Prelude.{◌≡◌, ◌≢◌, ◌<◌, ◌⊎◌, ◌++◌, ◌∷◌, [], ℕ, List, length, IfOk, IfErr, OnOk, OnErr, IsTrue, ◌↔◌, MatchBool, ⊤};
+ghost use Rattle.streams.specs.Fault.{IsReadFault};
 ghost use Rattle.streams.specs.Line.{input_limit, IsOneLine, TakesLine, StopsReading, Fills, Moves};
 
 use crate::fault::StreamFault;
@@ -50,18 +50,21 @@ impl LineBuffer {
         })
     }
 
-    /// Tells whether a whole line is pending, so that the next one needs no read.
+    /// Returns whether a whole line is pending, so that the next one needs no read.
     pub fn holds_line(&self) -> bool
         ensures { IsTrue result ↔ (IsOneLine self.now.bytes → ⊥) }
     {
         memchr(b'\n', &self.piece[self.start..self.end]).is_some()
     }
 
-    /// Reads a piece where nothing is pending. Tells whether something is pending then; otherwise the
+    /// Reads a piece where nothing is pending. Returns whether something is pending then; otherwise the
     /// reader is at its end.
     fn fill<R: Source>(&mut self, reader: &mut R) -> Result<bool, StreamFault>
-        ensures ok { IfOk result (λ more. Fills self.old self.new (R.remaining reader.old) (R.remaining reader.new) more) }
-        ensures err { IfErr result (λ fault. StopsReading (R.read_failed reader.new) self.old (R.remaining reader.old) (R.remaining reader.new) fault) }
+        ensures ok { IfOk result (λ more. Fills self.old self.new (R.remaining reader.old)
+            (R.remaining reader.new) more) }
+        ensures err { IfErr result
+            (λ fault. StopsReading (R.read_failed reader.new) ⊥ self.old (R.remaining reader.old)
+            (R.remaining reader.new) fault) }
         ensures sound { OnOk result (R.read_failed reader.new → R.read_failed reader.old) }
     {
         if self.start < self.end {
@@ -83,7 +86,8 @@ impl LineBuffer {
     /// Moves what is pending to the end of the line, up to the first line feed, which is dropped. Tells
     /// whether there was one.
     fn take(&mut self, line: &mut Vec<u8>) -> Result<bool, AllocError>
-        ensures { IfOk result (λ ended. Moves self.old self.new line.old.items line.new.items ended) }
+        ensures { IfOk result (λ ended. Moves self.old self.new line.old.items
+            line.new.items ended) }
     {
         let pending = &self.piece[self.start..self.end];
         match memchr(b'\n', pending) {
@@ -100,8 +104,8 @@ impl LineBuffer {
         }
     }
 
-    /// Puts the next line into `line`, without its line feed, and tells whether a line feed ended it.
-    /// Otherwise the input is at its end, and `line` has what stands behind the last line feed, which
+    /// Puts the next line into `line`, without its line feed, and returns whether a line feed ended it.
+    /// Otherwise the input is at its end, and `line` has what stands after the last line feed, which
     /// may be nothing. After a fault, 7 `Read`, 8 `InputTooLong` or 99 `Memory`, the buffer is not to be
     /// used any more. It takes memory for the line.
     pub fn next_line<R: Source>(
@@ -109,8 +113,11 @@ impl LineBuffer {
         reader: &mut R,
         line: &mut Vec<u8>,
     ) -> Result<bool, StreamFault>
-        ensures ok { IfOk result (λ ended. TakesLine self.old self.new (R.remaining reader.old) (R.remaining reader.new) line.new.items ended) }
-        ensures err { IfErr result (λ fault. StopsReading (R.read_failed reader.new) self.old (R.remaining reader.old) (R.remaining reader.new) fault) }
+        ensures ok { IfOk result (λ ended. TakesLine self.old self.new (R.remaining reader.old)
+            (R.remaining reader.new) line.new.items ended) }
+        ensures err { IfErr result
+            (λ fault. StopsReading (R.read_failed reader.new) ⊤ self.old (R.remaining reader.old)
+            (R.remaining reader.new) fault) }
         ensures sound { OnOk result (R.read_failed reader.new → R.read_failed reader.old) }
     {
         line.clear();

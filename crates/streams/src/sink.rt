@@ -1,10 +1,10 @@
 //! Writers that say when a write may fail, and writing whole texts.
 
-ghost use Rattle.std.specs.Prelude.{◌≡◌, ◌≢◌, ◌<◌, ⊤, length, OnOk, IfOk, IfErr, OnErr};
+ghost use Rattle.std.specs.Prelude.{◌≡◌, ◌<◌, ⊤, length, OnOk, IfOk, IfErr, OnErr};
 ghost use Rattle.std.specs.IoError.{error_kind};
 ghost use Rattle.std.specs.Io.{WritesAtMost};
 ghost use Rattle.std.specs.Io.KnownBytes.{WriteAppends, Keeps, Appends};
-ghost use Rattle.streams.specs.Fault.{IsWriteFault};
+ghost use Rattle.streams.specs.Fault.{Failed, FailsNoMore, IsWriterFault, fault_of_kind};
 ghost use Rattle.streams.specs.Written.{AppendsFront};
 
 use crate::fault::StreamFault;
@@ -14,8 +14,9 @@ use std::io::{self, ErrorKind, Write};
 /// A writer that says when a write of it may fail. A `Vec` fails for want of memory alone, so a run
 /// over it can't answer that its writer failed.
 pub trait Sink: Write {
-    // Holds of a writer of which a call has failed, or which took no byte of some.
-    ghost write_failed: { Self → Type 0 };
+    // Holds of a writer and a kind of error that a call of it has answered. A write that took no byte of some counts as
+    // `WriteZero`.
+    ghost failed: { Self → Failed };
 
     // Holds of a writer that holds nothing back.
     ghost passed_on: { Self → Type 0 };
@@ -23,21 +24,26 @@ pub trait Sink: Write {
     /// One write.
     fn write_some(&mut self, bytes: &[u8]) -> io::Result<usize>
         ensures bound { WritesAtMost result bytes.now }
-        ensures bytes { WriteAppends (Self.contents self.old) (Self.contents self.new) result bytes.now }
-        ensures cause { IfErr result (λ e. error_kind e ≢ ErrorKind.OutOfMemory → write_failed self.new) }
-        ensures full { IfOk result (λ n. n ≡ 0 → 0 < length bytes.now → write_failed self.new) }
-        ensures sound { IfOk result (λ n. 0 < n → write_failed self.new → write_failed self.old) };
+        ensures bytes { WriteAppends (Self.contents self.old)
+            (Self.contents self.new) result bytes.now }
+        ensures cause { IfErr result (λ e. failed self.new (error_kind e)) }
+        ensures full { IfOk result (λ n. n ≡ 0 → 0 < length bytes.now
+            → failed self.new ErrorKind.WriteZero) }
+        ensures sound { IfOk result (λ n. 0 < n → FailsNoMore (failed self.old)
+            (failed self.new)) };
 
     /// Passes on what is held back.
     fn pass_on(&mut self) -> io::Result<()>
         ensures bytes { Keeps (Self.contents self.old) (Self.contents self.new) }
-        ensures cause { IfErr result (λ e. error_kind e ≢ ErrorKind.OutOfMemory → write_failed self.new) }
+        ensures cause { IfErr result (λ e. failed self.new (error_kind e)) }
         ensures done { OnOk result (passed_on self.new) }
-        ensures sound { OnOk result (write_failed self.new → write_failed self.old) };
+        ensures sound { OnOk result (FailsNoMore (failed self.old) (failed self.new)) };
 }
 
 impl Sink for Vec<u8> {
-    ghost write_failed = { λ _. ⊥ };
+    ghost use Rattle.std.specs.declared.io.ErrorKind.TheVariants.{OutOfMemory};
+
+    ghost failed = { λ _ kind. kind ≡ OutOfMemory };
 
     ghost passed_on = { λ _. ⊤ };
 
@@ -63,7 +69,7 @@ impl<W: Write> Write for MayFail<W> {
 }
 
 impl<W: Write> Sink for MayFail<W> {
-    ghost write_failed = { λ _. ⊤ };
+    ghost failed = { λ _ _. ⊤ };
 
     ghost passed_on = { λ _. ⊤ };
 
@@ -76,15 +82,14 @@ impl<W: Write> Sink for MayFail<W> {
     }
 }
 
-/// The fault of a writer that answered this.
-fn write_fault(error: io::Error) -> StreamFault
-    ensures memory { error_kind error ≡ ErrorKind.OutOfMemory → result ≡ StreamFault.Memory }
-    ensures other { error_kind error ≢ ErrorKind.OutOfMemory → result ≡ StreamFault.Write }
+/// The fault of a writer that answered an error of this kind.
+pub fn write_fault(kind: ErrorKind) -> StreamFault
+    ensures { result ≡ fault_of_kind kind }
 {
-    if error.kind() == ErrorKind::OutOfMemory {
-        StreamFault::Memory
-    } else {
-        StreamFault::Write
+    match kind {
+        ErrorKind::BrokenPipe => StreamFault::BrokenPipe,
+        ErrorKind::OutOfMemory => StreamFault::Memory,
+        _ => StreamFault::Write,
     }
 }
 
@@ -92,16 +97,17 @@ fn write_fault(error: io::Error) -> StreamFault
 /// too.
 pub fn write_whole<W: Sink>(writer: &mut W, bytes: &[u8]) -> Result<(), StreamFault>
     ensures ok { OnOk result (Appends (W.contents writer.old) (W.contents writer.new) bytes.now) }
-    ensures err { OnErr result (AppendsFront (W.contents writer.old) (W.contents writer.new) bytes.now) }
-    ensures cause { IfErr result (λ fault. IsWriteFault (W.write_failed writer.new) fault) }
-    ensures sound { OnOk result (W.write_failed writer.new → W.write_failed writer.old) }
+    ensures err { OnErr result
+        (AppendsFront (W.contents writer.old) (W.contents writer.new) bytes.now) }
+    ensures cause { IfErr result (λ fault. IsWriterFault (W.failed writer.new) fault) }
+    ensures sound { OnOk result (FailsNoMore (W.failed writer.old) (W.failed writer.new)) }
 {
     let mut rest = bytes;
     while !rest.is_empty() {
         match writer.write_some(rest) {
-            Ok(0) => return Err(StreamFault::Write),
+            Ok(0) => return Err(write_fault(ErrorKind::WriteZero)),
             Ok(n) => rest = &rest[n..],
-            Err(error) => return Err(write_fault(error)),
+            Err(error) => return Err(write_fault(error.kind())),
         }
     }
     Ok(())
@@ -110,12 +116,12 @@ pub fn write_whole<W: Sink>(writer: &mut W, bytes: &[u8]) -> Result<(), StreamFa
 /// Passes on what the writer holds back.
 pub fn flush<W: Sink>(writer: &mut W) -> Result<(), StreamFault>
     ensures bytes { Keeps (W.contents writer.old) (W.contents writer.new) }
-    ensures cause { IfErr result (λ fault. IsWriteFault (W.write_failed writer.new) fault) }
+    ensures cause { IfErr result (λ fault. IsWriterFault (W.failed writer.new) fault) }
     ensures done { OnOk result (W.passed_on writer.new) }
-    ensures sound { OnOk result (W.write_failed writer.new → W.write_failed writer.old) }
+    ensures sound { OnOk result (FailsNoMore (W.failed writer.old) (W.failed writer.new)) }
 {
     match writer.pass_on() {
         Ok(()) => Ok(()),
-        Err(error) => Err(write_fault(error)),
+        Err(error) => Err(write_fault(error.kind())),
     }
 }

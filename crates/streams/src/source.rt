@@ -15,7 +15,8 @@ pub trait Source: Read {
     /// One read.
     fn read_some(&mut self, piece: &mut [u8]) -> io::Result<usize>
         ensures bound { ReadsAtMost result piece.new }
-        ensures bytes { ReadConsumes (Self.remaining self.old) (Self.remaining self.new) result piece.new }
+        ensures bytes { ReadConsumes (Self.remaining self.old)
+            (Self.remaining self.new) result piece.new }
         ensures cause { OnErr result (read_failed self.new) }
         ensures sound { OnOk result (read_failed self.new → read_failed self.old) };
 }

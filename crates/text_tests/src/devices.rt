@@ -2,7 +2,7 @@
 
 use std::io::{self, ErrorKind, Read, Write};
 
-/// How a reader goes on behind its text.
+/// How a reader goes on after its text.
 #[derive(Clone, Copy, Debug, PartialEq, Eq)]
 pub(crate) enum End {
     /// It is at its end.
@@ -56,7 +56,7 @@ impl Read for Lines {
 }
 
 /// Takes so many bytes, at most so many at a time, and then none, or fails where it is told to, at
-/// a flush too. Who waits behind it sees what was flushed alone.
+/// a flush too. Who reads from it sees what was flushed alone.
 #[derive(Clone, Copy)]
 pub(crate) struct Device {
     /// The text that is still to come.

@@ -2,23 +2,23 @@
 
 use dvvset::{Entries, Vector};
 use meta_frame::FrameFault;
-use printing::{put_frame_fault, put_object, put_vector};
+use printing::{print_frame_fault, print_object, print_vector};
 use std::alloc::Global;
 use streams::StreamFault;
 
 fn is_empty_vector_printed(alloc: Global, text: &[u8]) -> bool {
     let mut out = Vec::new(alloc);
-    put_vector(&mut out, &Vector::empty(alloc)).is_ok() && out.as_slice() == text
+    print_vector(&mut out, &Vector::empty(alloc)).is_ok() && out.as_slice() == text
 }
 
 fn is_empty_object_printed(alloc: Global, text: &[u8]) -> bool {
     let mut out = Vec::new(alloc);
-    put_object(&mut out, &Entries::empty(alloc)).is_ok() && out.as_slice() == text
+    print_object(&mut out, &Entries::empty(alloc)).is_ok() && out.as_slice() == text
 }
 
 fn is_want_of_memory_printed(alloc: Global, text: &[u8]) -> bool {
     let mut out = Vec::new(alloc);
-    put_frame_fault(&mut out, &FrameFault::Memory).is_ok() && out.as_slice() == text
+    print_frame_fault(&mut out, &FrameFault::Memory).is_ok() && out.as_slice() == text
 }
 
 #[test]
@@ -42,6 +42,7 @@ fn faults_of_streams_print_their_names(rt: HostRuntime) {
         (StreamFault::Read, "Read"),
         (StreamFault::InputTooLong, "InputTooLong"),
         (StreamFault::Write, "Write"),
+        (StreamFault::BrokenPipe, "BrokenPipe"),
         (StreamFault::Memory, "Memory"),
     ];
     for (fault, name) in faults {

@@ -29,7 +29,7 @@ fn run(alloc: Global) -> (Result<Ended, StreamFault>, usize) {
     (done, left)
 }
 
-/// Tells whether a run prints all, or ends with Memory and a front, and then prints all.
+/// Returns whether a run prints all, or ends with Memory and a front, and then prints all.
 fn is_run_again(alloc: Global) -> bool {
     let all = (Ok(Ended::SomeRefused), 0);
     match run(alloc) {

@@ -1,7 +1,7 @@
 //! Runs of `frame` over readers and writers that give and take little at a time, or fail.
 
 use crate::devices::{Device, End, Feed, Lines};
-use plumctl_core::{Ended, frame_lines, status_of_fault};
+use plumctl_core::{Ended, frame_lines, run_frame, tell};
 use std::alloc::Global;
 use streams::{MayFail, StreamFault};
 
@@ -21,7 +21,7 @@ fn run(alloc: Global, feed: Feed, device: Device) -> (Done, Device) {
     (done, writer.0)
 }
 
-/// Tells whether a text is printed as another, and the run ends so.
+/// Returns whether a text is printed as another, and the run ends so.
 fn prints(alloc: Global, input: &'static [u8], text: &'static [u8], ended: Ended) -> bool {
     let feed = Feed {
         text: input,
@@ -116,9 +116,9 @@ fn an_interruption_is_not_tried_again(rt: HostRuntime) {
     assert!(rt; done == Err(StreamFault::Read));
 }
 
-/// How many bytes a device of so much room took of the text, so many at a time, until the writer
-/// failed; `None` where it took others, or the run ended otherwise.
-fn taken_until_full(alloc: Global, room: usize, most: usize, fails: bool) -> Option<usize> {
+/// How the run ended, and how many bytes a device of so much room took of the text, so many at a time,
+/// until the writer failed; `None` where it took others.
+fn taken_until_full(alloc: Global, room: usize, most: usize, fails: bool) -> Option<(Done, usize)> {
     let feed = Feed {
         text: INPUT,
         most: usize::MAX,
@@ -131,8 +131,8 @@ fn taken_until_full(alloc: Global, room: usize, most: usize, fails: bool) -> Opt
         ..Device::new(TEXT)
     };
     let (done, device) = run(alloc, feed, device);
-    if done == Err(StreamFault::Write) && device.is_right {
-        Some(TEXT.len().saturating_sub(device.wanted.len()))
+    if device.is_right {
+        Some((done, TEXT.len().saturating_sub(device.wanted.len())))
     } else {
         None
     }
@@ -141,9 +141,15 @@ fn taken_until_full(alloc: Global, room: usize, most: usize, fails: bool) -> Opt
 #[test]
 fn a_writer_that_is_full_at_any_byte_has_a_front(rt: HostRuntime) {
     for room in 0..57 {
-        for (most, fails) in [(1, false), (1, true), (100, false), (100, true)] {
+        for most in [1, 100] {
+            let full = taken_until_full(rt.alloc(), room, most, false);
             assert!(rt;
-                taken_until_full(rt.alloc(), room, most, fails) == Some(room),
+                full == Some((Err(StreamFault::Write), room)),
+                "{room} bytes"
+            );
+            let closed = taken_until_full(rt.alloc(), room, most, true);
+            assert!(rt;
+                closed == Some((Err(StreamFault::BrokenPipe), room)),
                 "{room} bytes"
             );
         }
@@ -152,7 +158,8 @@ fn a_writer_that_is_full_at_any_byte_has_a_front(rt: HostRuntime) {
 
 #[test]
 fn a_writer_that_can_not_be_flushed_has_failed(rt: HostRuntime) {
-    assert!(rt; taken_until_full(rt.alloc(), 100, 100, true) == Some(57));
+    let taken = taken_until_full(rt.alloc(), 100, 100, true);
+    assert!(rt; taken == Some((Err(StreamFault::Write), 57)));
 }
 
 /// How a run over so many bytes ends, in long lines that are not all digits.
@@ -171,16 +178,75 @@ fn an_input_of_67108865_bytes_is_too_long(rt: HostRuntime) {
     assert!(rt; run_of_lines(rt.alloc(), 67_108_865) == Err(StreamFault::InputTooLong));
 }
 
+/// The exit status of a run over a text that goes on so, to a device; `None` where standard error is
+/// told something else.
+fn exit(
+    alloc: Global,
+    text: &'static [u8],
+    end: End,
+    device: Device,
+    told: &'static [u8],
+) -> Option<u8> {
+    let feed = Feed {
+        text,
+        most: usize::MAX,
+        end,
+    };
+    let mut errors = MayFail(Device::new(told));
+    let status = run_frame(alloc, &mut MayFail(feed), &mut MayFail(device), &mut errors);
+    is_told(errors.0).then_some(status)
+}
+
+fn is_told(errors: Device) -> bool {
+    errors.is_right && errors.wanted.is_empty()
+}
+
 #[test]
-fn statuses_are_as_the_program_has_them(rt: HostRuntime) {
-    assert!(rt; Ended::AllPrinted.status() == 0 && Ended::SomeRefused.status() == 1);
-    let faults = [
-        (StreamFault::InputTooLong, 1),
-        (StreamFault::Read, 3),
-        (StreamFault::Write, 3),
-        (StreamFault::Memory, 4),
+fn a_run_exits_with_its_status_and_tells_its_fault(rt: HostRuntime) {
+    let full = Device {
+        room: 0,
+        ..Device::new(TEXT)
+    };
+    let closed = Device {
+        fails: true,
+        ..full
+    };
+    let table: [(&[u8], End, Device, u8, &[u8]); 5] = [
+        (&INPUT[..44], End::Over, Device::new(&TEXT[..27]), 0, b""),
+        (INPUT, End::Over, Device::new(TEXT), 1, b""),
+        (
+            INPUT,
+            End::Interrupted,
+            Device::new(TEXT),
+            3,
+            b"error 7 Read\n",
+        ),
+        (
+            INPUT,
+            End::Over,
+            full,
+            3,
+            b"error: the output could not be written\n",
+        ),
+        (INPUT, End::Over, closed, 3, b""),
     ];
-    for (fault, status) in faults {
-        assert!(rt; status_of_fault(fault) == status, "{status}");
+    for (text, end, device, status, told) in table {
+        assert!(rt;
+            exit(rt.alloc(), text, end, device, told) == Some(status),
+            "{told:?}"
+        );
     }
+}
+
+/// The exit status of a fault; `None` where standard error is told something else.
+fn status_of(fault: StreamFault, told: &'static [u8]) -> Option<u8> {
+    let mut errors = MayFail(Device::new(told));
+    let status = tell(&mut errors, fault);
+    is_told(errors.0).then_some(status)
+}
+
+#[test]
+fn a_fault_is_told_by_its_number_and_name(rt: HostRuntime) {
+    assert!(rt; status_of(StreamFault::InputTooLong, b"error 8 InputTooLong\n") == Some(1));
+    assert!(rt; status_of(StreamFault::Memory, b"error 99 Memory\n") == Some(4));
 }

@@ -7,9 +7,9 @@ use Rattle.meta_store.specs.Context.{Reading}
 use Rattle.node_images.specs.Node.{Node}
 use Rattle.world_core.specs.declared.answer.Accepted.{Accepted}
 use Rattle.world_core.specs.declared.fault.WorldFault.{WorldFault}
-use Rattle.world_core.specs.Tells.{Told, Names, Pairwise, node_of, nothing_told, sent_numbers, tell_accepted, tell_event, tell_frames}
+use Rattle.world_core.specs.Tells.{Told, Names, Pairwise, node_of_event, nothing_told, sent_numbers, tell_accepted, tell_event, tell_frames}
 use Rattle.world_core.specs.World.{World, IsRead, IsState, IsWorld}
-use Rattle.world_core.specs.Refusal.{Refuses}
+use Rattle.world_core.specs.Refusal.{RefusesEvent}
 use Rattle.world_core.specs.Outcome.{Accepts, Adds, Answers, Leaves, contexts_of, frames_of, next_read}
 use Rattle.world_core.proofs.Telling.{each_names_snoc, sent_numbers_snoc, tell_all_snoc}
 
@@ -58,7 +58,7 @@ next_is w is =
     ap (λ number. Some (number + 1)) (sym many)
 
 told_quietly : (sent : List Frame) (a : Accepted) (t : Told) → a.answer.sent ≡ [] → tell_accepted sent a t ≡ tell_event a.event t
-told_quietly sent a t none = ap (λ numbers. tell_frames sent (node_of a.event) numbers (tell_event a.event t)) none
+told_quietly sent a t none = ap (λ numbers. tell_frames sent (node_of_event a.event) numbers (tell_event a.event t)) none
 
 -- what was right before, an event that sends nothing leaves so
 pub record Quiet (w : World) (a : Accepted) (nodes : List Node) (contexts : List Reading) (t : Told) : Type 0 where
@@ -70,7 +70,7 @@ pub record Quiet (w : World) (a : Accepted) (nodes : List Node) (contexts : List
   pub leaves : Leaves w a.event nodes
   pub reads : contexts ≡ w.contexts ++ contexts_of w a.event
   pub state : (sent : List Frame) → IsState w.nodes w.contexts sent w.told → IsState nodes contexts sent t
-  pub no_refusal : (fault : WorldFault) → Refuses w a.event fault → ⊥
+  pub no_refusal : (fault : WorldFault) → RefusesEvent w a.event fault → ⊥
   pub answers : Answers w a.event a.answer
 
 pub steps_quietly : (w : World) (a : Accepted) (nodes : List Node) (contexts : List Reading) (t : Told) → IsWorld w → Quiet w a nodes contexts t → Stepped w a (after w a nodes contexts t)

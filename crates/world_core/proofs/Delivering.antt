@@ -15,7 +15,7 @@ use Rattle.meta_frame.proofs.Frames.{never_both, one_frame}
 use Rattle.meta_store.specs.Step.{answer_of_merge, refusal_of_merge}
 use Rattle.meta_store.specs.declared.fault.StoreFault.{StoreFault}
 use Rattle.past_model.specs.declared.happening.Happening.TheVariants.{Got, Sent}
-use Rattle.object_machine.specs.Objects.{sent_object}
+use Rattle.past_objects.specs.Objects.{sent_object}
 use Rattle.node_images.specs.Node.{Node, new_node, with_merge}
 use Rattle.world_core.specs.declared.answer.Accepted.{Accepted}
 use Rattle.world_core.specs.declared.answer.Reply.TheVariants as OfReply
@@ -25,7 +25,7 @@ use Rattle.world_core.specs.declared.fault.WorldFault.TheVariants.{LooksLikeFram
 use Rattle.world_core.specs.Fault.{of_frame, of_store}
 use Rattle.world_core.specs.Tells.{carried_object, numbered, tell, tell_got}
 use Rattle.world_core.specs.World.{World, IsTold, IsWorld}
-use Rattle.world_core.specs.Refusal.{Refuses, ByFrame, HasNoFrame, HasNoNode, IsFrame, IsFrameOf, by_store, first, node_at, refusal_of_object, table_of}
+use Rattle.world_core.specs.Refusal.{RefusesEvent, ByFrame, HasNoFrame, HasNoNode, IsFrame, IsFrameOf, by_store, first_cause, node_at, refusal_of_object, table_of}
 use Rattle.world_core.specs.Outcome.{merged, replied, took, with_frame_taken, with_node}
 use Rattle.world_core.specs.Steps.{Arrives, IsArrival, IsNoFrame}
 use Rattle.world_core.proofs.Applying.{Stepped, after, pair_first, pair_second, steps_quietly}
@@ -152,11 +152,11 @@ takes_frame w number n f of addressed taken fault by =
     let same : by.frame ≡ f = one_of w number by.frame f by.is of in
     passes (f.to ≢ n) NotAddressed (by_store (refusal_of_object (table_of w n) (carried_object f.message))) (λ other. other addressed)
     (store_takes (refusal_of_object (table_of w n) (carried_object f.message)) taken) fault
-    (subst (λ g. first (g.to ≢ n) NotAddressed (by_store (refusal_of_object (table_of w n) (carried_object g.message))) fault) same by.refused)
+    (subst (λ g. first_cause (g.to ≢ n) NotAddressed (by_store (refusal_of_object (table_of w n) (carried_object g.message))) fault) same by.refused)
 
-delivery_passes : (w : World) (number n word : ℕ) (object : Option (Key × List Entry)) → Arrives w number n object → refusal_of_object (table_of w n) object ≡ None → (fault : WorldFault) → Refuses w (Deliver number n word) fault → ⊥
+delivery_passes : (w : World) (number n word : ℕ) (object : Option (Key × List Entry)) → Arrives w number n object → refusal_of_object (table_of w n) object ≡ None → (fault : WorldFault) → RefusesEvent w (Deliver number n word) fault → ⊥
 delivery_passes w number n word object arrives taken =
-    passes (HasNoNode w n) NoSuchNode (first (HasNoFrame w number) NoSuchFrame (ByFrame w number n)) (has_node w n arrives.node)
+    passes (HasNoNode w n) NoSuchNode (first_cause (HasNoFrame w number) NoSuchFrame (ByFrame w number n)) (has_node w n arrives.node)
     (passes (HasNoFrame w number) NoSuchFrame (ByFrame w number n) (has_frame w number arrives.frame arrives.is)
     (takes_frame w number n arrives.frame arrives.is arrives.addressed (ap (refusal_of_object (table_of w n)) arrives.carries ∙ taken)))
 
@@ -196,7 +196,7 @@ take_steps w place n word k came at node is arrives sent node_is taken =
 
 -- the refusal of the node
 pub take_refused : (w : World) (number n word : ℕ) (k : Key) (came : List Entry) (node : Node) (refusal : StoreFault) → Arrives w number n (Some (k, came)) → node ≡ node_at w n → refusal_of_merge node.table k came ≡ Some refusal
-    → Refuses w (Deliver number n word) (of_store refusal)
+    → RefusesEvent w (Deliver number n word) (of_store refusal)
 take_refused w number n word k came node refusal arrives node_is refused =
     let table : node.table ≡ table_of w n = ap (λ m. m.table) node_is in
     let by : by_store (refusal_of_object (table_of w n) (carried_object arrives.frame.message)) (of_store refusal) =
@@ -231,19 +231,19 @@ nothing_taken w place n word is arrives =
 
 -- ---- deliveries refused before the node takes them
 
-pub no_frame_refuses : (w : World) (number n word : ℕ) → n < length w.nodes → numbered w.frames number ≡ None → Refuses w (Deliver number n word) NoSuchFrame
+pub no_frame_refuses : (w : World) (number n word : ℕ) → n < length w.nodes → numbered w.frames number ≡ None → RefusesEvent w (Deliver number n word) NoSuchFrame
 no_frame_refuses w number n word low none = inr (has_node w n low, inl (none, refl))
 
-pub not_addressed_refuses : (w : World) (number n word : ℕ) (f : Frame) → n < length w.nodes → IsFrameOf w number f → f.to ≢ n → Refuses w (Deliver number n word) NotAddressed
+pub not_addressed_refuses : (w : World) (number n word : ℕ) (f : Frame) → n < length w.nodes → IsFrameOf w number f → f.to ≢ n → RefusesEvent w (Deliver number n word) NotAddressed
 not_addressed_refuses w number n word f low of other =
     inr (has_node w n low, inr (has_frame w number f of, record { frame = f; is = of; refused = inl (other, refl) }))
 
 -- ---- junk
 
-pub frame_refuses : (w : World) (n : ℕ) (bytes : List ℕ) → n < length w.nodes → IsFrame bytes → Refuses w (Junk n bytes) LooksLikeFrame
+pub frame_refuses : (w : World) (n : ℕ) (bytes : List ℕ) → n < length w.nodes → IsFrame bytes → RefusesEvent w (Junk n bytes) LooksLikeFrame
 frame_refuses w n bytes low is = inr (has_node w n low, inl (is, refl))
 
-pub junk_refuses : (w : World) (n : ℕ) (bytes : List ℕ) (fault : FrameFault) → n < length w.nodes → frame.Refuses bytes fault → Refuses w (Junk n bytes) (of_frame fault)
+pub junk_refuses : (w : World) (n : ℕ) (bytes : List ℕ) (fault : FrameFault) → n < length w.nodes → frame.RefusesBytes bytes fault → RefusesEvent w (Junk n bytes) (of_frame fault)
 junk_refuses w n bytes fault low refused =
     inr (has_node w n low, inr ((λ is. never_both is.frame bytes fault is.spelled refused), record { of_bytes = fault; refused = refused; is = refl }))
 
@@ -252,6 +252,6 @@ pub no_frame : (bytes : List ℕ) (fault : FrameFault) → IsFrame bytes → IsN
 unfolding IsNoFrame
 no_frame bytes fault is refused = elim refused [ inl memory ↦ memory | inr other ↦ absurd (never_both is.frame bytes fault is.spelled other) ]
 
-pub refused_bytes : (bytes : List ℕ) (fault : FrameFault) → IsNoFrame bytes fault → (fault ≡ OfFrame.Memory) ⊎ frame.Refuses bytes fault
+pub refused_bytes : (bytes : List ℕ) (fault : FrameFault) → IsNoFrame bytes fault → (fault ≡ OfFrame.Memory) ⊎ frame.RefusesBytes bytes fault
 unfolding IsNoFrame
 refused_bytes bytes fault is = is

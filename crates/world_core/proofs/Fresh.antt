@@ -11,8 +11,8 @@ use Rattle.past_model.specs.declared.happening.Happening.{Happening}
 use Rattle.past_model.specs.declared.happening.Happening.TheVariants.{Sent}
 use Rattle.past_model.specs.Sets.{IsSubset}
 use Rattle.past_model.specs.Past.{known, load}
-use Rattle.object_machine.specs.Objects.{held, sent_object}
-use Rattle.object_machine.proofs.Deliveries.{stale_exactly}
+use Rattle.past_objects.specs.Objects.{held_object, sent_object}
+use Rattle.past_objects.proofs.Deliveries.{stale_exactly}
 use Rattle.world_core.specs.declared.answer.Answer.{Answer}
 use Rattle.world_core.specs.declared.answer.Reply.{Reply}
 use Rattle.world_core.specs.declared.answer.Reply.TheVariants as OfReply
@@ -61,8 +61,8 @@ taken_at w p n place m k f is low there sent of reply answers =
     let key : pair.1.1.key ≡ k = same_sent hs place m pair.0.from k pair.1.1.key sent pair.1.1.sent in
     let carries : carried_object f.message ≡ Some (k, sent_object hs place k) =
     ap (λ g. carried_object g.message) (sym same) ∙ pair.1.1.carries ∙ ap (λ l. Some (l, sent_object hs place l)) key in
-    let shown : object_at (table_of w n) k ≡ held hs n k = shown_is_held w n k is.telling.frames is.state low in
-    let b : Bool = descends (join (held hs n k)) (join (sent_object hs place k)) in
+    let shown : object_at (table_of w n) k ≡ held_object hs n k = shown_is_held w n k is.telling.frames is.state low in
+    let b : Bool = descends (join (held_object hs n k)) (join (sent_object hs place k)) in
     fresh_by hs n place k reply b
     (answers ∙ ap (took (table_of w n)) carries ∙ ap (λ o. merged (cond (descends (join o) (join (sent_object hs place k))) Stale Fresh)) shown)
     (stale_exactly hs is.state.keeps n place k)

@@ -9,8 +9,8 @@ use Rattle.meta_store.specs.Context.{Reading}
 use Rattle.past_model.specs.declared.happening.Happening.TheVariants.{Sent}
 use Rattle.past_model.specs.Past.{image, load, seen, writes}
 use Rattle.past_model.specs.Shown.{IsContext, IsObjectOf}
-use Rattle.object_machine.specs.Objects.{sent_object}
-use Rattle.object_machine.proofs.Matching.{matches}
+use Rattle.past_objects.specs.Objects.{sent_object}
+use Rattle.past_objects.proofs.Matching.{matches}
 use Rattle.node_images.specs.Images.{holdings}
 use Rattle.node_images.specs.Node.{Node}
 use Rattle.world_core.specs.Tells.{carried_object, numbered}

@@ -11,7 +11,7 @@ use Rattle.meta_store.specs.Table.{Table}
 use Rattle.meta_store.specs.Step.{refusal_of_put}
 use Rattle.past_model.specs.declared.happening.Happening.TheVariants.{Wrote, Looked}
 use Rattle.past_model.specs.History.{Fits}
-use Rattle.object_machine.specs.Objects.{read_object, seen_object}
+use Rattle.past_objects.specs.Objects.{read_object, seen_object}
 use Rattle.world_core.specs.declared.event.Event.TheVariants.{Put}
 use Rattle.world_core.specs.Tells.{Names, look_of, numbered}
 use Rattle.world_core.specs.World.{World, IsRead, IsWorld}

@@ -11,12 +11,12 @@ use Rattle.meta_frame.specs.declared.fault.FrameFault.TheVariants as OfFrame
 use Rattle.meta_frame.specs.declared.message.Frame.{Frame}
 use Rattle.meta_store.specs.Context.{Reading}
 use Rattle.meta_store.specs.Table.{Table, is_small_enough, is_stale, most_merged, most_written, object_at}
-use Rattle.meta_store.specs.Step.{is_full_for, is_of_another_key, is_spent, merge_of, refusal_of_merge, refusal_of_put, written}
+use Rattle.meta_store.specs.Step.{is_full_for, is_of_another_key, is_spent, merge_of, refusal_of_merge, refusal_of_put, object_after_put}
 use Rattle.meta_store.specs.declared.fault.StoreFault.{StoreFault}
 use Rattle.meta_store.specs.declared.fault.StoreFault.TheVariants as OfStore
 use Rattle.meta_store.proofs.Sizes.{has_value_from_values}
-use Rattle.object_machine.specs.Objects.{held, sent_object}
-use Rattle.object_machine.proofs.Deliveries.{merged_shows}
+use Rattle.past_objects.specs.Objects.{held_object, sent_object}
+use Rattle.past_objects.proofs.Deliveries.{merged_shows}
 use Rattle.world_core.specs.declared.event.Event.{Event}
 use Rattle.world_core.specs.declared.event.Event.TheVariants.{Put, Get, PutOver, Send, Deliver, Junk, Keep, Restart}
 use Rattle.world_core.specs.declared.fault.WorldFault.{WorldFault}
@@ -24,7 +24,7 @@ use Rattle.world_core.specs.declared.fault.WorldFault.TheVariants.{BadNode, Look
 use Rattle.world_core.specs.Fault.{of_frame}
 use Rattle.world_core.specs.Tells.{carried_object}
 use Rattle.world_core.specs.World.{World, IsWholeWorld, IsTold, IsWorld}
-use Rattle.world_core.specs.Refusal.{ByBytes, ByFrame, HasNoFrame, HasNoImage, HasNoNode, HasNoRead, IsFrame, IsFrameOf, LacksOwn, Refuses, by_store, context_of, first, none, present, refusal_of_object, table_of}
+use Rattle.world_core.specs.Refusal.{ByBytes, ByFrame, HasNoFrame, HasNoImage, HasNoNode, HasNoRead, IsFrame, IsFrameOf, LacksOwn, RefusesEvent, by_store, context_of, first_cause, no_cause, present, refusal_of_object, table_of}
 use Rattle.world_core.proofs.Applying.{pair_second}
 use Rattle.world_core.proofs.Delivering.{frame_there, told_as}
 use Rattle.world_core.proofs.Outcomes.{world_of}
@@ -32,7 +32,7 @@ use Rattle.world_core.proofs.Putting.{node_there, shown_is_held}
 
 -- ---- what no store refuses
 
--- the refusal of a store, behind its name in the world
+-- the refusal of a store, after its name in the world
 of_the_store : (refusal : Option StoreFault) → by_store refusal (Store OfStore.BadEntries) → refusal ≡ Some OfStore.BadEntries
 of_the_store None is = cc
 of_the_store (Some OfStore.CounterSpent) is = cc
@@ -51,7 +51,7 @@ put_by false false false false e = cc
 
 put_never : (table : Table) (n : ℕ) (k : Key) (v : ValueParts) (context : Option Reading) → by_store (refusal_of_put table n k v context) (Store OfStore.BadEntries) → ⊥
 put_never table n k v context is =
-    put_by (is_of_another_key k context) (is_full_for table k) (is_spent table n k context) (not (is_small_enough most_written (written table n k v context))) (of_the_store (refusal_of_put table n k v context) is)
+    put_by (is_of_another_key k context) (is_full_for table k) (is_spent table n k context) (not (is_small_enough most_written (object_after_put table n k v context))) (of_the_store (refusal_of_put table n k v context) is)
 
 merge_by : (stale shows full small : Bool) → cond stale None (first_that_applies ((not shows, OfStore.BadEntries) ∷ (full, OfStore.StoreFull) ∷ (not small, OfStore.ObjectTooLarge) ∷ [])) ≡ Some OfStore.BadEntries
     → (stale ≡ false) × (shows ≡ false)
@@ -81,15 +81,15 @@ then_stale mine came e = ap (λ c. descends (join mine) (join c)) (nothing_came 
 shows : (w : World) (n at : ℕ) (k : Key) → IsWorld w → n < length w.nodes → is_stale (table_of w n) k (join (sent_object w.told.history at k)) ≡ false → has_value (merge_of (table_of w n) k (sent_object w.told.history at k)) ≡ true
 shows w n at k is low fresh =
     let hs = w.told.history in
-    let mine : object_at (table_of w n) k ≡ held hs n k = shown_is_held w n k is.telling.frames is.state low in
+    let mine : object_at (table_of w n) k ≡ held_object hs n k = shown_is_held w n k is.telling.frames is.state low in
     has_value_from_values (merge_of (table_of w n) k (sent_object hs at k))
-    (λ none.
+    (λ no_cause.
     merged_shows hs is.state.keeps n at k
     (λ e.
     let stale : is_stale (table_of w n) k (join (sent_object hs at k)) ≡ true = then_stale (object_at (table_of w n) k) (sent_object hs at k) (ap (λ o. sync o (sent_object hs at k)) mine ∙ e) in
     let both : true ≡ false = sym stale ∙ fresh in
     cc)
-    (ap (λ o. values_of (sync o (sent_object hs at k))) (sym mine) ∙ none))
+    (ap (λ o. values_of (sync o (sent_object hs at k))) (sym mine) ∙ no_cause))
 
 merge_never : (w : World) (n at : ℕ) (k : Key) (came : List Entry) → IsWorld w → n < length w.nodes → came ≡ sent_object w.told.history at k → refusal_of_merge (table_of w n) k came ≡ Some OfStore.BadEntries → ⊥
 merge_never w n at k came is low sent refused =
@@ -122,11 +122,11 @@ frame_never w (suc p) n is low by =
 -- ---- each event
 
 -- another refusal, or what the rest says
-passed : (cause : Type 0) (refusal : WorldFault) (rest : WorldFault → Type 0) → Store OfStore.BadEntries ≢ refusal → (rest (Store OfStore.BadEntries) → ⊥) → first cause refusal rest (Store OfStore.BadEntries) → ⊥
+passed : (cause : Type 0) (refusal : WorldFault) (rest : WorldFault → Type 0) → Store OfStore.BadEntries ≢ refusal → (rest (Store OfStore.BadEntries) → ⊥) → first_cause cause refusal rest (Store OfStore.BadEntries) → ⊥
 passed cause refusal rest other never_later (inl here) = other here.1
 passed cause refusal rest other never_later (inr later) = never_later later.1
 
-delivery_never : (w : World) (number n word : ℕ) → IsWorld w → Refuses w (Deliver number n word) (Store OfStore.BadEntries) → ⊥
+delivery_never : (w : World) (number n word : ℕ) → IsWorld w → RefusesEvent w (Deliver number n word) (Store OfStore.BadEntries) → ⊥
 delivery_never w number n word is (inl here) = let no : Store OfStore.BadEntries ≡ NoSuchNode = here.1 in cc
 delivery_never w number n word is (inr later) =
     passed (HasNoFrame w number) NoSuchFrame (ByFrame w number n) (λ e. cc) (frame_never w number n is (node_there w n later.0)) later.1
@@ -141,25 +141,25 @@ of_bytes (OfFrame.BadBody at) e = cc
 of_bytes OfFrame.LeftOver e = cc
 of_bytes OfFrame.Memory e = cc
 
-never : (w : World) (event : Event) → IsWorld w → Refuses w event (Store OfStore.BadEntries) → ⊥
+never : (w : World) (event : Event) → IsWorld w → RefusesEvent w event (Store OfStore.BadEntries) → ⊥
 never w (Put n k v read) is refused =
-    passed (HasNoNode w n) NoSuchNode (first (HasNoRead w read) NoSuchRead (by_store (refusal_of_put (table_of w n) n k v (context_of w read)))) (λ e. cc)
+    passed (HasNoNode w n) NoSuchNode (first_cause (HasNoRead w read) NoSuchRead (by_store (refusal_of_put (table_of w n) n k v (context_of w read)))) (λ e. cc)
     (passed (HasNoRead w read) NoSuchRead (by_store (refusal_of_put (table_of w n) n k v (context_of w read))) (λ e. cc) (put_never (table_of w n) n k v (context_of w read)))
     refused
-never w (Get n k) is refused = passed (HasNoNode w n) NoSuchNode none (λ e. cc) (λ no. no) refused
+never w (Get n k) is refused = passed (HasNoNode w n) NoSuchNode no_cause (λ e. cc) (λ no. no) refused
 never w (PutOver n k v) is refused =
     passed (HasNoNode w n) NoSuchNode (by_store (refusal_of_put (table_of w n) n k v (Some (present w n k)))) (λ e. cc) (put_never (table_of w n) n k v (Some (present w n k))) refused
-never w (Send n k to) is refused = passed (HasNoNode w n ⊎ HasNoNode w to) NoSuchNode (first (n ≡ to) BadNode none) (λ e. cc) (passed (n ≡ to) BadNode none (λ e. cc) (λ no. no)) refused
+never w (Send n k to) is refused = passed (HasNoNode w n ⊎ HasNoNode w to) NoSuchNode (first_cause (n ≡ to) BadNode no_cause) (λ e. cc) (passed (n ≡ to) BadNode no_cause (λ e. cc) (λ no. no)) refused
 never w (Deliver number n word) is refused = delivery_never w number n word is refused
 never w (Junk n bytes) is refused =
-    passed (HasNoNode w n) NoSuchNode (first (IsFrame bytes) LooksLikeFrame (ByBytes bytes)) (λ e. cc)
+    passed (HasNoNode w n) NoSuchNode (first_cause (IsFrame bytes) LooksLikeFrame (ByBytes bytes)) (λ e. cc)
     (passed (IsFrame bytes) LooksLikeFrame (ByBytes bytes) (λ e. cc) (λ by. of_bytes by.of_bytes (sym by.is)))
     refused
-never w (Keep n k) is refused = passed (HasNoNode w n) NoSuchNode none (λ e. cc) (λ no. no) refused
+never w (Keep n k) is refused = passed (HasNoNode w n) NoSuchNode no_cause (λ e. cc) (λ no. no) refused
 never w (Restart n image) is refused =
-    passed (HasNoNode w n) NoSuchNode (first (HasNoImage w n image) NoSuchImage (first (LacksOwn w n image) StaleImage none)) (λ e. cc)
-    (passed (HasNoImage w n image) NoSuchImage (first (LacksOwn w n image) StaleImage none) (λ e. cc) (passed (LacksOwn w n image) StaleImage none (λ e. cc) (λ no. no)))
+    passed (HasNoNode w n) NoSuchNode (first_cause (HasNoImage w n image) NoSuchImage (first_cause (LacksOwn w n image) StaleImage no_cause)) (λ e. cc)
+    (passed (HasNoImage w n image) NoSuchImage (first_cause (LacksOwn w n image) StaleImage no_cause) (λ e. cc) (passed (LacksOwn w n image) StaleImage no_cause (λ e. cc) (λ no. no)))
     refused
 
-pub never_of : (w : World) (event : Event) → IsWholeWorld w → Refuses w event (Store OfStore.BadEntries) → ⊥
+pub never_of : (w : World) (event : Event) → IsWholeWorld w → RefusesEvent w event (Store OfStore.BadEntries) → ⊥
 never_of w event whole refused = never w event (world_of w whole) refused

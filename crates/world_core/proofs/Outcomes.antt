@@ -16,7 +16,7 @@ use Rattle.world_core.specs.declared.fault.WorldFault.TheVariants.{Memory}
 use Rattle.world_core.specs.Tells.{Told, Tells}
 use Rattle.world_core.specs.World.{World, IsWholeWorld, IsWorld}
 use Rattle.world_core.specs.Fault.{of_store}
-use Rattle.world_core.specs.Refusal.{Refuses, by_store, node_at, table_of}
+use Rattle.world_core.specs.Refusal.{RefusesEvent, by_store, node_at, table_of}
 use Rattle.world_core.specs.Knowledge.{ShowWhatTheyKnow}
 use Rattle.world_core.specs.Outcome.{Accepts, Outcome, Rejects}
 use Rattle.world_core.proofs.Applying.{Stepped}
@@ -34,11 +34,11 @@ rejected : (old new : World) (event : Event) (fault : WorldFault) → Rejects ol
 unfolding Outcome
 rejected old new event fault is = is
 
-pub refused : {old new : World} (event : Event) {result : Result Answer WorldFault} (fault : WorldFault) → result ≡ Err fault → Refuses old event fault → new ≡ old → Outcome old event result new
+pub refused : {old new : World} (event : Event) {result : Result Answer WorldFault} (fault : WorldFault) → result ≡ Err fault → RefusesEvent old event fault → new ≡ old → Outcome old event result new
 refused {old} {new} event {result} fault e cause same = subst (λ r. Outcome old event r new) (sym e) (rejected old new event fault (record { cause = inr cause; same = same }))
 
 -- the same, of the world as it was seen
-pub refused_at : {old new : World} (event : Event) {result : Result Answer WorldFault} (w : World) → w ≡ old → (fault : WorldFault) → result ≡ Err fault → Refuses w event fault → new ≡ w → Outcome old event result new
+pub refused_at : {old new : World} (event : Event) {result : Result Answer WorldFault} (w : World) → w ≡ old → (fault : WorldFault) → result ≡ Err fault → RefusesEvent w event fault → new ≡ w → Outcome old event result new
 refused_at {old} {new} event {result} w seen fault e cause same =
     subst (λ x. Outcome x event result new) seen (subst (λ r. Outcome w event r new) (sym e) (rejected w new event fault (record { cause = inr cause; same = same })))
 
@@ -47,7 +47,7 @@ memory {old} {new} event {result} e same = subst (λ r. Outcome old event r new)
 
 -- a store that refuses, or wants memory
 pub store_refused : {old new : World} (event : Event) {result : Result Answer WorldFault} (w : World) → w ≡ old → (refusal : Option StoreFault) (fault : StoreFault) → result ≡ Err (of_store fault)
-    → (fault ≡ OfStore.Memory) ⊎ (refusal ≡ Some fault) → ((f : WorldFault) → by_store refusal f → Refuses w event f) → new ≡ w → Outcome old event result new
+    → (fault ≡ OfStore.Memory) ⊎ (refusal ≡ Some fault) → ((f : WorldFault) → by_store refusal f → RefusesEvent w event f) → new ≡ w → Outcome old event result new
 store_refused {old} {new} event {result} w seen refusal fault e (inl is) into same = memory event (e ∙ ap (λ f. Err (of_store f)) is) (same ∙ seen)
 store_refused {old} {new} event {result} w seen refusal fault e (inr is) into same = refused_at event w seen (of_store fault) e (into (of_store fault) (ap (option_map of_store) is)) same
 

@@ -9,7 +9,7 @@ use Rattle.meta_types.specs.Value.{ValueParts}
 use Rattle.meta_types.specs.First.{first_that_applies}
 use Rattle.meta_store.specs.Context.{Reading}
 use Rattle.meta_store.specs.Table.{Table, is_small_enough, most_written}
-use Rattle.meta_store.specs.Step.{is_full_for, is_spent, refusal_of_put, written}
+use Rattle.meta_store.specs.Step.{is_full_for, is_spent, refusal_of_put, object_after_put}
 use Rattle.meta_store.specs.declared.fault.StoreFault.{StoreFault}
 use Rattle.meta_store.specs.declared.fault.StoreFault.TheVariants.{Memory, CounterSpent, StoreFull, WrongKey, ObjectTooLarge}
 use Rattle.past_model.specs.Sets.{key_eq}
@@ -17,14 +17,14 @@ use Rattle.past_model.proofs.Keys.{key_eq-true}
 use Rattle.world_core.specs.declared.fault.WorldFault.{WorldFault}
 use Rattle.world_core.specs.Fault.{of_store}
 use Rattle.world_core.specs.Tells.{numbered}
-use Rattle.world_core.specs.Refusal.{first, none, by_store}
+use Rattle.world_core.specs.Refusal.{first_cause, no_cause, by_store}
 
 -- a cause that doesn't apply leaves it to the rest
-pub passes : (cause : Type 0) (refusal : WorldFault) (rest : WorldFault → Type 0) → (cause → ⊥) → ((fault : WorldFault) → rest fault → ⊥) → (fault : WorldFault) → first cause refusal rest fault → ⊥
+pub passes : (cause : Type 0) (refusal : WorldFault) (rest : WorldFault → Type 0) → (cause → ⊥) → ((fault : WorldFault) → rest fault → ⊥) → (fault : WorldFault) → first_cause cause refusal rest fault → ⊥
 passes cause refusal rest not_so others fault (inl here) = not_so here.0
 passes cause refusal rest not_so others fault (inr later) = others fault later.1
 
-pub none_left : (fault : WorldFault) → none fault → ⊥
+pub none_left : (fault : WorldFault) → no_cause fault → ⊥
 none_left fault is = is
 
 pub store_takes : (refusal : Option StoreFault) → refusal ≡ None → (fault : WorldFault) → by_store refusal fault → ⊥
@@ -51,7 +51,7 @@ of_the_key table id key v context taken =
     of_the_key_by key context
     ((is_full_for table key, StoreFull)
     ∷ (is_spent table id key (Some context), CounterSpent)
-    ∷ (not (is_small_enough most_written (written table id key v (Some context))), ObjectTooLarge)
+    ∷ (not (is_small_enough most_written (object_after_put table id key v (Some context))), ObjectTooLarge)
     ∷ [])
     (key_eq context.key key) refl taken
 

@@ -8,9 +8,9 @@ use Rattle.meta_store.specs.Table.{Table, IsTable, object_at}
 use Rattle.past_model.specs.declared.happening.Happening.TheVariants.{Restarted}
 use Rattle.past_model.specs.Past.{past}
 use Rattle.past_model.specs.History.{RestartsKeepOwnWrites}
-use Rattle.object_machine.specs.Objects.{held, image_object}
-use Rattle.object_machine.proofs.Matching.{same_numbers}
-use Rattle.object_machine.proofs.Restarting.{known_keeps, restart_exactly}
+use Rattle.past_objects.specs.Objects.{held_object, image_object}
+use Rattle.past_objects.proofs.Matching.{same_numbers}
+use Rattle.past_objects.proofs.Restarting.{known_keeps, restart_exactly}
 use Rattle.node_images.specs.Images.{holdings}
 use Rattle.node_images.specs.Node.{Node, new_node, with_restart}
 use Rattle.node_images.specs.Follows.{Follows}
@@ -19,7 +19,7 @@ use Rattle.world_core.specs.declared.event.Event.TheVariants.{Restart}
 use Rattle.world_core.specs.declared.fault.WorldFault.TheVariants.{NoSuchImage, NoSuchNode, StaleImage}
 use Rattle.world_core.specs.Tells.{tell}
 use Rattle.world_core.specs.World.{World, IsWorld}
-use Rattle.world_core.specs.Refusal.{HasNoImage, HasNoNode, LacksOwn, Refuses, node_at, none}
+use Rattle.world_core.specs.Refusal.{HasNoImage, HasNoNode, LacksOwn, RefusesEvent, node_at, no_cause}
 use Rattle.world_core.specs.Outcome.{replied, with_node}
 use Rattle.world_core.proofs.Worlds.{state_restart}
 use Rattle.world_core.proofs.Applying.{Stepped, after, steps_quietly}
@@ -55,7 +55,7 @@ is_stale w n j node table is low at number restored fewer knows =
     let hs = w.told.history in
     fewer
     (λ k. subst (λ o. count_of o n ≤ count_of (object_at table k) n) (sym ((stands w n node is low at).holds k))
-    (subst (λ o. count_of (held hs n k) n ≤ count_of o n) (sym (image_is w n j node table is c k))
+    (subst (λ o. count_of (held_object hs n k) n ≤ count_of o n) (sym (image_is w n j node table is c k))
     ((restart_exactly hs is.state.keeps n j).0 (known_keeps hs is.state.keeps n j knows) k)))
 
 -- the node has as many images as it has made
@@ -66,8 +66,8 @@ pub no_image : (w : World) (n j : ℕ) (node : Node) → IsWorld w → n < lengt
 no_image w n j node is low at fewer = subst (λ last. last < j) (last_is w n node is low at) fewer
 
 pub has_image : (w : World) (n j : ℕ) (node : Node) → IsWorld w → n < length w.nodes → node ≡ node_at w n → j ≤ length node.images → HasNoImage w n j → ⊥
-has_image w n j node is low at number none =
-    let past_last : (past w.told.history).last n < j = none in
+has_image w n j node is low at number no_cause =
+    let past_last : (past w.told.history).last n < j = no_cause in
     let same : length node.images ≡ (past w.told.history).last n = last_is w n node is low at in
     omega (arith, number, past_last, same)
 
@@ -98,14 +98,14 @@ restart_steps w n j node table is low at number restored is_table counts =
       no_refusal =
           passes (HasNoNode w n) NoSuchNode _ (has_node w n low)
           (passes (HasNoImage w n j) NoSuchImage _ (has_image w n j node is low at number)
-          (passes (LacksOwn w n j) StaleImage none (λ lacks. lacks (keeps.keeps hs [] n j refl)) none_left));
+          (passes (LacksOwn w n j) StaleImage no_cause (λ lacks. lacks (keeps.keeps hs [] n j refl)) none_left));
       answers = refl;
     })
 
 -- ---- refusals
 
-pub no_image_refuses : (w : World) (n j : ℕ) → n < length w.nodes → HasNoImage w n j → Refuses w (Restart n j) NoSuchImage
-no_image_refuses w n j low none = inr (has_node w n low, inl (none, refl))
+pub no_image_refuses : (w : World) (n j : ℕ) → n < length w.nodes → HasNoImage w n j → RefusesEvent w (Restart n j) NoSuchImage
+no_image_refuses w n j low no_cause = inr (has_node w n low, inl (no_cause, refl))
 
-pub stale_refuses : (w : World) (n j : ℕ) → IsWorld w → n < length w.nodes → j ≤ length (node_at w n).images → LacksOwn w n j → Refuses w (Restart n j) StaleImage
+pub stale_refuses : (w : World) (n j : ℕ) → IsWorld w → n < length w.nodes → j ≤ length (node_at w n).images → LacksOwn w n j → RefusesEvent w (Restart n j) StaleImage
 stale_refuses w n j is low enough lacks = inr (has_node w n low, inr (has_image w n j (node_at w n) is low refl enough, inl (lacks, refl)))

@@ -27,7 +27,7 @@ use Rattle.world_core.specs.declared.fault.WorldFault.{WorldFault}
 use Rattle.world_core.specs.declared.fault.WorldFault.TheVariants.{BadNode, NoSuchNode}
 use Rattle.world_core.specs.Tells.{Pairwise, nothing_told, numbered, numbers_from, tell_accepted, tell_numbered, tell_sending}
 use Rattle.world_core.specs.World.{World, IsWorld}
-use Rattle.world_core.specs.Refusal.{Refuses, HasNoNode, first, none, table_of}
+use Rattle.world_core.specs.Refusal.{RefusesEvent, HasNoNode, first_cause, no_cause, table_of}
 use Rattle.world_core.specs.Outcome.{Adds, gossip_of, listed}
 use Rattle.world_core.specs.Steps.{IsNextFrame, Sends}
 use Rattle.world_core.proofs.Applying.{Stepped, after, pair_length, steps_quietly}
@@ -56,10 +56,10 @@ last_there (y ∷ xs) x = last_there xs x
 
 -- ---- a sending of nothing
 
-sending_passes : (w : World) (n to : ℕ) → n < length w.nodes → to < length w.nodes → n ≢ to → (k : Key) (fault : WorldFault) → Refuses w (Send n k to) fault → ⊥
+sending_passes : (w : World) (n to : ℕ) → n < length w.nodes → to < length w.nodes → n ≢ to → (k : Key) (fault : WorldFault) → RefusesEvent w (Send n k to) fault → ⊥
 sending_passes w n to low there apart k =
-    passes (HasNoNode w n ⊎ HasNoNode w to) NoSuchNode (first (n ≡ to) BadNode none) (λ none_there. elim none_there [ inl one ↦ has_node w n low one | inr other ↦ has_node w to there other ])
-    (passes (n ≡ to) BadNode none apart none_left)
+    passes (HasNoNode w n ⊎ HasNoNode w to) NoSuchNode (first_cause (n ≡ to) BadNode no_cause) (λ none_there. elim none_there [ inl one ↦ has_node w n low one | inr other ↦ has_node w to there other ])
+    (passes (n ≡ to) BadNode no_cause apart none_left)
 
 pub nothing_steps : (w : World) (n : ℕ) (k : Key) (to : ℕ) → IsWorld w → n < length w.nodes → to < length w.nodes → n ≢ to → find key_cmp k (table_of w n) ≡ None
     → Stepped w (record { event = Send n k to; answer = record { reply = Done; read = None; sent = [] } })
@@ -88,7 +88,7 @@ frame_of w n k to o = record { from = n; to = to; number = length w.frames + 1; 
 abbrev pub sending_of_one : World → ℕ → Key → ℕ → Accepted
 sending_of_one w n k to = record { event = Send n k to; answer = record { reply = Done; read = None; sent = (length w.frames + 1) ∷ [] } }
 
--- the world behind it
+-- the world after it
 abbrev pub after_sending_of : World → ℕ → Key → ℕ → List Entry → List ℕ → World
 after_sending_of w n k to o bytes = record {
   nodes = w.nodes;
@@ -215,7 +215,7 @@ sends : (w : World) (n : ℕ) (k : Key) (to : ℕ) (bytes : List ℕ) → IsNext
 unfolding IsNextFrame
 sends w n k to bytes is = is
 
--- the world behind a sending, whatever was sent: its history and where that stands
+-- the world after a sending, whatever was sent: its history and where that stands
 abbrev pub after_frame : World → ℕ → Key → ℕ → List ℕ → World
 after_frame w n k to bytes = record {
   nodes = w.nodes;
@@ -232,6 +232,6 @@ frame_steps w n k to bytes is next =
 
 -- ---- refusals
 
-pub to_itself_refuses : (w : World) (n to : ℕ) (k : Key) → n < length w.nodes → to < length w.nodes → n ≡ to → Refuses w (Send n k to) BadNode
+pub to_itself_refuses : (w : World) (n to : ℕ) (k : Key) → n < length w.nodes → to < length w.nodes → n ≡ to → RefusesEvent w (Send n k to) BadNode
 to_itself_refuses w n to k low there same =
     inr ((λ none_there. elim none_there [ inl one ↦ has_node w n low one | inr other ↦ has_node w to there other ]), inl (same, refl))

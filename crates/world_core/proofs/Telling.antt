@@ -4,7 +4,7 @@ use Rattle.std.specs.Prelude.{slice_get}
 use Rattle.std.proofs.lemmas.List.{append-nil, append_assoc}
 use Rattle.meta_frame.specs.declared.message.Frame.{Frame}
 use Rattle.world_core.specs.declared.answer.Accepted.{Accepted}
-use Rattle.world_core.specs.Tells.{Told, node_of, nothing_told, numbered, tell_accepted, tell_event, tell_frames, tell_numbered, tell_all, tell_each, numbers_from, sent_numbers, Names, EachNames}
+use Rattle.world_core.specs.Tells.{Told, node_of_event, nothing_told, numbered, tell_accepted, tell_event, tell_frames, tell_numbered, tell_all, tell_each, numbers_from, sent_numbers, Names, EachNames}
 
 tell_each_append : (frames : List Frame) (accepted more : List Accepted) (t : Told) → tell_each frames (accepted ++ more) t ≡ tell_each frames more (tell_each frames accepted t)
 tell_each_append frames [] more t = refl
@@ -67,7 +67,7 @@ tell_each_more : (frames more : List Frame) (accepted : List Accepted) (t : Told
 tell_each_more frames more [] t below = refl
 tell_each_more frames more (a ∷ accepted) t below =
     let both = below_both (length frames) a.answer.sent (sent_numbers accepted) below in
-    ap (tell_each (frames ++ more) accepted) (tell_frames_more frames more (node_of a.event) a.answer.sent (tell_event a.event t) both.0)
+    ap (tell_each (frames ++ more) accepted) (tell_frames_more frames more (node_of_event a.event) a.answer.sent (tell_event a.event t) both.0)
     ∙ tell_each_more frames more accepted (tell_accepted frames a t) both.1
 
 -- more frames change nothing that earlier ones told
@@ -86,7 +86,7 @@ each_names_later frames more [] t below all = tt
 each_names_later frames more (a ∷ accepted) t below all =
     let both = below_both (length frames) a.answer.sent (sent_numbers accepted) below in (
       all.0,
-      subst (EachNames (frames ++ more) accepted) (sym (tell_frames_more frames more (node_of a.event) a.answer.sent (tell_event a.event t) both.0))
+      subst (EachNames (frames ++ more) accepted) (sym (tell_frames_more frames more (node_of_event a.event) a.answer.sent (tell_event a.event t) both.0))
           (each_names_later frames more accepted (tell_accepted frames a t) both.1 all.1),
     )
 

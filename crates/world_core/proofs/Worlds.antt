@@ -11,24 +11,27 @@ use Rattle.dvvset.specs.Clock.{join}
 use Rattle.meta_frame.specs.declared.message.Frame.{Frame}
 use Rattle.meta_store.specs.Context.{Reading, vector_read}
 use Rattle.meta_store.specs.Table.{Table, object_at, with_object}
-use Rattle.meta_store.specs.Step.{written}
+use Rattle.meta_store.specs.Step.{object_after_put}
 use Rattle.past_model.specs.declared.happening.Happening.{Happening}
 use Rattle.past_model.specs.declared.happening.Happening.TheVariants.{Wrote, Looked, Sent, Got, Kept, Restarted}
 use Rattle.past_model.specs.Past.{known, writes}
 use Rattle.past_model.specs.Shown.{IsObjectOf}
 use Rattle.past_model.specs.History.{Fits, RestartsKeepOwnWrites}
 use Rattle.past_model.proofs.Entries.{one_object}
-use Rattle.object_machine.specs.Objects.{held, read_object, seen_object, sent_object}
+use Rattle.past_model.proofs.Placed.{ordered}
+use Rattle.past_model.proofs.Showing.{object_shows}
+use Rattle.past_objects.specs.Objects.{held_object, read_object, seen_object, sent_object}
 use Rattle.node_images.specs.Images.{holdings}
-use Rattle.node_images.specs.Node.{Node, new_node, IsNode, with_kept, with_merge, with_restart, with_write}
+use Rattle.node_images.specs.Node.{Node, new_node, IsImagedNode, with_kept, with_merge, with_restart, with_write}
 use Rattle.node_images.specs.Follows.{Follows}
 use Rattle.world_core.specs.Tells.{Told, nothing_told, Pairwise, carried_object, tell, tell_look, tell_sending}
+use Rattle.world_core.specs.Knowledge.{ShowsKnown}
 use Rattle.world_core.specs.World.{World, IsRead, IsSending, IsState, IsTold, IsWorld, new_world}
-use Rattle.object_machine.proofs.Changes.{after_look, after_sending}
-use Rattle.object_machine.proofs.Restarting.{others_keep, start_keeps}
-use Rattle.object_machine.proofs.Histories.{history_snoc}
-use Rattle.object_machine.proofs.Matching.{matches}
-use Rattle.object_machine.proofs.Standing.{seen_later, sent_later}
+use Rattle.past_objects.proofs.Changes.{after_look, after_sending}
+use Rattle.past_objects.proofs.Restarting.{others_keep, start_keeps}
+use Rattle.past_objects.proofs.Histories.{history_snoc}
+use Rattle.past_objects.proofs.Matching.{matches}
+use Rattle.past_objects.proofs.Standing.{seen_later, sent_later}
 use Rattle.world_core.proofs.Telling.{slice_get_more}
 use Rattle.node_images.proofs.Following.{follows_look, follows_sending, follows_write, follows_keep, follows_take, follows_restart, write_elsewhere, keeping_elsewhere, delivery_elsewhere, restart_elsewhere}
 
@@ -97,8 +100,8 @@ set_node hs nodes n node low here there m d within =
 -- ---- the happenings
 
 pub state_write : (nodes : List Node) (contexts : List Reading) (sent : List Frame) (t : Told) (n : ℕ) (k : Key) (v : ValueParts) (r : Option ℕ) (context : Option Reading) (node : Node)
-    → IsState nodes contexts sent t → n < length nodes → node ≡ get_or nodes n node → IsNode node
-    → ((l : Key) → object_at node.table l ≢ [] → object_at (with_object k (written node.table n k v context) node.table) l ≢ [])
+    → IsState nodes contexts sent t → n < length nodes → node ≡ get_or nodes n node → IsImagedNode node
+    → ((l : Key) → object_at node.table l ≢ [] → object_at (with_object k (object_after_put node.table n k v context) node.table) l ≢ [])
     → Fits t.history (Wrote n k v r) → vector_read context ≡ join (read_object t.history k r)
     → IsState (slice_set nodes n (with_write n k v context node)) contexts sent (tell (Wrote n k v r) t)
 state_write nodes contexts sent t n k v r context node s low at is grows fits read =
@@ -108,7 +111,7 @@ state_write nodes contexts sent t n k v r context node s low at is grows fits re
     (λ m d within ne. write_elsewhere t.history n k v r m (get_or nodes m d) ne (s.nodes m d within)))
 
 pub state_keep : (nodes : List Node) (contexts : List Reading) (sent : List Frame) (t : Told) (n : ℕ) (k : Key) (node : Node)
-    → IsState nodes contexts sent t → n < length nodes → node ≡ get_or nodes n node → IsNode node → IsState (slice_set nodes n (with_kept k node)) contexts sent (tell (Kept n k) t)
+    → IsState nodes contexts sent t → n < length nodes → node ≡ get_or nodes n node → IsImagedNode node → IsState (slice_set nodes n (with_kept k node)) contexts sent (tell (Kept n k) t)
 state_keep nodes contexts sent t n k node s low at is =
     state_next nodes (slice_set nodes n (with_kept k node)) contexts sent t (Kept n k) s tt (others_keep t.history (Kept n k) s.keeps (λ m j e. cc))
     (set_node (t.history ++ Kept n k ∷ []) nodes n (with_kept k node) low
@@ -141,7 +144,7 @@ slice_get_end (g ∷ hs) h = slice_get_end hs h
 
 -- a read: its context is of the key and what the node holds there
 pub state_look : (nodes : List Node) (contexts : List Reading) (sent : List Frame) (t : Told) (n : ℕ) (k : Key) (context : Reading)
-    → IsState nodes contexts sent t → context.source.node ≡ n → context.key ≡ k → context.vector ≡ join (held t.history n k) → IsState nodes (contexts ++ context ∷ []) sent (tell_look n k t)
+    → IsState nodes contexts sent t → context.source.node ≡ n → context.key ≡ k → context.vector ≡ join (held_object t.history n k) → IsState nodes (contexts ++ context ∷ []) sent (tell_look n k t)
 state_look nodes contexts sent t n k context s node key vector =
     let hs = t.history in
     let more = hs ++ Looked n k ∷ [] in
@@ -160,7 +163,7 @@ state_look nodes contexts sent t n k context s node key vector =
 
 -- a frame of the node that carries what it holds under the key
 pub state_sending : (nodes : List Node) (contexts : List Reading) (sent : List Frame) (t : Told) (n : ℕ) (k : Key) (o : List Entry) (frame : Frame)
-    → IsState nodes contexts sent t → frame.from ≡ n → carried_object frame.message ≡ Some (k, o) → o ≡ held t.history n k → IsState nodes contexts (sent ++ frame ∷ []) (tell_sending n (Some (k, o)) t)
+    → IsState nodes contexts sent t → frame.from ≡ n → carried_object frame.message ≡ Some (k, o) → o ≡ held_object t.history n k → IsState nodes contexts (sent ++ frame ∷ []) (tell_sending n (Some (k, o)) t)
 state_sending nodes contexts sent t n k o frame s from carries is =
     let hs = t.history in
     let more = hs ++ Sent n k ∷ [] in
@@ -224,6 +227,13 @@ shows w is n node low at table same k =
     let hs = w.told.history in
     let stands : Follows hs n node = subst (Follows hs n) (sym at) (is.state.nodes n node low) in
     subst (IsObjectOf (writes hs) k (known hs n k)) (sym (ap (λ t. object_at t k) same ∙ stands.holds k)) ((matches hs is.state.keeps).known n k)
+
+-- the object of what is known shows it
+pub shows_known : (hs : List Happening) (n : ℕ) (k : Key) (object : List Entry) → IsObjectOf (writes hs) k (known hs n k) object → ShowsKnown hs n k object
+shows_known hs n k object is = record {
+  siblings = object_shows (writes hs) k (known hs n k) object (ordered hs).falling is;
+  context = is.context;
+}
 
 -- what is known determines what is held
 pub equally : (w : World) → IsWorld w → (m n : ℕ) (k : Key) → m < length w.nodes → n < length w.nodes → ((p : ℕ) → known w.told.history m k p ≡ known w.told.history n k p)

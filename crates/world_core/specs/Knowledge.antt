@@ -2,13 +2,14 @@
 use Rattle.std.specs.Prelude.{◌≡◌, ℕ, ◌<◌, List, length, Some, slice_get, ◌↔◌}
 use Rattle.meta_types.specs.Name.{Key}
 use Rattle.dvvset.specs.Object.{Entry}
+use Rattle.dvvset.specs.Clock.{join, values_of}
 use Rattle.meta_store.specs.Context.{Reading}
 use Rattle.meta_store.specs.Table.{object_at}
 use Rattle.past_model.specs.declared.happening.Happening.{Happening}
 use Rattle.past_model.specs.declared.happening.Happening.TheVariants.{Looked, Sent}
 use Rattle.past_model.specs.Sets.{IsSubset}
 use Rattle.past_model.specs.Past.{known, load, seen, writes}
-use Rattle.past_model.specs.Shown.{IsContext, IsObjectOf}
+use Rattle.past_model.specs.Shown.{IsContext, IsObjectOf, Shows}
 use Rattle.world_core.specs.declared.answer.Answer.{Answer}
 use Rattle.world_core.specs.declared.answer.Reply.{Reply}
 use Rattle.world_core.specs.declared.answer.Reply.TheVariants.{TookFresh, TookStale}
@@ -17,6 +18,12 @@ use Rattle.world_core.specs.declared.event.Event.TheVariants.{Put, Get, PutOver,
 use Rattle.world_core.specs.Tells.{Told, numbered, sending_of}
 use Rattle.world_core.specs.World.{World}
 use Rattle.world_core.specs.Refusal.{table_of}
+
+-- the object shows what the node knows under the key by the history: the values are those of the writes that it knows
+-- and that no write it knows had read, and the vector counts all that it knows
+pub record ShowsKnown (hs : List Happening) (n : ℕ) (key : Key) (object : List Entry) : Type 0 where
+  pub siblings : Shows (writes hs) (known hs n key) (values_of object)
+  pub context : IsContext (writes hs) (known hs n key) (join object)
 
 -- each node holds, under each key, the object of the writes that it knows there
 abbrev pub ShowWhatTheyKnow : World → Type 0

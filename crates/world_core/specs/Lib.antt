@@ -12,7 +12,7 @@ pub use Rattle.past_model.specs.Shown
 pub use Rattle.meta_frame.specs.Frame
 pub use Rattle.meta_store.specs.Table
 pub use Rattle.meta_store.specs.Step
-pub use Rattle.object_machine.specs.Objects
+pub use Rattle.past_objects.specs.Objects
 pub use Rattle.node_images.specs.Images
 pub use Rattle.node_images.specs.Node
 pub use Rattle.node_images.specs.Follows

@@ -11,7 +11,7 @@ use Rattle.meta_frame.specs.declared.message.Frame.{Frame}
 use Rattle.meta_frame.specs.declared.message.Message.TheVariants.{Gossip}
 use Rattle.meta_store.specs.Context.{Reading}
 use Rattle.meta_store.specs.Table.{Table, IsTable, object_at}
-use Rattle.meta_store.specs.Step.{answer_of_merge, written}
+use Rattle.meta_store.specs.Step.{answer_of_merge, object_after_put}
 use Rattle.meta_store.specs.declared.fault.StoreFault.TheVariants.{BadEntries}
 use Rattle.meta_store.specs.declared.merge.Merged.{Merged}
 use Rattle.meta_store.specs.declared.merge.Merged.TheVariants.{Fresh, Stale}
@@ -27,7 +27,7 @@ use Rattle.world_core.specs.declared.fault.WorldFault.TheVariants.{Memory, Store
 use Rattle.world_core.specs.Tells.{Pairwise, carried_object, numbers_from, tell_accepted}
 use Rattle.world_core.specs.World.{World}
 use Rattle.world_core.specs.Knowledge.{FreshExactly, ShowWhatTheyKnow}
-use Rattle.world_core.specs.Refusal.{IsFrameOf, Refuses, context_of, node_at, present, table_of}
+use Rattle.world_core.specs.Refusal.{IsFrameOf, RefusesEvent, context_of, node_at, present, table_of}
 
 -- ---- answers
 
@@ -40,7 +40,7 @@ abbrev pub next_read : World → ℕ
 next_read w = length w.contexts + 1
 
 abbrev pub wrote : World → ℕ → Key → ValueParts → Option Reading → Reply
-wrote w n k v context = Wrote (join (written (table_of w n) n k v context))
+wrote w n k v context = Wrote (join (object_after_put (table_of w n) n k v context))
 
 abbrev pub looked : World → ℕ → Key → Reply
 looked w n k = Looked (values_of (object_at (table_of w n) k)) (present w n k)
@@ -139,7 +139,7 @@ Leaves w (Restart n image) nodes = LeavesAfterRestart w n image nodes
 
 -- ---- worlds
 
--- the bytes of frames stand behind those of earlier ones
+-- the bytes of frames stand after those of earlier ones
 pub record Adds (frames : List Frame) (old new : List (List ℕ)) : Type 0 where
   pub bytes : List (List ℕ)
   pub spelled : Pairwise Spells frames bytes
@@ -147,7 +147,7 @@ pub record Adds (frames : List Frame) (old new : List (List ℕ)) : Type 0 where
 
 -- an event was accepted with an answer: it had no refusal, and this is what was added, and what all nodes then are
 pub record Accepts (old : World) (event : Event) (answer : Answer) (new : World) : Type 0 where
-  pub no_refusal : (fault : WorldFault) → Refuses old event fault → ⊥
+  pub no_refusal : (fault : WorldFault) → RefusesEvent old event fault → ⊥
   pub answers : Answers old event answer
   pub accepted : new.accepted ≡ old.accepted ++ (record { event = event; answer = answer }) ∷ []
   pub frames : Adds (frames_of old event) old.frames new.frames
@@ -157,7 +157,7 @@ pub record Accepts (old : World) (event : Event) (answer : Answer) (new : World)
 
 -- an event was refused, for its first cause or for want of memory, and nothing changed
 pub record Rejects (old : World) (event : Event) (fault : WorldFault) (new : World) : Type 0 where
-  pub cause : (fault ≡ Memory) ⊎ Refuses old event fault
+  pub cause : (fault ≡ Memory) ⊎ RefusesEvent old event fault
   pub same : new ≡ old
 
 -- what comes of an event: it is accepted with this answer, or refused with this fault (one word, into which proofs do not
@@ -171,7 +171,7 @@ Outcome old event (Err fault) new = Rejects old event fault new
 pub record Passes (old : World) (event : Event) (outcome : Result Answer WorldFault) (new : World) : Type 0 where
   pub comes : Outcome old event outcome new
   pub fresh : IfOk outcome (FreshExactly old event)
-  pub never : Refuses old event (Store BadEntries) → ⊥
+  pub never : RefusesEvent old event (Store BadEntries) → ⊥
   pub shows : ShowWhatTheyKnow new
 
 -- one event after the other, each with its outcome

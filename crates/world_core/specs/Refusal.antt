@@ -4,13 +4,12 @@ use Rattle.std.specs.Prelude.{◌≡◌, ◌≢◌, ℕ, ◌+◌, ◌<◌, ◌�
 use Rattle.std.specs.Option.{option_map}
 use Rattle.meta_types.specs.Name.{Key}
 use Rattle.dvvset.specs.Object.{Entry}
-use Rattle.dvvset.specs.Clock.{join}
 use Rattle.meta_frame.specs.Frame.{Spells}
 use Rattle.meta_frame.specs.Frame as frame
 use Rattle.meta_frame.specs.declared.fault.FrameFault.{FrameFault}
 use Rattle.meta_frame.specs.declared.message.Frame.{Frame}
-use Rattle.meta_store.specs.Context.{Reading}
-use Rattle.meta_store.specs.Table.{Table, object_at}
+use Rattle.meta_store.specs.Context.{Reading, reading_at}
+use Rattle.meta_store.specs.Table.{Table}
 use Rattle.meta_store.specs.Step.{refusal_of_merge, refusal_of_put}
 use Rattle.meta_store.specs.declared.fault.StoreFault.{StoreFault}
 use Rattle.past_model.specs.declared.happening.Happening.TheVariants.{Restarted}
@@ -36,7 +35,7 @@ table_of w n = (node_at w n).table
 
 -- the context that a read of the key by the node would hand out now; its source is the node with the read's number
 abbrev pub present : World → ℕ → Key → Reading
-present w n k = record { key = k; vector = join (object_at (table_of w n) k); source = record { node = n; step = length w.contexts + 1 } }
+present w n k = reading_at (table_of w n) k (record { node = n; step = length w.contexts + 1 })
 
 -- the context of a write: that of the read of this number
 abbrev pub context_of : World → Option ℕ → Option Reading
@@ -81,11 +80,11 @@ pub record IsFrame (bytes : List ℕ) : Type 0 where
 
 -- where the cause applies this is the refusal, and where it doesn't, what the rest says: as `first_that_applies`, for causes
 -- that are propositions and not tests
-abbrev pub first : Type 0 → WorldFault → (WorldFault → Type 0) → WorldFault → Type 0
-first cause refusal rest fault = (cause × (fault ≡ refusal)) ⊎ ((cause → ⊥) × rest fault)
+abbrev pub first_cause : Type 0 → WorldFault → (WorldFault → Type 0) → WorldFault → Type 0
+first_cause cause refusal rest fault = (cause × (fault ≡ refusal)) ⊎ ((cause → ⊥) × rest fault)
 
-abbrev pub none : WorldFault → Type 0
-none fault = ⊥
+abbrev pub no_cause : WorldFault → Type 0
+no_cause fault = ⊥
 
 -- the refusal of a store, if there is one
 abbrev pub by_store : Option StoreFault → WorldFault → Type 0
@@ -100,20 +99,20 @@ refusal_of_object table (Some object) = refusal_of_merge table object.0 object.1
 pub record ByFrame (w : World) (number n : ℕ) (fault : WorldFault) : Type 0 where
   pub frame : Frame
   pub is : IsFrameOf w number frame
-  pub refused : first (frame.to ≢ n) NotAddressed (by_store (refusal_of_object (table_of w n) (carried_object frame.message))) fault
+  pub refused : first_cause (frame.to ≢ n) NotAddressed (by_store (refusal_of_object (table_of w n) (carried_object frame.message))) fault
 
 -- the refusal of bytes that are no frame
 pub record ByBytes (bytes : List ℕ) (fault : WorldFault) : Type 0 where
   pub of_bytes : FrameFault
-  pub refused : frame.Refuses bytes of_bytes
+  pub refused : frame.RefusesBytes bytes of_bytes
   pub is : fault ≡ of_frame of_bytes
 
-abbrev pub Refuses : World → Event → WorldFault → Type 0
-Refuses w (Put n k v read) = first (HasNoNode w n) NoSuchNode (first (HasNoRead w read) NoSuchRead (by_store (refusal_of_put (table_of w n) n k v (context_of w read))))
-Refuses w (Get n k) = first (HasNoNode w n) NoSuchNode none
-Refuses w (PutOver n k v) = first (HasNoNode w n) NoSuchNode (by_store (refusal_of_put (table_of w n) n k v (Some (present w n k))))
-Refuses w (Send n k to) = first (HasNoNode w n ⊎ HasNoNode w to) NoSuchNode (first (n ≡ to) BadNode none)
-Refuses w (Deliver number n word) = first (HasNoNode w n) NoSuchNode (first (HasNoFrame w number) NoSuchFrame (ByFrame w number n))
-Refuses w (Junk n bytes) = first (HasNoNode w n) NoSuchNode (first (IsFrame bytes) LooksLikeFrame (ByBytes bytes))
-Refuses w (Keep n k) = first (HasNoNode w n) NoSuchNode none
-Refuses w (Restart n image) = first (HasNoNode w n) NoSuchNode (first (HasNoImage w n image) NoSuchImage (first (LacksOwn w n image) StaleImage none))
+abbrev pub RefusesEvent : World → Event → WorldFault → Type 0
+RefusesEvent w (Put n k v read) = first_cause (HasNoNode w n) NoSuchNode (first_cause (HasNoRead w read) NoSuchRead (by_store (refusal_of_put (table_of w n) n k v (context_of w read))))
+RefusesEvent w (Get n k) = first_cause (HasNoNode w n) NoSuchNode no_cause
+RefusesEvent w (PutOver n k v) = first_cause (HasNoNode w n) NoSuchNode (by_store (refusal_of_put (table_of w n) n k v (Some (present w n k))))
+RefusesEvent w (Send n k to) = first_cause (HasNoNode w n ⊎ HasNoNode w to) NoSuchNode (first_cause (n ≡ to) BadNode no_cause)
+RefusesEvent w (Deliver number n word) = first_cause (HasNoNode w n) NoSuchNode (first_cause (HasNoFrame w number) NoSuchFrame (ByFrame w number n))
+RefusesEvent w (Junk n bytes) = first_cause (HasNoNode w n) NoSuchNode (first_cause (IsFrame bytes) LooksLikeFrame (ByBytes bytes))
+RefusesEvent w (Keep n k) = first_cause (HasNoNode w n) NoSuchNode no_cause
+RefusesEvent w (Restart n image) = first_cause (HasNoNode w n) NoSuchNode (first_cause (HasNoImage w n image) NoSuchImage (first_cause (LacksOwn w n image) StaleImage no_cause))

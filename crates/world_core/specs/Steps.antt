@@ -4,7 +4,7 @@ use Rattle.std.specs.FinMap.{find}
 use Rattle.meta_types.specs.Name.{Key}
 use Rattle.meta_types.specs.Order.{key_cmp}
 use Rattle.dvvset.specs.Object.{Entry}
-use Rattle.meta_frame.specs.Frame.{Refuses, Spells}
+use Rattle.meta_frame.specs.Frame.{RefusesBytes, Spells}
 use Rattle.meta_frame.specs.declared.fault.FrameFault.{FrameFault}
 use Rattle.meta_frame.specs.declared.fault.FrameFault.TheVariants.{Memory}
 use Rattle.meta_frame.specs.declared.message.Frame.{Frame}
@@ -28,7 +28,7 @@ pub record IsArrival (bytes : List ℕ) (to : ℕ) (object : Option (Key × List
 
 -- the bytes are no frame, or there is no memory to tell
 unfoldable pub IsNoFrame : List ℕ → FrameFault → Type 0
-IsNoFrame bytes fault = (fault ≡ Memory) ⊎ Refuses bytes fault
+IsNoFrame bytes fault = (fault ≡ Memory) ⊎ RefusesBytes bytes fault
 
 -- the frame of that number is addressed to the node of the world, and carries this object
 pub record Arrives (w : World) (number n : ℕ) (object : Option (Key × List Entry)) : Type 0 where

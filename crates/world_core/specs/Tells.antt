@@ -65,15 +65,15 @@ tell_event (Keep n k) t = tell (Kept n k) t
 tell_event (Restart n image) t = tell (Restarted n image) t
 
 -- the node of an event
-abbrev pub node_of : Event → ℕ
-node_of (Put n k v read) = n
-node_of (Get n k) = n
-node_of (PutOver n k v) = n
-node_of (Send n k to) = n
-node_of (Deliver frame n word) = n
-node_of (Junk n bytes) = n
-node_of (Keep n k) = n
-node_of (Restart n image) = n
+abbrev pub node_of_event : Event → ℕ
+node_of_event (Put n k v read) = n
+node_of_event (Get n k) = n
+node_of_event (PutOver n k v) = n
+node_of_event (Send n k to) = n
+node_of_event (Deliver frame n word) = n
+node_of_event (Junk n bytes) = n
+node_of_event (Keep n k) = n
+node_of_event (Restart n image) = n
 
 -- the object that a message carries, with its key
 abbrev pub carried_object : Message → Option (Key × List Entry)
@@ -113,7 +113,7 @@ tell_frames frames n (number ∷ numbers) t = tell_frames frames n numbers (tell
 -- ---- accepted events
 
 abbrev pub tell_accepted : List Frame → Accepted → Told → Told
-tell_accepted frames accepted t = tell_frames frames (node_of accepted.event) accepted.answer.sent (tell_event accepted.event t)
+tell_accepted frames accepted t = tell_frames frames (node_of_event accepted.event) accepted.answer.sent (tell_event accepted.event t)
 
 abbrev pub tell_each : List Frame → List Accepted → Told → Told
 tell_each frames [] t = t

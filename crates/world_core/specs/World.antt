@@ -9,7 +9,7 @@ use Rattle.past_model.specs.declared.happening.Happening.{Happening}
 use Rattle.past_model.specs.declared.happening.Happening.TheVariants.{Looked, Sent}
 use Rattle.past_model.specs.History.{IsHistory, RestartsKeepOwnWrites}
 use Rattle.world_core.specs.declared.answer.Accepted.{Accepted}
-use Rattle.object_machine.specs.Objects.{seen_object, sent_object}
+use Rattle.past_objects.specs.Objects.{seen_object, sent_object}
 use Rattle.node_images.specs.Node.{Node, new_node}
 use Rattle.node_images.specs.Follows.{Follows}
 use Rattle.world_core.specs.Tells.{Told, Tells, Pairwise, carried_object, nothing_told}

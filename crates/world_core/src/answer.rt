@@ -4,7 +4,7 @@ ghost use Rattle.std.specs.Prelude.{◌≡◌, ◌∷◌, [], IfOk};
 ghost use Rattle.world_core.specs.Outcome.{replied};
 
 use crate::event::Event;
-use dvvset::{Vector, push_copies};
+use dvvset::{Vector, copy_values};
 use meta_store::Context;
 use meta_types::Value;
 use std::alloc::{AllocError, Global};
@@ -38,12 +38,11 @@ impl Values {
         self.values.as_slice()
     }
 
-    /// It takes memory, with the refusal of which alone it is refused.
+    /// Fails only when memory runs out.
     pub fn copy(&self) -> Result<Self, AllocError>
         ensures { IfOk result (λ copy. copy ≡ self.now) }
     {
-        let mut values = Vec::with_capacity(*self.values.allocator(), self.values.len())?;
-        push_copies(&mut values, self.values.as_slice())?;
+        let values = copy_values(*self.values.allocator(), self.values.as_slice())?;
         Ok(Values { values })
     }
 }
@@ -115,7 +114,7 @@ impl FrameNumbers {
         self.numbers.as_slice()
     }
 
-    /// It takes memory, with the refusal of which alone it is refused.
+    /// Fails only when memory runs out.
     pub fn copy(&self) -> Result<Self, AllocError>
         ensures { IfOk result (λ copy. copy ≡ self.now) }
     {
@@ -165,7 +164,7 @@ pub enum Reply {
 }
 
 impl Reply {
-    /// It takes memory, with the refusal of which alone it is refused.
+    /// Fails only when memory runs out.
     pub fn copy(&self) -> Result<Self, AllocError>
         ensures { IfOk result (λ copy. copy ≡ self.now) }
     {
@@ -206,7 +205,7 @@ impl Answer {
         }
     }
 
-    /// It takes memory, with the refusal of which alone it is refused.
+    /// Fails only when memory runs out.
     pub fn copy(&self) -> Result<Self, AllocError>
         ensures { IfOk result (λ copy. copy ≡ self.now) }
     {

@@ -12,7 +12,7 @@ use meta_types::NodeId;
 use std::alloc::{AllocError, Global};
 
 impl World {
-    /// Makes an event, which then stands with its answer in `accepted`, or refuses it and changes nothing. Of
+    /// Applies an event, which then stands with its answer in `accepted`, or refuses it and changes nothing. Of
     /// several refusals the first is answered, in this order: 44 `NoSuchNode`, 42 `NoSuchFrame`, 43 `NoSuchRead`,
     /// 46 `NoSuchImage`, 41 `StaleImage`, 45 `LooksLikeFrame`, then those of the node: 3 `BadNode` of a sending to
     /// itself, 40 `NotAddressed`, those of `Store::put` and `Store::merge` but for 21 `BadEntries`, which never
@@ -26,7 +26,7 @@ impl World {
         outcome
     }
 
-    /// Makes an event as `apply` does.
+    /// Applies an event as `apply` does.
     fn pass(&mut self, event: &Event) -> Result<Answer, WorldFault>
         ensures { Passes self.old event.now result self.new }
     {
@@ -37,7 +37,7 @@ impl World {
         outcome
     }
 
-    /// Makes an event, or refuses it.
+    /// Applies an event, or refuses it.
     fn act(&mut self, event: &Event) -> Result<Answer, WorldFault>
         ensures { Outcome self.old event.now result self.new }
     {
@@ -65,7 +65,8 @@ impl World {
         alloc: Global,
         events: &[Event],
     ) -> Result<Vec<Result<Answer, WorldFault>>, AllocError>
-        ensures outcomes { IfOk result (λ outcomes. Outcomes self.old events.now outcomes.items self.new) }
+        ensures outcomes { IfOk result
+            (λ outcomes. Outcomes self.old events.now outcomes.items self.new) }
         ensures same { OnErr result (self.new ≡ self.old) }
     {
         let mut outcomes = Vec::with_capacity(alloc, events.len())?;
@@ -78,7 +79,8 @@ impl World {
     /// The node of that number. Refused with 44 `NoSuchNode`.
     pub(crate) fn node_id(&self, node: u64) -> Result<NodeId, WorldFault>
         ensures value { IfOk result (λ id. (id ≡ node) × (node < length self.now.nodes)) }
-        ensures fault { IfErr result (λ fault. (fault ≡ NoSuchNode) × (length self.now.nodes ≤ node)) }
+        ensures fault { IfErr result (λ fault. (fault ≡ NoSuchNode)
+            × (length self.now.nodes ≤ node)) }
     {
         if self.nodes.len() as u64 <= node {
             return Err(WorldFault::NoSuchNode);

@@ -108,7 +108,9 @@ impl Chronicle {
         ensures accepted { self.new.accepted.items ≡ self.old.accepted.items ++ accepted ∷ [] }
         ensures frames { self.new.frames.items ≡ self.old.frames.items }
         ensures contexts { self.new.contexts.items ≡ self.old.contexts.items ++ context ∷ [] }
-        ensures told { told_so_far self.new ≡ tell (Wrote node written.key written.value (Some (length self.old.history.items))) (tell_look node key (told_so_far self.old)) }
+        ensures told { told_so_far self.new
+            ≡ tell (Wrote node written.key written.value (Some (length self.old.history.items)))
+            (tell_look node key (told_so_far self.old)) }
     {
         let place = self.history.len();
         self.looks.push_reserved(place);
@@ -124,7 +126,14 @@ impl Chronicle {
         ensures accepted { self.new.accepted.items ≡ self.old.accepted.items ++ accepted ∷ [] }
         ensures frames { self.new.frames.items ≡ self.old.frames.items ++ bytes ∷ [] }
         ensures contexts { self.new.contexts.items ≡ self.old.contexts.items }
-        ensures told { told_so_far self.new ≡ record { history = self.old.history.items ++ Sent node key ∷ []; looks = self.old.looks.items; sendings = self.old.sendings.items ++ Some (length self.old.history.items) ∷ [] } }
+        ensures told { told_so_far self.new
+            ≡ record {
+              history = self.old.history.items
+                  ++ Sent node key ∷ [];
+              looks = self.old.looks.items;
+              sendings = self.old.sendings.items
+                  ++ Some (length self.old.history.items) ∷ [];
+            } }
     {
         let place = self.history.len();
         self.frames.push_reserved(bytes);

@@ -1,10 +1,11 @@
 //! Deliveries of frames, and junk.
 
 ghost use Rattle.std.specs.Prelude.{◌≡◌, ◌⊎◌, ℕ, ◌+◌, ◌<◌, ◌^◌, length, Some, None, IfOk, IfErr};
+ghost use Rattle.meta_types.specs.Failing.{FailsWith};
 ghost use Rattle.world_core.specs.Tells.{carried_object};
 ghost use Rattle.world_core.specs.Outcome.{Outcome, merged, replied};
 ghost use Rattle.world_core.specs.Steps.{Arrives, IsArrival, IsNoFrame};
-ghost use Rattle.world_core.specs.Refusal.{HasNoFrame, IsFrame, Refuses};
+ghost use Rattle.world_core.specs.Refusal.{HasNoFrame, IsFrame, RefusesEvent};
 ghost use Rattle.world_core.specs.declared.event.Event.TheVariants.{Deliver, Junk};
 ghost use Rattle.world_core.specs.declared.fault.WorldFault.TheVariants.{Memory, NoSuchFrame, NotAddressed};
 
@@ -15,8 +16,7 @@ use crate::event::Event;
 use crate::fault::WorldFault;
 use crate::world::World;
 use dvvset::Entries;
-use meta_frame::decode::decode;
-use meta_frame::{FrameFault, Message};
+use meta_frame::{FrameFault, Message, decode};
 use meta_store::Merged;
 use meta_types::{ByteString, MetaKey, NodeId};
 use past_model::Happening;
@@ -44,7 +44,8 @@ impl World {
 
     /// The place of a frame among all. Refused with 42 `NoSuchFrame`.
     fn place_of_frame(&self, frame: u64) -> Result<usize, WorldFault>
-        ensures value { IfOk result (λ place. (frame ≡ place + 1) × (place < length self.now.frames)) }
+        ensures value { IfOk result (λ place. (frame ≡ place + 1)
+            × (place < length self.now.frames)) }
         ensures fault { IfErr result (λ fault. (fault ≡ NoSuchFrame) × HasNoFrame self.now frame) }
     {
         match place_of(frame, self.chronicle.frames.len()) {
@@ -58,7 +59,9 @@ impl World {
         requires within { place < length self.now.frames }
         requires low { node < length self.now.nodes }
         ensures value { IfOk result (Arrives self.now (place + 1) node) }
-        ensures fault { IfErr result (λ fault. (fault ≡ Memory) ⊎ ((fault ≡ NotAddressed) × ((word : ℕ) → Refuses self.now (Deliver (place + 1) node word) NotAddressed))) }
+        ensures fault { FailsWith Memory (λ fault. (fault ≡ NotAddressed)
+            × ((word : ℕ) → RefusesEvent self.now
+            (Deliver (place + 1) node word) NotAddressed)) result }
     {
         let arrival = opened_frame(self.alloc(), self.chronicle.frames[place].as_slice())?;
         if arrival.to != node {

@@ -56,7 +56,7 @@ pub enum Event {
 impl Event {
     ghost use Rattle.std.specs.Prelude.{◌≡◌, IfOk};
 
-    /// It takes memory, with the refusal of which alone it is refused.
+    /// Fails only when memory runs out.
     pub fn copy(&self) -> Result<Self, AllocError>
         ensures { IfOk result (λ copy. copy ≡ self.now) }
     {

@@ -14,3 +14,8 @@ mod restart;
 mod send;
 pub mod world;
 mod write;
+
+pub use answer::{Accepted, Answer, Reply};
+pub use event::Event;
+pub use fault::WorldFault;
+pub use world::World;

@@ -1,12 +1,13 @@
 //! Images made and restarted from.
 
 ghost use Rattle.std.specs.Prelude.{◌≡◌, ◌⊎◌, ◌≤◌, ◌<◌, length, IfOk, IfErr};
+ghost use Rattle.meta_types.specs.Failing.{FailsWith};
 ghost use Rattle.meta_types.specs.Name.{Key};
 ghost use Rattle.dvvset.specs.Writer.{count_of};
 ghost use Rattle.meta_store.specs.Table.{IsTable, object_at};
 ghost use Rattle.node_images.specs.Images.{holdings};
 ghost use Rattle.world_core.specs.Outcome.{Outcome};
-ghost use Rattle.world_core.specs.Refusal.{Refuses, node_at, table_of};
+ghost use Rattle.world_core.specs.Refusal.{RefusesEvent, node_at, table_of};
 ghost use Rattle.world_core.specs.declared.event.Event.TheVariants.{Keep, Restart};
 ghost use Rattle.world_core.specs.declared.fault.WorldFault.TheVariants.{Memory, NoSuchImage, StaleImage};
 
@@ -55,8 +56,10 @@ impl World {
     /// The number of an image, in memory. Refused with 46 `NoSuchImage`.
     fn image_number(&self, node: NodeId, image: u64) -> Result<usize, WorldFault>
         requires { node < length self.now.nodes }
-        ensures value { IfOk result (λ number. (number ≡ image) × (image ≤ length (node_at self.now node).images)) }
-        ensures fault { IfErr result (λ fault. (fault ≡ NoSuchImage) × Refuses self.now (Restart node image) NoSuchImage) }
+        ensures value { IfOk result (λ number. (number ≡ image)
+            × (image ≤ length (node_at self.now node).images)) }
+        ensures fault { IfErr result (λ fault. (fault ≡ NoSuchImage)
+            × RefusesEvent self.now (Restart node image) NoSuchImage) }
     {
         let images = self.nodes[usize::from(node.number())].images();
         if (images.len() as u64) < image {
@@ -71,9 +74,13 @@ impl World {
         requires low { node < length self.now.nodes }
         requires number { number ≤ length (node_at self.now node).images }
         ensures is_table { IfOk result IsTable }
-        ensures restored { IfOk result (λ store. (key : Key) → object_at store key ≡ holdings (node_at self.now node).images number key) }
-        ensures counts { IfOk result (λ store. (key : Key) → count_of (object_at (table_of self.now node) key) node ≤ count_of (object_at store key) node) }
-        ensures fault { IfErr result (λ fault. (fault ≡ Memory) ⊎ ((fault ≡ StaleImage) × Refuses self.now (Restart node number) StaleImage)) }
+        ensures restored { IfOk result (λ store. (key : Key)
+            → object_at store key ≡ holdings (node_at self.now node).images number key) }
+        ensures counts { IfOk result (λ store. (key : Key)
+            → count_of (object_at (table_of self.now node) key) node
+            ≤ count_of (object_at store key) node) }
+        ensures fault { FailsWith Memory (λ fault. (fault ≡ StaleImage)
+            × RefusesEvent self.now (Restart node number) StaleImage) result }
     {
         let there = &self.nodes[usize::from(node.number())];
         let store = there.restored(number)?;
@@ -95,8 +102,11 @@ impl World {
         requires low { node < length self.old.nodes }
         requires number { number ≤ length (node_at self.old node).images }
         requires is_table { IsTable store }
-        requires restored { (key : Key) → object_at store key ≡ holdings (node_at self.old node).images number key }
-        requires counts { (key : Key) → count_of (object_at (table_of self.old node) key) node ≤ count_of (object_at store key) node }
+        requires restored { (key : Key)
+            → object_at store key ≡ holdings (node_at self.old node).images number key }
+        requires counts { (key : Key)
+            → count_of (object_at (table_of self.old node) key) node
+            ≤ count_of (object_at store key) node }
         ensures { Outcome self.old (Restart node number) result self.new }
     {
         let alloc = self.alloc();

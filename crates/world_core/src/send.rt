@@ -18,8 +18,7 @@ use crate::event::Event;
 use crate::fault::WorldFault;
 use crate::world::World;
 use dvvset::Entries;
-use meta_frame::encode::encode;
-use meta_frame::{Frame, FrameFault, Message};
+use meta_frame::{Frame, FrameFault, Message, encode};
 use meta_types::{ByteString, MetaKey, NodeId};
 use std::alloc::{AllocError, Global};
 
@@ -42,7 +41,8 @@ impl World {
     /// What the node holds under the key: a copy.
     fn object_of(&self, node: NodeId, key: &MetaKey) -> Result<Option<Entries>, AllocError>
         requires { node < length self.now.nodes }
-        ensures value { IfOk result (λ object. object ≡ find key_cmp key.now (table_of self.now node)) }
+        ensures value { IfOk result
+            (λ object. object ≡ find key_cmp key.now (table_of self.now node)) }
         ensures held { IfOk result (λ object. IfSome object IsHeld) }
     {
         match self.nodes[usize::from(node.number())].store().object(key) {
@@ -138,7 +138,8 @@ struct Sending {
 impl Sending {
     /// Copies of all.
     fn of(alloc: Global, key: &MetaKey, number: u64, bytes: ByteString) -> Result<Self, AllocError>
-        ensures { IfOk result (λ sending. sending ≡ record { bytes = bytes; kept = key.now; told = key.now; numbers = number ∷ []; reply = number ∷ [] }) }
+        ensures { IfOk result (λ sending. sending
+            ≡ record { bytes = bytes; kept = key.now; told = key.now; numbers = number ∷ []; reply = number ∷ [] }) }
     {
         let keys = both(key.copy(), key.copy());
         let numbers = both(
@@ -167,7 +168,8 @@ fn encoded(
 ) -> Result<ByteString, AllocError>
     requires apart { from ≢ to }
     requires held { IsHeld object }
-    ensures { IfOk result (Spells (record { from = from; to = to; number = number; message = Gossip 0 key.now object })) }
+    ensures { IfOk result (Spells
+        (record { from = from; to = to; number = number; message = Gossip 0 key.now object })) }
 {
     // Read for what they tell: the numbers of nodes and the lengths of names are in range.
     let _ = (from.number(), to.number(), key.key().len());

@@ -1,6 +1,7 @@
 //! All nodes of a cluster, in one value.
 
 ghost use Rattle.std.specs.Prelude.{◌≡◌, ◌≤◌, ◌<◌, ◌⊎◌, ◌↔◌, ℕ, List, Some, length, replicate, IfOk, IfErr, OnOk, IfSome, IsNone};
+ghost use Rattle.meta_types.specs.Failing.{FailsWith};
 ghost use Rattle.meta_types.specs.Name.{Key};
 ghost use Rattle.meta_store.specs.Table.{object_at};
 ghost use Rattle.past_model.specs.Past.{image, known, past, writes};
@@ -13,7 +14,7 @@ ghost use Rattle.meta_frame.specs.declared.message.Frame.{Frame as F};
 ghost use Rattle.meta_store.specs.Context.{Reading};
 ghost use Rattle.world_core.specs.Tells.{Tells, carried_object, numbered};
 ghost use Rattle.world_core.specs.Refusal.{IsFrameOf, node_at, table_of};
-ghost use Rattle.world_core.specs.Knowledge.{CarriesLoad, CountsSeen};
+ghost use Rattle.world_core.specs.Knowledge.{CarriesLoad, CountsSeen, ShowsKnown};
 ghost use Rattle.world_core.specs.World.{new_world};
 ghost use Rattle.world_core.specs.declared.fault.WorldFault.TheVariants.{Memory, NoSuchNode};
 
@@ -49,12 +50,13 @@ impl Model for World {
 }
 
 impl World {
-    /// A world of so many nodes, each of which holds nothing. Refused with 44 `NoSuchNode` for none or more than
+    /// A world of `nodes` nodes, each of which holds nothing. Refused with 44 `NoSuchNode` for none or more than
     /// 16, and with 99 `Memory`.
     pub fn new(alloc: Global, nodes: u64) -> Result<Self, WorldFault>
         ensures value { IfOk result (λ world. world ≡ new_world nodes) }
         ensures range { IfOk result (λ world. (1 ≤ nodes) × (nodes ≤ 16)) }
-        ensures fault { IfErr result (λ fault. (fault ≡ Memory) ⊎ ((fault ≡ NoSuchNode) × ((nodes < 1) ⊎ (16 < nodes)))) }
+        ensures fault { FailsWith Memory (λ fault. (fault ≡ NoSuchNode)
+            × ((nodes < 1) ⊎ (16 < nodes))) result }
     {
         if nodes == 0 || nodes > MAX_NODES {
             return Err(WorldFault::NoSuchNode);
@@ -80,7 +82,9 @@ impl World {
     /// each is that of what its sender knew when it was sent.
     pub fn frames(&self) -> &[ByteString]
         ensures value { result.now ≡ self.now.frames }
-        ensures carries { (number : ℕ) (frame : F) (key : Key) (object : List Entry) → IsFrameOf self.now number frame → carried_object frame.message ≡ Some (key, object) → CarriesLoad self.now.told number frame.from key object }
+        ensures carries { (number : ℕ) (frame : F) (key : Key) (object : List Entry)
+            → IsFrameOf self.now number frame → carried_object frame.message ≡ Some (key, object)
+            → CarriesLoad self.now.told number frame.from key object }
     {
         self.chronicle.frames.as_slice()
     }
@@ -92,7 +96,9 @@ impl World {
         ensures tells { Tells self.now.accepted self.now.frames self.now.told }
         ensures is_history { IsHistory self.now.told.history }
         ensures premise { RestartsKeepOwnWrites self.now.told.history }
-        ensures reads { (read : ℕ) (context : Reading) → numbered self.now.contexts read ≡ Some context → CountsSeen self.now.told read context }
+        ensures reads { (read : ℕ) (context : Reading)
+            → numbered self.now.contexts read ≡ Some context
+            → CountsSeen self.now.told read context }
     {
         self.chronicle.history.as_slice()
     }
@@ -101,9 +107,11 @@ impl World {
     /// `NoSuchNode` and 99 `Memory`. It is told from the history alone, by sets of places, and takes memory and
     /// time with the square of the history's length.
     pub fn known(&self, alloc: Global, node: u64, key: &MetaKey) -> Result<Vec<usize>, WorldFault>
-        ensures places { IfOk result (λ places. ArePlaces (known self.now.told.history node key.now) places.items) }
+        ensures places { IfOk result
+            (λ places. ArePlaces (known self.now.told.history node key.now) places.items) }
         ensures node { OnOk result (node < length self.now.nodes) }
-        ensures fault { IfErr result (λ fault. (fault ≡ Memory) ⊎ ((fault ≡ NoSuchNode) × (length self.now.nodes ≤ node))) }
+        ensures fault { FailsWith Memory (λ fault. (fault ≡ NoSuchNode)
+            × (length self.now.nodes ≤ node)) result }
     {
         let id = self.node_id(node)?;
         let plain = Plain::replay(alloc, self.history())?;
@@ -116,8 +124,11 @@ impl World {
     pub fn images(&self, node: u64) -> Option<&[Image]>
         ensures node { IsNone result ↔ (length self.now.nodes ≤ node) }
         ensures lends { IfSome result (λ images. images.now ≡ (node_at self.now node).images) }
-        ensures number { IfSome result (λ images. length images.now ≡ (past self.now.told.history).last node) }
-        ensures objects { IfSome result (λ images. (number : ℕ) → number ≤ length images.now → (key : Key) → IsObjectOf (writes self.now.told.history) key (image self.now.told.history node number key) (holdings images.now number key)) }
+        ensures number { IfSome result
+            (λ images. length images.now ≡ (past self.now.told.history).last node) }
+        ensures objects { IfSome result (λ images. (number : ℕ) → number ≤ length images.now
+            → (key : Key) → IsObjectOf (writes self.now.told.history) key
+            (image self.now.told.history node number key) (holdings images.now number key)) }
         ensures earlier { IfSome result (λ images. ChangeEarlier images.now) }
     {
         match usize::try_from(node) {
@@ -131,7 +142,10 @@ impl World {
     pub fn state(&self, node: u64) -> Option<&Store>
         ensures node { IsNone result ↔ (length self.now.nodes ≤ node) }
         ensures lends { IfSome result (λ store. store.now ≡ table_of self.now node) }
-        ensures shows { IfSome result (λ store. (key : Key) → IsObjectOf (writes self.now.told.history) key (known self.now.told.history node key) (object_at store.now key)) }
+        ensures shows { IfSome result (λ store. (key : Key)
+            → ShowsKnown self.now.told.history node key (object_at store.now key)) }
+        ensures objects { IfSome result (λ store. (key : Key) → IsObjectOf (writes self.now.told.history)
+            key (known self.now.told.history node key) (object_at store.now key)) }
     {
         match usize::try_from(node) {
             Ok(at) if at < self.nodes.len() => Some(self.nodes[at].store()),
@@ -140,7 +154,7 @@ impl World {
     }
 }
 
-/// So many nodes that hold nothing.
+/// `count` nodes that hold nothing.
 fn empty_nodes(alloc: Global, count: u64) -> Result<Vec<Node>, AllocError>
     ensures { IfOk result (λ nodes. nodes.items ≡ replicate count new_node) }
 {

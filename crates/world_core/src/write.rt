@@ -1,16 +1,16 @@
 //! Writes and reads.
 
 ghost use Rattle.std.specs.Prelude.{◌≡◌, ◌<◌, ◌⊎◌, [], length, slice_get, Some, IfOk, IfErr, IfSome, OnErr, OnOk};
+ghost use Rattle.meta_types.specs.Failing.{FailsBy};
 ghost use Rattle.std.specs.Option.{option_copied, option_and_then};
-ghost use Rattle.dvvset.specs.Clock.{join};
-ghost use Rattle.meta_store.specs.Table.{object_at};
+ghost use Rattle.meta_store.specs.Context.{reading_at};
 ghost use Rattle.meta_store.specs.Step.{refusal_of_put};
 ghost use Rattle.meta_store.specs.declared.fault.StoreFault.TheVariants.{Memory};
 ghost use Rattle.node_images.specs.Node.{image_of_write, with_write};
 ghost use Rattle.past_model.specs.declared.happening.Happening.TheVariants.{Wrote};
 ghost use Rattle.world_core.specs.Outcome.{Outcome, next_read};
 ghost use Rattle.world_core.specs.Refusal.{HasNoRead};
-ghost use Rattle.world_core.specs.Plan.{IsShown, IsWritten};
+ghost use Rattle.world_core.specs.Plan.{IsShown, IsWrittenNode};
 ghost use Rattle.world_core.specs.Steps.{IsPlaceOf};
 ghost use Rattle.world_core.specs.declared.answer.Reply.TheVariants as OfReply;
 ghost use Rattle.world_core.specs.declared.event.Event.TheVariants.{Get, Put, PutOver};
@@ -180,7 +180,8 @@ pub(crate) struct Written {
 impl Written {
     /// Copies of all.
     fn of(key: &MetaKey, value: &Value, vector: Vector) -> Result<Self, AllocError>
-        ensures { IfOk result (λ written. written ≡ record { vector = vector; reply = vector; kept = record { key = key.now; value = value.now }; told = record { key = key.now; value = value.now } }) }
+        ensures { IfOk result (λ written. written
+            ≡ record { vector = vector; reply = vector; kept = record { key = key.now; value = value.now }; told = record { key = key.now; value = value.now } }) }
     {
         let copy = vector.copy();
         let vectors = both(Ok(vector), copy);
@@ -204,9 +205,12 @@ fn write(
     value: &Value,
     context: Option<&Context>,
 ) -> Result<Written, StoreFault>
-    ensures value { OnOk result (node.new ≡ with_write id key.now value.now (option_copied context.entry) node.old) }
-    ensures written { IfOk result (IsWritten node.old id key.now value.now (option_copied context.entry)) }
-    ensures fault { IfErr result (λ fault. (fault ≡ Memory) ⊎ (refusal_of_put node.old.table id key.now value.now (option_copied context.entry) ≡ Some fault)) }
+    ensures value { OnOk result
+        (node.new ≡ with_write id key.now value.now (option_copied context.entry) node.old) }
+    ensures written { IfOk result
+        (IsWrittenNode node.old id key.now value.now (option_copied context.entry)) }
+    ensures fault { FailsBy Memory
+        (refusal_of_put node.old.table id key.now value.now (option_copied context.entry)) result }
     ensures same { OnErr result (node.new ≡ node.old) }
 {
     let ((image, stored), written) = planned(node, id, key, value, context)?;
@@ -223,10 +227,14 @@ fn planned(
     value: &Value,
     context: Option<&Context>,
 ) -> Result<((Image, Pair), Written), StoreFault>
-    ensures image { IfOk result (λ plan. plan.0.0 ≡ image_of_write id key.now value.now (option_copied context.entry) node.now) }
+    ensures image { IfOk result
+        (λ plan. plan.0.0 ≡ image_of_write id key.now value.now
+        (option_copied context.entry) node.now) }
     ensures stored { IfOk result (λ plan. plan.0.1 ≡ record { key = key.now; value = value.now }) }
-    ensures written { IfOk result (λ plan. IsWritten node.now id key.now value.now (option_copied context.entry) plan.1) }
-    ensures fault { IfErr result (λ fault. (fault ≡ Memory) ⊎ (refusal_of_put node.now.table id key.now value.now (option_copied context.entry) ≡ Some fault)) }
+    ensures written { IfOk result
+        (λ plan. IsWrittenNode node.now id key.now value.now (option_copied context.entry) plan.1) }
+    ensures fault { FailsBy Memory
+        (refusal_of_put node.now.table id key.now value.now (option_copied context.entry)) result }
 {
     let (image, vector) = node.next_image(id, key, value.copy()?, context)?;
     let stored = both(Ok(image), Pair::of(key, value));
@@ -242,10 +250,17 @@ fn write_over(
     value: &Value,
     source: Source,
 ) -> Result<((MetaKey, Context), Written), StoreFault>
-    ensures value { OnOk result (node.new ≡ with_write id key.now value.now (Some (record { key = key.now; vector = join (object_at node.old.table key.now); source = source })) node.old) }
-    ensures looked { IfOk result (λ over. over.0 ≡ (key.now, record { key = key.now; vector = join (object_at node.old.table key.now); source = source })) }
-    ensures written { IfOk result (λ over. IsWritten node.old id key.now value.now (Some (record { key = key.now; vector = join (object_at node.old.table key.now); source = source })) over.1) }
-    ensures fault { IfErr result (λ fault. (fault ≡ Memory) ⊎ (refusal_of_put node.old.table id key.now value.now (Some (record { key = key.now; vector = join (object_at node.old.table key.now); source = source })) ≡ Some fault)) }
+    ensures value { OnOk result
+        (node.new ≡ with_write id key.now value.now
+        (Some (reading_at node.old.table key.now source)) node.old) }
+    ensures looked { IfOk result
+        (λ over. over.0 ≡ (key.now, reading_at node.old.table key.now source)) }
+    ensures written { IfOk result
+        (λ over. IsWrittenNode node.old id key.now value.now
+        (Some (reading_at node.old.table key.now source)) over.1) }
+    ensures fault { IfErr result (λ fault. (fault ≡ Memory)
+        ⊎ (refusal_of_put node.old.table id key.now value.now
+        (Some (reading_at node.old.table key.now source)) ≡ Some fault)) }
     ensures same { OnErr result (node.new ≡ node.old) }
 {
     let context = looked_over(node.store(), key, source)?;
@@ -259,7 +274,7 @@ fn looked_over(
     key: &MetaKey,
     source: Source,
 ) -> Result<(MetaKey, Context), AllocError>
-    ensures { IfOk result (λ looked. looked ≡ (key.now, record { key = key.now; vector = join (object_at store.now key.now); source = source })) }
+    ensures { IfOk result (λ looked. looked ≡ (key.now, reading_at store.now key.now source)) }
 {
     let (_, context) = store.look(key, source)?;
     both(key.copy(), Ok(context))
@@ -280,7 +295,7 @@ pub(crate) struct Shown {
 impl Shown {
     /// A read of a store.
     fn of(store: &Store, key: &MetaKey, source: Source) -> Result<Self, AllocError>
-        ensures { IfOk result (IsShown store.now (record { key = key.now; vector = join (object_at store.now key.now); source = source })) }
+        ensures { IfOk result (IsShown store.now (reading_at store.now key.now source)) }
     {
         let (values, context) = store.look(key, source)?;
         let values = twice(Values::new(values));

@@ -6,10 +6,7 @@
 use meta_types::{ByteString, FullPrefix, MetaKey, Value};
 use std::alloc::Global;
 use std::process::Abort;
-use world_core::answer::{Answer, Reply};
-use world_core::event::Event;
-use world_core::fault::WorldFault;
-use world_core::world::World;
+use world_core::{Answer, Event, Reply, World, WorldFault};
 
 /// How many bytes a prefix, a sub-prefix, a key and the body of a value have.
 #[derive(Clone, Copy)]

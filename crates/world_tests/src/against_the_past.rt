@@ -6,7 +6,7 @@ use meta_types::{ByteString, MetaKey, NodeId};
 use past_model::Plain;
 use std::alloc::Global;
 use std::process::Abort;
-use world_core::world::World;
+use world_core::World;
 
 const NODES: u16 = 3;
 
@@ -120,7 +120,7 @@ fn next_act(world: &World, dice: &mut Dice, letter: u8) -> Act {
     }
 }
 
-/// Tells whether the node, which has this store, shows under the key what the sets of places do.
+/// Returns whether the node, which has this store, shows under the key what the sets of places do.
 fn is_right(
     rt: &impl Abort,
     alloc: Global,
@@ -135,7 +135,7 @@ fn is_right(
     values.as_slice() == siblings.as_slice() && vector == context
 }
 
-/// Tells whether each node shows under the key what the sets of places do.
+/// Returns whether each node shows under the key what the sets of places do.
 fn are_right(rt: &impl Abort, alloc: Global, plain: &Plain, world: &World, name: u16) -> bool {
     let key = key(rt, alloc, SHORT, name);
     for number in 0..NODES {
@@ -148,7 +148,7 @@ fn are_right(rt: &impl Abort, alloc: Global, plain: &Plain, world: &World, name:
     true
 }
 
-/// Tells whether each node shows under each key what the sets of places do.
+/// Returns whether each node shows under each key what the sets of places do.
 fn is_shown(rt: &impl Abort, alloc: Global, world: &World) -> bool {
     let plain = Plain::replay(alloc, world.history()).expect(rt, "memory");
     KEYS.iter()

@@ -3,9 +3,7 @@
 use meta_types::{FullPrefix, MetaKey, Value};
 use std::alloc::Global;
 use std::process::Abort;
-use world_core::event::Event;
-use world_core::fault::WorldFault;
-use world_core::world::World;
+use world_core::{Event, World, WorldFault};
 
 fn bytes(rt: &impl Abort, alloc: Global, text: &str) -> Vec<u8> {
     text.as_bytes().to_vec(alloc).expect(rt, "memory")
@@ -29,7 +27,7 @@ fn is_text(value: &Value, text: &str) -> bool {
     }
 }
 
-/// Tells whether node 1 shows these values under the key, in this order.
+/// Returns whether node 1 shows these values under the key, in this order.
 fn shows(rt: &impl Abort, world: &World, key: &MetaKey, texts: &[&str]) -> bool {
     let store = world.state(1).expect(rt, "a node");
     let (values, _) = store.get(key).expect(rt, "memory");
@@ -40,7 +38,7 @@ fn shows(rt: &impl Abort, world: &World, key: &MetaKey, texts: &[&str]) -> bool 
             .all(|(value, text)| is_text(value, text))
 }
 
-/// Tells whether the context that node 1 shows counts a write of each node.
+/// Returns whether the context that node 1 shows counts a write of each node.
 fn counts_one_of_each(rt: &impl Abort, world: &World, key: &MetaKey) -> bool {
     let store = world.state(1).expect(rt, "a node");
     let (_, context) = store.get(key).expect(rt, "memory");

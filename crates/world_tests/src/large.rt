@@ -5,10 +5,7 @@ use crate::acts::{
 };
 use std::alloc::Global;
 use std::process::Abort;
-use world_core::answer::{Accepted, Answer};
-use world_core::event::Event;
-use world_core::fault::WorldFault;
-use world_core::world::World;
+use world_core::{Accepted, Answer, Event, World, WorldFault};
 
 /// An event, and what it gives.
 type Row = (Act, u16);

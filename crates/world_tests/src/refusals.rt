@@ -4,7 +4,7 @@ use meta_frame::FrameFault;
 use meta_store::StoreFault;
 use std::alloc::Global;
 use std::process::Abort;
-use world_core::fault::WorldFault;
+use world_core::WorldFault;
 
 fn prints(rt: &impl Abort, alloc: Global, fault: &WorldFault, text: &str) -> bool {
     let printed = fault.to_string(alloc).expect(rt, "memory");

@@ -7,10 +7,7 @@ use crate::acts::{
 use crate::schedules::{NOTHING, PRUNE, Row, first_wrong};
 use std::alloc::Global;
 use std::process::Abort;
-use world_core::answer::Answer;
-use world_core::event::Event;
-use world_core::fault::WorldFault;
-use world_core::world::World;
+use world_core::{Answer, Event, World, WorldFault};
 
 // Each table holds whichever single allocation is refused. The first event of a world makes room for what it keeps,
 // and so does the fifth, so each kind of event is the first or the fifth once.

@@ -5,7 +5,7 @@ use dvvset::Entries;
 use meta_types::{MetaKey, Value};
 use std::alloc::Global;
 use std::process::Abort;
-use world_core::world::World;
+use world_core::World;
 
 /// The letters of the values that a node shows under K, with dots for none, and how many writes of node 0 and of node 1
 /// their context counts.

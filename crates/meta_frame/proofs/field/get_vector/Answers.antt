@@ -1,12 +1,12 @@
 use Rattle.std.proofs.Common.{arith}
 use Rattle.frame_fields.specs.Field.{vector}
-use Rattle.field_readers.specs.Reader.{vector_at}
-use Rattle.field_readers.proofs.Fields.{vector_reads}
+use Rattle.frame_readers.specs.Reader.{vector_reader}
+use Rattle.frame_readers.proofs.Fields.{vector_reads}
 use Rattle.meta_frame.proofs.Fronts.{begins, refuses_field}
 use Rattle.meta_frame.proofs.field.get_vector.Goals as goal
 
 pub returns-in-Ok-clause-found : goal.returns-in-Ok-clause-found
-returns-in-Ok-clause-found c = begins vector vector_at vector_reads c.args.bytes.now c.in-Ok.found.0 c.in-Ok.found.1.now (λ i. omega (arith, c.type_inv.bytes i)) c.in-Ok.ensures
+returns-in-Ok-clause-found c = begins vector vector_reader vector_reads c.args.bytes.now c.in-Ok.found.0 c.in-Ok.found.1.now (λ i. omega (arith, c.type_inv.bytes i)) c.in-Ok.ensures
 
 pub returns-in-Err-clause-refused : goal.returns-in-Err-clause-refused
-returns-in-Err-clause-refused c = refuses_field vector vector_at vector_reads c.args.bytes.now c.in-Err.fault c.offset.result (λ i. omega (arith, c.type_inv.bytes i)) c.in-Err.ensures c.offset.ensures
+returns-in-Err-clause-refused c = refuses_field vector vector_reader vector_reads c.args.bytes.now c.in-Err.fault c.offset.result (λ i. omega (arith, c.type_inv.bytes i)) c.in-Err.ensures c.offset.ensures

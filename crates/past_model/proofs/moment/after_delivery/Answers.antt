@@ -3,7 +3,7 @@ use Rattle.std.specs.Prelude.{slice_get}
 use Rattle.std.proofs.lemmas.Bool.{true≢false}
 use Rattle.std.proofs.lemmas.List.{get_or_read}
 use Rattle.past_model.specs.Sets.{union, with_set}
-use Rattle.past_model.specs.Moment.{Gives, is_sending, marked}
+use Rattle.past_model.specs.Moment.{GivesSets, is_sending, marked_places}
 use Rattle.past_model.proofs.Marking.{Joined, joined, gives_joined, sending_at}
 use Rattle.past_model.proofs.moment.after_delivery.Goals as goal
 
@@ -19,12 +19,12 @@ returns-in_ok-standing-in-Sent-clause-known c = λ v w m k d is gv gw.
     let both : Joined hs c.in_ok-known-in-Sent.known.items c.known-in-Sent-2.result.now c.known-in-Sent.result.now key =
     joined hs c.in_ok-known-in-Sent.known.items c.known-in-Sent-2.result.now c.known-in-Sent.result.now c.as_slice.result.now key
     (λ p lt. c.in_ok-known-in-Sent.ensures.marks p lt)
-    (λ p. ap (λ l. marked l p) c.as_slice.ensures.value ∙ c.in_ok-more-in-Sent.ensures p) in
+    (λ p. ap (λ l. marked_places l p) c.as_slice.ensures.value ∙ c.in_ok-more-in-Sent.ensures p) in
     rw c.new.ensures
-    (subst (λ l. Gives hs c.in_ok-known-in-Sent.known.items (with_set v l (union (v l) (w l)))) same
+    (subst (λ l. GivesSets hs c.in_ok-known-in-Sent.known.items (with_set v l (union (v l) (w l)))) same
     (gives_joined hs c.in_ok-known-in-Sent.known.items c.known-in-Sent-2.result.now c.known-in-Sent.result.now v w key both
-    (subst (λ l. Gives hs l v) (sym c.known-in-Sent-2.ensures) gv)
-    (subst (λ l. Gives hs l w) (sym more) gw)))
+    (subst (λ l. GivesSets hs l v) (sym c.known-in-Sent-2.ensures) gv)
+    (subst (λ l. GivesSets hs l w) (sym more) gw)))
 
 pub returns-in-Got-clause-known : goal.returns-in-Got-clause-known
 returns-in-Got-clause-known c =

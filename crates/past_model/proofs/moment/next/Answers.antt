@@ -7,7 +7,7 @@ use Rattle.past_model.specs.declared.happening.Happening.TheVariants.{Wrote, Loo
 use Rattle.past_model.specs.Sets.{Knowledge, singleton, union, with_set}
 use Rattle.past_model.specs.Past.{past, read_of}
 use Rattle.past_model.specs.History.{Fits}
-use Rattle.past_model.specs.Moment.{Marks, Gives, GivesBoth, is_write_under, is_sending, moment_read, node_of}
+use Rattle.past_model.specs.Moment.{Marks, GivesSets, GivesBoth, is_write_under, is_sending, moment_read, node_of}
 use Rattle.past_model.proofs.Keys.{key_eq-self}
 use Rattle.past_model.proofs.Fitting.{fits_at}
 use Rattle.past_model.proofs.Latest.{at_latest, at_image}
@@ -65,13 +65,13 @@ returns-in-Wrote-clause-moment c =
     subst (GivesBoth c.args.history.now c.index-moments-latest.result (past (take c.args.place c.args.history.now))) mine
     (subst (λ m. GivesBoth c.args.history.now m (past (take c.args.place c.args.history.now)) c.node.result) (sym c.index-moments-latest.is)
     (at_latest c.args.history.now c.args.moments.now c.args.place c.node.result c.latest.result c.index-moments-latest.result c.requires.moments (omega (arith, c.requires.inside)) (omega (arith, c.latest.ensures.within, c.requires.before)) c.latest.ensures)) in
-    let read : (w : Knowledge) × (Gives c.args.history.now c.index-moments-moment_read.result.known w × (w c.in-Wrote.key ≡ read_of (past (take c.args.place c.args.history.now)) c.in-Wrote.key c.in-Wrote.seen)) =
-    subst (λ m. (w : Knowledge) × (Gives c.args.history.now m.known w × (w c.in-Wrote.key ≡ read_of (past (take c.args.place c.args.history.now)) c.in-Wrote.key c.in-Wrote.seen)))
+    let read : (w : Knowledge) × (GivesSets c.args.history.now c.index-moments-moment_read.result.known w × (w c.in-Wrote.key ≡ read_of (past (take c.args.place c.args.history.now)) c.in-Wrote.key c.in-Wrote.seen)) =
+    subst (λ m. (w : Knowledge) × (GivesSets c.args.history.now m.known w × (w c.in-Wrote.key ≡ read_of (past (take c.args.place c.args.history.now)) c.in-Wrote.key c.in-Wrote.seen)))
     (sym (c.index-moments-moment_read.is ∙ ap (λ i. get_or c.args.moments.now i c.index-moments-moment_read.result) c.moment_read.ensures))
     (read_gives c.args.history.now c.args.moments.now c.args.place c.in-Wrote.node c.in-Wrote.key c.in-Wrote.value c.in-Wrote.seen c.index-moments-moment_read.result c.requires.moments c.requires.before fits) in
     if_both c.after_write.result
-    (λ m. (v r : Knowledge) → Gives c.args.history.now c.index-moments-latest.result.known v → Gives c.args.history.now c.index-moments-moment_read.result.known r → Gives c.args.history.now m.known (with_set v c.in-Wrote.key (union (v c.in-Wrote.key) (union (r c.in-Wrote.key) (singleton c.args.place)))))
-    (λ m. (v w : Knowledge) → Gives c.args.history.now c.index-moments-latest.result.standing v → Gives c.args.history.now m.known w → Gives c.args.history.now m.standing (with_set v c.in-Wrote.key (w c.in-Wrote.key)))
+    (λ m. (v r : Knowledge) → GivesSets c.args.history.now c.index-moments-latest.result.known v → GivesSets c.args.history.now c.index-moments-moment_read.result.known r → GivesSets c.args.history.now m.known (with_set v c.in-Wrote.key (union (v c.in-Wrote.key) (union (r c.in-Wrote.key) (singleton c.args.place)))))
+    (λ m. (v w : Knowledge) → GivesSets c.args.history.now c.index-moments-latest.result.standing v → GivesSets c.args.history.now m.known w → GivesSets c.args.history.now m.standing (with_set v c.in-Wrote.key (w c.in-Wrote.key)))
     (λ m. (h : Happening) → slice_get c.args.history.now c.args.place ≡ Some h → GivesBoth c.args.history.now m (past (take (c.args.place + 1) c.args.history.now)) (node_of h))
     (λ m known standing.
     (behind_write c.args.history.now c.args.place c.in-Wrote.node c.in-Wrote.key c.in-Wrote.value c.in-Wrote.seen m read.0 c.requires.inside at read.1.1
@@ -111,7 +111,7 @@ returns-in-Got-clause-moment c =
     (subst (λ m. GivesBoth c.args.history.now m (past (take c.args.place c.args.history.now)) c.node.result) (sym c.index-moments-latest.is)
     (at_latest c.args.history.now c.args.moments.now c.args.place c.node.result c.latest.result c.index-moments-latest.result c.requires.moments (omega (arith, c.requires.inside)) (omega (arith, c.latest.ensures.within, c.requires.before)) c.latest.ensures)) in
     if_both c.after_delivery.result
-    (λ m. (v w : Knowledge) (q : ℕ) (k : Key) (d : Marks) → slice_get c.args.history.now c.in-Got.sent ≡ Some (Sent q k) → Gives c.args.history.now c.index-moments-latest.result.known v → Gives c.args.history.now (get_or c.args.moments.now (c.in-Got.sent + 1) d).known w → Gives c.args.history.now m.known (with_set v k (union (v k) (w k))))
+    (λ m. (v w : Knowledge) (q : ℕ) (k : Key) (d : Marks) → slice_get c.args.history.now c.in-Got.sent ≡ Some (Sent q k) → GivesSets c.args.history.now c.index-moments-latest.result.known v → GivesSets c.args.history.now (get_or c.args.moments.now (c.in-Got.sent + 1) d).known w → GivesSets c.args.history.now m.known (with_set v k (union (v k) (w k))))
     (λ m. m.standing ≡ c.index-moments-latest.result.standing)
     (λ m. (h : Happening) → slice_get c.args.history.now c.args.place ≡ Some h → GivesBoth c.args.history.now m (past (take (c.args.place + 1) c.args.history.now)) (node_of h))
     (λ m known standing. (behind_delivery c.args.history.now c.args.moments.now c.args.place c.in-Got.node c.in-Got.sent c.index-moments-latest.result m c.requires.inside c.requires.before c.requires.moments at fits both known standing).behind)
@@ -126,15 +126,15 @@ returns-in-Kept-clause-moment c =
     (at_latest c.args.history.now c.args.moments.now c.args.place c.node.result c.latest.result c.index-moments-latest.result c.requires.moments (omega (arith, c.requires.inside)) (omega (arith, c.latest.ensures.within, c.requires.before)) c.latest.ensures)) in
     if_both c.after_keeping.result
     (λ m. m.known ≡ c.index-moments-latest.result.known)
-    (λ m. (v w : Knowledge) → Gives c.args.history.now c.index-moments-latest.result.standing v → Gives c.args.history.now c.index-moments-latest.result.known w → Gives c.args.history.now m.standing (with_set v c.in-Kept.key (w c.in-Kept.key)))
+    (λ m. (v w : Knowledge) → GivesSets c.args.history.now c.index-moments-latest.result.standing v → GivesSets c.args.history.now c.index-moments-latest.result.known w → GivesSets c.args.history.now m.standing (with_set v c.in-Kept.key (w c.in-Kept.key)))
     (λ m. (h : Happening) → slice_get c.args.history.now c.args.place ≡ Some h → GivesBoth c.args.history.now m (past (take (c.args.place + 1) c.args.history.now)) (node_of h))
     (λ m known standing. (behind_keeping c.args.history.now c.args.place c.in-Kept.node c.in-Kept.key c.index-moments-latest.result m (placed c.args.history.now c.args.place c.index-history-place.result (Kept c.in-Kept.node c.in-Kept.key) c.requires.inside c.index-history-place.is c.in-Kept.is) both known standing).behind)
     c.after_keeping.ensures.known c.after_keeping.ensures.standing
 
 pub returns-in-Restarted-clause-moment : goal.returns-in-Restarted-clause-moment
 returns-in-Restarted-clause-moment c =
-    let gives : Gives c.args.history.now c.index-moments-image.result.standing ((past (take c.args.place c.args.history.now)).images c.in-Restarted.node c.in-Restarted.number) =
-    subst (λ m. Gives c.args.history.now m.standing ((past (take c.args.place c.args.history.now)).images c.in-Restarted.node c.in-Restarted.number)) (sym c.index-moments-image.is)
+    let gives : GivesSets c.args.history.now c.index-moments-image.result.standing ((past (take c.args.place c.args.history.now)).images c.in-Restarted.node c.in-Restarted.number) =
+    subst (λ m. GivesSets c.args.history.now m.standing ((past (take c.args.place c.args.history.now)).images c.in-Restarted.node c.in-Restarted.number)) (sym c.index-moments-image.is)
     (at_image c.args.history.now c.args.moments.now c.args.place c.in-Restarted.node c.in-Restarted.number c.image.result c.index-moments-image.result c.requires.moments (omega (arith, c.requires.inside)) (omega (arith, c.image.ensures.within, c.requires.before)) c.image.ensures) in
     IfOk-weaker c.same-in-Restarted.result (λ m. m ≡ record { known = c.standing-in-Restarted.result.now; standing = c.standing-in-Restarted-2.result.now }) (λ m. (h : Happening) → slice_get c.args.history.now c.args.place ≡ Some h → GivesBoth c.args.history.now m (past (take (c.args.place + 1) c.args.history.now)) (node_of h))
     (λ m same. (subst (IsBehind c.args.history.now c.args.place) (sym (same ∙ (λ i. record { known = c.standing-in-Restarted.ensures i; standing = c.standing-in-Restarted-2.ensures i }))) (behind_restart c.args.history.now c.args.place c.in-Restarted.node c.in-Restarted.number c.index-moments-image.result.standing (placed c.args.history.now c.args.place c.index-history-place.result (Restarted c.in-Restarted.node c.in-Restarted.number) c.requires.inside c.index-history-place.is c.in-Restarted.is) gives)).behind)

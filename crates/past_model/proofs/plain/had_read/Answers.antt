@@ -1,7 +1,7 @@
 use Rattle.std.proofs.Common.{◌≡◌, ◌<◌, length, get_or, sym, ap, ◌∙◌, arith, Some, true, false}
 use Rattle.std.specs.Prelude.{slice_get, ◌&&◌}
 use Rattle.past_model.specs.declared.happening.Happening.TheVariants.{Wrote, Looked, Sent, Got, Kept, Restarted}
-use Rattle.past_model.specs.Moment.{marked, is_write_under, moment_read}
+use Rattle.past_model.specs.Moment.{marked_places, is_write_under, moment_read}
 use Rattle.past_model.proofs.Moving.{placed}
 use Rattle.past_model.proofs.Reading.{moment_within, moment_bound, read_at}
 use Rattle.past_model.proofs.plain.had_read.Goals as goal
@@ -47,8 +47,8 @@ returns-then-is_write_under c n v r is =
     let marks : c.known-read.result.now ≡ (get_or ms (moment_read r) m).known = c.known-read.ensures ∙ ap (λ x. x.known) moment in
     let under : is_write_under c.args.key.now (slice_get hs c.args.place) ≡ true = sym c.is_write_under.ensures ∙ c.if-is_write_under.true in
     c.is_marked.ensures
-    ∙ ap (λ l. marked l c.args.place) marks
-    ∙ sym (ap (λ b. b && marked (get_or ms (moment_read r) m).known c.args.place) under)
+    ∙ ap (λ l. marked_places l c.args.place) marks
+    ∙ sym (ap (λ b. b && marked_places (get_or ms (moment_read r) m).known c.args.place) under)
     ∙ read_at hs ms c.args.reader n c.args.key.now v r m c.args.place c.requires.account is
 
 pub returns-else-is_write_under : goal.returns-else-is_write_under
@@ -58,7 +58,7 @@ returns-else-is_write_under c n v r is =
     let m = c.index-moments-moment_read.result in
     let under : is_write_under c.args.key.now (slice_get hs c.args.place) ≡ false = sym c.is_write_under.ensures ∙ c.if-is_write_under.false in
     c.if-is_write_under.false
-    ∙ sym (ap (λ b. b && marked (get_or ms (moment_read r) m).known c.args.place) under)
+    ∙ sym (ap (λ b. b && marked_places (get_or ms (moment_read r) m).known c.args.place) under)
     ∙ read_at hs ms c.args.reader n c.args.key.now v r m c.args.place c.requires.account is
 
 pub returns-in-Looked : goal.returns-in-Looked

@@ -1,6 +1,6 @@
 use Rattle.std.proofs.Common.{◌≡◌, ℕ, ◌+◌, ◌-◌, ◌<◌, length, take, sym, ◌∙◌, subst, arith}
 use Rattle.past_model.specs.Past.{past}
-use Rattle.past_model.specs.Moment.{marked}
+use Rattle.past_model.specs.Moment.{marked_places}
 use Rattle.past_model.proofs.Latest.{inside}
 use Rattle.past_model.proofs.Reading.{read_back}
 use Rattle.past_model.proofs.Listing.{Listed, Listed-sibling, Listed-other}
@@ -10,7 +10,7 @@ use Rattle.past_model.proofs.plain.push_siblings.Goals.{then-is_sibling+in_ok-pu
 pub loop-back-preserved : goal.loop-back-preserved
 loop-back-preserved c =
     let hs = c.args.history.now in
-    let S = marked c.args.marks.now in
+    let S = marked_places c.args.marks.now in
     let w = c.args.writer in
     let old = c.args.values.now.items in
     let values = c.loop-back.values.items in

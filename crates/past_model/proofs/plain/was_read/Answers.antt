@@ -1,6 +1,6 @@
 use Rattle.std.proofs.Common.{◌≡◌, ◌<◌, length, sym, ◌∙◌, arith, true}
 use Rattle.std.specs.Prelude.{slice_get}
-use Rattle.past_model.specs.Moment.{marked}
+use Rattle.past_model.specs.Moment.{marked_places}
 use Rattle.past_model.proofs.Latest.{inside}
 use Rattle.past_model.proofs.Reading.{WriteUnder, write_under, read_unmarked, read_not, read_here}
 use Rattle.past_model.proofs.plain.was_read.Goals as goal
@@ -9,7 +9,7 @@ use Rattle.past_model.proofs.plain.was_read.Goals.{else-is_marked-via-then-is_ma
 pub returns-then-had_read : goal.returns-then-had_read
 returns-then-had_read c =
     let hs = c.args.history.now in
-    let S = marked c.args.marks.now in
+    let S = marked_places c.args.marks.now in
     let i = c.loop-reader.reader in
     let lt : i < length hs = omega arith in
     let mark : S i ≡ true = sym c.is_marked.ensures ∙ c.if-is_marked.true in
@@ -20,7 +20,7 @@ returns-then-had_read c =
 pub loop-reader-preserved : goal.loop-reader-preserved
 loop-reader-preserved c =
     let hs = c.args.history.now in
-    let S = marked c.args.marks.now in
+    let S = marked_places c.args.marks.now in
     let i = c.loop-reader.reader in
     let lt : i < length hs = omega arith in
     elim c.else-is_marked.branch [

@@ -11,7 +11,7 @@ returns-in_err-lines-clause-err g c =
     rw p.1 (stops_none _ _ _ _ p.0 p.2)
 
 pub loop-text-init : goal.loop-text-init
-loop-text-init g c = (rw c.in_ok-lines.ensures (going_none _ _), λ failed. failed, λ failed. failed)
+loop-text-init g c = (rw c.in_ok-lines.ensures (going_none _ _), λ failed. failed, λ kind failed. failed)
 
 pub returns-in_err-next_line-clause-err : goal.returns-in_err-next_line-clause-err
 returns-in_err-next_line-clause-err g c =
@@ -26,7 +26,7 @@ returns-in_err-all-clause-err g c =
     let p = err_from_is_err_and c.from_residual-in_err-all.result c.from_residual-in_err-all.ensures.1 in
     let takes = subst (λ ended. TakesLine c.loop-text.lines c.next_line.new.self (r c.loop-text.reader) (r c.next_line.new.reader) line ended) c.if-branch.true c.in_ok-next_line.ensures.ok in
     let stop =
-    subst (λ l. StopsLine (g.W.Sink.write_failed c.write_line.new.writer) l (w c.loop-text.writer) (w c.write_line.new.writer) c.in_err-all.field-0.0)
+    subst (λ l. StopsLine (g.W.Sink.failed c.write_line.new.writer) l (w c.loop-text.writer) (w c.write_line.new.writer) c.in_err-all.field-0.0)
     c.as_slice.ensures.value c.in_err-all.ensures.err in
     rw (p.1, p.2) (stops_line _ _ _ _ _ _ _ _ c.loop-text.lines c.next_line.new.self c.loop-text.all line _ c.loop-text.invariant.0 takes stop)
 
@@ -40,7 +40,7 @@ loop-text-preserved-in_ok-flush g c =
       going_flushed _ _ _ _ _ c.next_line.new.self _
           (going_line _ _ _ _ _ _ c.loop-text.lines c.next_line.new.self c.loop-text.all c.in_ok-all.field-0 line c.loop-text.invariant.0 takes writes) c.flush.ensures.bytes,
       λ failed. c.loop-text.invariant.1 (c.in_ok-next_line.ensures.sound failed),
-      λ failed. c.loop-text.invariant.2 (c.in_ok-all.ensures.sound (c.in_ok-flush.ensures.sound failed)),
+      λ kind failed. c.loop-text.invariant.2 kind (c.in_ok-all.ensures.sound kind (c.in_ok-flush.ensures.sound kind failed)),
     )
 
 pub returns-in_err-flush-clause-err : goal.returns-in_err-flush-clause-err
@@ -78,7 +78,7 @@ loop-text-preserved g c =
     let writes = subst (λ l. WritesLine l (w c.loop-text.writer) (w c.write_line.new.writer) c.in_ok-all.field-0) c.as_slice.ensures.value c.in_ok-all.ensures.ok in (
       going_line _ _ _ _ _ _ c.loop-text.lines c.next_line.new.self c.loop-text.all c.in_ok-all.field-0 line c.loop-text.invariant.0 takes writes,
       λ failed. c.loop-text.invariant.1 (c.in_ok-next_line.ensures.sound failed),
-      λ failed. c.loop-text.invariant.2 (c.in_ok-all.ensures.sound failed),
+      λ kind failed. c.loop-text.invariant.2 kind (c.in_ok-all.ensures.sound kind failed),
     )
 
 pub returns-in_err-all-2-clause-err : goal.returns-in_err-all-2-clause-err
@@ -89,7 +89,7 @@ returns-in_err-all-2-clause-err g c =
     let p = err_from_is_err_and c.from_residual-in_err-all-2.result c.from_residual-in_err-all-2.ensures.1 in
     let takes = subst (λ ended. TakesLine c.loop-text.lines c.next_line.new.self (r c.loop-text.reader) (r c.next_line.new.reader) line ended) c.if-branch.false c.in_ok-next_line.ensures.ok in
     let stop =
-    subst (λ l. StopsLast (g.W.Sink.write_failed c.write_last_line.new.writer) l (w c.loop-text.writer) (w c.write_last_line.new.writer) c.in_err-all-2.field-0.0)
+    subst (λ l. StopsLast (g.W.Sink.failed c.write_last_line.new.writer) l (w c.loop-text.writer) (w c.write_last_line.new.writer) c.in_err-all-2.field-0.0)
     c.as_slice-2.ensures.value c.in_err-all-2.ensures.err in
     rw (p.1, p.2) (stops_over _ _ _ _ _ _ _ _ c.loop-text.lines c.next_line.new.self c.loop-text.all line _ c.loop-text.invariant.0 takes stop)
 
@@ -116,5 +116,5 @@ returns-clause-ok g c =
 pub returns-clause-sound : goal.returns-clause-sound
 returns-clause-sound g c = (
   λ failed. c.loop-text.invariant.1 (c.in_ok-next_line.ensures.sound failed),
-  λ failed. c.loop-text.invariant.2 (c.in_ok-all-2.ensures.sound (c.in_ok-flush-2.ensures.sound failed)),
+  λ kind failed. c.loop-text.invariant.2 kind (c.in_ok-all-2.ensures.sound kind (c.in_ok-flush-2.ensures.sound kind failed)),
 )

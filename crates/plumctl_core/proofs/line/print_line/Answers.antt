@@ -3,4 +3,4 @@ use Rattle.plumctl_core.proofs.line.print_line.Goals as goal
 
 pub returns-in-Ok-clause-text : goal.returns-in-Ok-clause-text
 returns-in-Ok-clause-text c =
-    line_text c.put_text_of_bytes.result c.args.line.now c.in-Ok.bytes.items c.as_slice.result.now c.clear.new.self.items c.put_text_of_bytes.new.text.items c.in-Ok.ensures.ok c.as_slice.ensures.value c.clear.ensures.items c.put_text_of_bytes.ensures.text
+    line_text c.print_text_of_bytes.result c.args.line.now c.in-Ok.bytes.items c.as_slice.result.now c.clear.new.self.items c.print_text_of_bytes.new.text.items c.in-Ok.ensures.ok c.as_slice.ensures.value c.clear.ensures.items c.print_text_of_bytes.ensures.text

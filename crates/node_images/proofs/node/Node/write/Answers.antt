@@ -1,7 +1,7 @@
 use Rattle.std.proofs.Common.{rules, ◌≡◌, [], ◌∷◌, ◌++◌, length, Some}
 use Rattle.std.specs.Option.{option_copied}
 use Rattle.meta_store.specs.Table.{with_object}
-use Rattle.meta_store.specs.Step.{written}
+use Rattle.meta_store.specs.Step.{object_after_put}
 use Rattle.node_images.specs.Node.{Node}
 use Rattle.node_images.proofs.Noding.{is_node-written}
 use Rattle.node_images.proofs.node.Node.write.Goals as goal
@@ -9,7 +9,7 @@ use Rattle.node_images.proofs.node.Node.write.Goals as goal
 pub invariant_of-self-2 : goal.invariant_of-self-2
 invariant_of-self-2 c =
     let node : Node = record { table = c.self.inside.store; images = c.self.inside.images.items; standing = c.self.inside.standing } in
-    let object = written c.self.inside.store c.args.id c.args.key c.args.value (option_copied c.args.context) in
+    let object = object_after_put c.self.inside.store c.args.id c.args.key c.args.value (option_copied c.args.context) in
     let put : c.put.new.self ≡ with_object c.args.key object c.self.inside.store = search rules in
     let made : c.args.image ≡ record { base = c.self.inside.standing; change = Some (c.args.key, object) } = search rules in
     let added : c.push.new.self.items ≡ c.self.inside.images.items ++ c.args.image ∷ [] = search rules in

@@ -11,7 +11,7 @@ pub returns-in_err-fill-clause-err : goal.returns-in_err-fill-clause-err
 returns-in_err-fill-clause-err g c =
     let p = err_from_is_err_and c.from_residual.result c.from_residual.ensures.1 in
     rw (p.1, p.2)
-    (taking_stopped _ c.args.self.now c.loop-self.self _ _ _ c.loop-self.line.items _ c.loop-self.invariant.0 c.in_err-fill.ensures.err)
+    (taking_stopped _ _ c.args.self.now c.loop-self.self _ _ _ c.loop-self.line.items _ c.loop-self.invariant.0 c.in_err-fill.ensures.err)
 
 pub returns-in_err-take-clause-err : goal.returns-in_err-take-clause-err
 returns-in_err-take-clause-err g c =

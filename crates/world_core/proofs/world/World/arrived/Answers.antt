@@ -3,7 +3,7 @@ use Rattle.world_core.specs.contracts.world.World.{the_view}
 use Rattle.world_core.specs.declared.event.Event.TheVariants.{Deliver}
 use Rattle.world_core.specs.declared.fault.WorldFault.TheVariants.{NotAddressed}
 use Rattle.world_core.specs.World.{World}
-use Rattle.world_core.specs.Refusal.{Refuses, IsFrame, IsFrameOf}
+use Rattle.world_core.specs.Refusal.{RefusesEvent, IsFrame, IsFrameOf}
 use Rattle.world_core.specs.Steps.{Arrives, IsArrival}
 use Rattle.world_core.proofs.Outcomes.{world_of}
 use Rattle.world_core.proofs.Delivering.{arrives_at, frame_at, frame_of_number, not_addressed_refuses}
@@ -28,7 +28,7 @@ returns-then-ne-clause-fault c =
     inr (
       refl,
       λ word.
-          subst (λ (v : World). Refuses v (Deliver (c.args.place + 1) c.args.node word) NotAddressed) c.self.view_is
+          subst (λ (v : World). RefusesEvent v (Deliver (c.args.place + 1) c.args.node word) NotAddressed) c.self.view_is
           (not_addressed_refuses w (c.args.place + 1) c.args.node word arrival.frame low is (λ same. other (sym arrival.addressed ∙ same))),
     )
 

@@ -3,7 +3,7 @@ use Rattle.meta_types.specs.Name.{Key}
 use Rattle.dvvset.specs.Object.{Entry}
 use Rattle.world_core.specs.declared.event.Event.TheVariants.{Deliver}
 use Rattle.world_core.specs.declared.fault.WorldFault.TheVariants.{NoSuchFrame, NoSuchNode, NotAddressed}
-use Rattle.world_core.specs.Refusal.{HasNoFrame, Refuses}
+use Rattle.world_core.specs.Refusal.{HasNoFrame, RefusesEvent}
 use Rattle.world_core.specs.Steps.{Arrives}
 use Rattle.world_core.proofs.Outcomes.{memory, refused}
 use Rattle.world_core.proofs.Delivering.{no_frame_refuses}
@@ -25,8 +25,8 @@ returns-in_err-key c =
     elim c.in_err-key.ensures.fault [
       | inl none_left ↦ memory _ (search rules) refl
       | inr other ↦ refused _ NotAddressed (search rules)
-          (subst (λ f. Refuses c.args.self.now (Deliver f c.args.node c.args.word) NotAddressed) (sym named)
-          (subst (λ n. Refuses c.args.self.now (Deliver (c.in_ok-place.place + 1) n c.args.word) NotAddressed) id (other.1 c.args.word)))
+          (subst (λ f. RefusesEvent c.args.self.now (Deliver f c.args.node c.args.word) NotAddressed) (sym named)
+          (subst (λ n. RefusesEvent c.args.self.now (Deliver (c.in_ok-place.place + 1) n c.args.word) NotAddressed) id (other.1 c.args.word)))
           refl
     ]
 

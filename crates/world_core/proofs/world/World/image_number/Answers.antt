@@ -1,7 +1,7 @@
 use Rattle.std.proofs.Common.{rules, ◌≡◌, ◌<◌, ◌≤◌, length, refl, subst}
 use Rattle.world_core.specs.World.{World}
 use Rattle.world_core.specs.contracts.world.World.{the_view}
-use Rattle.world_core.specs.Refusal.{Refuses, node_at}
+use Rattle.world_core.specs.Refusal.{RefusesEvent, node_at}
 use Rattle.world_core.specs.declared.event.Event.TheVariants.{Restart}
 use Rattle.world_core.specs.declared.fault.WorldFault.TheVariants.{NoSuchImage}
 use Rattle.world_core.proofs.Outcomes.{world_of}
@@ -16,7 +16,7 @@ returns-then-images-image-clause-fault c =
     let at : c.index.result.now ≡ node_at w c.args.node = same_node w c.args.node c.index.result.now low (search rules) in
     let fewer : length c.index.result.now.images < c.args.image = search rules in (
       refl,
-      subst (λ (v : World). Refuses v (Restart c.args.node c.args.image) NoSuchImage) c.self.view_is
+      subst (λ (v : World). RefusesEvent v (Restart c.args.node c.args.image) NoSuchImage) c.self.view_is
           (no_image_refuses w c.args.node c.args.image low (no_image w c.args.node c.args.image c.index.result.now (world_of w c.self.invariant) low at fewer)),
     )
 

@@ -4,7 +4,7 @@ use Rattle.std.specs.Option.{option_and_then, option_copied}
 use Rattle.meta_types.specs.Name.{Key}
 use Rattle.meta_types.specs.Value.{ValueParts}
 use Rattle.dvvset.specs.Clock.{join}
-use Rattle.meta_store.specs.Step.{refusal_of_put, written}
+use Rattle.meta_store.specs.Step.{refusal_of_put, object_after_put}
 use Rattle.meta_store.specs.declared.fault.StoreFault.TheVariants.{Memory}
 use Rattle.node_images.specs.Node.{with_write}
 use Rattle.past_model.specs.declared.happening.Happening.TheVariants.{Wrote}
@@ -14,7 +14,7 @@ use Rattle.world_core.specs.declared.answer.Reply.TheVariants as OfReply
 use Rattle.world_core.specs.declared.event.Event.TheVariants.{Put}
 use Rattle.world_core.specs.Refusal.{context_of, node_at, table_of}
 use Rattle.world_core.specs.Outcome.{replied}
-use Rattle.world_core.specs.Plan.{IsWritten}
+use Rattle.world_core.specs.Plan.{IsWrittenNode}
 use Rattle.world_core.specs.Steps.{IsPlaceOf}
 use Rattle.world_core.specs.Tells.{look_of}
 use Rattle.world_core.proofs.Chronicles.{after_tell, same_world}
@@ -67,17 +67,17 @@ invariant_of-self-2 c =
     let context : option_copied c.context_at-context.result ≡ context_of w c.args.read = there ∙ context_there w c.args.read c.args.place place in
     let seen_at : c.look_at-seen.result ≡ option_and_then (slice_get w.told.looks) c.args.place = search rules in
     let seen : c.look_at-seen.result ≡ look_of w.told c.args.read = seen_at ∙ look_there w c.args.read c.args.place place in
-    let left : IsWritten c.index_mut-target.result.now n k v (context_of w c.args.read) c.in_ok-written.written =
-    subst (λ x. IsWritten c.index_mut-target.result.now n k v x c.in_ok-written.written) context c.in_ok-written.ensures.written in
+    let left : IsWrittenNode c.index_mut-target.result.now n k v (context_of w c.args.read) c.in_ok-written.written =
+    subst (λ x. IsWrittenNode c.index_mut-target.result.now n k v x c.in_ok-written.written) context c.in_ok-written.ensures.written in
     let node : c.write.new.node ≡ with_write n k v (context_of w c.args.read) c.index_mut-target.result.now =
     c.in_ok-written.ensures.value ∙ ap (λ x. with_write n k v x c.index_mut-target.result.now) context in
     let steps = put_steps w n k v c.args.read c.args.place c.index_mut-target.result.now (world_of w c.self.invariant) low at left.is_node place left.taken left.held in
     let event : c.put.result ≡ Put n k v c.args.read = search rules in
-    let kept : c.wrote.result ≡ replied (OfReply.Wrote (join (written c.index_mut-target.result.now.table n k v (context_of w c.args.read)))) = c.wrote.ensures ∙ ap (λ x. replied (OfReply.Wrote x)) left.reply in
+    let kept : c.wrote.result ≡ replied (OfReply.Wrote (join (object_after_put c.index_mut-target.result.now.table n k v (context_of w c.args.read)))) = c.wrote.ensures ∙ ap (λ x. replied (OfReply.Wrote x)) left.reply in
     let told : c.wrote-2.result ≡ Wrote n k v (look_of w.told c.args.read) = c.wrote-2.ensures ∙ (λ i. Wrote n (left.told i).key (left.told i).value (seen i)) in
     let is =
     after_tell w.nodes (slice_set w.nodes n (with_write n k v (context_of w c.args.read) c.index_mut-target.result.now)) c.self.inside.chronicle c.reserve.new.self c.tell.new.self
-    (record { event = Put n k v c.args.read; answer = replied (OfReply.Wrote (join (written c.index_mut-target.result.now.table n k v (context_of w c.args.read)))) })
+    (record { event = Put n k v c.args.read; answer = replied (OfReply.Wrote (join (object_after_put c.index_mut-target.result.now.table n k v (context_of w c.args.read)))) })
     (Wrote n k v (look_of w.told c.args.read))
     c.reserve.ensures.same (λ i. slice_set w.nodes (number i) (node i)) (λ i. record { event = event i; answer = kept i }) told
     c.tell.ensures.accepted c.tell.ensures.frames c.tell.ensures.contexts c.tell.ensures.told in
@@ -97,17 +97,17 @@ returns c =
     let context : option_copied c.context_at-context.result ≡ context_of w c.args.read = there ∙ context_there w c.args.read c.args.place place in
     let seen_at : c.look_at-seen.result ≡ option_and_then (slice_get w.told.looks) c.args.place = search rules in
     let seen : c.look_at-seen.result ≡ look_of w.told c.args.read = seen_at ∙ look_there w c.args.read c.args.place place in
-    let left : IsWritten c.index_mut-target.result.now n k v (context_of w c.args.read) c.in_ok-written.written =
-    subst (λ x. IsWritten c.index_mut-target.result.now n k v x c.in_ok-written.written) context c.in_ok-written.ensures.written in
+    let left : IsWrittenNode c.index_mut-target.result.now n k v (context_of w c.args.read) c.in_ok-written.written =
+    subst (λ x. IsWrittenNode c.index_mut-target.result.now n k v x c.in_ok-written.written) context c.in_ok-written.ensures.written in
     let node : c.write.new.node ≡ with_write n k v (context_of w c.args.read) c.index_mut-target.result.now =
     c.in_ok-written.ensures.value ∙ ap (λ x. with_write n k v x c.index_mut-target.result.now) context in
     let steps = put_steps w n k v c.args.read c.args.place c.index_mut-target.result.now (world_of w c.self.invariant) low at left.is_node place left.taken left.held in
     let event : c.put.result ≡ Put n k v c.args.read = search rules in
-    let kept : c.wrote.result ≡ replied (OfReply.Wrote (join (written c.index_mut-target.result.now.table n k v (context_of w c.args.read)))) = c.wrote.ensures ∙ ap (λ x. replied (OfReply.Wrote x)) left.reply in
+    let kept : c.wrote.result ≡ replied (OfReply.Wrote (join (object_after_put c.index_mut-target.result.now.table n k v (context_of w c.args.read)))) = c.wrote.ensures ∙ ap (λ x. replied (OfReply.Wrote x)) left.reply in
     let told : c.wrote-2.result ≡ Wrote n k v (look_of w.told c.args.read) = c.wrote-2.ensures ∙ (λ i. Wrote n (left.told i).key (left.told i).value (seen i)) in
     let is =
     after_tell w.nodes (slice_set w.nodes n (with_write n k v (context_of w c.args.read) c.index_mut-target.result.now)) c.self.inside.chronicle c.reserve.new.self c.tell.new.self
-    (record { event = Put n k v c.args.read; answer = replied (OfReply.Wrote (join (written c.index_mut-target.result.now.table n k v (context_of w c.args.read)))) })
+    (record { event = Put n k v c.args.read; answer = replied (OfReply.Wrote (join (object_after_put c.index_mut-target.result.now.table n k v (context_of w c.args.read)))) })
     (Wrote n k v (look_of w.told c.args.read))
     c.reserve.ensures.same (λ i. slice_set w.nodes (number i) (node i)) (λ i. record { event = event i; answer = kept i }) told
     c.tell.ensures.accepted c.tell.ensures.frames c.tell.ensures.contexts c.tell.ensures.told in

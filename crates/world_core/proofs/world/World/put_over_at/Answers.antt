@@ -5,7 +5,7 @@ use Rattle.meta_types.specs.Value.{ValueParts}
 use Rattle.dvvset.specs.Clock.{join}
 use Rattle.meta_store.specs.Context.{Reading}
 use Rattle.meta_store.specs.Table.{object_at}
-use Rattle.meta_store.specs.Step.{refusal_of_put, written}
+use Rattle.meta_store.specs.Step.{refusal_of_put, object_after_put}
 use Rattle.meta_store.specs.declared.fault.StoreFault.TheVariants.{Memory}
 use Rattle.node_images.specs.Node.{Node, with_write}
 use Rattle.world_core.specs.World.{World}
@@ -14,7 +14,7 @@ use Rattle.world_core.specs.declared.answer.Reply.TheVariants as OfReply
 use Rattle.world_core.specs.declared.event.Event.TheVariants.{PutOver}
 use Rattle.world_core.specs.Refusal.{node_at, present, table_of}
 use Rattle.world_core.specs.Outcome.{next_read}
-use Rattle.world_core.specs.Plan.{IsWritten}
+use Rattle.world_core.specs.Plan.{IsWrittenNode}
 use Rattle.world_core.proofs.Chronicles.{after_look_and_tell, same_world}
 use Rattle.world_core.proofs.Putting.{has_node, over_steps, same_node}
 use Rattle.world_core.proofs.Outcomes.{memory, put_back, stepped_kept, stepped_outcome, store_refused, world_of}
@@ -56,18 +56,18 @@ invariant_of-self-2 c =
     let source : c.next_source-source.result ≡ record { node = n; step = next_read w } = search rules in
     let read : Reading = present w n k in
     let same : (record { key = k; vector = join (object_at m.table k); source = c.next_source-source.result }) ≡ read = λ i. record { key = k; vector = join (object_at (at i).table k); source = source i } in
-    let left : IsWritten m n k v (Some read) c.in_ok-looked.written = subst (λ x. IsWritten m n k v (Some x) c.in_ok-looked.written) same c.in_ok-looked.ensures.written in
+    let left : IsWrittenNode m n k v (Some read) c.in_ok-looked.written = subst (λ x. IsWrittenNode m n k v (Some x) c.in_ok-looked.written) same c.in_ok-looked.ensures.written in
     let node : c.write_over.new.node ≡ with_write n k v (Some read) m = c.in_ok-looked.ensures.value ∙ ap (λ x. with_write n k v (Some x) m) same in
     let key : c.in_ok-looked.looked ≡ k = ap (λ (p : Key × Reading). p.0) c.in_ok-looked.ensures.looked in
     let context : c.in_ok-looked.context ≡ read = ap (λ (p : Key × Reading). p.1) c.in_ok-looked.ensures.looked ∙ same in
     let steps = over_steps w n k v m (world_of w c.self.invariant) low at left.is_node left.taken left.held in
     let next : c.next_source-source.result.step ≡ next_read w = ap (λ s. s.step) source in
     let event : c.put_over.result ≡ PutOver n k v = search rules in
-    let kept : c.wrote.result ≡ record { reply = OfReply.Wrote (join (written m.table n k v (Some read))); read = Some (next_read w); sent = [] } =
+    let kept : c.wrote.result ≡ record { reply = OfReply.Wrote (join (object_after_put m.table n k v (Some read))); read = Some (next_read w); sent = [] } =
     c.wrote.ensures ∙ (λ i. record { reply = OfReply.Wrote (left.reply i); read = Some (next i); sent = [] }) in
     let is =
     after_look_and_tell {key = c.in_ok-looked.looked} {context = c.in_ok-looked.context} w.nodes (slice_set w.nodes n (with_write n k v (Some read) m)) c.self.inside.chronicle c.reserve.new.self c.look_and_tell.new.self
-    (record { event = PutOver n k v; answer = record { reply = OfReply.Wrote (join (written m.table n k v (Some read))); read = Some (next_read w); sent = [] } })
+    (record { event = PutOver n k v; answer = record { reply = OfReply.Wrote (join (object_after_put m.table n k v (Some read))); read = Some (next_read w); sent = [] } })
     n k v read c.reserve.ensures.same (λ i. slice_set w.nodes (number i) (node i)) (λ i. record { event = event i; answer = kept i }) key context (ap (λ p. p.key) left.told) (ap (λ p. p.value) left.told)
     c.look_and_tell.ensures.accepted c.look_and_tell.ensures.frames c.look_and_tell.ensures.contexts c.look_and_tell.ensures.told in
     stepped_kept w _ _ steps is
@@ -85,18 +85,18 @@ returns c =
     let source : c.next_source-source.result ≡ record { node = n; step = next_read w } = search rules in
     let read : Reading = present w n k in
     let same : (record { key = k; vector = join (object_at m.table k); source = c.next_source-source.result }) ≡ read = λ i. record { key = k; vector = join (object_at (at i).table k); source = source i } in
-    let left : IsWritten m n k v (Some read) c.in_ok-looked.written = subst (λ x. IsWritten m n k v (Some x) c.in_ok-looked.written) same c.in_ok-looked.ensures.written in
+    let left : IsWrittenNode m n k v (Some read) c.in_ok-looked.written = subst (λ x. IsWrittenNode m n k v (Some x) c.in_ok-looked.written) same c.in_ok-looked.ensures.written in
     let node : c.write_over.new.node ≡ with_write n k v (Some read) m = c.in_ok-looked.ensures.value ∙ ap (λ x. with_write n k v (Some x) m) same in
     let key : c.in_ok-looked.looked ≡ k = ap (λ (p : Key × Reading). p.0) c.in_ok-looked.ensures.looked in
     let context : c.in_ok-looked.context ≡ read = ap (λ (p : Key × Reading). p.1) c.in_ok-looked.ensures.looked ∙ same in
     let steps = over_steps w n k v m (world_of w c.self.invariant) low at left.is_node left.taken left.held in
     let next : c.next_source-source.result.step ≡ next_read w = ap (λ s. s.step) source in
     let event : c.put_over.result ≡ PutOver n k v = search rules in
-    let kept : c.wrote.result ≡ record { reply = OfReply.Wrote (join (written m.table n k v (Some read))); read = Some (next_read w); sent = [] } =
+    let kept : c.wrote.result ≡ record { reply = OfReply.Wrote (join (object_after_put m.table n k v (Some read))); read = Some (next_read w); sent = [] } =
     c.wrote.ensures ∙ (λ i. record { reply = OfReply.Wrote (left.reply i); read = Some (next i); sent = [] }) in
     let is =
     after_look_and_tell {key = c.in_ok-looked.looked} {context = c.in_ok-looked.context} w.nodes (slice_set w.nodes n (with_write n k v (Some read) m)) c.self.inside.chronicle c.reserve.new.self c.look_and_tell.new.self
-    (record { event = PutOver n k v; answer = record { reply = OfReply.Wrote (join (written m.table n k v (Some read))); read = Some (next_read w); sent = [] } })
+    (record { event = PutOver n k v; answer = record { reply = OfReply.Wrote (join (object_after_put m.table n k v (Some read))); read = Some (next_read w); sent = [] } })
     n k v read c.reserve.ensures.same (λ i. slice_set w.nodes (number i) (node i)) (λ i. record { event = event i; answer = kept i }) key context (ap (λ p. p.key) left.told) (ap (λ p. p.value) left.told)
     c.look_and_tell.ensures.accepted c.look_and_tell.ensures.frames c.look_and_tell.ensures.contexts c.look_and_tell.ensures.told in
     stepped_outcome _ w c.self.view_is _ _ steps (c.wrote-2.ensures ∙ (λ i. record { reply = OfReply.Wrote (left.vector i); read = Some (next i); sent = [] })) is

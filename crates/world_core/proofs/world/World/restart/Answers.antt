@@ -1,5 +1,5 @@
 use Rattle.std.proofs.Common.{rules, ◌≡◌, ◌≤◌, length, inl, inr, refl, sym, subst}
-use Rattle.world_core.specs.Refusal.{Refuses, node_at}
+use Rattle.world_core.specs.Refusal.{RefusesEvent, node_at}
 use Rattle.world_core.specs.declared.event.Event.TheVariants.{Restart}
 use Rattle.world_core.specs.declared.fault.WorldFault.TheVariants.{NoSuchNode, NoSuchImage, StaleImage}
 use Rattle.world_core.proofs.Outcomes.{memory, refused}
@@ -11,7 +11,7 @@ returns-in_err-id c = refused _ NoSuchNode (search rules) (inl (search rules)) r
 pub returns-in_err-number : goal.returns-in_err-number
 returns-in_err-number c =
     let id : c.in_ok-id.id ≡ c.args.node = search rules in
-    refused _ NoSuchImage (search rules) (subst (λ n. Refuses c.args.self.now (Restart n c.args.image) NoSuchImage) id c.in_err-number.ensures.fault.1) refl
+    refused _ NoSuchImage (search rules) (subst (λ n. RefusesEvent c.args.self.now (Restart n c.args.image) NoSuchImage) id c.in_err-number.ensures.fault.1) refl
 
 pub returns-in_err-store : goal.returns-in_err-store
 returns-in_err-store c =
@@ -20,7 +20,7 @@ returns-in_err-store c =
     elim c.in_err-store.ensures.fault [
       | inl none_left ↦ memory _ (search rules) refl
       | inr stale ↦ refused _ StaleImage (search rules)
-          (subst (λ n. Refuses c.args.self.now (Restart n c.args.image) StaleImage) id (subst (λ j. Refuses c.args.self.now (Restart c.in_ok-id.id j) StaleImage) same stale.1))
+          (subst (λ n. RefusesEvent c.args.self.now (Restart n c.args.image) StaleImage) id (subst (λ j. RefusesEvent c.args.self.now (Restart c.in_ok-id.id j) StaleImage) same stale.1))
           refl
     ]
 

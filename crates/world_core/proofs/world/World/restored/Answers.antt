@@ -5,7 +5,7 @@ use Rattle.meta_store.specs.Table.{object_at}
 use Rattle.node_images.specs.Images.{holdings}
 use Rattle.world_core.specs.World.{World}
 use Rattle.world_core.specs.contracts.world.World.{the_view}
-use Rattle.world_core.specs.Refusal.{LacksOwn, Refuses, node_at, table_of}
+use Rattle.world_core.specs.Refusal.{LacksOwn, RefusesEvent, node_at, table_of}
 use Rattle.world_core.specs.declared.event.Event.TheVariants.{Restart}
 use Rattle.world_core.specs.declared.fault.WorldFault.TheVariants.{StaleImage}
 use Rattle.world_core.proofs.Outcomes.{world_of}
@@ -39,7 +39,7 @@ returns-then-not-counts_as_many-clause-fault c =
     let lacks : LacksOwn w c.args.node c.args.number = is_stale w c.args.node c.args.number (node_at w c.args.node) c.in_ok-store.store (world_of w c.self.invariant) low refl number restored fewer in
     inr (
       refl,
-      subst (λ (v : World). Refuses v (Restart c.args.node c.args.number) StaleImage) c.self.view_is
+      subst (λ (v : World). RefusesEvent v (Restart c.args.node c.args.number) StaleImage) c.self.view_is
           (stale_refuses w c.args.node c.args.number (world_of w c.self.invariant) low number lacks),
     )
 

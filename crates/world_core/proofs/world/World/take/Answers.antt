@@ -10,7 +10,7 @@ use Rattle.world_core.specs.contracts.world.World.{the_view}
 use Rattle.world_core.specs.World.{World}
 use Rattle.world_core.specs.Fault.{of_store}
 use Rattle.world_core.specs.Outcome.{merged, replied}
-use Rattle.world_core.specs.Refusal.{Refuses, node_at}
+use Rattle.world_core.specs.Refusal.{RefusesEvent, node_at}
 use Rattle.world_core.specs.Steps.{Arrives}
 use Rattle.world_core.specs.declared.event.Event.TheVariants.{Deliver}
 use Rattle.world_core.proofs.Chronicles.{after_tell, same_world}
@@ -57,7 +57,7 @@ returns-in_err-taken c =
     elim c.in_err-taken.ensures.fault [
       | inl none_left ↦ memory _ (answer ∙ ap (λ (fault : StoreFault). Err (of_store fault)) none_left) same
       | inr by ↦ refused _ (of_store c.in_err-taken.field-0.0) answer
-          (subst (λ (v : World). Refuses v (Deliver (c.args.place + 1) n c.args.word) (of_store c.in_err-taken.field-0.0)) c.self.view_is
+          (subst (λ (v : World). RefusesEvent v (Deliver (c.args.place + 1) n c.args.word) (of_store c.in_err-taken.field-0.0)) c.self.view_is
           (take_refused w (c.args.place + 1) n c.args.word k o m c.in_err-taken.field-0.0 arrives at
           (subst (λ (p : Key × List Entry). refusal_of_merge m.table p.0 p.1 ≡ Some c.in_err-taken.field-0.0) (λ i. (pair.0 i, pair.1 i)) by)))
           same

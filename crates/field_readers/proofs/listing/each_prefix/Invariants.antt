@@ -1,8 +1,0 @@
-use Rattle.std.proofs.Common.{◌≡◌, ◌-◌}
-use Rattle.frame_fields.specs.Field.{lowest, prefix_of}
-use Rattle.field_readers.specs.Reader.{prefix_row_at, each_at}
-use Rattle.field_readers.proofs.Loops.{with_front}
-use Rattle.field_readers.proofs.listing.each_prefix.Given as goal
-
-abbrev pub invariant-loop : goal.invariant-loop
-invariant-loop l = with_front l.rows.items (each_at prefix_row_at prefix_of (record { prefix = l.low; sub = l.low_sub }) (l.len - l.counter) l.rest) ≡ each_at prefix_row_at prefix_of lowest l.len l.bytes

@@ -1,9 +1,0 @@
-use Rattle.std.proofs.Common.{arith}
-use Rattle.frame_fields.specs.Field.{prefixes}
-use Rattle.field_readers.specs.Reader.{prefixes_at}
-use Rattle.field_readers.proofs.Listed.{prefixes_reads}
-use Rattle.field_readers.proofs.Found.{spelled_fits}
-use Rattle.field_readers.proofs.listing.prefixes_of.Goals as goal
-
-pub new-requires : goal.new-requires
-new-requires c = spelled_fits prefixes prefixes_at prefixes_reads c.args.bytes.now c.in_ok-rows.rows.items c.in_ok-rows.rest.now (λ i. omega (arith, c.type_inv.bytes i)) c.in_ok-rows.ensures

@@ -1,0 +1,333 @@
+//! Reading fields from the front of bytes. Each function answers the value and the bytes after it.
+
+ghost use Rattle.std.specs.Prelude.{◌≡◌, ◌≢◌, ◌+◌, ◌≤◌, ◌<◌, List, length, Ok, IfOk, IfErr, IsTrue, ◌↔◌};
+ghost use Rattle.std.specs.Int.{w8, w16, w64};
+ghost use Rattle.meta_types.specs.Node.{IsNode};
+ghost use Rattle.frame_fields.specs.Field.{no_state, forget, above_entry, above_counter};
+ghost use Rattle.frame_readers.specs.Reader.{Gives, MatchesReader, number_reader, answer_reader, answer_from, bytes_reader, node_reader, priority_reader, priority_from, within_reader, name_reader, prefix_reader, key_reader, value_reader, values_reader, entry_reader, entries_reader, object_reader, each_reader, counter_reader, vector_reader};
+ghost use Rattle.frame_readers.specs.declared.fault.FieldFault.TheVariants.{Memory};
+
+use crate::fault::FieldFault;
+use dvvset::{Counter, Entries, Entry, Vector};
+use frame_fields::lawful::all_are_bare;
+use frame_fields::{NeighborAnswer, Priority};
+use meta_types::{FullPrefix, MetaKey, NodeId, Value};
+use std::alloc::Global;
+
+pub fn read_u8(bytes: &[u8]) -> Result<(u8, &[u8]), FieldFault>
+    ensures value { MatchesReader result (number_reader w8 bytes.now) }
+    ensures memory { IfErr result (λ fault. fault ≢ Memory) }
+{
+    if bytes.is_empty() {
+        return Err(FieldFault::Left(bytes.len()));
+    }
+    let (front, rest) = bytes.split_at(1);
+    Ok((u8::from_be_bytes([front[0]]), rest))
+}
+
+pub fn read_u16(bytes: &[u8]) -> Result<(u16, &[u8]), FieldFault>
+    ensures value { MatchesReader result (number_reader w16 bytes.now) }
+    ensures memory { IfErr result (λ fault. fault ≢ Memory) }
+{
+    if bytes.len() < 2 {
+        return Err(FieldFault::Left(bytes.len()));
+    }
+    let (front, rest) = bytes.split_at(2);
+    Ok((u16::from_be_bytes([front[0], front[1]]), rest))
+}
+
+pub(crate) fn read_u64(bytes: &[u8]) -> Result<(u64, &[u8]), FieldFault>
+    ensures value { MatchesReader result (number_reader w64 bytes.now) }
+    ensures memory { IfErr result (λ fault. fault ≢ Memory) }
+{
+    if bytes.len() < 8 {
+        return Err(FieldFault::Left(bytes.len()));
+    }
+    let (front, rest) = bytes.split_at(8);
+    let number = u64::from_be_bytes([
+        front[0], front[1], front[2], front[3], front[4], front[5], front[6], front[7],
+    ]);
+    Ok((number, rest))
+}
+
+#[tactic(auto, unfolding(crate::specs::Reader::within_reader))]
+fn u8_within(low: u8, high: u8, bytes: &[u8]) -> Result<(u8, &[u8]), FieldFault>
+    ensures value { MatchesReader result (within_reader w8 low high bytes.now) }
+    ensures range { IfOk result (λ x. (low ≤ x.0) × (x.0 ≤ high)) }
+    ensures memory { IfErr result (λ fault. fault ≢ Memory) }
+{
+    let (number, rest) = read_u8(bytes)?;
+    if low <= number && number <= high {
+        Ok((number, rest))
+    } else {
+        Err(FieldFault::Left(bytes.len()))
+    }
+}
+
+#[tactic(auto, unfolding(crate::specs::Reader::within_reader))]
+pub(crate) fn u16_within(low: u16, high: u64, bytes: &[u8]) -> Result<(u16, &[u8]), FieldFault>
+    ensures value { MatchesReader result (within_reader w16 low high bytes.now) }
+    ensures range { IfOk result (λ x. (low ≤ x.0) × (x.0 ≤ high)) }
+    ensures memory { IfErr result (λ fault. fault ≢ Memory) }
+{
+    let (number, rest) = read_u16(bytes)?;
+    if low <= number && u64::from(number) <= high {
+        Ok((number, rest))
+    } else {
+        Err(FieldFault::Left(bytes.len()))
+    }
+}
+
+#[tactic(auto, unfolding(crate::specs::Reader::within_reader))]
+fn u64_within(low: u64, high: u64, bytes: &[u8]) -> Result<(u64, &[u8]), FieldFault>
+    ensures value { MatchesReader result (within_reader w64 low high bytes.now) }
+    ensures range { IfOk result (λ x. (low ≤ x.0) × (x.0 ≤ high)) }
+    ensures memory { IfErr result (λ fault. fault ≢ Memory) }
+{
+    let (number, rest) = read_u64(bytes)?;
+    if low <= number && number <= high {
+        Ok((number, rest))
+    } else {
+        Err(FieldFault::Left(bytes.len()))
+    }
+}
+
+/// `len` bytes, where they are.
+pub(crate) fn read_bytes(len: usize, bytes: &[u8]) -> Result<(&[u8], &[u8]), FieldFault>
+    ensures { Gives (λ x. (x.0.now, x.1.now)) result (bytes_reader len bytes.now) }
+{
+    if bytes.len() < len {
+        return Err(FieldFault::Left(bytes.len()));
+    }
+    Ok(bytes.split_at(len))
+}
+
+#[tactic(auto, unfolding(crate::specs::Reader::name_reader))]
+fn read_name(
+    alloc: Global,
+    low: u16,
+    high: u64,
+    bytes: &[u8],
+) -> Result<(Vec<u8>, &[u8]), FieldFault>
+    ensures value { Gives (λ x. (x.0.items, x.1.now)) result (name_reader low high bytes.now) }
+    ensures range { IfOk result (λ x. (low ≤ length x.0.items) × (length x.0.items ≤ high)) }
+{
+    let (len, rest) = u16_within(low, high, bytes)?;
+    let (name, rest) = read_bytes(usize::from(len), rest)?;
+    Ok((Vec::from_slice(alloc, name)?, rest))
+}
+
+#[tactic(auto, unfolding(crate::specs::Reader::node_reader))]
+pub fn read_node(bytes: &[u8]) -> Result<(u16, &[u8]), FieldFault>
+    ensures value { MatchesReader result (node_reader bytes.now) }
+    ensures range { IfOk result (λ x. IsNode x.0) }
+    ensures memory { IfErr result (λ fault. fault ≢ Memory) }
+{
+    u16_within(0, 15, bytes)
+}
+
+pub fn node_from(number: u16) -> NodeId
+    requires { IsNode number }
+    ensures { result ≡ number }
+{
+    NodeId::new(number).unwrap()
+}
+
+fn priority_from(number: u8) -> Priority
+    ensures { result ≡ priority_from number }
+{
+    if number == 0 {
+        Priority::Low
+    } else {
+        Priority::High
+    }
+}
+
+#[tactic(auto, unfolding(crate::specs::Reader::priority_reader))]
+pub fn read_priority(bytes: &[u8]) -> Result<(Priority, &[u8]), FieldFault>
+    ensures value { MatchesReader result (priority_reader bytes.now) }
+    ensures memory { IfErr result (λ fault. fault ≢ Memory) }
+{
+    let (number, rest) = u8_within(0, 1, bytes)?;
+    Ok((priority_from(number), rest))
+}
+
+fn answer_from(number: u8) -> NeighborAnswer
+    ensures { result ≡ answer_from number }
+{
+    if number == 0 {
+        NeighborAnswer::No
+    } else {
+        NeighborAnswer::Yes
+    }
+}
+
+#[tactic(auto, unfolding(crate::specs::Reader::answer_reader))]
+pub fn read_answer(bytes: &[u8]) -> Result<(NeighborAnswer, &[u8]), FieldFault>
+    ensures value { MatchesReader result (answer_reader bytes.now) }
+    ensures memory { IfErr result (λ fault. fault ≢ Memory) }
+{
+    let (answer, rest) = u8_within(0, 1, bytes)?;
+    Ok((answer_from(answer), rest))
+}
+
+/// The number of one of sixteen.
+pub fn read_place(bytes: &[u8]) -> Result<(u8, &[u8]), FieldFault>
+    ensures value { MatchesReader result (within_reader w8 0 15 bytes.now) }
+    ensures memory { IfErr result (λ fault. fault ≢ Memory) }
+{
+    u8_within(0, 15, bytes)
+}
+
+#[tactic(auto, unfolding(crate::specs::Reader::prefix_reader))]
+pub fn read_prefix(alloc: Global, bytes: &[u8]) -> Result<(FullPrefix, &[u8]), FieldFault>
+    ensures { MatchesReader result (prefix_reader bytes.now) }
+{
+    let (prefix, rest) = read_name(alloc, 1, 64, bytes)?;
+    let (sub, rest) = read_name(alloc, 1, 64, rest)?;
+    Ok((FullPrefix::new(prefix, sub).unwrap(), rest))
+}
+
+#[tactic(auto, unfolding(crate::specs::Reader::key_reader))]
+pub fn read_key(alloc: Global, bytes: &[u8]) -> Result<(MetaKey, &[u8]), FieldFault>
+    ensures { MatchesReader result (key_reader bytes.now) }
+{
+    let (prefix, rest) = read_prefix(alloc, bytes)?;
+    let (key, rest) = read_name(alloc, 1, 256, rest)?;
+    Ok((MetaKey::new(prefix, key).unwrap(), rest))
+}
+
+#[tactic(auto, unfolding(crate::specs::Reader::counter_reader))]
+fn read_counter(low: u16, bytes: &[u8]) -> Result<(u16, u64, &[u8]), FieldFault>
+    ensures value { Gives (λ x. (record { id = x.0; count = x.1 }, x.2.now)) result
+        (counter_reader low bytes.now) }
+    ensures range { IfOk result (λ x. IsNode x.0) }
+{
+    let (id, rest) = u16_within(low, 15, bytes)?;
+    let (count, rest) = u64_within(1, u64::MAX, rest)?;
+    Ok((id, count, rest))
+}
+
+#[tactic(auto, unfolding(crate::specs::Reader::value_reader))]
+fn read_value(alloc: Global, bytes: &[u8]) -> Result<(Value, &[u8]), FieldFault>
+    ensures { MatchesReader result (value_reader bytes.now) }
+{
+    let (tag, rest) = u8_within(0, 1, bytes)?;
+    let (stamp, rest) = read_u64(rest)?;
+    if tag == 0 {
+        return Ok((Value::new(stamp, None).unwrap(), rest));
+    }
+    let (body, rest) = read_name(alloc, 0, 1024, rest)?;
+    Ok((Value::new(stamp, Some(body)).unwrap(), rest))
+}
+
+#[tactic(auto, unfolding(crate::specs::Reader::values_reader))]
+fn read_values(alloc: Global, count: u64, bytes: &[u8]) -> Result<(Vec<Value>, &[u8]), FieldFault>
+    ensures { Gives (λ x. (x.0.items, x.1.now)) result (values_reader count bytes.now) }
+{
+    let (len, rest) = u16_within(0, count, bytes)?;
+    let (values, rest) = each_value(alloc, len, rest)?;
+    Ok((values, rest))
+}
+
+/// `len` values.
+fn each_value(alloc: Global, len: u16, bytes: &[u8]) -> Result<(Vec<Value>, &[u8]), FieldFault>
+    ensures { Gives (λ x. (x.0.items, x.1.now)) result
+        (each_reader (λ _. value_reader) forget no_state len bytes.now) }
+{
+    let mut values = Vec::new(alloc);
+    let mut rest = bytes;
+    for _ in 0..len {
+        let (value, after) = read_value(alloc, rest)?;
+        values.push(value)?;
+        rest = after;
+    }
+    Ok((values, rest))
+}
+
+#[tactic(auto, unfolding(crate::specs::Reader::entry_reader))]
+fn read_entry(alloc: Global, low: u16, bytes: &[u8]) -> Result<(Entry, &[u8]), FieldFault>
+    ensures { MatchesReader result (entry_reader low bytes.now) }
+{
+    let (id, rest) = u16_within(low, 15, bytes)?;
+    let (count, rest) = u64_within(1, u64::MAX, rest)?;
+    let (values, rest) = read_values(alloc, count, rest)?;
+    Ok((Entry::new(NodeId::new(id).unwrap(), count, values), rest))
+}
+
+#[tactic(auto, unfolding(crate::specs::Reader::entries_reader))]
+fn read_entries(alloc: Global, bytes: &[u8]) -> Result<(Vec<Entry>, &[u8]), FieldFault>
+    ensures { Gives (λ x. (x.0.items, x.1.now)) result (entries_reader bytes.now) }
+{
+    let (len, rest) = u16_within(1, 65535, bytes)?;
+    let (entries, rest) = each_entry(alloc, len, rest)?;
+    Ok((entries, rest))
+}
+
+/// `len` entries, each of a writer above the one before.
+fn each_entry(alloc: Global, len: u16, bytes: &[u8]) -> Result<(Vec<Entry>, &[u8]), FieldFault>
+    ensures { Gives (λ x. (x.0.items, x.1.now)) result
+        (each_reader entry_reader above_entry 0 len bytes.now) }
+{
+    let mut entries = Vec::new(alloc);
+    let mut rest = bytes;
+    let mut low = 0;
+    for _ in 0..len {
+        let (entry, after) = read_entry(alloc, low, rest)?;
+        low = entry.id().number() + 1;
+        entries.push(entry)?;
+        rest = after;
+    }
+    Ok((entries, rest))
+}
+
+#[tactic(auto, unfolding(crate::specs::Reader::object_reader))]
+pub fn read_object(alloc: Global, bytes: &[u8]) -> Result<(Entries, &[u8]), FieldFault>
+    ensures { MatchesReader result (object_reader bytes.now) }
+{
+    let (entries, rest) = read_entries(alloc, bytes)?;
+    if all_are_bare(entries.as_slice()) {
+        return Err(FieldFault::Left(bytes.len()));
+    }
+    Ok((Entries::new(entries), rest))
+}
+
+#[tactic(auto, unfolding(crate::specs::Reader::vector_reader))]
+fn read_counters(alloc: Global, bytes: &[u8]) -> Result<(Vec<Counter>, &[u8]), FieldFault>
+    ensures { Gives (λ x. (x.0.items, x.1.now)) result (vector_reader bytes.now) }
+{
+    let (len, rest) = u16_within(1, 65535, bytes)?;
+    let (counters, rest) = each_counter(alloc, len, rest)?;
+    Ok((counters, rest))
+}
+
+/// `len` counters, each of a writer above the one before.
+fn each_counter(alloc: Global, len: u16, bytes: &[u8]) -> Result<(Vec<Counter>, &[u8]), FieldFault>
+    ensures { Gives (λ x. (x.0.items, x.1.now)) result
+        (each_reader counter_reader above_counter 0 len bytes.now) }
+{
+    let mut counters = Vec::new(alloc);
+    let mut rest = bytes;
+    let mut low = 0;
+    for _ in 0..len {
+        let (id, count, after) = read_counter(low, rest)?;
+        low = id + 1;
+        counters.push(counter_from(id, count))?;
+        rest = after;
+    }
+    Ok((counters, rest))
+}
+
+fn counter_from(id: u16, count: u64) -> Counter
+    requires { IsNode id }
+    ensures { result ≡ record { id = id; count = count } }
+{
+    Counter::new(NodeId::new(id).unwrap(), count)
+}
+
+pub fn read_vector(alloc: Global, bytes: &[u8]) -> Result<(Vector, &[u8]), FieldFault>
+    ensures { MatchesReader result (vector_reader bytes.now) }
+{
+    let (counters, rest) = read_counters(alloc, bytes)?;
+    Ok((Vector::new(counters), rest))
+}

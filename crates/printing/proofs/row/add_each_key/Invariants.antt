@@ -1,0 +1,7 @@
+use Rattle.std.proofs.Common.{take, map, true}
+use Rattle.printing.specs.Row.{key_row_text}
+use Rattle.printing.specs.Joined.{AddsTexts}
+use Rattle.printing.proofs.row.add_each_key.Given as goal
+
+abbrev pub invariant-loop-row : goal.invariant-loop-row
+invariant-loop-row l = AddsTexts true (map key_row_text (take l.row-index l.rows)) l.fn.out.items l.out.items l.first

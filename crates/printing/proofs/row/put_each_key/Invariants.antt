@@ -1,7 +1,0 @@
-use Rattle.std.proofs.Common.{take, map, true}
-use Rattle.printing.specs.Row.{key_row_text}
-use Rattle.printing.specs.Joined.{PutsTexts}
-use Rattle.printing.proofs.row.put_each_key.Given as goal
-
-abbrev pub invariant-loop-row : goal.invariant-loop-row
-invariant-loop-row l = PutsTexts true (map key_row_text (take l.row-index l.rows)) l.fn.out.items l.out.items l.first

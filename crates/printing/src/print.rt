@@ -1,0 +1,82 @@
+//! The public calls. Each adds its text at the end of bytes; where memory is refused it adds nothing.
+
+ghost use Rattle.std.specs.Prelude.{◌≡◌, ◌++◌, OnOk, OnErr};
+ghost use Rattle.printing.specs.Field.{key_text, value_text};
+ghost use Rattle.printing.specs.Frame.{frame_text, frame_fault_text};
+ghost use Rattle.printing.specs.Object.{vector_text, object_text};
+
+use crate::field::{add_key, add_value};
+use crate::frame::{add_frame, add_frame_fault};
+use crate::list::{add_object, add_vector};
+use dvvset::{Entries, Vector};
+use meta_frame::{Frame, FrameFault};
+use meta_types::{MetaKey, Value};
+use std::alloc::AllocError;
+
+/// A line of text in most cases has no more bytes.
+const LINE_LEN: usize = 128;
+
+/// Adds a key, as `a/b/k`: each part as it is where it has at least one byte and all are letters,
+/// digits, `.`, `_` or `-`, otherwise `hex:` and its digits in lower case.
+pub fn print_key(out: &mut Vec<u8>, key: &MetaKey) -> Result<(), AllocError>
+    ensures ok { OnOk result (out.new.items ≡ out.old.items ++ key_text key.now) }
+    ensures err { OnErr result (out.new.items ≡ out.old.items) }
+{
+    let mut text = Vec::with_capacity(*out.allocator(), LINE_LEN)?;
+    add_key(&mut text, key)?;
+    out.extend_from_slice(text.as_slice())
+}
+
+/// Adds a value: its bytes as those of a key, or `~` for a tombstone, and then its stamp, as `@5`,
+/// unless that is 0.
+pub fn print_value(out: &mut Vec<u8>, value: &Value) -> Result<(), AllocError>
+    ensures ok { OnOk result (out.new.items ≡ out.old.items ++ value_text value.now) }
+    ensures err { OnErr result (out.new.items ≡ out.old.items) }
+{
+    let mut text = Vec::with_capacity(*out.allocator(), LINE_LEN)?;
+    add_value(&mut text, value)?;
+    out.extend_from_slice(text.as_slice())
+}
+
+/// Adds a context, as `0:2,1:1`, or `-` for the one that has read nothing.
+pub fn print_vector(out: &mut Vec<u8>, vector: &Vector) -> Result<(), AllocError>
+    ensures ok { OnOk result (out.new.items ≡ out.old.items ++ vector_text vector.now) }
+    ensures err { OnErr result (out.new.items ≡ out.old.items) }
+{
+    let mut text = Vec::with_capacity(*out.allocator(), LINE_LEN)?;
+    add_vector(&mut text, vector)?;
+    out.extend_from_slice(text.as_slice())
+}
+
+/// Adds an object: its context, and the values that it shows, as `ctx 0:2 values y,x`. It takes memory
+/// for the context too.
+pub fn print_object(out: &mut Vec<u8>, object: &Entries) -> Result<(), AllocError>
+    ensures ok { OnOk result (out.new.items ≡ out.old.items ++ object_text object.now) }
+    ensures err { OnErr result (out.new.items ≡ out.old.items) }
+{
+    let mut text = Vec::with_capacity(*out.allocator(), LINE_LEN)?;
+    add_object(&mut text, object)?;
+    out.extend_from_slice(text.as_slice())
+}
+
+/// Adds a frame: the name of its kind, sender, addressee and number, and the fields of its message, as
+/// `GOSSIP from 0 to 1 number 1 round 0 key a/b/k ctx 0:1 values x`.
+pub fn print_frame(out: &mut Vec<u8>, frame: &Frame) -> Result<(), AllocError>
+    ensures ok { OnOk result (out.new.items ≡ out.old.items ++ frame_text frame.now) }
+    ensures err { OnErr result (out.new.items ≡ out.old.items) }
+{
+    let mut text = Vec::with_capacity(*out.allocator(), LINE_LEN)?;
+    add_frame(&mut text, frame)?;
+    out.extend_from_slice(text.as_slice())
+}
+
+/// Adds a refusal of bytes: its number and name, and for 15 where the field at fault begins, as
+/// `error 15 BadBody at 35`.
+pub fn print_frame_fault(out: &mut Vec<u8>, fault: &FrameFault) -> Result<(), AllocError>
+    ensures ok { OnOk result (out.new.items ≡ out.old.items ++ frame_fault_text fault.now) }
+    ensures err { OnErr result (out.new.items ≡ out.old.items) }
+{
+    let mut text = Vec::with_capacity(*out.allocator(), LINE_LEN)?;
+    add_frame_fault(&mut text, fault)?;
+    out.extend_from_slice(text.as_slice())
+}
