@@ -2,6 +2,18 @@
 //!
 //! An object, `Entries`, has for each writer the number of its events and the values of the newest of
 //! them. A `Vector` has the numbers alone: it is the vector of a read's context.
+//!
+//! ```
+//! let blind = Vector::empty(alloc);
+//! let here = update(alloc, &blind, &Entries::empty(alloc), NodeId::new(0)?, red)?;
+//! let there = update(alloc, &blind, &Entries::empty(alloc), NodeId::new(1)?, blue)?;
+//! let both = sync(alloc, &here, &there)?; // shows red and blue
+//! let read = join(alloc, &both)?; // the vector of a read
+//! let after = update(alloc, &read, &both, NodeId::new(1)?, green)?; // shows green
+//! ```
+//!
+//! Read `entry`, `entries`, `vector` (the types), `merge` (`sync`), `write` (`update`), `compare`, then
+//! `laws` and `fault`.
 #![tactic(auto)]
 
 pub mod compare;

@@ -6,6 +6,7 @@ use Rattle.meta_types.specs.Order.{BytesBefore, PrefixBefore}
 use Rattle.frame_fields.specs.declared.prefixes.PrefixDigest.{PrefixDigest}
 use Rattle.frame_fields.specs.declared.keys.KeyDigest.{KeyDigest}
 use Rattle.frame_fields.specs.Digest.{IsDigest}
+use Rattle.frame_fields.specs.Field.{most_rows}
 
 -- each element stands before the next
 abbrev pub IsRising : {A : Type 0} → (A → A → Type 0) → List A → Type 0
@@ -24,7 +25,7 @@ pub record IsPrefixRow (row : PrefixDigest) : Type 0 where
 
 -- at most 8,192 rows of prefixes, whose prefixes rise strictly
 pub record ArePrefixRows (rows : List PrefixDigest) : Type 0 where
-  pub few : length rows ≤ 8192
+  pub few : length rows ≤ most_rows
   pub lawful : All IsPrefixRow rows
   pub rising : IsRising (λ row next. PrefixBefore row.prefix next.prefix) rows
 
@@ -35,6 +36,6 @@ pub record IsKeyRow (row : KeyDigest) : Type 0 where
 
 -- at most 8,192 rows of keys, whose keys rise strictly
 pub record AreKeyRows (rows : List KeyDigest) : Type 0 where
-  pub few : length rows ≤ 8192
+  pub few : length rows ≤ most_rows
   pub lawful : All IsKeyRow rows
   pub rising : IsRising (λ row next. BytesBefore row.key next.key) rows

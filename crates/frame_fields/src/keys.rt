@@ -106,7 +106,7 @@ fn push_copies(copies: &mut Vec<KeyDigest>, rows: &[KeyDigest]) -> Result<(), Al
 fn are_rows(rows: &[KeyDigest]) -> bool
     ensures { IsTrue result ↔ keys.Fits rows.now }
 {
-    if rows.len() > MAX_ROWS {
+    if rows.len() > usize::from(MAX_ROWS) {
         return false;
     }
     let mut low: &[u8] = &[];

@@ -3,7 +3,7 @@
 ghost use Rattle.std.specs.Prelude.{◌≡◌, ◌+◌, ◌*◌, ◌≤◌, ◌<◌, ◌^◌, [], length, All};
 ghost use Rattle.std.specs.List.{flat_map};
 ghost use Rattle.frame_fields.specs.Form.{spell_each};
-ghost use Rattle.frame_fields.specs.Field.{digests, entry, forget, key, key_row, keys, lowest, nodes, no_state, object, prefix, prefix_row, prefixes, value, vector};
+ghost use Rattle.frame_fields.specs.Field.{digests, entry, forget, key, key_row, keys, lowest, most_rows, nodes, no_state, object, prefix, prefix_row, prefixes, value, vector};
 ghost use Rattle.frame_fields.specs.Size.{IsShort, IsShortKey};
 
 use crate::digest::DIGEST_LEN;
@@ -110,7 +110,7 @@ pub fn digests_len(d: &Digests) -> usize
 }
 
 fn each_prefix_len(rows: &[PrefixDigest]) -> usize
-    requires { length rows.now ≤ 8192 }
+    requires { length rows.now ≤ most_rows }
     ensures value { result ≡ length (flat_map (prefix_row lowest).spell rows.now) }
     ensures small { result ≤ 164 * length rows.now }
 {
@@ -145,7 +145,7 @@ fn key_row_len(row: &KeyDigest) -> usize
 }
 
 fn each_key_len(rows: &[KeyDigest]) -> usize
-    requires few { length rows.now ≤ 8192 }
+    requires few { length rows.now ≤ most_rows }
     requires short { All IsShortKey rows.now }
     ensures value { result ≡ length (flat_map (key_row []).spell rows.now) }
     ensures small { result ≤ 290 * length rows.now }

@@ -1,6 +1,9 @@
 //! The fields that frames are made of: their forms, which values have a spelling, how long it is,
 //! and how it is written. What reads them is `frame_readers`. Their tests are the crate
 //! `frame_tests`.
+//!
+//! Read the forms in `specs/Form.antt` and `specs/Field.antt`; then the types (`digest`, `digests`, `nodes`,
+//! `prefixes`, `keys`, `neighbor`), `lawful`, `lengths` and `writing`.
 #![tactic(auto)]
 
 pub mod digest;
@@ -12,7 +15,7 @@ pub mod lengths;
 pub mod neighbor;
 pub mod nodes;
 pub mod prefixes;
-mod rows;
+pub mod rows;
 pub mod writing;
 
 pub use digest::Digest;

@@ -105,7 +105,7 @@ fn push_copies(copies: &mut Vec<PrefixDigest>, rows: &[PrefixDigest]) -> Result<
 fn are_rows(rows: &[PrefixDigest]) -> bool
     ensures { IsTrue result ↔ prefixes.Fits rows.now }
 {
-    if rows.len() > MAX_ROWS {
+    if rows.len() > usize::from(MAX_ROWS) {
         return false;
     }
     let mut low: &[u8] = &[];

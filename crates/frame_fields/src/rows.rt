@@ -6,10 +6,10 @@ ghost use Rattle.frame_fields.specs.Field.{is_before};
 use std::cmp::Ordering;
 
 /// The most rows of a list.
-pub(crate) const MAX_ROWS: usize = 8192;
+pub const MAX_ROWS: u16 = 8_192;
 
 /// Returns whether one string stands before another in byte order.
-pub(crate) fn is_before(one: &[u8], other: &[u8]) -> bool
+pub fn is_before(one: &[u8], other: &[u8]) -> bool
     ensures { result ≡ is_before one.now other.now }
 {
     one.cmp(other) == Ordering::Less

@@ -9,7 +9,7 @@ use Rattle.meta_types.specs.Value.{ValueParts}
 use Rattle.dvvset.specs.Object.{Entry, Counter}
 use Rattle.frame_fields.specs.declared.prefixes.PrefixDigest.{PrefixDigest}
 use Rattle.frame_fields.specs.declared.keys.KeyDigest.{KeyDigest}
-use Rattle.frame_fields.specs.Field.{greatest_count, no_state, forget, above_counter, above_entry, has_value, is_before, lowest, prefix_of, key_bytes}
+use Rattle.frame_fields.specs.Field.{greatest_count, most_rows, no_state, forget, above_counter, above_entry, has_value, is_before, lowest, prefix_of, key_bytes}
 use Rattle.frame_fields.specs.declared.neighbor.Priority.{Priority}
 use Rattle.frame_fields.specs.declared.neighbor.Priority.TheVariants.{Low, High}
 use Rattle.frame_fields.specs.declared.neighbor.NeighborAnswer.{NeighborAnswer}
@@ -143,7 +143,7 @@ unfoldable pub prefix_row_reader : Prefix → Reader PrefixDigest
 prefix_row_reader low = made_reader (then_reader (prefix_above_reader low) (λ _. digest_reader)) (λ p. record { prefix = p.0; digest = p.1 })
 
 unfoldable pub prefixes_reader : Reader (List PrefixDigest)
-prefixes_reader = made_reader (then_reader (within_reader w16 0 8192) (each_reader prefix_row_reader prefix_of lowest)) (λ p. p.1)
+prefixes_reader = made_reader (then_reader (within_reader w16 0 most_rows) (each_reader prefix_row_reader prefix_of lowest)) (λ p. p.1)
 
 unfoldable pub key_above_reader : List ℕ → Reader (List ℕ)
 key_above_reader low = named_reader 1 256 (is_before low)
@@ -152,4 +152,4 @@ unfoldable pub key_row_reader : List ℕ → Reader KeyDigest
 key_row_reader low = made_reader (then_reader (key_above_reader low) (λ _. digest_reader)) (λ p. record { key = p.0; digest = p.1 })
 
 unfoldable pub keys_reader : Reader (List KeyDigest)
-keys_reader = made_reader (then_reader (within_reader w16 0 8192) (each_reader key_row_reader key_bytes [])) (λ p. p.1)
+keys_reader = made_reader (then_reader (within_reader w16 0 most_rows) (each_reader key_row_reader key_bytes [])) (λ p. p.1)

@@ -10,13 +10,10 @@ ghost use Rattle.frame_readers.specs.declared.fault.FieldFault.TheVariants.{Memo
 
 use crate::fault::FieldFault;
 use crate::reading::{node_from, read_bytes, read_node, u16_within};
+use frame_fields::rows::{MAX_ROWS, is_before};
 use frame_fields::{Digest, Digests, KeyDigest, KeyDigests, Nodes, PrefixDigest, PrefixDigests};
 use meta_types::{ByteString, FullPrefix, NodeId};
 use std::alloc::{AllocError, Global};
-use std::cmp::Ordering;
-
-/// The most rows of prefixes, and of keys.
-const MAX_ROWS: u64 = 8192;
 
 /// The fewest bytes of a prefix with its digest.
 const MIN_PREFIX_ROW_LEN: usize = 38;
@@ -85,12 +82,6 @@ pub fn read_digests(alloc: Global, bytes: &[u8]) -> Result<(Digests, &[u8]), Fie
 {
     let (digests, rest) = each_digest(alloc, bytes)?;
     Ok((Digests::new(digests), rest))
-}
-
-fn is_before(one: &[u8], other: &[u8]) -> bool
-    ensures { result ≡ is_before one.now other.now }
-{
-    one.cmp(other) == Ordering::Less
 }
 
 /// The first part of a prefix, which is not less than that of the one before.
@@ -208,7 +199,7 @@ fn each_prefix(
 fn list_of_prefixes(alloc: Global, bytes: &[u8]) -> Result<(Vec<PrefixDigest>, &[u8]), FieldFault>
     ensures { Gives (λ x. (x.0.items, x.1.now)) result (prefixes_reader bytes.now) }
 {
-    let (len, rest) = u16_within(0, MAX_ROWS, bytes)?;
+    let (len, rest) = u16_within(0, u64::from(MAX_ROWS), bytes)?;
     let (rows, rest) = each_prefix(alloc, len, rest)?;
     Ok((rows, rest))
 }
@@ -274,7 +265,7 @@ fn each_key(alloc: Global, len: u16, bytes: &[u8]) -> Result<(Vec<KeyDigest>, &[
 fn list_of_keys(alloc: Global, bytes: &[u8]) -> Result<(Vec<KeyDigest>, &[u8]), FieldFault>
     ensures { Gives (λ x. (x.0.items, x.1.now)) result (keys_reader bytes.now) }
 {
-    let (len, rest) = u16_within(0, MAX_ROWS, bytes)?;
+    let (len, rest) = u16_within(0, u64::from(MAX_ROWS), bytes)?;
     let (rows, rest) = each_key(alloc, len, rest)?;
     Ok((rows, rest))
 }

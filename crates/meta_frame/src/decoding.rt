@@ -9,6 +9,7 @@ ghost use Rattle.meta_frame.specs.Reading.{Decodes, decode_of, IsHeader, framed}
 
 use crate::bodies::read_message;
 use crate::fault::FrameFault;
+use crate::field::offset;
 use crate::kinds::is_known;
 use crate::message::{Frame, Message};
 use frame_readers::FieldFault;
@@ -100,17 +101,10 @@ fn read(alloc: Global, bytes: &[u8]) -> Result<Frame, FrameFault>
     let (_, body) = bytes.split_at(HEADER_LEN);
     let (message, rest) = match read_message(alloc, u8_at(bytes, 3), body) {
         Ok(found) => found,
-        Err(FieldFault::Memory) => return Err(FrameFault::Memory),
-        Err(FieldFault::Left(left)) => {
-            return Err(FrameFault::BadBody {
-                at: bytes.len().saturating_sub(left),
-            });
-        }
+        Err(fault) => return Err(offset(bytes, fault)),
     };
     if !rest.is_empty() {
-        return Err(FrameFault::BadBody {
-            at: bytes.len().saturating_sub(rest.len()),
-        });
+        return Err(offset(bytes, FieldFault::Left(rest.len())));
     }
     Ok(frame_of(bytes, message))
 }

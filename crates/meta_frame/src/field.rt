@@ -59,7 +59,7 @@ pub fn get_object(alloc: Global, bytes: &[u8]) -> Result<(Entries, &[u8]), Frame
 }
 
 /// A fault by its offset in the bytes.
-fn offset(bytes: &[u8], fault: FieldFault) -> FrameFault
+pub(crate) fn offset(bytes: &[u8], fault: FieldFault) -> FrameFault
     ensures { result ≡ offset_of bytes.now fault }
 {
     match fault {

@@ -1,4 +1,13 @@
 //! Frames: what nodes send each other, as bytes and back. Their tests are the crate `frame_tests`.
+//!
+//! ```
+//! let frame = Frame { from, to, number: 5, message: Message::Prune };
+//! let bytes = encode(alloc, &frame)?;
+//! let again = decode(alloc, bytes.as_slice())?; // equal to the frame
+//! ```
+//!
+//! Read `message`, `kinds` (the table of kinds), `encoding`, `decoding` with `bodies`, `lawful`, `field`,
+//! then `laws` and `fault`.
 #![tactic(auto)]
 
 mod bodies;

@@ -1,4 +1,14 @@
 //! The store of one node: a map from key to object.
+//!
+//! ```
+//! let mut store = Store::new(alloc);
+//! store.put(node, key.copy()?, red, None)?; // a blind write
+//! let (values, context) = store.look(&key, Source { node, step: 1 })?; // shows red
+//! store.put(node, key, green, Some(&context))?; // replaces what was read
+//! ```
+//!
+//! Read `store`, `put`, `merge`, `context` with `source`, then `laws` and `fault`; `size` and `stale` are
+//! private tests.
 #![tactic(auto)]
 
 pub mod context;

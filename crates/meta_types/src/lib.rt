@@ -2,6 +2,15 @@
 //!
 //! Each type keeps its limits by itself: a value that exists is in range. A constructor answers a
 //! refusal for what is out of range, and `copy` is the only call that takes memory.
+//!
+//! ```
+//! let prefix = FullPrefix::new(b"app".to_vec(alloc)?, b"flags".to_vec(alloc)?)?;
+//! let key = MetaKey::new(prefix, b"colour".to_vec(alloc)?)?;
+//! let red = Value::new(0, Some(b"red".to_vec(alloc)?))?;
+//! ```
+//!
+//! Read `node`, `prefix`, `key`, `value`, then `fault`; `bytes` is the string that names are made of, and
+//! `laws` says that comparisons are what they seem.
 #![tactic(auto)]
 
 pub mod bytes;

@@ -3,6 +3,13 @@
 //!
 //! What nodes know is defined by sets of writes and unions; counters come in only where a set is shown as
 //! an object.
+//!
+//! ```
+//! let plain = Plain::replay(alloc, history)?;
+//! let siblings = plain.siblings(alloc, node, &key)?; // what the node has to show under the key
+//! ```
+//!
+//! Read `happening`, `history` (`fits`), `laws`, then `plain`, which works it out by sets, over `moment`.
 #![tactic(auto)]
 
 pub mod happening;

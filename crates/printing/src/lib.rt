@@ -2,6 +2,11 @@
 //! frames and their refusals. Each call adds its text at the end of bytes, or nothing where memory is
 //! refused.
 //!
+//! ```
+//! let mut text = Vec::new(alloc);
+//! print_frame(&mut text, &frame)?; // PRUNE from 1 to 0 number 5
+//! ```
+//!
 //! Read `print` first, the public calls; `field`, `list`, `row` and `frame` have the parts. What no
 //! contract says of them is tested by the crate `text_tests` and by the stored run of the program
 //! `plumctl`.

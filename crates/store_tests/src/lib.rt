@@ -9,6 +9,8 @@
 #[cfg(test)]
 mod clocks;
 #[cfg(test)]
+mod examples;
+#[cfg(test)]
 mod images;
 #[cfg(test)]
 mod names;

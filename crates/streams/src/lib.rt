@@ -1,6 +1,15 @@
 //! Readers and writers whose faults have a cause, the lines of a reader within a limit, and writing
 //! whole texts: what the commands over standard input and output stand on. Their tests are the
 //! crate `text_tests`.
+//!
+//! ```
+//! let mut lines = LineBuffer::new(alloc)?;
+//! while lines.next_line(&mut reader, &mut line)? {
+//!     write_whole(&mut writer, line.as_slice())?;
+//! }
+//! ```
+//!
+//! Read `source` and `sink`, `line`, then `fault` and `laws`.
 #![tactic(auto)]
 
 mod fault;

@@ -32,6 +32,13 @@ impl Values {
         Values { values }
     }
 
+    /// The values, without taking memory.
+    pub fn into_vec(self) -> Vec<Value>
+        ensures { result.items ≡ self }
+    {
+        self.values
+    }
+
     pub fn as_slice(&self) -> &[Value]
         ensures { result.now ≡ self.now }
     {
@@ -106,6 +113,13 @@ impl FrameNumbers {
         Ok(FrameNumbers {
             numbers: [number].to_vec(alloc)?,
         })
+    }
+
+    /// The numbers, without taking memory.
+    pub fn into_vec(self) -> Vec<u64>
+        ensures { result.items ≡ self }
+    {
+        self.numbers
     }
 
     pub fn as_slice(&self) -> &[u64]
