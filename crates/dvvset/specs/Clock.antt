@@ -1,5 +1,5 @@
--- The clock formulas, on lists; their source is that of an object. A lawful entry (id, count, values) shows the events
--- numbered from its cover + 1 to its count.
+-- The clock formulas, on lists; their source is that of an object. A lawful entry (id, count,
+-- values) shows the events numbered from its cover + 1 to its count.
 use Rattle.std.specs.Prelude.{ℕ, ◌+◌, ◌-◌, ◌==◌, nat_lt, nat_le, if◌then◌else◌, List, [], ◌∷◌, length, take, map, flat_map, Bool, true, false, ◌&&◌}
 use Rattle.meta_types.specs.Value.{ValueParts}
 use Rattle.dvvset.specs.Object.{Entry, Counter}
@@ -20,13 +20,13 @@ cover e = e.count - length e.values
 abbrev pub cut : Entry → ℕ → Entry
 cut e low = record { id = e.id; count = e.count; values = take (e.count - low) e.values }
 
--- two sides' entries of one writer: the one with the greater count, the first at equal counts, cut by the
--- other's cover
+-- two sides' entries of one writer: the one with the greater count, the first at equal counts, cut
+-- by the other's cover
 abbrev pub sync_entry : Entry → Entry → Entry
 sync_entry a b = if nat_le b.count a.count then cut a (cover b) else cut b (cover a)
 
--- `x` and what follows it on its side, merged with the other side in the order of the writers; `rest`
--- merges what follows `x`
+-- `x` and what follows it on its side, merged with the other side in the order of the writers;
+-- `rest` merges what follows `x`
 abbrev pub sync_from : Entry → (List Entry → List Entry) → List Entry → List Entry
 sync_from x rest [] = x ∷ rest []
 sync_from x rest (y ∷ ys) =

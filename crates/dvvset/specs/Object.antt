@@ -1,7 +1,7 @@
--- Dotted version vector sets, in the form of an object for each key: what an object and a vector are.
--- The idea, and the names `join`, `sync`, `update` and `values`, are those of the works on dotted version vectors of
--- Almeida, Baquero, Gonçalves, Preguiça and Fonte (from 2012 on); there are no anonymous values, the rule here is our own,
--- and no agreement in corner cases is claimed.
+-- Dotted version vector sets, in the form of an object for each key: what an object and a vector
+-- are. The idea, and the names `join`, `sync`, `update` and `values`, are those of the works on
+-- dotted version vectors of Almeida, Baquero, Gonçalves, Preguiça and Fonte (from 2012 on); there
+-- are no anonymous values, the rule here is our own, and no agreement in corner cases is claimed.
 use Rattle.std.specs.Prelude.{ℕ, ◌+◌, ◌<◌, ◌≤◌, ◌^◌, List, [], ◌∷◌, length, map, All}
 use Rattle.meta_types.specs.Node.{IsNode}
 use Rattle.meta_types.specs.Value.{ValueParts, IsValue}

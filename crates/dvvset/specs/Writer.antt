@@ -15,13 +15,15 @@ count_of es w = count_for (join es) w
 
 -- ---- a merge
 
--- both sides know the writer: the merge knows the events that either knows, shows none that either has covered, and
--- its values are the newest of the side that knows more, of the first where both know as many
+-- both sides know the writer: the merge knows the events that either knows, shows none that either
+-- has covered, and its values are the newest of the side that knows more, of the first where both
+-- know as many
 pub record IsMerged (a b merged : Entry) : Type 0 where
   pub id : merged.id ≡ a.id
   pub count : merged.count ≡ max a.count b.count
   pub covered : cover merged ≡ max (cover a) (cover b)
-  pub newest : merged.values ≡ take (length merged.values) (if nat_le b.count a.count then a.values else b.values)
+  pub newest : merged.values
+      ≡ take (length merged.values) (if nat_le b.count a.count then a.values else b.values)
 
 -- an entry that stands on one side alone stays as it is
 abbrev pub MergesAt : (a b merged : Option Entry) → Type 0
@@ -42,9 +44,11 @@ abbrev pub shown : Option Entry → List ValueParts
 shown None = []
 shown (Some e) = e.values
 
--- a write of `v` by `id` that has read the vector: of each writer the events that either knows are known, and the
--- values that were not read stay; the write is one more event of its writer, and its value stands in front
-pub record IsWritten (read : List Counter) (object : List Entry) (id : ℕ) (v : ValueParts) (written : List Entry) : Type 0 where
+-- a write of `v` by `id` that has read the vector: of each writer the events that either knows are
+-- known, and the values that were not read stay; the write is one more event of its writer, and its
+-- value stands in front
+pub record IsWritten (read : List Counter) (object : List Entry) (id : ℕ) (v : ValueParts)
+    (written : List Entry) : Type 0 where
   pub counts : (w : ℕ) → count_of written w
       ≡ max (count_for read w) (count_of object w) + (if w == id then 1 else 0)
   pub values : (w : ℕ) → shown (entry_of written w) ≡ (if w == id then v ∷ [] else [])

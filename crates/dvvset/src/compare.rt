@@ -22,8 +22,8 @@ pub fn count_of(entries: &[Entry], id: NodeId) -> u64
     0
 }
 
-/// Returns whether each counter of the second is at most that of the first, so that whoever has read the
-/// first has read all that the second has. An absent counter is 0. One pass over both.
+/// Returns whether each counter of the second is at most that of the first, so that whoever has
+/// read the first has read all that the second has. An absent counter is 0. One pass over both.
 pub fn descends(a: &Vector, b: &Vector) -> bool
     ensures value { result ≡ descends a.now b.now }
     ensures counters { IsTrue result ↔ ((w : ℕ) → count_for b.now w ≤ count_for a.now w) }

@@ -8,7 +8,8 @@ use meta_types::{NodeId, Value};
 use std::alloc::{AllocError, Global};
 use std::marker::Model;
 
-/// The events of one writer: how many there were, and the values of the newest of them, newest first.
+/// The events of one writer: how many there were, and the values of the newest of them, newest
+/// first.
 ///
 /// An entry is plain parts, whatever they are: `Entries::from_parts` tells whether they are lawful.
 #[derive(Debug, Drop)]
@@ -131,8 +132,8 @@ pub fn copy_values(alloc: Global, values: &[Value]) -> Result<Vec<Value>, AllocE
     Ok(copies)
 }
 
-/// Adds copies of values at the end, in their order. Where memory runs out some of them may have been
-/// added.
+/// Adds copies of values at the end, in their order. Where memory runs out some of them may have
+/// been added.
 pub(crate) fn push_copies(copies: &mut Vec<Value>, values: &[Value]) -> Result<(), AllocError>
     ensures { OnOk result (copies.new.items ≡ copies.old.items ++ values.now) }
 {

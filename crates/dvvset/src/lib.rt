@@ -1,7 +1,7 @@
 //! Dotted version vector sets: what a store keeps under one key, and what a reader has seen of it.
 //!
-//! An object, `Entries`, has for each writer the number of its events and the values of the newest of
-//! them. A `Vector` has the numbers alone: it is the vector of a read's context.
+//! An object, `Entries`, has for each writer the number of its events and the values of the newest
+//! of them. A `Vector` has the numbers alone: it is the vector of a read's context.
 //!
 //! ```
 //! let blind = Vector::empty(alloc);
@@ -12,8 +12,8 @@
 //! let after = update(alloc, &read, &both, NodeId::new(1)?, green)?; // shows green
 //! ```
 //!
-//! Read `entry`, `entries`, `vector` (the types), `merge` (`sync`), `write` (`update`), `compare`, then
-//! `laws` and `fault`.
+//! Read `entry`, `entries`, `vector` (the types), `merge` (`sync`), `write` (`update`), `compare`,
+//! then `laws` and `fault`.
 #![tactic(auto)]
 
 pub mod compare;

@@ -60,11 +60,11 @@ fn raise(entries: Vec<Entry>, id: NodeId, value: Value) -> Result<Vec<Entry>, Cl
     Ok(entries)
 }
 
-/// What a write by `id` of a value that has read the vector makes of an object: values that the vector has
-/// read are no longer shown, the others stay beside the new one as siblings. Refused with 20
-/// `CounterSpent` exactly where the writer's counter, on either side, is at its greatest value, but for
-/// want of memory. The value is dropped with a refusal. It takes memory for the entries, the vector's
-/// too, and for copies of the values that stay.
+/// What a write by `id` of a value that has read the vector makes of an object: values that the
+/// vector has read are no longer shown, the others stay beside the new one as siblings. Refused
+/// with 20 `CounterSpent` exactly where the writer's counter, on either side, is at its greatest
+/// value, but for want of memory. The value is dropped with a refusal. It takes memory for the
+/// entries, the vector's too, and for copies of the values that stay.
 pub fn update(
     alloc: Global,
     read: &Vector,

@@ -32,8 +32,8 @@ fn u32_at(bytes: &[u8], at: usize) -> u32
     u32::from_be_bytes([bytes[at], bytes[at + 1], bytes[at + 2], bytes[at + 3]])
 }
 
-/// The bytes of the first frame, as many as the header at the front names, and those after them. Refused
-/// where there are fewer.
+/// The bytes of the first frame, as many as the header at the front names, and those after them.
+/// Refused where there are fewer.
 fn split(bytes: &[u8]) -> Result<(&[u8], &[u8]), FrameFault>
     ensures front { IfOk result (λ x. x.0.now ≡ take (20 + len_in bytes.now) bytes.now) }
     ensures rest { IfOk result (λ x. x.1.now ≡ drop (20 + len_in bytes.now) bytes.now) }
@@ -108,8 +108,8 @@ fn written_once(alloc: Global, frames: &[Frame]) -> Result<u64, FrameFault>
     Ok(len)
 }
 
-/// How many bytes the frames are written as, `rounds` times over, or `u64::MAX` where they are more.
-/// It fails only where memory is refused.
+/// How many bytes the frames are written as, `rounds` times over, or `u64::MAX` where they are
+/// more. It fails only where memory is refused.
 fn written_often(alloc: Global, frames: &[Frame], rounds: u32) -> Result<u64, FrameFault>
     requires each { All (λ f. Spells f (spelling f)) frames.now }
     requires fits { length (flat_map spelling frames.now) ≤ usize.MAX }
@@ -146,8 +146,8 @@ fn answer_for(fault: &FrameFault) -> u64
 }
 
 /// Reads all frames of the bytes, and answers how many they are; `REFUSED` where the bytes aren't
-/// frames one after another, and only then; `NO_MEMORY` where memory was refused. A contract can't say
-/// when memory is refused, so this one allows that answer always.
+/// frames one after another, and only then; `NO_MEMORY` where memory was refused. A contract can't
+/// say when memory is refused, so this one allows that answer always.
 #[unsafe(no_mangle)]
 pub extern "C" fn frame_bench_decode(alloc: Global, bytes: &[u8]) -> u64
     ensures counted { result ≤ MOST → (frames : List Frame) × AreSpelled frames bytes.now
@@ -162,8 +162,8 @@ pub extern "C" fn frame_bench_decode(alloc: Global, bytes: &[u8]) -> u64
 
 /// Reads all frames of the bytes, writes each as its spelling, `rounds` times, and returns how many
 /// bytes it wrote, `MOST` where they are more; `REFUSED` where the bytes aren't frames one after
-/// another, and only then; `NO_MEMORY` where memory was refused. A contract can't say when memory is
-/// refused, so this one allows that answer always.
+/// another, and only then; `NO_MEMORY` where memory was refused. A contract can't say when memory
+/// is refused, so this one allows that answer always.
 #[unsafe(no_mangle)]
 pub extern "C" fn frame_bench_encode(alloc: Global, bytes: &[u8], rounds: u32) -> u64
     ensures written { result ≤ MOST → AreFrames bytes.now

@@ -88,7 +88,8 @@ place = number w8 0 15
 
 -- a name; where its bytes break a further rule, they are at fault and not their length
 abbrev pub named : ℕ → ℕ → (List ℕ → Bool) → Form (List ℕ)
-named low high rule = seen_as (then_form (number w16 low high) (λ size. ruled (some_bytes size) rule)) counted_bytes
+named low high rule =
+    seen_as (then_form (number w16 low high) (λ size. ruled (some_bytes size) rule)) counted_bytes
 
 -- one string stands before another in byte order
 abbrev pub is_before : List ℕ → List ℕ → Bool
@@ -102,8 +103,9 @@ first_above low = named 1 64 (λ first. not (is_before first low))
 abbrev pub second_above : Prefix → List ℕ → Form (List ℕ)
 second_above low first = named 1 64 (λ sub. is_before low.prefix first || is_before low.sub sub)
 
--- a prefix that stands after another. One that doesn't is at fault at the bytes of its first part where these stand
--- before the other's, and otherwise at the bytes of its second part; never at a length
+-- a prefix that stands after another. One that doesn't is at fault at the bytes of its first part
+-- where these stand before the other's, and otherwise at the bytes of its second part; never at a
+-- length
 abbrev pub prefix_above : Prefix → Form Prefix
 prefix_above low = seen_as (then_form (first_above low.prefix) (second_above low)) prefix_parts
 
@@ -152,7 +154,8 @@ abbrev pub greatest_count : ℕ
 greatest_count = 18446744073709551615
 
 abbrev pub counter_form : ℕ → Form Counter
-counter_form low = seen_as (then_form (number w16 low 15) (λ _. number w64 1 greatest_count)) counter_parts
+counter_form low =
+    seen_as (then_form (number w16 low 15) (λ _. number w64 1 greatest_count)) counter_parts
 
 abbrev pub above_counter : Counter → ℕ
 above_counter c = c.id + 1
@@ -180,14 +183,19 @@ abbrev pub value_parts : ValueParts → ℕ × (ℕ × List ℕ)
 value_parts v = (tag_of v.body, (v.stamp, bytes_or_none v.body))
 
 abbrev pub value : Form ValueParts
-value = seen_as (then_form (number w8 0 1) (λ tag. then_form (any_number w64) (λ _. body_form tag))) value_parts
+value =
+    seen_as (then_form (number w8 0 1)
+    (λ tag. then_form (any_number w64) (λ _. body_form tag))) value_parts
 
 abbrev pub entry_parts : Entry → ℕ × (ℕ × List ValueParts)
 entry_parts e = (e.id, (e.count, e.values))
 
 -- at most as many values as the count
 abbrev pub entry : ℕ → Form Entry
-entry low = seen_as (then_form (number w16 low 15) (λ _. then_form (number w64 1 greatest_count) (λ count. list 0 count (λ (_ : ℕ). value) forget no_state))) entry_parts
+entry low =
+    seen_as (then_form (number w16 low 15)
+    (λ _. then_form (number w64 1 greatest_count)
+    (λ count. list 0 count (λ (_ : ℕ). value) forget no_state))) entry_parts
 
 abbrev pub above_entry : Entry → ℕ
 above_entry e = e.id + 1

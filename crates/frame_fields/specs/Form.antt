@@ -1,10 +1,12 @@
--- A form says how the values of a field are spelled as bytes, which values have a spelling, and which bytes
--- are at fault. A fault is told by the number of bytes from the first byte of the field at fault, itself included,
--- to the end of all bytes: an offset is the number of all bytes less that.
+-- A form says how the values of a field are spelled as bytes, which values have a spelling, and
+-- which bytes are at fault. A fault is told by the number of bytes from the first byte of the field
+-- at fault, itself included, to the end of all bytes: an offset is the number of all bytes less
+-- that.
 --
--- The rule of faults is our own: fields are read from left to right, and the first one that is cut by the
--- end of the bytes, or whose value its rule forbids, is at fault. An object without any value is at fault at its
--- count, after all its fields were read. Bytes after the last field come after all of these.
+-- The rule of faults is our own: fields are read from left to right, and the first one that is cut
+-- by the end of the bytes, or whose value its rule forbids, is at fault. An object without any
+-- value is at fault at its count, after all its fields were read. Bytes after the last field come
+-- after all of these.
 use Rattle.std.specs.Prelude.{◌≡◌, ℕ, ◌<◌, ◌^◌, ◌*◌, ◌⊎◌, List, [], ◌∷◌, ◌++◌, length, Bool, true, false}
 use Rattle.std.specs.Int.{Width, byte_len, to_be_bytes}
 
@@ -75,12 +77,14 @@ then_form first second = record {
   Bad = λ bytes left. first.Bad bytes left ⊎ BadBehind first (λ x. (second x).Bad) bytes left;
 }
 
--- the same bytes, seen as values of another type; for use only where each value that fits the first form is the
--- parts of just one of these, so that the same bytes are at fault
+-- the same bytes, seen as values of another type; for use only where each value that fits the first
+-- form is the parts of just one of these, so that the same bytes are at fault
 abbrev pub seen_as : {A B : Type 0} → Form A → (B → A) → Form B
-seen_as form parts = record { spell = λ y. form.spell (parts y); Fits = λ y. form.Fits (parts y); Bad = form.Bad }
+seen_as form parts =
+    record { spell = λ y. form.spell (parts y); Fits = λ y. form.Fits (parts y); Bad = form.Bad }
 
--- each value has a spelling; its form depends on what `next` makes of the value before it, and the first's on `s`
+-- each value has a spelling; its form depends on what `next` makes of the value before it, and the
+-- first's on `s`
 abbrev pub EachFits : {S A : Type 0} → (S → Form A) → (A → S) → S → List A → Type 0
 EachFits form next s [] = Unit {0}
 EachFits form next s (x ∷ xs) = (form s).Fits x × EachFits form next (next x) xs

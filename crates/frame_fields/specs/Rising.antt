@@ -1,5 +1,5 @@
--- Rows that rise, in the subject's words. The forms of prefixes and keys say it one row after another; that both are
--- the same is a law (src/laws.rt).
+-- Rows that rise, in the subject's words. The forms of prefixes and keys say it one row after
+-- another; that both are the same is a law (src/laws.rt).
 use Rattle.std.specs.Prelude.{ℕ, ◌+◌, ◌<◌, ◌≤◌, List, length, get_or, All}
 use Rattle.meta_types.specs.Name.{IsName, IsFullPrefix}
 use Rattle.meta_types.specs.Order.{BytesBefore, PrefixBefore}

@@ -131,8 +131,8 @@ pub fn is_vector(v: &Vector) -> bool
     !v.is_empty()
 }
 
-/// Returns whether an object has a spelling in frames: it shows a value, and no entry shows more than
-/// 65,535.
+/// Returns whether an object has a spelling in frames: it shows a value, and no entry shows more
+/// than 65,535.
 pub fn is_object(o: &Entries) -> bool
     ensures { IsTrue result ↔ object.Fits o.now }
 {

@@ -2,8 +2,8 @@
 //! and how it is written. What reads them is `frame_readers`. Their tests are the crate
 //! `frame_tests`.
 //!
-//! Read the forms in `specs/Form.antt` and `specs/Field.antt`; then the types (`digest`, `digests`, `nodes`,
-//! `prefixes`, `keys`, `neighbor`), `lawful`, `lengths` and `writing`.
+//! Read the forms in `specs/Form.antt` and `specs/Field.antt`; then the types (`digest`, `digests`,
+//! `nodes`, `prefixes`, `keys`, `neighbor`), `lawful`, `lengths` and `writing`.
 #![tactic(auto)]
 
 pub mod digest;

@@ -1,5 +1,5 @@
-//! Readers of the fields that frames are made of, from the front of bytes. `meta_frame` alone uses them:
-//! their contracts cite readers on lists, and what is public there cites forms.
+//! Readers of the fields that frames are made of, from the front of bytes. `meta_frame` alone uses
+//! them: their contracts cite readers on lists, and what is public there cites forms.
 //!
 //! ```
 //! let (key, rest) = read_key(alloc, bytes)?;

@@ -1,5 +1,5 @@
-//! Reading node numbers, digests, and rows that rise. A row is compared with the one before it where
-//! both stand in the bytes.
+//! Reading node numbers, digests, and rows that rise. A row is compared with the one before it
+//! where both stand in the bytes.
 
 ghost use Rattle.std.specs.Prelude.{◌≡◌, ◌≢◌, ◌<◌, [], IfOk, IfErr};
 ghost use Rattle.std.specs.Int.{w16};
@@ -98,7 +98,8 @@ fn read_first<'a>(low: &[u8], bytes: &'a [u8]) -> Result<(&'a [u8], &'a [u8]), F
     Ok((first, after))
 }
 
-/// The second part of a prefix, which lies above that of the one before, or after a greater first part.
+/// The second part of a prefix, which lies above that of the one before, or after a greater first
+/// part.
 #[tactic(auto, unfolding(crate::specs::Reader::second_reader))]
 fn read_second<'a>(
     low: &[u8],
@@ -277,8 +278,8 @@ pub fn read_keys(alloc: Global, bytes: &[u8]) -> Result<(KeyDigests, &[u8]), Fie
     Ok((KeyDigests::new(rows), rest))
 }
 
-/// How many rows to make room for: not more than are announced, nor than the bytes can hold, so that
-/// a short frame takes little memory.
+/// How many rows to make room for: not more than are announced, nor than the bytes can hold, so
+/// that a short frame takes little memory.
 fn most_rows(len: u16, bytes: &[u8], row_len: usize) -> usize
     requires { 0 < row_len }
 {

@@ -53,8 +53,8 @@ key_and_object = then_form key (λ _. object)
 
 -- ---- the table of kinds
 
--- what a message is by its kind: the kind's number and name, the bytes of its body, whether its fields have a
--- spelling, and which bytes are at fault in a body of the kind
+-- what a message is by its kind: the kind's number and name, the bytes of its body, whether its
+-- fields have a spelling, and which bytes are at fault in a body of the kind
 pub record Row : Type 1 where
   pub number : ℕ
   pub name : List ℕ
@@ -64,7 +64,14 @@ pub record Row : Type 1 where
 
 -- a row by the number of the kind, its name, the form of its body, and the parts of a body
 abbrev pub kind : {A : Type 0} → ℕ → List ℕ → Form A → A → Row
-kind number name form parts = record { number = number; name = name; body = form.spell parts; Fits = form.Fits parts; Bad = form.Bad }
+kind number name form parts =
+    record {
+      number = number;
+      name = name;
+      body = form.spell parts;
+      Fits = form.Fits parts;
+      Bad = form.Bad;
+    }
 
 abbrev pub row_of : Message → Row
 row_of (Gossip round k o) = kind 1 (codes "GOSSIP") gossip (round, (k, o))
@@ -106,7 +113,8 @@ body m = (row_of m).body
 abbrev pub IsMessage : Message → Type 0
 IsMessage m = (row_of m).Fits
 
--- a field of a body of this kind is at fault; the messages of a kind have one form, so any of them tells
+-- a field of a body of this kind is at fault; the messages of a kind have one form, so any of them
+-- tells
 pub record BadFields (number : ℕ) (bytes : List ℕ) (left : ℕ) : Type 0 where
   pub message : Message
   pub kind_is : number ≡ kind_of message
@@ -198,4 +206,6 @@ IsBodyFault bytes fault = ⊥
 
 -- this refusal is the first that applies: of the tests of the header, and otherwise of the body
 abbrev pub RefusesBytes : List ℕ → FrameFault → Type 0
-RefusesBytes bytes fault = MatchOption (first_that_applies (header_tests bytes)) (IsBodyFault bytes fault) (λ first. fault ≡ first)
+RefusesBytes bytes fault =
+    MatchOption (first_that_applies (header_tests bytes)) (IsBodyFault bytes fault)
+    (λ first. fault ≡ first)

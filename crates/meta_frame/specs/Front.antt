@@ -5,7 +5,8 @@ use Rattle.meta_frame.specs.declared.fault.FrameFault.TheVariants.{BadBody}
 use Rattle.frame_fields.specs.Form.{Form}
 
 -- the bytes begin with the spelling of the value
-pub record Begins {A : Type 0} (form : Form A) (bytes : List ℕ) (value : A) (rest : List ℕ) : Type 0 where
+pub record Begins {A : Type 0} (form : Form A) (bytes : List ℕ) (value : A)
+    (rest : List ℕ) : Type 0 where
   pub fits : form.Fits value
   pub spelled : bytes ≡ form.spell value ++ rest
 

@@ -14,6 +14,7 @@ pub mod Frame
 pub mod Front
 -- the numbers of refusals
 pub mod Fault
--- what private functions alone cite: the forms of the fields as readers on lists, and those of frames
+-- what private functions alone cite: the forms of the fields as readers on lists, and those of
+-- frames
 pub use Rattle.frame_readers.specs.Reader
 pub mod Reading

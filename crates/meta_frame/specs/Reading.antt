@@ -1,5 +1,5 @@
--- Messages and frames as readers on lists, made of the readers of the fields. Private functions are proved
--- against these, and the readers against the forms; no public contract cites this file.
+-- Messages and frames as readers on lists, made of the readers of the fields. Private functions are
+-- proved against these, and the readers against the forms; no public contract cites this file.
 use Rattle.std.specs.Prelude.{◌≡◌, ℕ, List, length, drop, Option, Some, None, Result, Ok, Err, ◌==◌, ◌-◌, ◌<◌, ◌≤◌, ◌⊎◌, if◌then◌else◌}
 use Rattle.std.specs.Int.{w8, w16, w64}
 use Rattle.meta_types.specs.Name.{Key}
@@ -16,25 +16,37 @@ use Rattle.frame_readers.specs.declared.fault.FieldFault.{FieldFault}
 use Rattle.frame_readers.specs.declared.fault.FieldFault.TheVariants as faults
 
 unfoldable pub gossip_reader : Reader Message
-gossip_reader = made_reader (then_reader (number_reader w16) (λ _. then_reader key_reader (λ _. object_reader))) (λ p. Gossip p.0 p.1.0 p.1.1)
+gossip_reader =
+    made_reader (then_reader (number_reader w16) (λ _. then_reader key_reader (λ _. object_reader)))
+    (λ p. Gossip p.0 p.1.0 p.1.1)
 
 unfoldable pub announced_reader : (ℕ → Key → List Counter → Message) → Reader Message
-announced_reader make = made_reader (then_reader (number_reader w16) (λ _. then_reader key_reader (λ _. vector_reader))) (λ p. make p.0 p.1.0 p.1.1)
+announced_reader make =
+    made_reader (then_reader (number_reader w16) (λ _. then_reader key_reader (λ _. vector_reader)))
+    (λ p. make p.0 p.1.0 p.1.1)
 
 unfoldable pub forwarded_reader : Reader Message
-forwarded_reader = made_reader (then_reader node_reader (λ _. number_reader w8)) (λ p. ForwardJoin p.0 p.1)
+forwarded_reader =
+    made_reader (then_reader node_reader (λ _. number_reader w8)) (λ p. ForwardJoin p.0 p.1)
 
 unfoldable pub shuffle_reader : Reader Message
-shuffle_reader = made_reader (then_reader node_reader (λ _. then_reader (number_reader w8) (λ _. nodes_reader))) (λ p. Shuffle p.0 p.1.0 p.1.1)
+shuffle_reader =
+    made_reader (then_reader node_reader (λ _. then_reader (number_reader w8) (λ _. nodes_reader)))
+    (λ p. Shuffle p.0 p.1.0 p.1.1)
 
 unfoldable pub inner_reader : Reader Message
 inner_reader = made_reader (then_reader prefix_reader (λ _. digests_reader)) (λ p. XInner p.0 p.1)
 
 unfoldable pub leaves_reader : Reader Message
-leaves_reader = made_reader (then_reader prefix_reader (λ _. then_reader (within_reader w8 0 15) (λ _. digests_reader))) (λ p. XLeaves p.0 p.1.0 p.1.1)
+leaves_reader =
+    made_reader (then_reader prefix_reader
+    (λ _. then_reader (within_reader w8 0 15) (λ _. digests_reader)))
+    (λ p. XLeaves p.0 p.1.0 p.1.1)
 
 unfoldable pub bucket_reader : Reader Message
-bucket_reader = made_reader (then_reader prefix_reader (λ _. then_reader (number_reader w8) (λ _. keys_reader))) (λ p. XBucket p.0 p.1.0 p.1.1)
+bucket_reader =
+    made_reader (then_reader prefix_reader (λ _. then_reader (number_reader w8) (λ _. keys_reader)))
+    (λ p. XBucket p.0 p.1.0 p.1.1)
 
 unfoldable pub carried_reader : Reader Message
 carried_reader = made_reader (then_reader key_reader (λ _. object_reader)) (λ p. XObject p.0 p.1)
@@ -58,16 +70,26 @@ message_reader kind bytes =
     if kind == 15 then leaves_reader bytes else (
     if kind == 16 then bucket_reader bytes else (
     if kind == 17 then carried_reader bytes else (
-    if kind == 18 then made_reader key_reader (λ k. XWant k) bytes else Err (length bytes))))))))))))))))))
+    if kind == 18 then made_reader key_reader (λ k. XWant k) bytes
+    else Err (length bytes))))))))))))))))))
 
 -- the frame of a header and a message
 abbrev pub framed : List ℕ → Message → Frame
-framed bytes message = record { from = from_in bytes; to = to_in bytes; number = number_in w64 8 bytes; message = message }
+framed bytes message =
+    record {
+      from = from_in bytes;
+      to = to_in bytes;
+      number = number_in w64 8 bytes;
+      message = message;
+    }
 
 -- a body was read, and nothing may be left
 abbrev pub whole : List ℕ → Result (Message × List ℕ) ℕ → Result Frame FrameFault
 whole bytes (Err left) = Err (frames.BadBody (length bytes - left))
-whole bytes (Ok read) = if length read.1 == 0 then Ok (framed bytes read.0) else Err (frames.BadBody (length bytes - length read.1))
+whole bytes (Ok read) =
+    if length read.1 == 0
+    then Ok (framed bytes read.0)
+    else Err (frames.BadBody (length bytes - length read.1))
 
 abbrev pub checked : List ℕ → Option FrameFault → Result Frame FrameFault
 checked bytes (Some fault) = Err fault

@@ -1,5 +1,5 @@
-//! Reading the body of each kind. A kind of several fields has a function of its own, since the proof of
-//! one function that read them all takes many times as long.
+//! Reading the body of each kind. A kind of several fields has a function of its own, since the
+//! proof of one function that read them all takes many times as long.
 
 ghost use Rattle.std.specs.Prelude.{◌≡◌};
 ghost use Rattle.meta_frame.specs.declared.message.Message.TheVariants.{IHave, Graft, Neighbor, NeighborReply, ShuffleReply, XRoot, XPrefixes, XWant};

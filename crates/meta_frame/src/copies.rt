@@ -1,5 +1,5 @@
-//! Copies of two fields that both hold memory, each in a function of its own: the proof of one function
-//! that copied them for all kinds takes many times as long.
+//! Copies of two fields that both hold memory, each in a function of its own: the proof of one
+//! function that copied them for all kinds takes many times as long.
 
 ghost use Rattle.std.specs.Prelude.{◌≡◌, IfOk};
 

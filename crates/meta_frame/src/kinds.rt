@@ -1,5 +1,5 @@
-//! The table of kinds, and what is made from it: one row for each kind, with its number, its name and
-//! the fields of its body in their order, each with its form.
+//! The table of kinds, and what is made from it: one row for each kind, with its number, its name
+//! and the fields of its body in their order, each with its form.
 
 ghost use Rattle.std.specs.Prelude.{◌≡◌, ◌++◌, ◌<◌, ◌^◌, ◌↔◌, length, Ok, IfOk, OnOk, IsTrue};
 ghost use Rattle.meta_frame.specs.Frame.{is_kind, kind_of, name_of, body, IsMessage};

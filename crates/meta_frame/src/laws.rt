@@ -1,5 +1,5 @@
-//! Laws of the spelling of frames, and of faults. The contract of a function is the law; its body does nothing, or
-//! compares.
+//! Laws of the spelling of frames, and of faults. The contract of a function is the law; its body
+//! does nothing, or compares.
 
 ghost use Rattle.std.specs.Prelude.{◌≡◌, ◌↔◌, ◌++◌, ◌⊎◌, ◌<◌, [], ℕ, List, All, IsTrue};
 ghost use Rattle.frame_fields.specs.Field.{prefix, key, vector, object};

@@ -6,8 +6,8 @@
 //! let again = decode(alloc, bytes.as_slice())?; // equal to the frame
 //! ```
 //!
-//! Read `message`, `kinds` (the table of kinds), `encoding`, `decoding` with `bodies`, `lawful`, `field`,
-//! then `laws` and `fault`.
+//! Read `message`, `kinds` (the table of kinds), `encoding`, `decoding` with `bodies`, `lawful`,
+//! `field`, then `laws` and `fault`.
 #![tactic(auto)]
 
 mod bodies;

@@ -75,7 +75,8 @@ pub enum Message {
         inner: u8,
         digests: Digests,
     },
-    /// 16: the keys of a leaf, which is numbered from 0 to 255 in its prefix, with their objects' digests.
+    /// 16: the keys of a leaf, which is numbered from 0 to 255 in its prefix, with their objects'
+    /// digests.
     XBucket {
         prefix: FullPrefix,
         leaf: u8,

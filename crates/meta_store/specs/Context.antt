@@ -14,7 +14,8 @@ pub record Reading : Type 0 where
 
 -- what a read of a table under the key hands out
 abbrev pub reading_at : Table → Key → Source → Reading
-reading_at table key source = record { key = key; vector = join (object_at table key); source = source }
+reading_at table key source =
+    record { key = key; vector = join (object_at table key); source = source }
 
 -- the vector that a write has read: that of its context, or none
 abbrev pub vector_read : Option Reading → List Counter

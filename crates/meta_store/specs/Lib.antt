@@ -1,5 +1,5 @@
--- What must be believed of a store, in the order in which to read it.
--- names, values, the first refusal that applies, clocks, the length of an object in a frame, and the past, which the
+-- What must be believed of a store, in the order in which to read it. names, values, the first
+-- refusal that applies, clocks, the length of an object in a frame, and the past, which the
 -- contracts of this crate speak of too
 pub use Rattle.meta_types.specs.Name
 pub use Rattle.meta_types.specs.Value

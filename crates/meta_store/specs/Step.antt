@@ -1,4 +1,5 @@
--- What a write and a merge make of a table, and the refusals of both in their order. The rule is our own.
+-- What a write and a merge make of a table, and the refusals of both in their order. The rule is
+-- our own.
 use Rattle.std.specs.Prelude.{ℕ, ◌==◌, nat_le, max, if◌then◌else◌, List, [], ◌∷◌, length, Bool, false, not, ◌&&◌, Option, Some, None, is_none}
 use Rattle.std.specs.FinMap.{find}
 use Rattle.meta_types.specs.Name.{Key}
@@ -25,7 +26,8 @@ is_full_for table key = is_none (find key_cmp key table) && nat_le most_keys (le
 
 -- the object that a write leaves under its key, whether or not the key is held
 abbrev pub object_after_put : Table → ℕ → Key → ValueParts → Option Reading → List Entry
-object_after_put table id key value context = update (vector_read context) (object_at table key) id value
+object_after_put table id key value context =
+    update (vector_read context) (object_at table key) id value
 
 -- there is a context, and it is of another key
 abbrev pub is_of_another_key : Key → Option Reading → Bool
@@ -34,7 +36,8 @@ is_of_another_key key (Some context) = not (key_eq context.key key)
 
 -- the writer's counter, in what was read or in what is held, is the greatest that there is
 abbrev pub is_spent : Table → ℕ → Key → Option Reading → Bool
-is_spent table id key context = max (count_for (vector_read context) id) (count_of (object_at table key) id) == greatest_count
+is_spent table id key context =
+    max (count_for (vector_read context) id) (count_of (object_at table key) id) == greatest_count
 
 abbrev pub refusal_of_put : Table → ℕ → Key → ValueParts → Option Reading → Option StoreFault
 refusal_of_put table id key value context = first_that_applies (
@@ -50,18 +53,24 @@ refusal_of_put table id key value context = first_that_applies (
 abbrev pub merge_of : Table → Key → List Entry → List Entry
 merge_of table key came = sync (object_at table key) came
 
--- what stands under the key after a merge; what came is stale where its vector is, and then nothing changes
+-- what stands under the key after a merge; what came is stale where its vector is, and then nothing
+-- changes
 abbrev pub object_after_merge : Table → Key → List Entry → List Entry
-object_after_merge table key came = if is_stale table key (join came) then object_at table key else merge_of table key came
+object_after_merge table key came =
+    if is_stale table key (join came) then object_at table key else merge_of table key came
 
 abbrev pub table_after_merge : Table → Key → List Entry → Table
-table_after_merge table key came = if is_stale table key (join came) then table else with_object key (merge_of table key came) table
+table_after_merge table key came =
+    if is_stale table key (join came)
+    then table
+    else with_object key (merge_of table key came) table
 
 abbrev pub answer_of_merge : Table → Key → List Entry → Merged
 answer_of_merge table key came = if is_stale table key (join came) then Stale else Fresh
 
 abbrev pub refusal_of_merge : Table → Key → List Entry → Option StoreFault
-refusal_of_merge table key came = if is_stale table key (join came) then None else first_that_applies (
+refusal_of_merge table key came =
+    if is_stale table key (join came) then None else first_that_applies (
     (not (has_value (merge_of table key came)), BadEntries)
     ∷ (is_full_for table key, StoreFull)
     ∷ (not (is_small_enough most_merged (merge_of table key came)), ObjectTooLarge)

@@ -46,7 +46,8 @@ most_merged = 16000000
 abbrev pub has_few_values : Entry → Bool
 has_few_values e = nat_le (length e.values) most_values
 
--- each entry shows few enough values, and as a field of a frame the object has at most so many bytes
+-- each entry shows few enough values, and as a field of a frame the object has at most so many
+-- bytes
 abbrev pub is_small_enough : ℕ → List Entry → Bool
 is_small_enough most es = list_all has_few_values es && nat_le (length (object.spell es)) most
 

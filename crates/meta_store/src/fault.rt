@@ -10,8 +10,8 @@ use thiserror::Error;
 #[derive(Debug, Drop, Error, PartialEq, Eq)]
 #[error("{}", self.name())]
 pub enum StoreFault {
-    /// 20: the writer's counter, in what is held or in what was read, is 18,446,744,073,709,551,615, so it can
-    /// have no further event.
+    /// 20: the writer's counter, in what is held or in what was read, is
+    /// 18,446,744,073,709,551,615, so it can have no further event.
     CounterSpent,
     /// 21: the merge would show no value.
     BadEntries,
@@ -19,8 +19,8 @@ pub enum StoreFault {
     StoreFull,
     /// 26: the context is of another key.
     WrongKey,
-    /// 27: as the object's field of a frame, what would be held has more than 1,048,576 bytes after a write, or
-    /// 16,000,000 after a merge; or it shows more than 65,535 values of one writer.
+    /// 27: as the object's field of a frame, what would be held has more than 1,048,576 bytes after
+    /// a write, or 16,000,000 after a merge; or it shows more than 65,535 values of one writer.
     ObjectTooLarge,
     /// 99: an allocation was refused. It may stand in place of any other refusal.
     Memory,

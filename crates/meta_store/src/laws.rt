@@ -1,4 +1,5 @@
-//! Laws of tables and of faults. The contract of a function is the law; its body does nothing, or compares.
+//! Laws of tables and of faults. The contract of a function is the law; its body does nothing, or
+//! compares.
 
 ghost use Rattle.std.specs.Prelude.{◌≡◌, ◌↔◌, ℕ, ◌<◌, List, length, get_or, IsTrue};
 ghost use Rattle.meta_types.specs.Name.{Key, IsKey};
@@ -8,8 +9,8 @@ ghost use Rattle.meta_store.specs.Table.{IsTable, Table, object_at};
 
 use crate::fault::StoreFault;
 
-/// Tables that show the same under every key are equal, so what `here` and `elsewhere` of `put` and `merge`
-/// say determines what a store holds.
+/// Tables that show the same under every key are equal, so what `here` and `elsewhere` of `put` and
+/// `merge` say determines what a store holds.
 pub fn look_ups_determine_a_table()
     ensures { (table other : Table) → IsTable table → IsTable other
         → ((key : Key) → IsKey key → object_at table key ≡ object_at other key) → table ≡ other }

@@ -7,8 +7,8 @@
 //! store.put(node, key, green, Some(&context))?; // replaces what was read
 //! ```
 //!
-//! Read `store`, `put`, `merge`, `context` with `source`, then `laws` and `fault`; `size` and `stale` are
-//! private tests.
+//! Read `store`, `put`, `merge`, `context` with `source`, then `laws` and `fault`; `size` and
+//! `stale` are private tests.
 #![tactic(auto)]
 
 pub mod context;

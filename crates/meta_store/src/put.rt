@@ -19,8 +19,8 @@ use meta_types::{MetaKey, NodeId, Value};
 pub const MAX_WRITTEN_LEN: usize = 1_048_576;
 
 impl Store {
-    /// The object that `put` would hold, by the same rules and with the same refusals. Nothing changes. The value
-    /// is dropped with a refusal.
+    /// The object that `put` would hold, by the same rules and with the same refusals. Nothing
+    /// changes. The value is dropped with a refusal.
     pub fn preview_put(
         &self,
         id: NodeId,
@@ -53,15 +53,17 @@ impl Store {
         Ok(object)
     }
 
-    /// A write by `id`, which has read what its context says, or without one nothing: the values that were
-    /// read are no longer shown, the others stay beside the new one as siblings. The context counts also
-    /// where nothing is held, or less than it has read. Nothing changes under other keys.
+    /// A write by `id`, which has read what its context says, or without one nothing: the values
+    /// that were read are no longer shown, the others stay beside the new one as siblings. The
+    /// context counts also where nothing is held, or less than it has read. Nothing changes under
+    /// other keys.
     ///
-    /// Refused, in this order, with 26 `WrongKey` where the context is of another key, 25 `StoreFull` for a
-    /// new key where 8,192 are held, 20 `CounterSpent` where the writer's counter, in what is held or in what
-    /// was read, is 18,446,744,073,709,551,615, and 27 `ObjectTooLarge` where the object would have more than
-    /// 1,048,576 bytes as its field of a frame, or more than 65,535 values of one writer; 99 `Memory` may stand
-    /// in place of any answer. Then nothing changes. Key and value are dropped with a refusal.
+    /// Refused, in this order, with 26 `WrongKey` where the context is of another key, 25
+    /// `StoreFull` for a new key where 8,192 are held, 20 `CounterSpent` where the writer's
+    /// counter, in what is held or in what was read, is 18,446,744,073,709,551,615, and 27
+    /// `ObjectTooLarge` where the object would have more than 1,048,576 bytes as its field of a
+    /// frame, or more than 65,535 values of one writer; 99 `Memory` may stand in place of any
+    /// answer. Then nothing changes. Key and value are dropped with a refusal.
     pub fn put(
         &mut self,
         id: NodeId,

@@ -21,8 +21,8 @@ fn have_few_values(entries: &[Entry]) -> bool
         .all(|entry| entry.values().len() <= MAX_VALUES_OF_A_WRITER)
 }
 
-/// Returns whether an object that shows a value has few enough values of each writer, and as a field of a
-/// frame at most `most` bytes. It goes over the values once, and takes no memory.
+/// Returns whether an object that shows a value has few enough values of each writer, and as a
+/// field of a frame at most `most` bytes. It goes over the values once, and takes no memory.
 pub(crate) fn is_small_enough(object: &Entries, most: usize) -> bool
     requires { has_value object.now ≡ true }
     ensures { result ≡ is_small_enough most object.now }

@@ -21,8 +21,8 @@ use std::marker::Model;
 /// The most keys of a store.
 pub const MAX_KEYS: usize = 8_192;
 
-/// What one node holds: a map from key to object. Each object held shows a value; a key without an object
-/// is read as one with the absent object.
+/// What one node holds: a map from key to object. Each object held shows a value; a key without an
+/// object is read as one with the absent object.
 #[derive(Debug, Drop)]
 pub struct Store {
     rows: Vec<(MetaKey, Entries)>,
@@ -39,7 +39,8 @@ impl Model for Store {
 }
 
 impl Store {
-    /// A store that holds nothing. It takes no memory; what is held will be taken from the allocator.
+    /// A store that holds nothing. It takes no memory; what is held will be taken from the
+    /// allocator.
     pub fn new(alloc: Global) -> Self
         ensures { result ≡ [] }
     {
@@ -82,9 +83,9 @@ impl Store {
         }
     }
 
-    /// The values under the key, which are siblings if there are several, by writer and of each the newest first,
-    /// and the vector of their object; both are empty where nothing is held. They are copies. Fails only
-    /// when memory runs out.
+    /// The values under the key, which are siblings if there are several, by writer and of each the
+    /// newest first, and the vector of their object; both are empty where nothing is held. They are
+    /// copies. Fails only when memory runs out.
     pub fn get(&self, key: &MetaKey) -> Result<(Vec<Value>, Vector), AllocError>
         ensures values { IfOk result
             (λ read. read.0.items ≡ values_of (object_at self.now key.now)) }
@@ -97,9 +98,9 @@ impl Store {
         }
     }
 
-    /// The values under the key, as `get` has them, and a context for a later write that has read them; where
-    /// nothing is held its vector has read nothing. `source` says who reads. It takes memory, with the refusal
-    /// of which alone it is refused.
+    /// The values under the key, as `get` has them, and a context for a later write that has read
+    /// them; where nothing is held its vector has read nothing. `source` says who reads. It takes
+    /// memory, with the refusal of which alone it is refused.
     pub fn look(&self, key: &MetaKey, source: Source) -> Result<(Vec<Value>, Context), AllocError>
         ensures values { IfOk result
             (λ read. read.0.items ≡ values_of (object_at self.now key.now)) }
@@ -109,22 +110,24 @@ impl Store {
         Ok((values, Context::new(key.copy()?, vector, source)))
     }
 
-    /// Returns whether the object under the key has read all that the vector has. It takes no memory.
+    /// Returns whether the object under the key has read all that the vector has. It takes no
+    /// memory.
     pub fn is_stale(&self, key: &MetaKey, vector: &Vector) -> bool
         ensures { result ≡ is_stale self.now key.now vector.now }
     {
         has_read(self.entries_under(key), vector.counters())
     }
 
-    /// Returns whether the object under the key knows each event that the other knows. It takes no memory.
+    /// Returns whether the object under the key knows each event that the other knows. It takes no
+    /// memory.
     pub(crate) fn knows(&self, key: &MetaKey, other: &Entries) -> bool
         ensures { result ≡ is_stale self.now key.now (join other.now) }
     {
         knows(self.entries_under(key), other.entries())
     }
 
-    /// Returns whether this store counts, under each key, at least as many events of the writer as the other does.
-    /// It takes no memory.
+    /// Returns whether this store counts, under each key, at least as many events of the writer as
+    /// the other does. It takes no memory.
     pub fn counts_as_many(&self, other: &Store, writer: NodeId) -> bool
         ensures { IsTrue result ↔ ((key : Key)
             → count_of (object_at other.now key) writer
@@ -157,9 +160,9 @@ impl Store {
         }
     }
 
-    /// Holds the object under the key, in place of what is held there, as a store is filled from what another
-    /// one has held. Fails only when memory runs out for a new key, and then nothing changes. A key that is held is
-    /// never refused.
+    /// Holds the object under the key, in place of what is held there, as a store is filled from
+    /// what another one has held. Fails only when memory runs out for a new key, and then nothing
+    /// changes. A key that is held is never refused.
     pub fn hold(&mut self, key: MetaKey, object: Entries) -> Result<(), AllocError>
         requires held { IsHeld object }
         requires room { is_full_for self.old key ≡ false }

@@ -1,4 +1,5 @@
--- How a call fails: for want of memory, which no contract can foresee, or for a cause that its contract states.
+-- How a call fails: for want of memory, which no contract can foresee, or for a cause that its
+-- contract states.
 use Rattle.std.specs.Prelude.{◌≡◌, ◌⊎◌, Option, Some, Result, IfErr}
 
 -- a call that fails does so for want of memory, or with a fault of which this holds

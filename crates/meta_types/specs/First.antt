@@ -3,4 +3,5 @@ use Rattle.std.specs.Prelude.{if◌then◌else◌, Bool, List, [], ◌∷◌, Op
 
 abbrev pub first_that_applies : {F : Type 0} → List (Bool × F) → Option F
 first_that_applies [] = None
-first_that_applies (refusal ∷ later) = if refusal.0 then Some refusal.1 else first_that_applies later
+first_that_applies (refusal ∷ later) =
+    if refusal.0 then Some refusal.1 else first_that_applies later

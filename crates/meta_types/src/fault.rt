@@ -15,8 +15,8 @@ pub enum TypeFault {
     ValueTooLong,
     /// 3: no node can have this number.
     BadNode,
-    /// 99: an allocation was refused. No call of this crate answers it: a copy answers `AllocError`,
-    /// which `?` turns into this.
+    /// 99: an allocation was refused. No call of this crate answers it: a copy answers
+    /// `AllocError`, which `?` turns into this.
     Memory,
 }
 

@@ -1,5 +1,5 @@
--- Where a node stands after a history: its table, its images and its standing image have what the object machine has. What
--- a world keeps to cites it. The rule is our own.
+-- Where a node stands after a history: its table, its images and its standing image have what the
+-- object machine has. What a world keeps to cites it. The rule is our own.
 use Rattle.std.specs.Prelude.{◌≡◌, ℕ, ◌≤◌, List, length}
 use Rattle.meta_types.specs.Name.{Key}
 use Rattle.meta_store.specs.Table.{object_at}

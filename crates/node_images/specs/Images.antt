@@ -1,5 +1,6 @@
--- The images of one node as they are kept: a list, oldest first, each with the number of the image that it changes and
--- what it changes there. Image 0 is the empty one and stands in no list. The rule is our own.
+-- The images of one node as they are kept: a list, oldest first, each with the number of the image
+-- that it changes and what it changes there. Image 0 is the empty one and stands in no list. The
+-- rule is our own.
 use Rattle.std.specs.Prelude.{◌≡◌, ℕ, ◌+◌, ◌<◌, ◌≤◌, List, [], ◌∷◌, length, get_or, Option, Some, None, if◌then◌else◌}
 use Rattle.meta_types.specs.Name.{Key}
 use Rattle.dvvset.specs.Object.{Entry}
@@ -7,7 +8,8 @@ use Rattle.past_model.specs.Sets.{set_at, key_eq}
 use Rattle.meta_store.specs.Table.{Table, IsHeld, IsTable, object_at}
 use Rattle.past_objects.specs.Objects.{Holding, holds_nothing, with_held}
 
--- the image that is changed, and the object that stands under a key instead; none where nothing is changed
+-- the image that is changed, and the object that stands under a key instead; none where nothing is
+-- changed
 pub record Image : Type 0 where
   pub base : ℕ
   pub change : Option (Key × List Entry)

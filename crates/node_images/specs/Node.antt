@@ -1,5 +1,5 @@
--- What the world keeps of one node: its table, its images, and the number of the image that the next one changes. The
--- rule is our own.
+-- What the world keeps of one node: its table, its images, and the number of the image that the
+-- next one changes. The rule is our own.
 use Rattle.std.specs.Prelude.{◌≢◌, ℕ, ◌+◌, ◌≤◌, List, [], ◌∷◌, ◌++◌, length, Option, Some}
 use Rattle.std.specs.FinMap.{find}
 use Rattle.meta_types.specs.Name.{Key}
@@ -16,7 +16,8 @@ pub record Node : Type 0 where
   pub images : List Image
   pub standing : ℕ
 
--- images can be read and restored; under each key where the standing one has an object the node has one
+-- images can be read and restored; under each key where the standing one has an object the node has
+-- one
 pub record IsImagedNode (node : Node) : Type 0 where
   pub earlier : ChangeEarlier node.images
   pub standing : node.standing ≤ length node.images

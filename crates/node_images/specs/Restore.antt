@@ -1,4 +1,5 @@
--- A store that is filled from an image, change by change: what private functions alone cite. The rule is our own.
+-- A store that is filled from an image, change by change: what private functions alone cite. The
+-- rule is our own.
 use Rattle.std.specs.Prelude.{◌≡◌, Option, Some, None, List, is_none, false, if◌then◌else◌}
 use Rattle.std.specs.FinMap.{find}
 use Rattle.meta_types.specs.Name.{Key}

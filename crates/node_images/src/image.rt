@@ -1,5 +1,5 @@
-//! The images of one node: each is an earlier one with one object, a copy of its own, in place of what stands
-//! there under its key.
+//! The images of one node: each is an earlier one with one object, a copy of its own, in place of
+//! what stands there under its key.
 
 ghost use Rattle.std.specs.Prelude.{◌≡◌, ◌≤◌, [], length};
 ghost use Rattle.std.specs.Option.{option_copied, unwrap_or};
@@ -9,8 +9,8 @@ use dvvset::Entries;
 use meta_types::MetaKey;
 use std::marker::Model;
 
-/// One image of a node: what is there instead of what the image of the number `base` has. Images are
-/// numbered from 1 in the order in which they were made; image 0 is the empty one.
+/// One image of a node: what is there instead of what the image of the number `base` has. Images
+/// are numbered from 1 in the order in which they were made; image 0 is the empty one.
 #[derive(Debug, Drop)]
 pub struct Image {
     base: usize,

@@ -20,8 +20,8 @@ use meta_types::{MetaKey, NodeId, Value};
 use std::alloc::{AllocError, Global};
 use std::marker::Model;
 
-/// A node's store, its images, and the number of the standing one, which the next image changes: the one
-/// that was made last, or from which the node was restarted if that came later.
+/// A node's store, its images, and the number of the standing one, which the next image changes:
+/// the one that was made last, or from which the node was restarted if that came later.
 #[derive(Debug, Drop)]
 pub struct Node {
     store: Store,
@@ -66,8 +66,8 @@ impl Node {
         self.images.as_slice()
     }
 
-    /// Keeps what the node holds under the key in its next image; nothing else changes. Fails only when memory
-    /// runs out for a copy of that, and then nothing changes.
+    /// Keeps what the node holds under the key in its next image; nothing else changes. Fails only
+    /// when memory runs out for a copy of that, and then nothing changes.
     pub fn keep(&mut self, key: &MetaKey) -> Result<(), AllocError>
         ensures value { OnOk result (self.new ≡ with_kept key.now self.old) }
         ensures is_node { IsImagedNode self.old }
@@ -79,8 +79,8 @@ impl Node {
         Ok(())
     }
 
-    /// The image that a write would leave, and the vector of what it would leave under its key. It is refused as
-    /// `Store::put` would be.
+    /// The image that a write would leave, and the vector of what it would leave under its key. It
+    /// is refused as `Store::put` would be.
     pub fn next_image(
         &self,
         id: NodeId,
@@ -109,8 +109,8 @@ impl Node {
         Ok((Image::new(self.standing, change), vector))
     }
 
-    /// A write, as `Store::put` makes it, with its refusals; `image`, which `next_image` made for it, is the
-    /// next image. Nothing changes where it is refused.
+    /// A write, as `Store::put` makes it, with its refusals; `image`, which `next_image` made for
+    /// it, is the next image. Nothing changes where it is refused.
     pub fn write(
         &mut self,
         image: Image,
@@ -159,8 +159,8 @@ impl Node {
         restore(*self.images.allocator(), self.images.as_slice(), number)
     }
 
-    /// The node begins again from the image of that number, with a store that holds what the image has; its
-    /// images stay.
+    /// The node begins again from the image of that number, with a store that holds what the image
+    /// has; its images stay.
     pub fn restart(&mut self, store: Store, number: usize)
         requires number { number ≤ length self.old.images }
         requires restored { (key : Key)

@@ -5,7 +5,8 @@ use Rattle.past_model.specs.declared.happening.Happening.{Happening}
 use Rattle.past_model.specs.declared.happening.Happening.TheVariants.{Wrote, Looked, Sent, Got, Kept, Restarted}
 use Rattle.past_model.specs.Past.{Past, Write, In, past, happens, writer_of}
 
--- what a happening names stands before it: an earlier Looked of the same key, an earlier Sent, an image of its node
+-- what a happening names stands before it: an earlier Looked of the same key, an earlier Sent, an
+-- image of its node
 abbrev pub Fits : List Happening → Happening → Type 0
 Fits before (Wrote n k v None) = Unit {0}
 Fits before (Wrote n k v (Some r)) = (m : ℕ) × (slice_get before r ≡ Some (Looked m k))

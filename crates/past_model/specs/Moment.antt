@@ -1,4 +1,5 @@
--- What private functions cite: the slow account of a history, and the tests of a happening that it goes by.
+-- What private functions cite: the slow account of a history, and the tests of a happening that it
+-- goes by.
 use Rattle.std.specs.Prelude.{◌≡◌, ℕ, ◌+◌, ◌<◌, ◌≤◌, ◌==◌, List, [], ◌∷◌, length, take, get_or, slice_get, Option, Some, None, Bool, true, false, ◌&&◌}
 use Rattle.meta_types.specs.Node.{IsNode}
 use Rattle.meta_types.specs.Name.{Key}
@@ -69,8 +70,8 @@ writes_of_happening s (Restarted n j) = []
 abbrev pub marked_places : List Bool → Places
 marked_places marks p = get_or marks p false
 
--- what a node knows, and its standing image, under all keys at once: a place is marked where its write is in the set of
--- its key
+-- what a node knows, and its standing image, under all keys at once: a place is marked where its
+-- write is in the set of its key
 pub record Marks : Type 0 where
   pub known : List Bool
   pub standing : List Bool
@@ -84,8 +85,8 @@ pub record GivesBoth (hs : List Happening) (m : Marks) (s : Past) (n : ℕ) : Ty
   pub known : GivesSets hs m.known (s.known n)
   pub standing : GivesSets hs m.standing (s.standing n)
 
--- the marks of moments: the first is the one before all happenings, for any node; each other stands after a happening,
--- for its node
+-- the marks of moments: the first is the one before all happenings, for any node; each other stands
+-- after a happening, for its node
 pub record AreMoments (hs : List Happening) (ms : List Marks) : Type 0 where
   pub first : (n : ℕ) (d : Marks) → GivesBoth hs (get_or ms 0 d) (past []) n
   pub later : (p : ℕ) (h : Happening) (d : Marks) → p + 1 < length ms → slice_get hs p ≡ Some h

@@ -1,6 +1,6 @@
--- The past: happenings in one order for all nodes, and what each node knows after them. A place is a happening's number
--- in that list, counted from 0; a write is named by its place. The rule is our own. It uses no counters, so
--- that clocks can be measured against it.
+-- The past: happenings in one order for all nodes, and what each node knows after them. A place is
+-- a happening's number in that list, counted from 0; a write is named by its place. The rule is our
+-- own. It uses no counters, so that clocks can be measured against it.
 use Rattle.std.specs.Prelude.{◌≡◌, ℕ, ◌+◌, List, [], ◌∷◌, Option, Some, None, ◌⊎◌}
 use Rattle.meta_types.specs.Name.{Key}
 use Rattle.meta_types.specs.Value.{ValueParts}
@@ -21,9 +21,9 @@ abbrev pub In : Write → List Write → Type 0
 In x [] = ⊥
 In x (y ∷ ys) = (x ≡ y) ⊎ In x ys
 
--- `seen` has, at the place of a Looked, what its node knew under its key; `load` at that of a Sent. Images are numbered
--- from 0, which is the empty one; a node's standing image is what its next image starts from: its newest,
--- or that of its last restart if that came later.
+-- `seen` has, at the place of a Looked, what its node knew under its key; `load` at that of a Sent.
+-- Images are numbered from 0, which is the empty one; a node's standing image is what its next
+-- image starts from: its newest, or that of its last restart if that came later.
 pub record Past : Type 0 where
   pub next : ℕ  -- the place of the next happening
   pub writes : List Write  -- the later first

@@ -1,4 +1,5 @@
--- What a set of writes under one key shows. The set is given by the places of its writes, beside the list of all.
+-- What a set of writes under one key shows. The set is given by the places of its writes, beside
+-- the list of all.
 use Rattle.std.specs.Prelude.{◌≡◌, ℕ, ◌<◌, ◌≤◌, ◌==◌, List, [], ◌∷◌, length, map, filter, All, Bool, true, ◌&&◌, not, ◌⊎◌, ◌↔◌}
 use Rattle.std.specs.List.{list_any}
 use Rattle.meta_types.specs.Name.{Key}
@@ -9,8 +10,8 @@ use Rattle.dvvset.specs.Writer.{entry_of, shown}
 use Rattle.past_model.specs.Sets.{Places}
 use Rattle.past_model.specs.Past.{Write, In}
 
--- a closed set: writes under the key; with each of them those that it had read, and the earlier ones of its writer
--- under the key
+-- a closed set: writes under the key; with each of them those that it had read, and the earlier
+-- ones of its writer under the key
 pub record IsClosed (ws : List Write) (k : Key) (S : Places) : Type 0 where
   pub of_writes : (p : ℕ) → S p ≡ true → (x : Write) × (In x ws × ((x.place ≡ p) × (x.key ≡ k)))
   pub reads : (x : Write) → In x ws → S x.place ≡ true → (p : ℕ) → x.read p ≡ true → S p ≡ true
@@ -57,8 +58,8 @@ pub record Shows (ws : List Write) (S : Places) (values : List ValueParts) : Typ
 abbrev pub count_in : List Write → Places → ℕ → ℕ
 count_in ws S w = length (filter (λ x. x.writer == w && S x.place) ws)
 
--- the context of the set: in the order of the writers, each that has a write in the set, and the number of its writes
--- in the set
+-- the context of the set: in the order of the writers, each that has a write in the set, and the
+-- number of its writes in the set
 pub record IsContext (ws : List Write) (S : Places) (counters : List Counter) : Type 0 where
   pub rising : RisesFrom 0 (ids_counted counters)
   pub counts : (w : ℕ) → count_for counters w ≡ count_in ws S w
@@ -66,7 +67,8 @@ pub record IsContext (ws : List Write) (S : Places) (counters : List Counter) : 
 
 -- ---- the object
 
--- the values of a writer's siblings, in the order of the list, which in a history is the later first
+-- the values of a writer's siblings, in the order of the list, which in a history is the later
+-- first
 abbrev pub siblings_by : List Write → Places → ℕ → List ValueParts
 siblings_by ws S w = map (λ x. x.value) (filter (λ x. x.writer == w && is_sibling ws S x) ws)
 

@@ -1,7 +1,7 @@
 use meta_types::{MetaKey, NodeId, Value};
 
-/// One thing that happened to one node. Happenings of all nodes stand in one list; a place is a number in
-/// that list, counted from 0.
+/// One thing that happened to one node. Happenings of all nodes stand in one list; a place is a
+/// number in that list, counted from 0.
 #[derive(Debug, Drop)]
 pub enum Happening {
     /// The node wrote a value, and had read what the `Looked` at the place `seen` saw, or nothing.

@@ -8,8 +8,9 @@ ghost use Rattle.past_model.specs.Moment.{is_look_under, is_sending};
 use crate::happening::Happening;
 use meta_types::{MetaKey, NodeId};
 
-/// Returns whether the list is a well-formed history: a `Wrote` names no `Looked`, or an earlier one of the
-/// same key; a `Got` an earlier `Sent`; a `Restarted` an image that its node has made before, or image 0.
+/// Returns whether the list is a well-formed history: a `Wrote` names no `Looked`, or an earlier
+/// one of the same key; a `Got` an earlier `Sent`; a `Restarted` an image that its node has made
+/// before, or image 0.
 pub fn fits(history: &[Happening]) -> bool
     ensures { IsTrue result ↔ IsHistory history.now }
 {

@@ -1,6 +1,6 @@
-//! The laws of merging, writing and reading, over histories. Each function does nothing: its contract is
-//! the law. No law asks for a well-formed history; those that need more than a list of happenings ask for
-//! the restart premise.
+//! The laws of merging, writing and reading, over histories. Each function does nothing: its
+//! contract is the law. No law asks for a well-formed history; those that need more than a list of
+//! happenings ask for the restart premise.
 
 ghost use Rattle.std.specs.Prelude.{◌≡◌, ◌≢◌, ◌↔◌, ◌∷◌, ◌++◌, [], ℕ, true, List, Option, length};
 ghost use Rattle.meta_types.specs.Name.{Key};
@@ -16,14 +16,14 @@ ghost use Rattle.past_model.specs.History.{RestartsKeepOwnWrites};
 ghost use Rattle.past_model.specs.Shown.{IsClosed, IsContext, IsObjectOf, Shows};
 ghost use Rattle.past_model.specs.Arisen.{IsArisen, IsBelow, IsLeastUpperBound, ReachesClosed, counter_of};
 
-/// What a node knows, what a read saw, what was sent, what a write had read, and what an image holds is a
-/// closed set of writes.
+/// What a node knows, what a read saw, what was sent, what a write had read, and what an image
+/// holds is a closed set of writes.
 pub fn what_the_past_reaches_is_closed()
     ensures { (hs : List H) → RestartsKeepOwnWrites hs → (k : Key) → ReachesClosed hs k }
 {}
 
-/// A closed set of writes has an object, and only one; the empty set has the absent object. It stays the
-/// object of that set while the history goes on.
+/// A closed set of writes has an object, and only one; the empty set has the absent object. It
+/// stays the object of that set while the history goes on.
 pub fn a_closed_set_has_one_object()
     ensures exists { (hs : List H) → RestartsKeepOwnWrites hs
         → (k : Key) (S : Places) → IsClosed (writes hs) k S
@@ -35,7 +35,8 @@ pub fn a_closed_set_has_one_object()
         → IsObjectOf (writes hs) k S a → IsObjectOf (writes (hs ++ more)) k S a }
 {}
 
-/// The values of an object are those of the siblings, and a set has one list of them and one context.
+/// The values of an object are those of the siblings, and a set has one list of them and one
+/// context.
 pub fn an_object_shows_the_siblings()
     ensures shows { (hs : List H) (k : Key) (S : Places) (a : List Entry)
         → IsObjectOf (writes hs) k S a → Shows (writes hs) S (values_of a) }
@@ -45,7 +46,8 @@ pub fn an_object_shows_the_siblings()
         → IsContext (writes hs) S cs → IsContext (writes hs) S ds → cs ≡ ds }
 {}
 
-/// The object of a set with a write in it shows a value: of the set's writes the last was read by none.
+/// The object of a set with a write in it shows a value: of the set's writes the last was read by
+/// none.
 pub fn an_object_with_a_write_shows_a_value()
     ensures of_a_set { (hs : List H) (k : Key) (S : Places) (a : List Entry) (p : ℕ)
         → IsObjectOf (writes hs) k S a → S p ≡ true → values_of a ≢ [] }
@@ -78,8 +80,8 @@ pub fn merging_is_the_least_upper_bound()
         → IsLeastUpperBound hs k a b (sync a b) }
 {}
 
-/// A context descends another exactly where the other's set is a subset, and so exactly where the other
-/// object is below.
+/// A context descends another exactly where the other's set is a subset, and so exactly where the
+/// other object is below.
 pub fn descending_is_inclusion()
     ensures sets { (hs : List H) → RestartsKeepOwnWrites hs
         → (k : Key) (S T : Places) (a b : List Entry)
@@ -109,9 +111,9 @@ pub fn a_delivery_adds_what_was_sent()
         → IsObjectOf (writes (hs ++ Got n i ∷ [])) k (known (hs ++ Got n i ∷ []) n k) (sync a b) }
 {}
 
-/// Once a node wrote, it knows also what the write had read, and the write; its object is the former one
-/// after `update` with the context of what was read. The write's counter is the one that the writer has
-/// in that object.
+/// Once a node wrote, it knows also what the write had read, and the write; its object is the
+/// former one after `update` with the context of what was read. The write's counter is the one that
+/// the writer has in that object.
 pub fn a_write_adds_what_it_read_and_itself()
     ensures known { (hs : List H) (n : ℕ) (k : Key) (v : ValueParts) (r : Option ℕ)
         → known (hs ++ Wrote n k v r ∷ []) n k

@@ -1,15 +1,16 @@
-//! The past: what happened, what each node knows of it, and the laws that tie it to the arithmetic of
-//! clocks.
+//! The past: what happened, what each node knows of it, and the laws that tie it to the arithmetic
+//! of clocks.
 //!
-//! What nodes know is defined by sets of writes and unions; counters come in only where a set is shown as
-//! an object.
+//! What nodes know is defined by sets of writes and unions; counters come in only where a set is
+//! shown as an object.
 //!
 //! ```
 //! let plain = Plain::replay(alloc, history)?;
 //! let siblings = plain.siblings(alloc, node, &key)?; // what the node has to show under the key
 //! ```
 //!
-//! Read `happening`, `history` (`fits`), `laws`, then `plain`, which works it out by sets, over `moment`.
+//! Read `happening`, `history` (`fits`), `laws`, then `plain`, which works it out by sets, over
+//! `moment`.
 #![tactic(auto)]
 
 pub mod happening;

@@ -1,5 +1,5 @@
-//! The slow account of a history: for each happening, what its node knows right after it and its standing
-//! image, as sets of places.
+//! The slow account of a history: for each happening, what its node knows right after it and its
+//! standing image, as sets of places.
 
 ghost use Rattle.std.specs.Prelude.{◌≡◌, ◌+◌, ◌<◌, ◌≤◌, ◌^◌, ◌&&◌, ◌||◌, ℕ, if◌then◌else◌, true, length, take, get_or, slice_get, Some, IfOk, OnOk, IfSome};
 ghost use Rattle.meta_types.specs.Name.{Key};
@@ -140,7 +140,8 @@ pub fn latest(history: &[Happening], places: usize, node: NodeId) -> usize
     moment
 }
 
-/// The moment in which the node's image of that number was made, among the first `places` happenings.
+/// The moment in which the node's image of that number was made, among the first `places`
+/// happenings.
 fn image(history: &[Happening], places: usize, node: NodeId, number: usize) -> usize
     requires inside { places ≤ length history.now }
     requires made { number ≤ (past (take places history.now)).last node }
@@ -158,8 +159,8 @@ fn image(history: &[Happening], places: usize, node: NodeId, number: usize) -> u
     0
 }
 
-/// The account of a history: the first moment is the one before all happenings, each other stands after a
-/// happening.
+/// The account of a history: the first moment is the one before all happenings, each other stands
+/// after a happening.
 pub fn account(alloc: Global, history: &[Happening]) -> Result<Vec<Moment>, AllocError>
     requires { IsHistory history.now }
     ensures { IfOk result (λ moments. IsAccount history.now moments.items) }

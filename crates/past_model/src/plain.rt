@@ -1,5 +1,5 @@
-//! What each node knows and shows after a history, by sets of places. It is slow, and it is what the arithmetic of
-//! clocks is compared with.
+//! What each node knows and shows after a history, by sets of places. It is slow, and it is what
+//! the arithmetic of clocks is compared with.
 
 ghost use Rattle.std.specs.Prelude.{◌≡◌, ◌<◌, ◌&&◌, ◌++◌, ◌∷◌, [], ◌==◌, ℕ, true, if◌then◌else◌, not, length, map, filter, slice_get, take, Some, Option, IfOk, OnOk};
 ghost use Rattle.std.specs.List.{list_any};
@@ -39,8 +39,8 @@ impl<'a> Model for Plain<'a> {
 }
 
 impl<'a> Plain<'a> {
-    /// The account of a history. It takes memory for two marks for each pair of a place and a happening,
-    /// and time with the square of the number of happenings.
+    /// The account of a history. It takes memory for two marks for each pair of a place and a
+    /// happening, and time with the square of the number of happenings.
     pub fn replay(alloc: Global, history: &'a [Happening]) -> Result<Self, AllocError>
         requires { IsHistory history.now }
         ensures { IfOk result (λ plain. plain ≡ history.now) }
@@ -62,8 +62,8 @@ impl<'a> Plain<'a> {
         places(alloc, marks.as_slice())
     }
 
-    /// The values of those writes that the node knows under the key and that none of them had read, by
-    /// writer, and of one writer the later first.
+    /// The values of those writes that the node knows under the key and that none of them had read,
+    /// by writer, and of one writer the later first.
     pub fn siblings(
         &self,
         alloc: Global,

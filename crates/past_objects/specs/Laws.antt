@@ -1,5 +1,6 @@
--- What the laws of the object machine say of one more happening: what changes, and that nothing else does. `old` and `new`
--- are objects under each key, by node, by place, or by number of an image.
+-- What the laws of the object machine say of one more happening: what changes, and that nothing
+-- else does. `old` and `new` are objects under each key, by node, by place, or by number of an
+-- image.
 use Rattle.std.specs.Prelude.{◌≡◌, ◌≢◌, ℕ, ◌+◌, List, [], ◌∷◌, ◌++◌, length, Option}
 use Rattle.meta_types.specs.Name.{Key}
 use Rattle.meta_types.specs.Value.{ValueParts}
@@ -20,8 +21,10 @@ pub record Becomes (old new : ℕ → Holding) (n : ℕ) (there : Holding) : Typ
   pub here : (l : Key) → new n l ≡ there l
   pub elsewhere : (m : ℕ) → m ≢ n → (l : Key) → new m l ≡ old m l
 
--- at n stands now the object under the key, and under each other key what `rest` has; elsewhere nothing changes
-pub record Gains (old new : ℕ → Holding) (n : ℕ) (k : Key) (object : List Entry) (rest : Holding) : Type 0 where
+-- at n stands now the object under the key, and under each other key what `rest` has; elsewhere
+-- nothing changes
+pub record Gains (old new : ℕ → Holding) (n : ℕ) (k : Key) (object : List Entry)
+    (rest : Holding) : Type 0 where
   pub here : new n k ≡ object
   pub other_keys : (l : Key) → l ≢ k → new n l ≡ rest l
   pub elsewhere : (m : ℕ) → m ≢ n → (l : Key) → new m l ≡ old m l
@@ -31,20 +34,26 @@ pub record MakesNoImage (hs : List Happening) (h : Happening) : Type 0 where
   pub numbers : (m : ℕ) → last_image (hs ++ h ∷ []) m ≡ last_image hs m
   pub images : (m : ℕ) → Stays (image_object hs m) (image_object (hs ++ h ∷ []) m)
 
--- the node makes its next image, and no other node does; the image has under the key what the node then holds there, and
--- under each other key what its images started from, and from now on they start from this one
+-- the node makes its next image, and no other node does; the image has under the key what the node
+-- then holds there, and under each other key what its images started from, and from now on they
+-- start from this one
 pub record MakesImage (hs : List Happening) (h : Happening) (n : ℕ) (k : Key) : Type 0 where
   pub number : last_image (hs ++ h ∷ []) n ≡ last_image hs n + 1
-  pub image : Gains (image_object hs n) (image_object (hs ++ h ∷ []) n) (last_image hs n + 1) k (held_object (hs ++ h ∷ []) n k) (standing_object hs n)
+  pub image : Gains (image_object hs n) (image_object (hs ++ h ∷ []) n) (last_image hs n + 1) k
+      (held_object (hs ++ h ∷ []) n k) (standing_object hs n)
   pub other_numbers : (m : ℕ) → m ≢ n → last_image (hs ++ h ∷ []) m ≡ last_image hs m
   pub other_images : (m : ℕ) → m ≢ n → Stays (image_object hs m) (image_object (hs ++ h ∷ []) m)
-  pub standing : Becomes (standing_object hs) (standing_object (hs ++ h ∷ [])) n (image_object (hs ++ h ∷ []) n (last_image hs n + 1))
+  pub standing : Becomes (standing_object hs) (standing_object (hs ++ h ∷ [])) n
+      (image_object (hs ++ h ∷ []) n (last_image hs n + 1))
 
 -- ---- the six happenings
 
--- the node holds under the key what it held with the write added, which had read that object, and makes an image
-pub record AfterWrite (hs : List Happening) (n : ℕ) (k : Key) (v : ValueParts) (r : Option ℕ) : Type 0 where
-  pub holds : Gains (held_object hs) (held_object (hs ++ Wrote n k v r ∷ [])) n k (update (join (read_object hs k r)) (held_object hs n k) (writer hs n) v) (held_object hs n)
+-- the node holds under the key what it held with the write added, which had read that object, and
+-- makes an image
+pub record AfterWrite (hs : List Happening) (n : ℕ) (k : Key) (v : ValueParts)
+    (r : Option ℕ) : Type 0 where
+  pub holds : Gains (held_object hs) (held_object (hs ++ Wrote n k v r ∷ [])) n k
+      (update (join (read_object hs k r)) (held_object hs n k) (writer hs n) v) (held_object hs n)
   pub seen : Stays (seen_object hs) (seen_object (hs ++ Wrote n k v r ∷ []))
   pub sent : Stays (sent_object hs) (sent_object (hs ++ Wrote n k v r ∷ []))
   pub image : MakesImage hs (Wrote n k v r) n k
@@ -52,7 +61,8 @@ pub record AfterWrite (hs : List Happening) (n : ℕ) (k : Key) (v : ValueParts)
 -- at the place of the look stands what the node holds under the key, and nothing under any other
 pub record AfterLook (hs : List Happening) (n : ℕ) (k : Key) : Type 0 where
   pub holds : Stays (held_object hs) (held_object (hs ++ Looked n k ∷ []))
-  pub seen : Gains (seen_object hs) (seen_object (hs ++ Looked n k ∷ [])) (length hs) k (held_object hs n k) holds_nothing
+  pub seen : Gains (seen_object hs) (seen_object (hs ++ Looked n k ∷ [])) (length hs) k
+      (held_object hs n k) holds_nothing
   pub sent : Stays (sent_object hs) (sent_object (hs ++ Looked n k ∷ []))
   pub image : MakesNoImage hs (Looked n k)
   pub standing : Stays (standing_object hs) (standing_object (hs ++ Looked n k ∷ []))
@@ -61,13 +71,15 @@ pub record AfterLook (hs : List Happening) (n : ℕ) (k : Key) : Type 0 where
 pub record AfterSending (hs : List Happening) (n : ℕ) (k : Key) : Type 0 where
   pub holds : Stays (held_object hs) (held_object (hs ++ Sent n k ∷ []))
   pub seen : Stays (seen_object hs) (seen_object (hs ++ Sent n k ∷ []))
-  pub sent : Gains (sent_object hs) (sent_object (hs ++ Sent n k ∷ [])) (length hs) k (held_object hs n k) holds_nothing
+  pub sent : Gains (sent_object hs) (sent_object (hs ++ Sent n k ∷ [])) (length hs) k
+      (held_object hs n k) holds_nothing
   pub image : MakesNoImage hs (Sent n k)
   pub standing : Stays (standing_object hs) (standing_object (hs ++ Sent n k ∷ []))
 
 -- the node holds under each key the merge of what it held and what was sent
 pub record AfterDelivery (hs : List Happening) (n i : ℕ) : Type 0 where
-  pub holds : Becomes (held_object hs) (held_object (hs ++ Got n i ∷ [])) n (λ k. sync (held_object hs n k) (sent_object hs i k))
+  pub holds : Becomes (held_object hs) (held_object (hs ++ Got n i ∷ [])) n
+      (λ k. sync (held_object hs n k) (sent_object hs i k))
   pub seen : Stays (seen_object hs) (seen_object (hs ++ Got n i ∷ []))
   pub sent : Stays (sent_object hs) (sent_object (hs ++ Got n i ∷ []))
   pub image : MakesNoImage hs (Got n i)
@@ -82,8 +94,10 @@ pub record AfterKeeping (hs : List Happening) (n : ℕ) (k : Key) : Type 0 where
 
 -- the node holds what the image has, and its images start from that
 pub record AfterRestart (hs : List Happening) (n j : ℕ) : Type 0 where
-  pub holds : Becomes (held_object hs) (held_object (hs ++ Restarted n j ∷ [])) n (image_object hs n j)
+  pub holds : Becomes (held_object hs) (held_object (hs ++ Restarted n j ∷ [])) n
+      (image_object hs n j)
   pub seen : Stays (seen_object hs) (seen_object (hs ++ Restarted n j ∷ []))
   pub sent : Stays (sent_object hs) (sent_object (hs ++ Restarted n j ∷ []))
   pub image : MakesNoImage hs (Restarted n j)
-  pub standing : Becomes (standing_object hs) (standing_object (hs ++ Restarted n j ∷ [])) n (image_object hs n j)
+  pub standing : Becomes (standing_object hs) (standing_object (hs ++ Restarted n j ∷ [])) n
+      (image_object hs n j)

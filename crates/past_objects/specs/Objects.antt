@@ -1,7 +1,8 @@
--- The object machine: what the nodes hold, what was seen and sent, and what the images hold, as objects. It goes over
--- the happenings of the past (`Past` of past_model) and is written part by part as that is, with an object where the
--- past has a set of writes, `sync` where it has a union, and `update` where it adds a write. It has no sets, no list of
--- writes, and no counters of its own. The rule is our own.
+-- The object machine: what the nodes hold, what was seen and sent, and what the images hold, as
+-- objects. It goes over the happenings of the past (`Past` of past_model) and is written part by
+-- part as that is, with an object where the past has a set of writes, `sync` where it has a union,
+-- and `update` where it adds a write. It has no sets, no list of writes, and no counters of its
+-- own. The rule is our own.
 use Rattle.std.specs.Prelude.{ℕ, ◌+◌, if◌then◌else◌, List, [], ◌∷◌, Option, Some, None}
 use Rattle.meta_types.specs.Name.{Key}
 use Rattle.meta_types.specs.Value.{ValueParts}
@@ -25,9 +26,9 @@ with_held t k object l = if key_eq l k then object else t l
 abbrev pub sync_by_key : Holding → Holding → Holding
 sync_by_key t u k = sync (t k) (u k)
 
--- `seen` has, at the place of a Looked, what its node held under its key; `load` at that of a Sent. Images are numbered
--- from 0, which is the empty one; a node's standing image is what its next image starts from: its newest,
--- or that of its last restart if that came later.
+-- `seen` has, at the place of a Looked, what its node held under its key; `load` at that of a Sent.
+-- Images are numbered from 0, which is the empty one; a node's standing image is what its next
+-- image starts from: its newest, or that of its last restart if that came later.
 pub record Objects : Type 0 where
   pub next : ℕ  -- the place of the next happening
   pub held : ℕ → Holding  -- of each node

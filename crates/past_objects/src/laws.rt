@@ -1,4 +1,5 @@
-//! The laws of the object machine, over histories. Each function does nothing: its contract is the law.
+//! The laws of the object machine, over histories. Each function does nothing: its contract is the
+//! law.
 
 ghost use Rattle.std.specs.Prelude.{◌≡◌, ◌≢◌, ◌≤◌, ◌↔◌, ◌∷◌, ◌++◌, [], ℕ, true, List, Option, None, Some, length};
 ghost use Rattle.meta_types.specs.Name.{Key};
@@ -15,8 +16,9 @@ ghost use Rattle.past_model.specs.Shown.{IsObjectOf};
 ghost use Rattle.past_objects.specs.Objects.{happens, held_object, image_object, last_image, objects, seen_object, sent_object, start, writer};
 ghost use Rattle.past_objects.specs.Laws.{AfterDelivery, AfterKeeping, AfterLook, AfterRestart, AfterSending, AfterWrite};
 
-/// What a node holds, what a read saw, what was sent, and what an image has are the objects of the sets of
-/// writes that the past has there. The machine's writers and its numbers of images are the past's.
+/// What a node holds, what a read saw, what was sent, and what an image has are the objects of the
+/// sets of writes that the past has there. The machine's writers and its numbers of images are the
+/// past's.
 pub fn each_object_is_that_of_its_set()
     ensures held { (hs : List H) → RestartsKeepOwnWrites hs → (n : ℕ) (k : Key)
         → IsObjectOf (writes hs) k (known hs n k) (held_object hs n k) }
@@ -30,8 +32,8 @@ pub fn each_object_is_that_of_its_set()
     ensures numbers { (hs : List H) (n : ℕ) → last_image hs n ≡ (past hs).last n }
 {}
 
-/// The machine starts with nothing and goes on with each happening: what that changes, and that all else
-/// stays. The place of the next happening is their number.
+/// The machine starts with nothing and goes on with each happening: what that changes, and that all
+/// else stays. The place of the next happening is their number.
 pub fn the_machine_goes_on_with_each_happening()
     ensures first { objects [] ≡ start }
     ensures step { (hs : List H) (h : H) → objects (hs ++ h ∷ []) ≡ happens (objects hs) h }
@@ -45,8 +47,8 @@ pub fn the_machine_goes_on_with_each_happening()
     ensures restarted { (hs : List H) (n j : ℕ) → AfterRestart hs n j }
 {}
 
-/// What was sent is stale for a node, by vectors, exactly where the node knows all that the sender knew; then
-/// merging it changes nothing.
+/// What was sent is stale for a node, by vectors, exactly where the node knows all that the sender
+/// knew; then merging it changes nothing.
 pub fn a_delivery_is_stale_where_it_is_known()
     ensures exactly { (hs : List H) → RestartsKeepOwnWrites hs → (n i : ℕ) (k : Key)
         → (descends (join (held_object hs n k)) (join (sent_object hs i k)) ≡ true)
@@ -67,8 +69,9 @@ pub fn what_is_held_shows_a_value()
         → values_of (sync (held_object hs n k) (sent_object hs p k)) ≢ [] }
 {}
 
-/// The restart premise holds after a restart exactly where, under every key, the image counts at least as
-/// many of the node's own writes as the node does now. It holds at the start, and no other happening ends it.
+/// The restart premise holds after a restart exactly where, under every key, the image counts at
+/// least as many of the node's own writes as the node does now. It holds at the start, and no other
+/// happening ends it.
 pub fn a_restart_keeps_own_writes_exactly_where_own_counters_stay()
     ensures exactly { (hs : List H) → RestartsKeepOwnWrites hs → (n j : ℕ)
         → RestartsKeepOwnWrites (hs ++ Restarted n j ∷ [])

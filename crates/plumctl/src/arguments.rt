@@ -62,8 +62,8 @@ fn words(rt: &HostRuntime) -> Result<Option<Vec<String>>, StreamFault> {
     }
 }
 
-/// Prints help or the version at standard output, or a usage fault at standard error, and returns the
-/// exit status.
+/// Prints help or the version at standard output, or a usage fault at standard error, and returns
+/// the exit status.
 fn print(rt: &HostRuntime, error: &Error) -> Result<u8, StreamFault> {
     match error.print(rt) {
         Ok(()) => Ok(error.exit_code() as u8),

@@ -1,5 +1,5 @@
-//! The commands of the store, at the command line. Each exit status, and each line at standard error but those about
-//! arguments, is that of a call of `plumctl_core`.
+//! The commands of the store, at the command line. Each exit status, and each line at standard
+//! error but those about arguments, is that of a call of `plumctl_core`.
 #![tactic(auto)]
 
 mod arguments;

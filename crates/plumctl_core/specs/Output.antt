@@ -20,7 +20,9 @@ IsTextOfBytes bytes text =
 
 -- the text of a line: of the bytes that its digits stand for
 abbrev pub IsTextOf : List ℕ → List ℕ → Type 0
-IsTextOf line text = MatchResult (decode_of (without_spaces line)) (λ bytes. IsTextOfBytes bytes text) (λ _. text ≡ codes "error 9 BadHex")
+IsTextOf line text =
+    MatchResult (decode_of (without_spaces line)) (λ bytes. IsTextOfBytes bytes text)
+    (λ _. text ≡ codes "error 9 BadHex")
 
 -- the line stands for a frame
 pub record IsFrameLine (line : List ℕ) : Type 0 where

@@ -14,7 +14,8 @@ abbrev pub EndsLine : List ℕ → Type 0
 EndsLine text = (rest : List ℕ) → lines_of (text ++ rest) ≡ lines_of text ++ lines_of rest
 
 -- the whole input was read, which is within the limit, and its output was written and passed on
-pub record Prints (passed_on : Type 0) (reader_old reader_new writer_old writer_new : Option (List ℕ)) (ended : Ended) : Type 0 where
+pub record Prints (passed_on : Type 0)
+    (reader_old reader_new writer_old writer_new : Option (List ℕ)) (ended : Ended) : Type 0 where
   pub input : List ℕ
   pub consumed : Consumes reader_old reader_new input
   pub end : IsAtEnd reader_new
@@ -25,9 +26,12 @@ pub record Prints (passed_on : Type 0) (reader_old reader_new writer_old writer_
   pub passed : passed_on
   pub all : (ended ≡ AllPrinted) ↔ All IsFrameLine (lines_of input)
 
--- what was read until the fault, whole lines and the beginning of another, and of the output for the whole lines a front
--- was written; and the fault's cause. A last line without a line feed is whole where the reader is at its end.
-pub record Stops (read_failed : Type 0) (failed : Failed) (reader_old reader_new writer_old writer_new : Option (List ℕ)) (fault : StreamFault) : Type 0 where
+-- what was read until the fault, whole lines and the beginning of another, and of the output for
+-- the whole lines a front was written; and the fault's cause. A last line without a line feed is
+-- whole where the reader is at its end.
+pub record Stops (read_failed : Type 0) (failed : Failed)
+    (reader_old reader_new writer_old writer_new : Option (List ℕ))
+    (fault : StreamFault) : Type 0 where
   pub lines : List ℕ
   pub begun : List ℕ
   pub consumed : Consumes reader_old reader_new (lines ++ begun)
@@ -40,14 +44,16 @@ pub record Stops (read_failed : Type 0) (failed : Failed) (reader_old reader_new
 -- ---- what private functions cite
 
 -- the text of a line was written, and a line feed
-pub record WritesLine (line : List ℕ) (writer_old writer_new : Option (List ℕ)) (is_frame : Bool) : Type 0 where
+pub record WritesLine (line : List ℕ) (writer_old writer_new : Option (List ℕ))
+    (is_frame : Bool) : Type 0 where
   pub text : List ℕ
   pub text_is : IsTextOf line text
   pub appended : Appends writer_old writer_new (text ++ 10 ∷ [])
   pub frame : IsTrue is_frame ↔ IsFrameLine line
 
 -- a front of it was written
-pub record StopsLine (failed : Failed) (line : List ℕ) (writer_old writer_new : Option (List ℕ)) (fault : StreamFault) : Type 0 where
+pub record StopsLine (failed : Failed) (line : List ℕ) (writer_old writer_new : Option (List ℕ))
+    (fault : StreamFault) : Type 0 where
   pub text : List ℕ
   pub text_is : IsTextOf line text
   pub appended : AppendsFront writer_old writer_new (text ++ 10 ∷ [])
@@ -60,6 +66,7 @@ WritesLast line writer_old writer_new is_frame =
     ((line ≡ []) × Keeps writer_old writer_new × IsTrue is_frame)
     ⊎ ((0 < length line) × WritesLine line writer_old writer_new is_frame)
 
-abbrev pub StopsLast : (failed : Failed) (line : List ℕ) (writer_old writer_new : Option (List ℕ)) (fault : StreamFault) → Type 0
+abbrev pub StopsLast : (failed : Failed) (line : List ℕ) (writer_old writer_new : Option (List ℕ))
+    (fault : StreamFault) → Type 0
 StopsLast failed line writer_old writer_new fault = (0 < length line)
     × StopsLine failed line writer_old writer_new fault

@@ -1,7 +1,7 @@
 -- How a run ends for who started the program: the exit status, and what is told at standard error.
 --
--- The statuses: 0 done, 1 a line was refused or the input is too long, 3 a fault of reading or writing, 4 want of memory.
--- Wrong arguments, with status 2, start no run.
+-- The statuses: 0 done, 1 a line was refused or the input is too long, 3 a fault of reading or
+-- writing, 4 want of memory. Wrong arguments, with status 2, start no run.
 use Rattle.std.specs.Prelude.{◌⊎◌, ℕ, List, [], ◌∷◌, ◌++◌, Option, codes}
 use Rattle.std.specs.Io.KnownBytes.{Appends}
 use Rattle.streams.specs.declared.fault.StreamFault.{StreamFault}
@@ -37,6 +37,6 @@ pub record TellsFront (failed : Failed) (old new : Option (List ℕ)) (line : Li
   pub cause : IsWriterFault failed why
 
 -- the fault was told at standard error, as far as that takes it
-abbrev pub Tells : (failed : Failed) (old new : Option (List ℕ)) → StreamFault → Type 0
-Tells failed old new fault = Appends old new (line_of_fault fault)
+abbrev pub TellsFault : (failed : Failed) (old new : Option (List ℕ)) → StreamFault → Type 0
+TellsFault failed old new fault = Appends old new (line_of_fault fault)
     ⊎ TellsFront failed old new (line_of_fault fault)

@@ -30,7 +30,8 @@ impl Ended {
     }
 }
 
-/// Writes what is printed for a line, and a line feed, and returns whether the line stands for a frame.
+/// Writes what is printed for a line, and a line feed, and returns whether the line stands for a
+/// frame.
 fn write_line<W: Sink>(
     alloc: Global,
     line: &[u8],
@@ -49,8 +50,8 @@ fn write_line<W: Sink>(
     Ok(is_frame)
 }
 
-/// Writes the last line, which lacks its line feed, as `write_line` does. Where it is empty there is
-/// none.
+/// Writes the last line, which lacks its line feed, as `write_line` does. Where it is empty there
+/// is none.
 fn write_last_line<W: Sink>(
     alloc: Global,
     line: &[u8],
@@ -69,13 +70,14 @@ fn write_last_line<W: Sink>(
     write_line(alloc, line, text, writer)
 }
 
-/// Reads lines of hexadecimal digits to the end of the input, and writes for each line the frame that
-/// its digits spell, or the first refusal: spaces are skipped, digits may be of either case, and a line
-/// that is not an even number of digits is `error 9 BadHex`. The writer is flushed before the reader is
-/// asked for more. Ends with 7 `Read` at the first error of the reader, an interruption too, with 8
-/// `InputTooLong` once more than 67,108,864 bytes were read, with `Write` at the first error of the
-/// writer or when it takes no more (`BrokenPipe` where its other end is closed), and with 99 `Memory`. It takes memory for the longest line, its
-/// bytes, its frame and its text, and for one read.
+/// Reads lines of hexadecimal digits to the end of the input, and writes for each line the frame
+/// that its digits spell, or the first refusal: spaces are skipped, digits may be of either case,
+/// and a line that is not an even number of digits is `error 9 BadHex`. The writer is flushed
+/// before the reader is asked for more. Ends with 7 `Read` at the first error of the reader, an
+/// interruption too, with 8 `InputTooLong` once more than 67,108,864 bytes were read, with `Write`
+/// at the first error of the writer or when it takes no more (`BrokenPipe` where its other end is
+/// closed), and with 99 `Memory`. It takes memory for the longest line, its bytes, its frame and
+/// its text, and for one read.
 pub fn frame_lines<R: Source, W: Sink>(
     alloc: Global,
     reader: &mut R,

@@ -59,8 +59,8 @@ fn print_text_of_bytes(alloc: Global, bytes: &[u8], text: &mut Vec<u8>) -> Resul
     }
 }
 
-/// Puts what is printed for a line into `text`, without a line feed, and returns whether the line stands
-/// for a frame.
+/// Puts what is printed for a line into `text`, without a line feed, and returns whether the line
+/// stands for a frame.
 pub(crate) fn print_line(alloc: Global, line: &[u8], text: &mut Vec<u8>) -> Result<bool, AllocError>
     ensures text { OnOk result (IsTextOf line.now text.new.items) }
     ensures frame { IfOk result (λ is. IsTrue is ↔ IsFrameLine line.now) }

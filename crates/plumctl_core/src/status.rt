@@ -1,9 +1,10 @@
 //! How a run ends for who started the program: the exit status, and what is told at standard error.
 
-ghost use Rattle.std.specs.Prelude.{◌≡◌, ◌⊎◌};
+ghost use Rattle.std.specs.Prelude.{◌≡◌, ◌≢◌, ◌⊎◌};
 ghost use Rattle.std.specs.Io.KnownBytes.{Keeps};
+ghost use Rattle.streams.specs.Fault.{FailsNoMore};
 ghost use Rattle.plumctl_core.specs.Run.{Prints, Stops};
-ghost use Rattle.plumctl_core.specs.Status.{status_of_end, status_of_fault, line_of_fault, Tells};
+ghost use Rattle.plumctl_core.specs.Status.{status_of_end, status_of_fault, line_of_fault, TellsFault};
 
 use crate::frame::{Ended, frame_lines};
 use std::alloc::Global;
@@ -32,7 +33,8 @@ pub fn status_of_fault(fault: StreamFault) -> u8
     }
 }
 
-/// The line that tells a fault, with its line feed. Nothing tells a broken pipe: who closed it knows.
+/// The line that tells a fault, with its line feed. Nothing tells a broken pipe: who closed it
+/// knows.
 fn line_of_fault(fault: StreamFault) -> &'static str
     ensures { result.now ≡ line_of_fault fault }
 {
@@ -45,32 +47,37 @@ fn line_of_fault(fault: StreamFault) -> &'static str
     }
 }
 
-/// Tells a fault at standard error, on a line of its own, and returns the exit status. Where standard
-/// error fails nothing more is done.
+/// Tells a fault at standard error, on a line of its own, and returns the exit status. Where
+/// standard error fails nothing more is done, and what it holds back is not passed on: it is to
+/// hold nothing back. The status is never 2, which tells wrong arguments.
 pub fn tell<E: Sink>(errors: &mut E, fault: StreamFault) -> u8
     ensures status { result ≡ status_of_fault fault }
-    ensures told { Tells (E.failed errors.new) (E.contents errors.old)
+    ensures told { TellsFault (E.failed errors.new) (E.contents errors.old)
         (E.contents errors.new) fault }
+    ensures run { result ≢ 2 }
 {
     let _ = write_whole(errors, line_of_fault(fault).as_bytes());
     status_of_fault(fault)
 }
 
-/// Runs `frame` as `frame_lines` does, tells a fault at `errors`, and returns the exit status: 0 where
-/// each line was a frame, 1 where one was refused or the input is too long, 3 where reading or writing
-/// failed, 4 where memory was refused.
+/// Runs `frame` as `frame_lines` does, tells a fault at `errors`, and returns the exit status: 0
+/// where each line was a frame, 1 where one was refused or the input is too long, 3 where reading
+/// or writing failed, 4 where memory was refused.
 pub fn run_frame<R: Source, W: Sink, E: Sink>(
     alloc: Global,
     reader: &mut R,
     writer: &mut W,
     errors: &mut E,
 ) -> u8
-    ensures { ((ended : Ended) × (result ≡ status_of_end ended)
+    ensures run { result ≢ 2 }
+    ensures ends { ((ended : Ended) × (result ≡ status_of_end ended)
         × Keeps (E.contents errors.old) (E.contents errors.new)
+        × (R.read_failed reader.new → R.read_failed reader.old)
+        × FailsNoMore (W.failed writer.old) (W.failed writer.new)
         × Prints (W.passed_on writer.new) (R.remaining reader.old) (R.remaining reader.new)
         (W.contents writer.old) (W.contents writer.new) ended)
         ⊎ ((fault : StreamFault) × (result ≡ status_of_fault fault)
-        × Tells (E.failed errors.new) (E.contents errors.old) (E.contents errors.new) fault
+        × TellsFault (E.failed errors.new) (E.contents errors.old) (E.contents errors.new) fault
         × Stops (R.read_failed reader.new) (W.failed writer.new)
         (R.remaining reader.old) (R.remaining reader.new)
         (W.contents writer.old) (W.contents writer.new) fault) }

@@ -19,6 +19,7 @@ are_none [] = true
 are_none (text ∷ texts) = false
 
 -- what was put of a list: the texts, after what stood there, and whether a next one stands first
-pub record AddsTexts (first : Bool) (texts : List (List ℕ)) (old new : List ℕ) (next : Bool) : Type 0 where
+pub record AddsTexts (first : Bool) (texts : List (List ℕ)) (old new : List ℕ)
+    (next : Bool) : Type 0 where
   pub text : new ≡ old ++ separated first texts
   pub next_is : next ≡ (first && are_none texts)

@@ -35,8 +35,8 @@ fn are_plain(bytes: &[u8]) -> bool
     !bytes.is_empty() && bytes.iter().all(|byte| is_plain(*byte))
 }
 
-/// Adds the bytes of a name or a value: as they are where there is at least one and all are letters,
-/// digits, `.`, `_` or `-`, otherwise `hex:` and their digits in lower case.
+/// Adds the bytes of a name or a value: as they are where there is at least one and all are
+/// letters, digits, `.`, `_` or `-`, otherwise `hex:` and their digits in lower case.
 #[tactic(auto, unfolding(crate::specs::Field::bytes_text))]
 pub(crate) fn add_bytes(out: &mut Vec<u8>, bytes: &[u8]) -> Result<(), AllocError>
     ensures { OnOk result (out.new.items ≡ out.old.items ++ bytes_text bytes.now) }
@@ -77,7 +77,8 @@ fn add_stamp(out: &mut Vec<u8>, stamp: u64) -> Result<(), AllocError>
     add_number(out, stamp)
 }
 
-/// Adds a value: its bytes, or `~` for a tombstone, and after them its stamp, as `@5`, unless that is 0.
+/// Adds a value: its bytes, or `~` for a tombstone, and after them its stamp, as `@5`, unless that
+/// is 0.
 #[tactic(auto, unfolding(crate::specs::Field::value_text))]
 pub(crate) fn add_value(out: &mut Vec<u8>, value: &Value) -> Result<(), AllocError>
     ensures { OnOk result (out.new.items ≡ out.old.items ++ value_text value.now) }

@@ -82,8 +82,8 @@ fn add_entries(out: &mut Vec<u8>, entries: &[Entry]) -> Result<bool, AllocError>
     Ok(first)
 }
 
-/// Adds an object: its context, and the values that it shows, as `ctx 0:2 values y,x`. It takes memory
-/// for the context.
+/// Adds an object: its context, and the values that it shows, as `ctx 0:2 values y,x`. It takes
+/// memory for the context.
 pub(crate) fn add_object(out: &mut Vec<u8>, object: &Entries) -> Result<(), AllocError>
     ensures { OnOk result (out.new.items ≡ out.old.items ++ object_text object.now) }
 {

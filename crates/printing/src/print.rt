@@ -1,4 +1,5 @@
-//! The public calls. Each adds its text at the end of bytes; where memory is refused it adds nothing.
+//! The public calls. Each adds its text at the end of bytes; where memory is refused it adds
+//! nothing.
 
 ghost use Rattle.std.specs.Prelude.{◌≡◌, ◌++◌, OnOk, OnErr};
 ghost use Rattle.printing.specs.Field.{key_text, value_text};
@@ -48,8 +49,8 @@ pub fn print_vector(out: &mut Vec<u8>, vector: &Vector) -> Result<(), AllocError
     out.extend_from_slice(text.as_slice())
 }
 
-/// Adds an object: its context, and the values that it shows, as `ctx 0:2 values y,x`. It takes memory
-/// for the context too.
+/// Adds an object: its context, and the values that it shows, as `ctx 0:2 values y,x`. It takes
+/// memory for the context too.
 pub fn print_object(out: &mut Vec<u8>, object: &Entries) -> Result<(), AllocError>
     ensures ok { OnOk result (out.new.items ≡ out.old.items ++ object_text object.now) }
     ensures err { OnErr result (out.new.items ≡ out.old.items) }
@@ -59,8 +60,8 @@ pub fn print_object(out: &mut Vec<u8>, object: &Entries) -> Result<(), AllocErro
     out.extend_from_slice(text.as_slice())
 }
 
-/// Adds a frame: the name of its kind, sender, addressee and number, and the fields of its message, as
-/// `GOSSIP from 0 to 1 number 1 round 0 key a/b/k ctx 0:1 values x`.
+/// Adds a frame: the name of its kind, sender, addressee and number, and the fields of its message,
+/// as `GOSSIP from 0 to 1 number 1 round 0 key a/b/k ctx 0:1 values x`.
 pub fn print_frame(out: &mut Vec<u8>, frame: &Frame) -> Result<(), AllocError>
     ensures ok { OnOk result (out.new.items ≡ out.old.items ++ frame_text frame.now) }
     ensures err { OnErr result (out.new.items ≡ out.old.items) }

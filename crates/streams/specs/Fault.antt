@@ -41,8 +41,9 @@ pub record IsWriterFault (failed : Failed) (fault : StreamFault) : Type 0 where
 abbrev pub FailsNoMore : Failed → Failed → Type 0
 FailsNoMore old new = (kind : ErrorKind) → new kind → old kind
 
--- each fault has its cause: the reader failed, more than the limit was read, the writer answered an error of a kind.
--- Want of memory has the cause `memory`, which says nothing where a contract can't name one.
+-- each fault has its cause: the reader failed, more than the limit was read, the writer answered an
+-- error of a kind. Want of memory has the cause `memory`, which says nothing where a contract can't
+-- name one.
 abbrev pub HasCause : (read_failed too_long : Type 0) (failed : Failed) (memory : Type 0)
     → StreamFault → Type 0
 HasCause read_failed too_long failed memory Read = read_failed
@@ -57,4 +58,5 @@ IsWriteFault failed memory fault = HasCause ⊥ ⊥ failed memory fault
 
 -- a fault of reading
 abbrev pub IsReadFault : (read_failed too_long memory : Type 0) → StreamFault → Type 0
-IsReadFault read_failed too_long memory fault = HasCause read_failed too_long (λ kind. ⊥) memory fault
+IsReadFault read_failed too_long memory fault =
+    HasCause read_failed too_long (λ kind. ⊥) memory fault

@@ -33,9 +33,10 @@ pub record Reads (reader_old reader_new : Option (List ℕ)) (left_old left_new 
   pub consumed : Consumes reader_old reader_new bytes
   pub counted : left_old ≡ left_new + length bytes
 
--- a line was taken from what was pending and what was read, up to its line feed; or the reader is at its end, and the
--- line is all that was left, without a line feed
-pub record TakesLine (old new : Pending) (reader_old reader_new : Option (List ℕ)) (line : List ℕ) (ended : Bool) : Type 0 where
+-- a line was taken from what was pending and what was read, up to its line feed; or the reader is
+-- at its end, and the line is all that was left, without a line feed
+pub record TakesLine (old new : Pending) (reader_old reader_new : Option (List ℕ)) (line : List ℕ)
+    (ended : Bool) : Type 0 where
   pub reads : Reads reader_old reader_new old.left new.left
   pub one_line : IsOneLine line
   pub answer : MatchBool ended
@@ -43,15 +44,18 @@ pub record TakesLine (old new : Pending) (reader_old reader_new : Option (List �
       ((old.bytes ++ reads.bytes ≡ line) × (new.bytes ≡ []) × IsAtEnd reader_new)
 
 -- a fault of reading: what was read until then, and the fault's cause
-pub record StopsReading (read_failed memory : Type 0) (old : Pending) (reader_old reader_new : Option (List ℕ)) (fault : StreamFault) : Type 0 where
+pub record StopsReading (read_failed memory : Type 0) (old : Pending)
+    (reader_old reader_new : Option (List ℕ)) (fault : StreamFault) : Type 0 where
   pub bytes : List ℕ
   pub consumed : Consumes reader_old reader_new bytes
   pub cause : IsReadFault read_failed (old.left < length bytes) memory fault
 
 -- ---- what private functions cite
 
--- something is pending, of what was pending and what was read; or nothing is, and the reader is at its end
-pub record Fills (old new : Pending) (reader_old reader_new : Option (List ℕ)) (more : Bool) : Type 0 where
+-- something is pending, of what was pending and what was read; or nothing is, and the reader is at
+-- its end
+pub record Fills (old new : Pending) (reader_old reader_new : Option (List ℕ))
+    (more : Bool) : Type 0 where
   pub reads : Reads reader_old reader_new old.left new.left
   pub pending : new.bytes ≡ old.bytes ++ reads.bytes
   pub answer : MatchBool more (0 < length new.bytes) ((new.bytes ≡ []) × IsAtEnd reader_new)

@@ -37,7 +37,8 @@ impl Model for LineBuffer {
 }
 
 impl LineBuffer {
-    /// The buffer of an input of which nothing was read. It takes memory for one read, 65,536 bytes.
+    /// The buffer of an input of which nothing was read. It takes memory for one read, 65,536
+    /// bytes.
     pub fn new(alloc: Global) -> Result<Self, AllocError>
         ensures { IfOk result (λ buffer. buffer ≡ record { bytes = []; left = input_limit }) }
     {
@@ -57,8 +58,8 @@ impl LineBuffer {
         memchr(b'\n', &self.piece[self.start..self.end]).is_some()
     }
 
-    /// Reads a piece where nothing is pending. Returns whether something is pending then; otherwise the
-    /// reader is at its end.
+    /// Reads a piece where nothing is pending. Returns whether something is pending then; otherwise
+    /// the reader is at its end.
     fn fill<R: Source>(&mut self, reader: &mut R) -> Result<bool, StreamFault>
         ensures ok { IfOk result (λ more. Fills self.old self.new (R.remaining reader.old)
             (R.remaining reader.new) more) }
@@ -83,8 +84,8 @@ impl LineBuffer {
         Ok(n > 0)
     }
 
-    /// Moves what is pending to the end of the line, up to the first line feed, which is dropped. Tells
-    /// whether there was one.
+    /// Moves what is pending to the end of the line, up to the first line feed, which is dropped.
+    /// Tells whether there was one.
     fn take(&mut self, line: &mut Vec<u8>) -> Result<bool, AllocError>
         ensures { IfOk result (λ ended. Moves self.old self.new line.old.items
             line.new.items ended) }
@@ -104,10 +105,10 @@ impl LineBuffer {
         }
     }
 
-    /// Puts the next line into `line`, without its line feed, and returns whether a line feed ended it.
-    /// Otherwise the input is at its end, and `line` has what stands after the last line feed, which
-    /// may be nothing. After a fault, 7 `Read`, 8 `InputTooLong` or 99 `Memory`, the buffer is not to be
-    /// used any more. It takes memory for the line.
+    /// Puts the next line into `line`, without its line feed, and returns whether a line feed ended
+    /// it. Otherwise the input is at its end, and `line` has what stands after the last line feed,
+    /// which may be nothing. After a fault, 7 `Read`, 8 `InputTooLong` or 99 `Memory`, the buffer
+    /// is not to be used any more. It takes memory for the line.
     pub fn next_line<R: Source>(
         &mut self,
         reader: &mut R,

@@ -14,8 +14,8 @@ use std::io::{self, ErrorKind, Write};
 /// A writer that says when a write of it may fail. A `Vec` fails for want of memory alone, so a run
 /// over it can't answer that its writer failed.
 pub trait Sink: Write {
-    // Holds of a writer and a kind of error that a call of it has answered. A write that took no byte of some counts as
-    // `WriteZero`.
+    // Holds of a writer and a kind of error that a call of it has answered. A write that took no
+    // byte of some counts as `WriteZero`.
     ghost failed: { Self → Failed };
 
     // Holds of a writer that holds nothing back.

@@ -6,8 +6,8 @@ ghost use Rattle.std.specs.Io.KnownBytes.{ReadConsumes, WriteAppends, Keeps};
 
 use std::io::{self, Read, Write};
 
-/// A reader that says when a read of it may fail. Bytes in memory never do, so a run over them can't
-/// answer that its reader failed.
+/// A reader that says when a read of it may fail. Bytes in memory never do, so a run over them
+/// can't answer that its reader failed.
 pub trait Source: Read {
     // Holds of a reader of which a read has failed.
     ghost read_failed: { Self → Type 0 };
@@ -29,8 +29,8 @@ impl Source for &[u8] {
     }
 }
 
-/// A reader or a writer of which nothing is known, as a file, a pipe or a terminal: any call of it may
-/// fail.
+/// A reader or a writer of which nothing is known, as a file, a pipe or a terminal: any call of it
+/// may fail.
 #[derive(Drop)]
 pub struct MayFail<T>(pub T);
 

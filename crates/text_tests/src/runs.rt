@@ -116,8 +116,8 @@ fn an_interruption_is_not_tried_again(rt: HostRuntime) {
     assert!(rt; done == Err(StreamFault::Read));
 }
 
-/// How the run ended, and how many bytes a device of so much room took of the text, so many at a time,
-/// until the writer failed; `None` where it took others.
+/// How the run ended, and how many bytes a device of so much room took of the text, so many at a
+/// time, until the writer failed; `None` where it took others.
 fn taken_until_full(alloc: Global, room: usize, most: usize, fails: bool) -> Option<(Done, usize)> {
     let feed = Feed {
         text: INPUT,
@@ -178,8 +178,8 @@ fn an_input_of_67108865_bytes_is_too_long(rt: HostRuntime) {
     assert!(rt; run_of_lines(rt.alloc(), 67_108_865) == Err(StreamFault::InputTooLong));
 }
 
-/// The exit status of a run over a text that goes on so, to a device; `None` where standard error is
-/// told something else.
+/// The exit status of a run over a text that goes on so, to a device; `None` where standard error
+/// is told something else.
 fn exit(
     alloc: Global,
     text: &'static [u8],
@@ -236,6 +236,25 @@ fn a_run_exits_with_its_status_and_tells_its_fault(rt: HostRuntime) {
             "{told:?}"
         );
     }
+}
+
+/// The exit status of a run over so many bytes; `None` where standard error is told something else.
+fn exit_after(alloc: Global, left: usize, told: &'static [u8]) -> Option<u8> {
+    let mut errors = MayFail(Device::new(told));
+    let mut writer = MayFail(Device::new(b""));
+    let status = run_frame(
+        alloc,
+        &mut MayFail(Lines { left }),
+        &mut writer,
+        &mut errors,
+    );
+    is_told(errors.0).then_some(status)
+}
+
+#[test]
+fn a_run_over_too_long_an_input_exits_with_1(rt: HostRuntime) {
+    let status = exit_after(rt.alloc(), 67_108_865, b"error 8 InputTooLong\n");
+    assert!(rt; status == Some(1));
 }
 
 /// The exit status of a fault; `None` where standard error is told something else.

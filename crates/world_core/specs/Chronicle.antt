@@ -1,4 +1,5 @@
--- What a world keeps of what it has accepted, as a list each; the view of a world and private functions cite it.
+-- What a world keeps of what it has accepted, as a list each; the view of a world and private
+-- functions cite it.
 use Rattle.std.specs.Prelude.{◌≡◌, ◌+◌, ◌≤◌}
 use Rattle.world_core.specs.declared.chronicle.Chronicle.{Chronicle}
 use Rattle.world_core.specs.Tells.{Told}

@@ -1,4 +1,5 @@
--- What the nodes, the contexts, the frames and the replies of a world say, in the words of the past. The rule is our own.
+-- What the nodes, the contexts, the frames and the replies of a world say, in the words of the
+-- past. The rule is our own.
 use Rattle.std.specs.Prelude.{◌≡◌, ℕ, ◌<◌, List, length, Some, slice_get, ◌↔◌}
 use Rattle.meta_types.specs.Name.{Key}
 use Rattle.dvvset.specs.Object.{Entry}
@@ -19,8 +20,8 @@ use Rattle.world_core.specs.Tells.{Told, numbered, sending_of}
 use Rattle.world_core.specs.World.{World}
 use Rattle.world_core.specs.Refusal.{table_of}
 
--- the object shows what the node knows under the key by the history: the values are those of the writes that it knows
--- and that no write it knows had read, and the vector counts all that it knows
+-- the object shows what the node knows under the key by the history: the values are those of the
+-- writes that it knows and that no write it knows had read, and the vector counts all that it knows
 pub record ShowsKnown (hs : List Happening) (n : ℕ) (key : Key) (object : List Entry) : Type 0 where
   pub siblings : Shows (writes hs) (known hs n key) (values_of object)
   pub context : IsContext (writes hs) (known hs n key) (join object)
@@ -43,13 +44,14 @@ pub record CarriesLoad (t : Told) (number from : ℕ) (key : Key) (object : List
   pub sent : slice_get t.history place ≡ Some (Sent from key)
   pub is : IsObjectOf (writes t.history) key (load t.history place key) object
 
--- the reply to an object that was sent at the place: fresh exactly where the node didn't know all that was sent, and stale
--- exactly where it did
+-- the reply to an object that was sent at the place: fresh exactly where the node didn't know all
+-- that was sent, and stale exactly where it did
 pub record IsFresh (hs : List Happening) (n place : ℕ) (key : Key) (reply : Reply) : Type 0 where
   pub fresh : (reply ≡ TookFresh) ↔ (IsSubset (load hs place key) (known hs n key) → ⊥)
   pub stale : (reply ≡ TookStale) ↔ IsSubset (load hs place key) (known hs n key)
 
--- a delivery of a frame with an object is answered fresh or stale as that says; of other events nothing is said
+-- a delivery of a frame with an object is answered fresh or stale as that says; of other events
+-- nothing is said
 abbrev pub FreshExactly : World → Event → Answer → Type 0
 FreshExactly w (Put n k v read) answer = Unit {0}
 FreshExactly w (Get n k) answer = Unit {0}

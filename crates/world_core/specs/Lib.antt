@@ -1,5 +1,5 @@
--- What must be believed of the world, in the order in which to read it.
--- names, values, clocks, the past, frames, stores and images, which the contracts of this crate speak of too
+-- What must be believed of the world, in the order in which to read it. names, values, clocks, the
+-- past, frames, stores and images, which the contracts of this crate speak of too
 pub use Rattle.meta_types.specs.Name
 pub use Rattle.meta_types.specs.Value
 pub use Rattle.dvvset.specs.Object

@@ -108,7 +108,8 @@ Answers w (Restart n image) answer = answer ≡ replied Done
 abbrev pub with_node : World → ℕ → Node → List Node
 with_node w n node = slice_set w.nodes n node
 
--- the nodes after n has taken a frame: it has merged the object that the frame carries, if it carries one
+-- the nodes after n has taken a frame: it has merged the object that the frame carries, if it
+-- carries one
 abbrev pub with_frame_taken : World → ℕ → Option (Key × List Entry) → List Node
 with_frame_taken w n None = w.nodes
 with_frame_taken w n (Some object) = with_node w n (with_merge object.0 object.1 (node_at w n))
@@ -145,7 +146,8 @@ pub record Adds (frames : List Frame) (old new : List (List ℕ)) : Type 0 where
   pub spelled : Pairwise Spells frames bytes
   pub added : new ≡ old ++ bytes
 
--- an event was accepted with an answer: it had no refusal, and this is what was added, and what all nodes then are
+-- an event was accepted with an answer: it had no refusal, and this is what was added, and what all
+-- nodes then are
 pub record Accepts (old : World) (event : Event) (answer : Answer) (new : World) : Type 0 where
   pub no_refusal : (fault : WorldFault) → RefusesEvent old event fault → ⊥
   pub answers : Answers old event answer
@@ -160,14 +162,15 @@ pub record Rejects (old : World) (event : Event) (fault : WorldFault) (new : Wor
   pub cause : (fault ≡ Memory) ⊎ RefusesEvent old event fault
   pub same : new ≡ old
 
--- what comes of an event: it is accepted with this answer, or refused with this fault (one word, into which proofs do not
--- look by themselves)
+-- what comes of an event: it is accepted with this answer, or refused with this fault (one word,
+-- into which proofs do not look by themselves)
 unfoldable pub Outcome : World → Event → Result Answer WorldFault → World → Type 0
 Outcome old event (Ok answer) new = Accepts old event answer new
 Outcome old event (Err fault) new = Rejects old event fault new
 
--- one event: its outcome; a delivery is answered fresh exactly where it brought something; what a merge leaves shows a value,
--- so that 21 is never the cause of a refusal; and in what is left each node shows what it knows
+-- one event: its outcome; a delivery is answered fresh exactly where it brought something; what a
+-- merge leaves shows a value, so that 21 is never the cause of a refusal; and in what is left each
+-- node shows what it knows
 pub record Passes (old : World) (event : Event) (outcome : Result Answer WorldFault) (new : World) : Type 0 where
   pub comes : Outcome old event outcome new
   pub fresh : IfOk outcome (FreshExactly old event)

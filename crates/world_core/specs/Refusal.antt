@@ -1,5 +1,6 @@
--- Which refusal an event meets in a world: each event has its causes in their order, and the first that applies gives the
--- refusal. An event for which none applies is accepted, unless memory is wanting. The rule is our own.
+-- Which refusal an event meets in a world: each event has its causes in their order, and the first
+-- that applies gives the refusal. An event for which none applies is accepted, unless memory is
+-- wanting. The rule is our own.
 use Rattle.std.specs.Prelude.{◌≡◌, ◌≢◌, ℕ, ◌+◌, ◌<◌, ◌≤◌, ◌⊎◌, List, length, get_or, Option, Some, None}
 use Rattle.std.specs.Option.{option_map}
 use Rattle.meta_types.specs.Name.{Key}
@@ -33,7 +34,8 @@ node_at w n = get_or w.nodes n new_node
 abbrev pub table_of : World → ℕ → Table
 table_of w n = (node_at w n).table
 
--- the context that a read of the key by the node would hand out now; its source is the node with the read's number
+-- the context that a read of the key by the node would hand out now; its source is the node with
+-- the read's number
 abbrev pub present : World → ℕ → Key → Reading
 present w n k = reading_at (table_of w n) k (record { node = n; step = length w.contexts + 1 })
 
@@ -67,7 +69,8 @@ HasNoFrame w frame = numbered w.frames frame ≡ None
 abbrev pub HasNoImage : World → ℕ → ℕ → Type 0
 HasNoImage w n image = (past w.told.history).last n < image
 
--- the image lacks a write that the node made: after a restart from it the node wouldn't know each of its own
+-- the image lacks a write that the node made: after a restart from it the node wouldn't know each
+-- of its own
 abbrev pub LacksOwn : World → ℕ → ℕ → Type 0
 LacksOwn w n image = KnowsOwn (happens (past w.told.history) (Restarted n image)) n → ⊥
 
@@ -78,8 +81,8 @@ pub record IsFrame (bytes : List ℕ) : Type 0 where
 
 -- ---- the first cause that applies
 
--- where the cause applies this is the refusal, and where it doesn't, what the rest says: as `first_that_applies`, for causes
--- that are propositions and not tests
+-- where the cause applies this is the refusal, and where it doesn't, what the rest says: as
+-- `first_that_applies`, for causes that are propositions and not tests
 abbrev pub first_cause : Type 0 → WorldFault → (WorldFault → Type 0) → WorldFault → Type 0
 first_cause cause refusal rest fault = (cause × (fault ≡ refusal)) ⊎ ((cause → ⊥) × rest fault)
 

@@ -1,5 +1,6 @@
--- How accepted events with their answers tell a history: each event adds its happenings in their order, and each frame that
--- it sends with an object one Sent. A function of the events, their answers and the frames. The rule is our own.
+-- How accepted events with their answers tell a history: each event adds its happenings in their
+-- order, and each frame that it sends with an object one Sent. A function of the events, their
+-- answers and the frames. The rule is our own.
 use Rattle.std.specs.Prelude.{◌≡◌, ℕ, zero, suc, ◌+◌, List, [], ◌∷◌, ◌++◌, length, slice_get, Option, Some, None}
 use Rattle.std.specs.Option.{option_flatten}
 use Rattle.meta_types.specs.Name.{Key}
@@ -14,8 +15,8 @@ use Rattle.world_core.specs.declared.answer.Accepted.{Accepted}
 use Rattle.world_core.specs.declared.event.Event.{Event}
 use Rattle.world_core.specs.declared.event.Event.TheVariants.{Put, Get, PutOver, Send, Deliver, Junk, Keep, Restart}
 
--- what was told so far: the history; of each read, by its number from 1, the place of its Looked; of each frame, by its
--- number from 1, the place of its Sent, or none where it carries no object
+-- what was told so far: the history; of each read, by its number from 1, the place of its Looked;
+-- of each frame, by its number from 1, the place of its Sent, or none where it carries no object
 pub record Told : Type 0 where
   pub history : List Happening
   pub looks : List ℕ
@@ -139,8 +140,8 @@ abbrev pub numbers_from : {A : Type 0} → ℕ → List A → List ℕ
 numbers_from first [] = []
 numbers_from first (x ∷ xs) = first ∷ numbers_from (first + 1) xs
 
--- what an event names is there: a write names an earlier read, a delivery an earlier frame; and an event that reads is
--- answered with the next read number, any other with none
+-- what an event names is there: a write names an earlier read, a delivery an earlier frame; and an
+-- event that reads is answered with the next read number, any other with none
 abbrev pub Names : Told → Event → Option ℕ → Type 0
 Names t (Put n k v None) read = read ≡ None
 Names t (Put n k v (Some seen)) read = (read ≡ None) × ((place : ℕ) × (numbered t.looks seen ≡ Some place))
@@ -157,8 +158,8 @@ abbrev pub EachNames : List Frame → List Accepted → Told → Type 0
 EachNames frames [] t = Unit {0}
 EachNames frames (first ∷ later) t = Names t first.event first.answer.read × EachNames frames later (tell_accepted frames first t)
 
--- the accepted events tell all this, by the frames that are spelled; each frame is sent once, in the order of its number, and
--- each event names what is there
+-- the accepted events tell all this, by the frames that are spelled; each frame is sent once, in
+-- the order of its number, and each event names what is there
 pub record Tells (accepted : List Accepted) (spellings : List (List ℕ)) (t : Told) : Type 0 where
   pub frames : List Frame
   pub spelled : Pairwise Spells frames spellings

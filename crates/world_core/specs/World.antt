@@ -1,5 +1,5 @@
--- A world: its nodes, what it has accepted and sent, the contexts of its reads, and what all that tells. The rule is our
--- own.
+-- A world: its nodes, what it has accepted and sent, the contexts of its reads, and what all that
+-- tells. The rule is our own.
 use Rattle.std.specs.Prelude.{◌≡◌, ℕ, ◌<◌, ◌≤◌, List, [], length, get_or, replicate, slice_get, Option, Some, None}
 use Rattle.meta_types.specs.Name.{Key}
 use Rattle.dvvset.specs.Clock.{join}
@@ -24,7 +24,8 @@ pub record World : Type 0 where
 
 -- ---- what a world keeps to
 
--- its node and its key are those of the Looked at the place, and its vector that of what was seen there
+-- its node and its key are those of the Looked at the place, and its vector that of what was seen
+-- there
 pub record IsRead (hs : List Happening) (place : ℕ) (context : Reading) : Type 0 where
   pub looked : slice_get hs place ≡ Some (Looked context.source.node context.key)
   pub vector : context.vector ≡ join (seen_object hs place context.key)
@@ -40,8 +41,8 @@ abbrev pub IsTold : List Happening → Frame → Option ℕ → Type 0
 IsTold hs frame None = carried_object frame.message ≡ None
 IsTold hs frame (Some place) = IsSending hs frame place
 
--- the history is one and keeps the restart premise; each node stands where it left it; each read's context and each frame's
--- object is what was seen and sent there
+-- the history is one and keeps the restart premise; each node stands where it left it; each read's
+-- context and each frame's object is what was seen and sent there
 pub record IsState (ns : List Node) (contexts : List Reading) (sent : List Frame) (t : Told) : Type 0 where
   pub is_history : IsHistory t.history
   pub keeps : RestartsKeepOwnWrites t.history
@@ -49,7 +50,8 @@ pub record IsState (ns : List Node) (contexts : List Reading) (sent : List Frame
   pub reads : Pairwise (IsRead t.history) t.looks contexts
   pub sendings : Pairwise (IsTold t.history) sent t.sendings
 
--- the accepted events tell what is told, by the frames whose bytes were sent, and there are 1 to 16 nodes
+-- the accepted events tell what is told, by the frames whose bytes were sent, and there are 1 to 16
+-- nodes
 pub record IsWorld (w : World) : Type 0 where
   pub telling : Tells w.accepted w.frames w.told
   pub state : IsState w.nodes w.contexts telling.frames w.told

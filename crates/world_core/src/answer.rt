@@ -199,7 +199,8 @@ impl Reply {
     }
 }
 
-/// What an accepted event gave: the reply, the number of the read, if it was one, and those of the frames sent.
+/// What an accepted event gave: the reply, the number of the read, if it was one, and those of the
+/// frames sent.
 #[derive(Debug, Drop, PartialEq, Eq)]
 pub struct Answer {
     pub reply: Reply,

@@ -12,8 +12,9 @@ use meta_types::{ByteString, MetaKey, NodeId};
 use past_model::Happening;
 use std::alloc::{AllocError, Global};
 
-/// What was accepted and sent, the contexts of the reads, and the history that all this tells: of each read the
-/// place of its `Looked`, and of each frame that of its `Sent`, or none where it carries no object.
+/// What was accepted and sent, the contexts of the reads, and the history that all this tells: of
+/// each read the place of its `Looked`, and of each frame that of its `Sent`, or none where it
+/// carries no object.
 #[derive(Debug, Drop)]
 pub(crate) struct Chronicle {
     pub(crate) accepted: Vec<Accepted>,

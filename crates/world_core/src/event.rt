@@ -1,8 +1,8 @@
 use meta_types::{ByteString, MetaKey, Value};
 use std::alloc::AllocError;
 
-/// What a world is asked to do. Nodes are numbered from 0, frames and reads from 1 over the whole world, and the
-/// images of each node from 0, which is the empty one.
+/// What a world is asked to do. Nodes are numbered from 0, frames and reads from 1 over the whole
+/// world, and the images of each node from 0, which is the empty one.
 #[derive(Debug, Drop, PartialEq, Eq)]
 pub enum Event {
     /// The node writes a value, which has read what the read of that number showed, or nothing.
@@ -17,20 +17,22 @@ pub enum Event {
         node: u64,
         key: MetaKey,
     },
-    /// The node is read and writes at once a value that has read what was shown; this gives a read number.
+    /// The node is read and writes at once a value that has read what was shown; this gives a read
+    /// number.
     PutOver {
         node: u64,
         key: MetaKey,
         value: Value,
     },
-    /// The node sends what it holds under the key, as a GOSSIP of round 0; where it holds nothing no frame is
-    /// sent. It stands here until nodes send by themselves.
+    /// The node sends what it holds under the key, as a GOSSIP of round 0; where it holds nothing
+    /// no frame is sent. It stands here until nodes send by themselves.
     Send {
         node: u64,
         key: MetaKey,
         to: u64,
     },
-    /// The node takes the frame of that number. The word is for random choices, of which there are none today.
+    /// The node takes the frame of that number. The word is for random choices, of which there are
+    /// none today.
     Deliver {
         frame: u64,
         node: u64,

@@ -1,5 +1,5 @@
-//! The laws of telling, of equal knowledge and of faults. The contract of a function is the law; its body does
-//! nothing, or compares.
+//! The laws of telling, of equal knowledge and of faults. The contract of a function is the law;
+//! its body does nothing, or compares.
 
 ghost use Rattle.std.specs.Prelude.{◌≡◌, ◌↔◌, ◌<◌, ◌∷◌, ◌++◌, [], ℕ, List, None, Some, length, IsTrue};
 ghost use Rattle.meta_types.specs.Name.{Key};
@@ -19,8 +19,9 @@ ghost use Rattle.world_core.specs.Tells.{nothing_told, tell_accepted, tell_all};
 use crate::fault::WorldFault;
 use crate::world::World;
 
-/// A history is told event by event. `reads` and `frames` are two schedules: a write that has read what another node's
-/// read saw, and a write over what stands; two frames that are delivered the other way round.
+/// A history is told event by event. `reads` and `frames` are two schedules: a write that has read
+/// what another node's read saw, and a write over what stands; two frames that are delivered the
+/// other way round.
 pub fn a_history_is_told_event_by_event()
     ensures first { (frames : List Frame) → tell_all frames [] ≡ nothing_told }
     ensures next { (frames : List Frame) (accepted : List Accepted) (a : Accepted)
@@ -42,7 +43,8 @@ pub fn a_history_is_told_event_by_event()
         ≡ Sent 0 k ∷ Sent 0 l ∷ Got 1 1 ∷ Got 1 0 ∷ [] }
 {}
 
-/// Nodes that know the same writes under a key hold equal objects there, and so show equal values and contexts.
+/// Nodes that know the same writes under a key hold equal objects there, and so show equal values
+/// and contexts.
 pub fn equal_knowledge_shows_equally(world: &World)
     ensures { (m n : ℕ) (key : Key) → m < length world.now.nodes → n < length world.now.nodes
         → ((place : ℕ) → known world.now.told.history m key place

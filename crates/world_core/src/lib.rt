@@ -1,5 +1,6 @@
-//! The world: all nodes, their frames and their images under any schedule of writes, reads, sendings,
-//! deliveries, images kept and restarts, and the history that these tell. Nodes send nothing by themselves.
+//! The world: all nodes, their frames and their images under any schedule of writes, reads,
+//! sendings, deliveries, images kept and restarts, and the history that these tell. Nodes send
+//! nothing by themselves.
 //!
 //! ```
 //! let mut world = World::new(alloc, 2)?;
@@ -8,8 +9,8 @@
 //! world.apply(Event::Deliver { frame: 1, node: 1, word: 0 })?; // node 1 shows red
 //! ```
 //!
-//! Read `event`, `answer`, `fault`, `world`; then `apply` with a file for each event (`write`, `send`,
-//! `deliver`, `restart`), `chronicle` (what is told), and `laws`.
+//! Read `event`, `answer`, `fault`, `world`; then `apply` with a file for each event (`write`,
+//! `send`, `deliver`, `restart`), `chronicle` (what is told), and `laws`.
 #![tactic(auto)]
 
 pub mod answer;

@@ -31,7 +31,8 @@ use std::marker::Model;
 /// The most nodes of a world.
 pub const MAX_NODES: u64 = 16;
 
-/// Nodes, with all that was accepted and sent, and the history that it tells. It keeps each of these whole.
+/// Nodes, with all that was accepted and sent, and the history that it tells. It keeps each of
+/// these whole.
 #[derive(Debug, Drop)]
 pub struct World {
     pub(crate) nodes: Vec<Node>,
@@ -50,8 +51,8 @@ impl Model for World {
 }
 
 impl World {
-    /// A world of `nodes` nodes, each of which holds nothing. Refused with 44 `NoSuchNode` for none or more than
-    /// 16, and with 99 `Memory`.
+    /// A world of `nodes` nodes, each of which holds nothing. Refused with 44 `NoSuchNode` for none
+    /// or more than 16, and with 99 `Memory`.
     pub fn new(alloc: Global, nodes: u64) -> Result<Self, WorldFault>
         ensures value { IfOk result (λ world. world ≡ new_world nodes) }
         ensures range { IfOk result (λ world. (1 ≤ nodes) × (nodes ≤ 16)) }
@@ -78,8 +79,8 @@ impl World {
         self.chronicle.accepted.as_slice()
     }
 
-    /// The bytes of all frames that were sent, in the order of their numbers; the first has number 1. The object of
-    /// each is that of what its sender knew when it was sent.
+    /// The bytes of all frames that were sent, in the order of their numbers; the first has number
+    /// 1. The object of each is that of what its sender knew when it was sent.
     pub fn frames(&self) -> &[ByteString]
         ensures value { result.now ≡ self.now.frames }
         ensures carries { (number : ℕ) (frame : F) (key : Key) (object : List Entry)
@@ -89,8 +90,8 @@ impl World {
         self.chronicle.frames.as_slice()
     }
 
-    /// What has happened, as the accepted events tell it. The context of each read is that of what its node knew
-    /// then.
+    /// What has happened, as the accepted events tell it. The context of each read is that of what
+    /// its node knew then.
     pub fn history(&self) -> &[Happening]
         ensures value { result.now ≡ self.now.told.history }
         ensures tells { Tells self.now.accepted self.now.frames self.now.told }
@@ -103,9 +104,9 @@ impl World {
         self.chronicle.history.as_slice()
     }
 
-    /// The places, in `history`, of the writes that the node knows under the key, rising. Refused with 44
-    /// `NoSuchNode` and 99 `Memory`. It is told from the history alone, by sets of places, and takes memory and
-    /// time with the square of the history's length.
+    /// The places, in `history`, of the writes that the node knows under the key, rising. Refused
+    /// with 44 `NoSuchNode` and 99 `Memory`. It is told from the history alone, by sets of places,
+    /// and takes memory and time with the square of the history's length.
     pub fn known(&self, alloc: Global, node: u64, key: &MetaKey) -> Result<Vec<usize>, WorldFault>
         ensures places { IfOk result
             (λ places. ArePlaces (known self.now.told.history node key.now) places.items) }
@@ -118,9 +119,9 @@ impl World {
         Ok(plain.known(alloc, id, key)?)
     }
 
-    /// The images of the node, but for image 0, which is empty; `None` for a node that the world doesn't have, and
-    /// only then. What one has under a key is read by `object_in`, and is the object of the writes that the history
-    /// has there.
+    /// The images of the node, but for image 0, which is empty; `None` for a node that the world
+    /// doesn't have, and only then. What one has under a key is read by `object_in`, and is the
+    /// object of the writes that the history has there.
     pub fn images(&self, node: u64) -> Option<&[Image]>
         ensures node { IsNone result ↔ (length self.now.nodes ≤ node) }
         ensures lends { IfSome result (λ images. images.now ≡ (node_at self.now node).images) }
@@ -137,8 +138,9 @@ impl World {
         }
     }
 
-    /// What the node holds; `None` for a node that the world doesn't have, and only then. Under each key that is
-    /// the object of the writes that the node knows, whose values are those of them that none of them had read.
+    /// What the node holds; `None` for a node that the world doesn't have, and only then. Under
+    /// each key that is the object of the writes that the node knows, whose values are those of
+    /// them that none of them had read.
     pub fn state(&self, node: u64) -> Option<&Store>
         ensures node { IsNone result ↔ (length self.now.nodes ≤ node) }
         ensures lends { IfSome result (λ store. store.now ≡ table_of self.now node) }

@@ -218,8 +218,8 @@ fn write(
     after(done, written)
 }
 
-/// The image of a write, with copies of the key and the value, and what it leaves beside that. It is
-/// refused as the write would be.
+/// The image of a write, with copies of the key and the value, and what it leaves beside that. It
+/// is refused as the write would be.
 fn planned(
     node: &Node,
     id: NodeId,
@@ -241,8 +241,8 @@ fn planned(
     Ok(both(stored, Written::of(key, value, vector))?)
 }
 
-/// A read of a node, and a write on it with its context; the key of the read, and its context. It is
-/// refused as by `Node::write`, and then nothing changes.
+/// A read of a node, and a write on it with its context; the key of the read, and its context. It
+/// is refused as by `Node::write`, and then nothing changes.
 fn write_over(
     node: &mut Node,
     id: NodeId,

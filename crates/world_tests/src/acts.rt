@@ -1,7 +1,7 @@
 //! Events by numbers and letters, and what they give by a number.
 //!
-//! What takes memory here is asked for once more where it is refused, so that tests under refused memory get their
-//! events whichever single allocation is refused.
+//! What takes memory here is asked for once more where it is refused, so that tests under refused
+//! memory get their events whichever single allocation is refused.
 
 use meta_types::{ByteString, FullPrefix, MetaKey, Value};
 use std::alloc::Global;
@@ -37,7 +37,8 @@ pub const K: u16 = 107;
 /// That of another key.
 pub const L: u16 = 108;
 
-/// An event by its numbers and letters. A key is told by its number, the body of a value by its letter.
+/// An event by its numbers and letters. A key is told by its number, the body of a value by its
+/// letter.
 #[derive(Clone, Copy)]
 pub enum Act {
     /// The node, the key, the value, and the number of the read, if there is one.

@@ -1,4 +1,5 @@
-//! Random schedules, after each event of which every node shows what the sets of places of the history do.
+//! Random schedules, after each event of which every node shows what the sets of places of the
+//! history do.
 
 use crate::acts::{Act, DONE, FRESH, K, L, SHORT, STALE, gives, key, new_world};
 use meta_store::Store;
@@ -155,7 +156,8 @@ fn is_shown(rt: &impl Abort, alloc: Global, world: &World) -> bool {
         .all(|name| are_right(rt, alloc, &plain, world, *name))
 }
 
-/// The first step of a new schedule, from 1, after which a node shows something else; 0 where there is none.
+/// The first step of a new schedule, from 1, after which a node shows something else; 0 where there
+/// is none.
 fn first_wrong(rt: &impl Abort, alloc: Global, dice: &mut Dice, tally: &mut Tally) -> u8 {
     let mut world = new_world(rt, alloc, u64::from(NODES));
     for step in 0..40 {

@@ -30,7 +30,8 @@ const LAST: [Row; 13] = [
     (Act::Restart(0, 8), DONE),
 ];
 
-/// What comes once node 15 holds 64 values of each of the 16 nodes, more bytes than a write may leave.
+/// What comes once node 15 holds 64 values of each of the 16 nodes, more bytes than a write may
+/// leave.
 const TOO_LARGE: [Row; 2] = [
     (Act::Put(15, K, b'x', None), 27),
     (Act::PutOver(15, K, b'x'), DONE),
@@ -40,7 +41,8 @@ fn push(rt: &impl Abort, rows: &mut Vec<Row>, act: Act, number: u16) {
     rows.push((act, number)).expect(rt, "memory");
 }
 
-/// Of each node so many blind writes, and what it then holds on its way to node 15; and then what comes last.
+/// Of each node so many blind writes, and what it then holds on its way to node 15; and then what
+/// comes last.
 fn rows(rt: &impl Abort, alloc: Global, writes: usize, last: &[Row]) -> Vec<Row> {
     let mut rows = Vec::new(alloc);
     for (node, letter) in LETTERS.iter().enumerate() {
@@ -78,7 +80,8 @@ fn first_other(outcomes: &[Result<Answer, WorldFault>], rows: &[Row]) -> usize {
     0
 }
 
-/// How many values the node shows, how many writers their context counts, and how many writes the node knows.
+/// How many values the node shows, how many writers their context counts, and how many writes the
+/// node knows.
 fn sizes(rt: &impl Abort, alloc: Global, world: &World, node: u64) -> [usize; 3] {
     let key = key(rt, alloc, LONGEST, K);
     let store = world.state(node).expect(rt, "a node");

@@ -1,5 +1,5 @@
-//! Whichever single allocation is refused: an event that is refused memory changes nothing, and applied once more it
-//! gives what it should.
+//! Whichever single allocation is refused: an event that is refused memory changes nothing, and
+//! applied once more it gives what it should.
 
 use crate::acts::{
     Act, DONE, FRESH, K, L, MEMORY, SHORT, STALE, event, gives, key, new_world, number,
@@ -9,8 +9,8 @@ use std::alloc::Global;
 use std::process::Abort;
 use world_core::{Answer, Event, World, WorldFault};
 
-// Each table holds whichever single allocation is refused. The first event of a world makes room for what it keeps,
-// and so does the fifth, so each kind of event is the first or the fifth once.
+// Each table holds whichever single allocation is refused. The first event of a world makes room
+// for what it keeps, and so does the fifth, so each kind of event is the first or the fifth once.
 
 const A_WRITE_FIRST: [Row; 3] = [
     (Act::Put(0, K, b'x', None), DONE, (*b"x..", [1, 0]), NOTHING),
@@ -119,8 +119,8 @@ fn images_are_kept_again_under_refused_memory(rt: HostRuntime) {
     assert_eq!(rt; first_wrong(&rt, rt.alloc(), &A_KEEPING_FIRST), 0);
 }
 
-/// How many of the events were refused; they are run once more where there was no memory for the outcomes: then none
-/// was applied.
+/// How many of the events were refused; they are run once more where there was no memory for the
+/// outcomes: then none was applied.
 fn refused(rt: &impl Abort, alloc: Global, world: &mut World, events: &[Event]) -> usize {
     let outcomes = match world.run(alloc, events) {
         Ok(outcomes) => outcomes,
@@ -136,7 +136,8 @@ fn count_refused(outcomes: &[Result<Answer, WorldFault>]) -> usize {
         .count()
 }
 
-// A refused event stands among the outcomes, and the run goes on after it. Allocates at most 89 times.
+// A refused event stands among the outcomes, and the run goes on after it. Allocates at most 89
+// times.
 #[test]
 fn a_run_goes_on_under_refused_memory(rt: HostRuntime) {
     let alloc = rt.alloc();

@@ -1,4 +1,5 @@
-//! Short schedules on two nodes, worked out by hand: what each event gives, and what the nodes then show.
+//! Short schedules on two nodes, worked out by hand: what each event gives, and what the nodes then
+//! show.
 
 use crate::acts::{Act, DONE, FRESH, K, L, MEMORY, SHORT, STALE, gives, key, new_world};
 use dvvset::Entries;
@@ -7,8 +8,8 @@ use std::alloc::Global;
 use std::process::Abort;
 use world_core::World;
 
-/// The letters of the values that a node shows under K, with dots for none, and how many writes of node 0 and of node 1
-/// their context counts.
+/// The letters of the values that a node shows under K, with dots for none, and how many writes of
+/// node 0 and of node 1 their context counts.
 pub type Shown = ([u8; 3], [u64; 2]);
 
 /// An event, what it gives, and what nodes 0 and 1 then show.
@@ -67,7 +68,8 @@ fn images(world: &World, node: u64) -> usize {
     world.images(node).map_or(0, |images| images.len())
 }
 
-/// How much a world has of what only grows: accepted events, frames, happenings, and images of nodes 0 and 1.
+/// How much a world has of what only grows: accepted events, frames, happenings, and images of
+/// nodes 0 and 1.
 fn sizes(world: &World) -> [usize; 5] {
     [
         world.accepted().len(),
@@ -78,8 +80,8 @@ fn sizes(world: &World) -> [usize; 5] {
     ]
 }
 
-/// Applies the event and answers the number of what it gives. Where it was refused memory and has changed nothing it
-/// is applied once more.
+/// Applies the event and answers the number of what it gives. Where it was refused memory and has
+/// changed nothing it is applied once more.
 fn gives_at_last(
     rt: &impl Abort,
     alloc: Global,
@@ -98,7 +100,8 @@ fn gives_at_last(
     }
 }
 
-/// The number of the first row, from 1, that goes another way in a new world; 0 where there is none.
+/// The number of the first row, from 1, that goes another way in a new world; 0 where there is
+/// none.
 pub fn first_wrong(rt: &impl Abort, alloc: Global, rows: &[Row]) -> usize {
     let mut world = new_world(rt, alloc, 2);
     let key = key(rt, alloc, SHORT, K);
