@@ -1,5 +1,5 @@
 -- A run of `frame`, line by line.
-use Rattle.std.proofs.Common.{◌≡◌, ℕ, suc, ◌+◌, ◌<◌, ◌↔◌, ◌&&◌, if◌then◌else◌, Bool, true, false, List, [], ◌∷◌, ◌++◌, length, All, Option, Some, None, refl, sym, ap, subst, ◌∙◌, append_assoc, arith, IsTrue, inl, inr}
+use Rattle.std.proofs.Common.{◌≡◌, ℕ, suc, ◌+◌, ◌<◌, ◌≤◌, ◌↔◌, ◌&&◌, if◌then◌else◌, Bool, true, false, List, [], ◌∷◌, ◌++◌, length, All, Option, Some, None, refl, sym, ap, subst, ◌∙◌, append_assoc, arith, IsTrue, inl, inr}
 use Rattle.std.proofs.lemmas.List.{append-nil, length-append}
 use Rattle.std.proofs.lemmas.List.Elements.{All-append, All-nil, All-cons, All-head, All-tail}
 use Rattle.std.specs.Io.KnownBytes.{Appends, Consumes, Keeps}
@@ -7,9 +7,10 @@ use Rattle.streams.specs.declared.fault.StreamFault.{StreamFault}
 use Rattle.streams.specs.declared.fault.StreamFault.TheVariants.{Read, InputTooLong, Write, BrokenPipe, Memory}
 use Rattle.std.specs.declared.io.ErrorKind.{ErrorKind}
 use Rattle.std.specs.declared.io.ErrorKind.TheVariants as kinds
-use Rattle.streams.specs.Fault.{Failed, HasCause, IsWriteFault, IsReadFault, IsWriterFault, fault_of_kind}
+use Rattle.streams.specs.Fault.{Failed, FailsNoMore, HasCause, IsWriteFault, IsReadFault, IsWriterFault, fault_of_kind}
 use Rattle.streams.specs.Written.{AppendsFront}
 use Rattle.streams.specs.Line.{input_limit, lines_of, Pending, TakesLine, StopsReading}
+use Rattle.streams.proofs.Failing.{FailsNoMore-self, writer_fault_then, write_fault_then}
 use Rattle.streams.proofs.Sent.{Appends-nil, Appends-then, Appends-kept}
 use Rattle.streams.proofs.Pieces.{Consumes-nil, Consumes-then}
 use Rattle.plumctl_core.specs.declared.frame.Ended.{Ended}
@@ -24,14 +25,14 @@ Keeps-self None = tt
 Keeps-self (Some xs) = refl
 
 -- nothing of the line was written
-pub stopped_before : (failed : Failed) (line : List ℕ) (w : Option (List ℕ)) (fault : StreamFault) → fault ≡ Memory → StopsLine failed line w w fault
+pub stopped_before : (failed : Failed) (line : List ℕ) (w : Option (List ℕ)) (fault : StreamFault) → fault ≡ Memory → StopsLine failed failed line w w fault
 stopped_before failed line w fault e =
     let text = text_of_line line in
     record {
       text = text.0;
       text_is = text.1;
       appended = record { front = []; rest = text.0 ++ 10 ∷ []; parts = refl; appended = Appends-nil w };
-      cause = subst (IsWriteFault failed Unit) (sym e) tt;
+      cause = subst (IsWriteFault failed failed) (sym e) (tt, inl (FailsNoMore-self failed));
     }
 
 -- whole lines were read, and the output for them was written
@@ -197,19 +198,20 @@ no_text : IsTextOfAll (lines_of []) []
 unfolding lines_of
 no_text = refl
 
-cause_of_writing : (read_failed too_long : Type 0) (failed : Failed) (fault : StreamFault) → IsWriteFault failed Unit fault → HasCause read_failed too_long failed Unit fault
-cause_of_writing read_failed too_long failed Read cause = absurd cause
-cause_of_writing read_failed too_long failed InputTooLong cause = absurd cause
-cause_of_writing read_failed too_long failed Write cause = cause
-cause_of_writing read_failed too_long failed BrokenPipe cause = cause
-cause_of_writing read_failed too_long failed Memory cause = tt
+cause_of_writing : (read_failed too_long memory : Type 0) (old new : Failed) (fault : StreamFault) → memory → IsWriteFault old new fault → HasCause read_failed too_long memory old new fault
+cause_of_writing read_failed too_long memory old new Read lacks cause = absurd cause
+cause_of_writing read_failed too_long memory old new InputTooLong lacks cause = absurd cause
+cause_of_writing read_failed too_long memory old new Write lacks cause = cause
+cause_of_writing read_failed too_long memory old new BrokenPipe lacks cause = cause
+cause_of_writing read_failed too_long memory old new Memory lacks cause = (lacks, cause.1)
 
-cause_of_reading : (read_failed : Type 0) (failed : Failed) (a b c d : ℕ) (fault : StreamFault) → (a < b → c < d) → IsReadFault read_failed (a < b) Unit fault → HasCause read_failed (c < d) failed Unit fault
-cause_of_reading read_failed failed a b c d Read more cause = cause
-cause_of_reading read_failed failed a b c d InputTooLong more cause = more cause
-cause_of_reading read_failed failed a b c d Write more cause = absurd cause.answered
-cause_of_reading read_failed failed a b c d BrokenPipe more cause = absurd cause.answered
-cause_of_reading read_failed failed a b c d Memory more cause = tt
+cause_of_reading : (read_failed too_long memory longer lacks : Type 0) (old new : Failed) (fault : StreamFault)
+    → (too_long → longer) → (memory → lacks) → FailsNoMore old new → IsReadFault read_failed too_long memory fault → HasCause read_failed longer lacks old new fault
+cause_of_reading read_failed too_long memory longer lacks old new Read more less kept cause = cause
+cause_of_reading read_failed too_long memory longer lacks old new InputTooLong more less kept cause = more cause
+cause_of_reading read_failed too_long memory longer lacks old new Write more less kept cause = absurd cause.answered
+cause_of_reading read_failed too_long memory longer lacks old new BrokenPipe more less kept cause = absurd cause.answered
+cause_of_reading read_failed too_long memory longer lacks old new Memory more less kept cause = (less cause.0, inl kept)
 
 -- an error of the writer is no fault of reading
 never_read : (kind : ErrorKind) → Read ≡ fault_of_kind kind → ⊥
@@ -222,12 +224,20 @@ never_too_long kinds.BrokenPipe e = cc
 never_too_long kinds.OutOfMemory e = cc
 never_too_long kind e = cc
 
-pub cause_of_writer : (failed : Failed) (fault : StreamFault) → IsWriterFault failed fault → IsWriteFault failed Unit fault
-cause_of_writer failed Read cause = absurd (never_read cause.kind cause.fault_is)
-cause_of_writer failed InputTooLong cause = absurd (never_too_long cause.kind cause.fault_is)
-cause_of_writer failed Write cause = cause
-cause_of_writer failed BrokenPipe cause = cause
-cause_of_writer failed Memory cause = tt
+pub cause_of_writer : (old new : Failed) (fault : StreamFault) → IsWriterFault old new fault → IsWriteFault old new fault
+cause_of_writer old new Read cause = absurd (never_read cause.kind cause.fault_is)
+cause_of_writer old new InputTooLong cause = absurd (never_too_long cause.kind cause.fault_is)
+cause_of_writer old new Write cause = cause
+cause_of_writer old new BrokenPipe cause = cause
+cause_of_writer old new Memory cause = (tt, inr cause)
+
+-- a fault of writing, in a run that has read so much
+cause_of_run : (read_old read_new : Type 0) (old now new : Failed) (read : ℕ) (fault : StreamFault)
+    → (read_new → read_old) → read ≤ input_limit → FailsNoMore old now → IsWriteFault now new fault
+    → HasCause read_new (input_limit < read) ((read_new → read_old) × (read ≤ input_limit)) old new fault
+cause_of_run read_old read_new old now new read fault reads within kept cause =
+    cause_of_writing read_new (input_limit < read) ((read_new → read_old) × (read ≤ input_limit)) old new fault (reads, within)
+    (write_fault_then old now new fault kept cause)
 
 -- the output so far, and a front of more
 front_more : (w v u : Option (List ℕ)) (output more : List ℕ) → Appends w v output → AppendsFront v u more → AppendsFront w u (output ++ more)
@@ -242,12 +252,13 @@ front_more w v u output more appended f = record {
 front_all : (w v u : Option (List ℕ)) (output : List ℕ) → Appends w v output → Keeps v u → AppendsFront w u output
 front_all w v u output appended keeps = record { front = output; rest = []; parts = sym (append-nil output); appended = Appends-kept w v u output appended keeps }
 
--- the reader failed, or gave too much
-pub stops_reading : (read_failed : Type 0) (failed : Failed) (r s t w v : Option (List ℕ)) (now : Pending) (all : Bool) (fault : StreamFault)
-    → Going r s w v now all → StopsReading read_failed Unit now s t fault → Stops read_failed failed r t w v fault
-stops_reading read_failed failed r s t w v now all fault so_far stop =
+-- the reader failed, or gave too much, or memory for a line was refused
+pub stops_reading : (read_old read_now read_new : Type 0) (old new : Failed) (r s t w v : Option (List ℕ)) (now : Pending) (all : Bool) (fault : StreamFault)
+    → Going r s w v now all → (read_now → read_old) → FailsNoMore old new → StopsReading read_new (read_new → read_now) now s t fault → Stops read_old read_new old new r t w v fault
+stops_reading read_old read_now read_new old new r s t w v now all fault so_far reads kept stop =
     let read : so_far.read ++ stop.bytes ≡ so_far.done ++ (now.bytes ++ stop.bytes) =
     ap (λ (bytes : List ℕ). bytes ++ stop.bytes) so_far.parts ∙ append_assoc so_far.done now.bytes stop.bytes in
+    let count = length (so_far.done ++ (now.bytes ++ stop.bytes)) in
     record {
       lines = so_far.done;
       begun = now.bytes ++ stop.bytes;
@@ -257,14 +268,17 @@ stops_reading read_failed failed r s t w v now all fault so_far stop =
       output_is = so_far.output_is;
       appended = front_all w v v so_far.output so_far.appended (Keeps-self v);
       cause =
-          cause_of_reading read_failed failed now.left (length stop.bytes) input_limit (length (so_far.done ++ (now.bytes ++ stop.bytes))) fault
-          (λ lt. let a = so_far.counted in let same = ap length read in omega (arith, length-append so_far.read stop.bytes)) stop.cause;
+          cause_of_reading read_new (now.left < length stop.bytes) ((read_new → read_now) × (length stop.bytes ≤ now.left))
+          (input_limit < count) ((read_new → read_old) × (count ≤ input_limit)) old new fault
+          (λ lt. let a = so_far.counted in let same = ap length read in omega (arith, length-append so_far.read stop.bytes))
+          (λ lacks. let within = lacks.1 in (λ failed. reads (lacks.0 failed), let a = so_far.counted in let same = ap length read in omega (arith, length-append so_far.read stop.bytes)))
+          kept stop.cause;
     }
 
 -- passing on failed between lines
-pub stops_flushing : (read_failed : Type 0) (failed : Failed) (r s w v u : Option (List ℕ)) (now : Pending) (all : Bool) (fault : StreamFault)
-    → Going r s w v now all → Keeps v u → IsWriterFault failed fault → Stops read_failed failed r s w u fault
-stops_flushing read_failed failed r s w v u now all fault so_far keeps cause = record {
+pub stops_flushing : (read_old read_new : Type 0) (old now_failed new : Failed) (r s w v u : Option (List ℕ)) (now : Pending) (all : Bool) (fault : StreamFault)
+    → Going r s w v now all → (read_new → read_old) → FailsNoMore old now_failed → Keeps v u → IsWriterFault now_failed new fault → Stops read_old read_new old new r s w u fault
+stops_flushing read_old read_new old now_failed new r s w v u now all fault so_far reads kept keeps cause = record {
   lines = so_far.done;
   begun = now.bytes;
   consumed = subst (Consumes r s) so_far.parts so_far.consumed;
@@ -272,13 +286,24 @@ stops_flushing read_failed failed r s w v u now all fault so_far keeps cause = r
   output = so_far.output;
   output_is = so_far.output_is;
   appended = front_all w v u so_far.output so_far.appended keeps;
-  cause = cause_of_writing read_failed (input_limit < length (so_far.done ++ now.bytes)) failed fault (cause_of_writer failed fault cause);
+  cause =
+      let within : length (so_far.done ++ now.bytes) ≤ input_limit = let a = so_far.counted in let same = ap length so_far.parts in omega arith in
+      cause_of_run read_old read_new old now_failed new (length (so_far.done ++ now.bytes)) fault reads within kept (cause_of_writer now_failed new fault cause);
 }
 
--- the writer failed within a line
-pub stops_line : (read_failed : Type 0) (failed : Failed) (r s t w v u : Option (List ℕ)) (now new : Pending) (all : Bool) (line : List ℕ) (fault : StreamFault)
-    → Going r s w v now all → TakesLine now new s t line true → StopsLine failed line v u fault → Stops read_failed failed r t w u fault
-stops_line read_failed failed r s t w v u now new all line fault so_far takes stop =
+-- what was read with a line is within the limit
+within_limit : (r s t w v : Option (List ℕ)) (now new : Pending) (all is : Bool) (line lines begun : List ℕ) (so_far : Going r s w v now all) (takes : TakesLine now new s t line is)
+    → so_far.read ++ takes.reads.bytes ≡ lines ++ begun → length (lines ++ begun) ≤ input_limit
+within_limit r s t w v now new all is line lines begun so_far takes read =
+    let a = so_far.counted in
+    let b = takes.reads.counted in
+    let same = ap length read in
+    omega (arith, length-append so_far.read takes.reads.bytes)
+
+-- the writer failed within a line, or memory for its text was refused
+pub stops_line : (read_old read_new : Type 0) (old now_failed new_failed : Failed) (r s t w v u : Option (List ℕ)) (now new : Pending) (all : Bool) (line : List ℕ) (fault : StreamFault)
+    → Going r s w v now all → (read_new → read_old) → FailsNoMore old now_failed → TakesLine now new s t line true → StopsLine now_failed new_failed line v u fault → Stops read_old read_new old new_failed r t w u fault
+stops_line read_old read_new old now_failed new_failed r s t w v u now new all line fault so_far reads kept takes stop =
     let more = takes.reads.bytes in
     let lines = so_far.done ++ (line ++ 10 ∷ []) in
     let read : so_far.read ++ more ≡ lines ++ new.bytes = read_line so_far.read so_far.done now.bytes more line new.bytes so_far.parts takes.answer in
@@ -292,13 +317,15 @@ stops_line read_failed failed r s t w v u now new all line fault so_far takes st
           subst (λ ls. IsTextOfAll ls (so_far.output ++ text_written stop.text)) (sym (lines_more so_far.done line so_far.ends takes.one_line))
           (text_more (lines_of so_far.done) line so_far.output stop.text so_far.output_is stop.text_is);
       appended = front_more w v u so_far.output (text_written stop.text) so_far.appended stop.appended;
-      cause = cause_of_writing read_failed (input_limit < length (lines ++ new.bytes)) failed fault stop.cause;
+      cause =
+          cause_of_run read_old read_new old now_failed new_failed (length (lines ++ new.bytes)) fault reads
+          (within_limit r s t w v now new all true line lines new.bytes so_far takes read) kept stop.cause;
     }
 
--- the writer failed within the last line, which lacks its line feed
-stops_last : (read_failed : Type 0) (failed : Failed) (r s t w v u : Option (List ℕ)) (now new : Pending) (all : Bool) (line : List ℕ) (fault : StreamFault)
-    → Going r s w v now all → TakesLine now new s t line false → 0 < length line → StopsLine failed line v u fault → Stops read_failed failed r t w u fault
-stops_last read_failed failed r s t w v u now new all line fault so_far takes some stop =
+-- so it did within the last line, which lacks its line feed
+stops_last : (read_old read_new : Type 0) (old now_failed new_failed : Failed) (r s t w v u : Option (List ℕ)) (now new : Pending) (all : Bool) (line : List ℕ) (fault : StreamFault)
+    → Going r s w v now all → (read_new → read_old) → FailsNoMore old now_failed → TakesLine now new s t line false → 0 < length line → StopsLine now_failed new_failed line v u fault → Stops read_old read_new old new_failed r t w u fault
+stops_last read_old read_new old now_failed new_failed r s t w v u now new all line fault so_far reads kept takes some stop =
     let more = takes.reads.bytes in
     let lines = so_far.done ++ line in
     let read : so_far.read ++ more ≡ lines ++ [] = read_rest so_far.read so_far.done now.bytes more line so_far.parts takes.answer.0 in
@@ -312,22 +339,26 @@ stops_last read_failed failed r s t w v u now new all line fault so_far takes so
           subst (λ ls. IsTextOfAll ls (so_far.output ++ text_written stop.text)) (sym (lines_last so_far.done line so_far.ends takes.one_line some))
           (text_more (lines_of so_far.done) line so_far.output stop.text so_far.output_is stop.text_is);
       appended = front_more w v u so_far.output (text_written stop.text) so_far.appended stop.appended;
-      cause = cause_of_writing read_failed (input_limit < length (lines ++ [])) failed fault stop.cause;
+      cause =
+          cause_of_run read_old read_new old now_failed new_failed (length (lines ++ [])) fault reads
+          (within_limit r s t w v now new all false line lines [] so_far takes read) kept stop.cause;
     }
 
 -- the last line was written, and a writer that fails then had all of it
-stops_behind : (failed : Failed) (line : List ℕ) (v u x : Option (List ℕ)) (is : Bool) (fault : StreamFault) → WritesLine line v u is → Keeps u x → IsWriterFault failed fault → StopsLine failed line v x fault
-stops_behind failed line v u x is fault writes keeps cause = record {
+stops_behind : (old now new : Failed) (line : List ℕ) (v u x : Option (List ℕ)) (is : Bool) (fault : StreamFault)
+    → WritesLine line v u is → FailsNoMore old now → Keeps u x → IsWriterFault now new fault → StopsLine old new line v x fault
+stops_behind old now new line v u x is fault writes kept keeps cause = record {
   text = writes.text;
   text_is = writes.text_is;
   appended = front_all v u x (text_written writes.text) writes.appended keeps;
-  cause = cause_of_writer failed fault cause;
+  cause = cause_of_writer old new fault (writer_fault_then old now new fault kept cause);
 }
 
 -- passing on failed at the end
-stops_at_end : (read_failed : Type 0) (failed : Failed) (r s t w v u : Option (List ℕ)) (now new : Pending) (all : Bool) (line : List ℕ) (fault : StreamFault)
-    → Going r s w v now all → TakesLine now new s t line false → line ≡ [] → Keeps v u → IsWriterFault failed fault → Stops read_failed failed r t w u fault
-stops_at_end read_failed failed r s t w v u now new all line fault so_far takes none keeps cause =
+stops_at_end : (read_old read_new : Type 0) (old now_failed new_failed : Failed) (r s t w v u : Option (List ℕ)) (now new : Pending) (all : Bool) (line : List ℕ) (fault : StreamFault)
+    → Going r s w v now all → (read_new → read_old) → FailsNoMore old now_failed → TakesLine now new s t line false → line ≡ [] → Keeps v u → IsWriterFault now_failed new_failed fault
+    → Stops read_old read_new old new_failed r t w u fault
+stops_at_end read_old read_new old now_failed new_failed r s t w v u now new all line fault so_far reads kept takes none keeps cause =
     let more = takes.reads.bytes in
     let read : so_far.read ++ more ≡ so_far.done ++ [] =
     read_rest so_far.read so_far.done now.bytes more [] so_far.parts (takes.answer.0 ∙ none) ∙ ap (λ (bytes : List ℕ). bytes ++ []) (append-nil so_far.done) in
@@ -339,21 +370,28 @@ stops_at_end read_failed failed r s t w v u now new all line fault so_far takes 
       output = so_far.output;
       output_is = so_far.output_is;
       appended = front_all w v u so_far.output so_far.appended keeps;
-      cause = cause_of_writing read_failed (input_limit < length (so_far.done ++ [])) failed fault (cause_of_writer failed fault cause);
+      cause =
+          cause_of_run read_old read_new old now_failed new_failed (length (so_far.done ++ [])) fault reads
+          (within_limit r s t w v now new all false line so_far.done [] so_far takes read) kept (cause_of_writer now_failed new_failed fault cause);
     }
 
 -- nothing was read
-pub stops_none : (read_failed : Type 0) (failed : Failed) (r w : Option (List ℕ)) (fault : StreamFault) → fault ≡ Memory → Stops read_failed failed r r w w fault
-stops_none read_failed failed r w fault e = record {
-  lines = [];
-  begun = [];
-  consumed = Consumes-nil r;
-  ended = inl ends_none;
-  output = [];
-  output_is = no_text;
-  appended = front_all w w w [] (Appends-nil w) (Keeps-self w);
-  cause = subst (HasCause read_failed (input_limit < length {A = ℕ} []) failed Unit) (sym e) tt;
-}
+pub stops_none : (read_failed : Type 0) (failed : Failed) (r w : Option (List ℕ)) (fault : StreamFault) → fault ≡ Memory → Stops read_failed read_failed failed failed r r w w fault
+stops_none read_failed failed r w fault e =
+    let count = length {A = ℕ} [] in
+    record {
+      lines = [];
+      begun = [];
+      consumed = Consumes-nil r;
+      ended = inl ends_none;
+      output = [];
+      output_is = no_text;
+      appended = front_all w w w [] (Appends-nil w) (Keeps-self w);
+      cause =
+          let within : count ≤ input_limit = omega arith in
+          subst (HasCause read_failed (input_limit < count) ((read_failed → read_failed) × (count ≤ input_limit)) failed failed) (sym e)
+          ((λ has. has, within), inl (FailsNoMore-self failed));
+    }
 
 Keeps-then : (v u x : Option (List ℕ)) → Keeps v u → Keeps u x → Keeps v x
 Keeps-then None u x p q = tt
@@ -377,13 +415,20 @@ prints_over passed r s t w v u x now new all is line ended so_far takes last kee
   | inr some ↦ prints_last passed r s t w v u x now new all is line ended so_far takes some.0 some.1 keeps e on
 ]
 
-pub stops_over : (read_failed : Type 0) (failed : Failed) (r s t w v u : Option (List ℕ)) (now new : Pending) (all : Bool) (line : List ℕ) (fault : StreamFault)
-    → Going r s w v now all → TakesLine now new s t line false → StopsLast failed line v u fault → Stops read_failed failed r t w u fault
-stops_over read_failed failed r s t w v u now new all line fault so_far takes stop = stops_last read_failed failed r s t w v u now new all line fault so_far takes stop.0 stop.1
+pub stops_over : (read_old read_new : Type 0) (old now_failed new_failed : Failed) (r s t w v u : Option (List ℕ)) (now new : Pending) (all : Bool) (line : List ℕ) (fault : StreamFault)
+    → Going r s w v now all → (read_new → read_old) → FailsNoMore old now_failed → TakesLine now new s t line false → StopsLast now_failed new_failed line v u fault → Stops read_old read_new old new_failed r t w u fault
+stops_over read_old read_new old now_failed new_failed r s t w v u now new all line fault so_far reads kept takes stop =
+    stops_last read_old read_new old now_failed new_failed r s t w v u now new all line fault so_far reads kept takes stop.0 stop.1
 
-pub stops_passing : (read_failed : Type 0) (failed : Failed) (r s t w v u x : Option (List ℕ)) (now new : Pending) (all is : Bool) (line : List ℕ) (fault : StreamFault)
-    → Going r s w v now all → TakesLine now new s t line false → WritesLast line v u is → Keeps u x → IsWriterFault failed fault → Stops read_failed failed r t w x fault
-stops_passing read_failed failed r s t w v u x now new all is line fault so_far takes last keeps cause = elim last [
-  | inl none ↦ stops_at_end read_failed failed r s t w v x now new all line fault so_far takes none.0 (Keeps-then v u x none.1 keeps) cause
-  | inr some ↦ stops_last read_failed failed r s t w v x now new all line fault so_far takes some.0 (stops_behind failed line v u x is fault some.1 keeps cause)
+-- the last line was written by a writer that failed no more, from `before` to `now_failed`, and passing on failed
+pub stops_passing : (read_old read_new : Type 0) (old before now_failed new_failed : Failed) (r s t w v u x : Option (List ℕ)) (now new : Pending) (all is : Bool) (line : List ℕ) (fault : StreamFault)
+    → Going r s w v now all → (read_new → read_old) → FailsNoMore old before → TakesLine now new s t line false → WritesLast line v u is → FailsNoMore before now_failed
+    → Keeps u x → IsWriterFault now_failed new_failed fault → Stops read_old read_new old new_failed r t w x fault
+stops_passing read_old read_new old before now_failed new_failed r s t w v u x now new all is line fault so_far reads kept takes last wrote keeps cause = elim last [
+  | inl none ↦
+      stops_at_end read_old read_new old before new_failed r s t w v x now new all line fault so_far reads kept takes none.0 (Keeps-then v u x none.1 keeps)
+      (writer_fault_then before now_failed new_failed fault wrote cause)
+  | inr some ↦
+      stops_last read_old read_new old before new_failed r s t w v x now new all line fault so_far reads kept takes some.0
+      (stops_behind before now_failed new_failed line v u x is fault some.1 wrote keeps cause)
 ]

@@ -26,10 +26,11 @@ pub record Prints (passed_on : Type 0)
   pub passed : passed_on
   pub all : (ended ≡ AllPrinted) ↔ All IsFrameLine (lines_of input)
 
--- what was read until the fault, whole lines and the beginning of another, and of the output for
--- the whole lines a front was written; and the fault's cause. A last line without a line feed is
--- whole where the reader is at its end.
-pub record Stops (read_failed : Type 0) (failed : Failed)
+-- what was read until the fault: whole lines, and what was read after them. For the whole lines a
+-- front of the output was written. A last line without a line feed is whole where the reader is at
+-- its end. The fault has its cause; memory was wanting only where the reader has not failed anew
+-- and gave no more than the limit, and the writer has not failed anew, or for want of memory.
+pub record Stops (read_failed_old read_failed_new : Type 0) (failed_old failed_new : Failed)
     (reader_old reader_new writer_old writer_new : Option (List ℕ))
     (fault : StreamFault) : Type 0 where
   pub lines : List ℕ
@@ -39,7 +40,9 @@ pub record Stops (read_failed : Type 0) (failed : Failed)
   pub output : List ℕ
   pub output_is : IsOutput lines output
   pub appended : AppendsFront writer_old writer_new output
-  pub cause : HasCause read_failed (input_limit < length (lines ++ begun)) failed (Unit {0}) fault
+  pub cause : HasCause read_failed_new (input_limit < length (lines ++ begun))
+      ((read_failed_new → read_failed_old) × (length (lines ++ begun) ≤ input_limit))
+      failed_old failed_new fault
 
 -- ---- what private functions cite
 
@@ -52,12 +55,12 @@ pub record WritesLine (line : List ℕ) (writer_old writer_new : Option (List �
   pub frame : IsTrue is_frame ↔ IsFrameLine line
 
 -- a front of it was written
-pub record StopsLine (failed : Failed) (line : List ℕ) (writer_old writer_new : Option (List ℕ))
-    (fault : StreamFault) : Type 0 where
+pub record StopsLine (failed_old failed_new : Failed) (line : List ℕ)
+    (writer_old writer_new : Option (List ℕ)) (fault : StreamFault) : Type 0 where
   pub text : List ℕ
   pub text_is : IsTextOf line text
   pub appended : AppendsFront writer_old writer_new (text ++ 10 ∷ [])
-  pub cause : IsWriteFault failed (Unit {0}) fault
+  pub cause : IsWriteFault failed_old failed_new fault
 
 -- a last line was written, or it is empty and nothing was
 abbrev pub WritesLast : (line : List ℕ) (writer_old writer_new : Option (List ℕ)) (is_frame : Bool)
@@ -66,7 +69,7 @@ WritesLast line writer_old writer_new is_frame =
     ((line ≡ []) × Keeps writer_old writer_new × IsTrue is_frame)
     ⊎ ((0 < length line) × WritesLine line writer_old writer_new is_frame)
 
-abbrev pub StopsLast : (failed : Failed) (line : List ℕ) (writer_old writer_new : Option (List ℕ))
-    (fault : StreamFault) → Type 0
-StopsLast failed line writer_old writer_new fault = (0 < length line)
-    × StopsLine failed line writer_old writer_new fault
+abbrev pub StopsLast : (failed_old failed_new : Failed) (line : List ℕ)
+    (writer_old writer_new : Option (List ℕ)) (fault : StreamFault) → Type 0
+StopsLast failed_old failed_new line writer_old writer_new fault = (0 < length line)
+    × StopsLine failed_old failed_new line writer_old writer_new fault

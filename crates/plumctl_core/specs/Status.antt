@@ -31,12 +31,14 @@ line_of_fault BrokenPipe = []
 line_of_fault Memory = codes "error 99 Memory" ++ 10 ∷ []
 
 -- a front of the line was told, and standard error failed
-pub record TellsFront (failed : Failed) (old new : Option (List ℕ)) (line : List ℕ) : Type 0 where
+pub record TellsFront (failed_old failed_new : Failed) (old new : Option (List ℕ))
+    (line : List ℕ) : Type 0 where
   pub told : AppendsFront old new line
   pub why : StreamFault
-  pub cause : IsWriterFault failed why
+  pub cause : IsWriterFault failed_old failed_new why
 
 -- the fault was told at standard error, as far as that takes it
-abbrev pub TellsFault : (failed : Failed) (old new : Option (List ℕ)) → StreamFault → Type 0
-TellsFault failed old new fault = Appends old new (line_of_fault fault)
-    ⊎ TellsFront failed old new (line_of_fault fault)
+abbrev pub TellsFault : (failed_old failed_new : Failed) (old new : Option (List ℕ))
+    → StreamFault → Type 0
+TellsFault failed_old failed_new old new fault = Appends old new (line_of_fault fault)
+    ⊎ TellsFront failed_old failed_new old new (line_of_fault fault)

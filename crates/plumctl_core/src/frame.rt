@@ -40,8 +40,8 @@ fn write_line<W: Sink>(
 ) -> Result<bool, StreamFault>
     ensures ok { IfOk result (λ is. WritesLine line.now (W.contents writer.old)
         (W.contents writer.new) is) }
-    ensures err { IfErr result (λ fault. StopsLine (W.failed writer.new) line.now
-        (W.contents writer.old) (W.contents writer.new) fault) }
+    ensures err { IfErr result (λ fault. StopsLine (W.failed writer.old) (W.failed writer.new)
+        line.now (W.contents writer.old) (W.contents writer.new) fault) }
     ensures sound { OnOk result (FailsNoMore (W.failed writer.old) (W.failed writer.new)) }
 {
     let is_frame = print_line(alloc, line, text)?;
@@ -60,8 +60,8 @@ fn write_last_line<W: Sink>(
 ) -> Result<bool, StreamFault>
     ensures ok { IfOk result (λ is. WritesLast line.now (W.contents writer.old)
         (W.contents writer.new) is) }
-    ensures err { IfErr result (λ fault. StopsLast (W.failed writer.new) line.now
-        (W.contents writer.old) (W.contents writer.new) fault) }
+    ensures err { IfErr result (λ fault. StopsLast (W.failed writer.old) (W.failed writer.new)
+        line.now (W.contents writer.old) (W.contents writer.new) fault) }
     ensures sound { OnOk result (FailsNoMore (W.failed writer.old) (W.failed writer.new)) }
 {
     if line.is_empty() {
@@ -76,8 +76,8 @@ fn write_last_line<W: Sink>(
 /// before the reader is asked for more. Ends with 7 `Read` at the first error of the reader, an
 /// interruption too, with 8 `InputTooLong` once more than 67,108,864 bytes were read, with `Write`
 /// at the first error of the writer or when it takes no more (`BrokenPipe` where its other end is
-/// closed), and with 99 `Memory`. It takes memory for the longest line, its bytes, its frame and
-/// its text, and for one read.
+/// closed), and with 99 `Memory`. It takes memory for one read, and for the longest line, its
+/// bytes, its frame and its text, which stands twice while it is made.
 pub fn frame_lines<R: Source, W: Sink>(
     alloc: Global,
     reader: &mut R,
@@ -86,7 +86,8 @@ pub fn frame_lines<R: Source, W: Sink>(
     ensures ok { IfOk result (λ ended. Prints (W.passed_on writer.new)
         (R.remaining reader.old) (R.remaining reader.new)
         (W.contents writer.old) (W.contents writer.new) ended) }
-    ensures err { IfErr result (λ fault. Stops (R.read_failed reader.new) (W.failed writer.new)
+    ensures err { IfErr result (λ fault. Stops (R.read_failed reader.old) (R.read_failed reader.new)
+        (W.failed writer.old) (W.failed writer.new)
         (R.remaining reader.old) (R.remaining reader.new)
         (W.contents writer.old) (W.contents writer.new) fault) }
     ensures sound { OnOk result ((R.read_failed reader.new → R.read_failed reader.old)

@@ -52,8 +52,8 @@ fn line_of_fault(fault: StreamFault) -> &'static str
 /// hold nothing back. The status is never 2, which tells wrong arguments.
 pub fn tell<E: Sink>(errors: &mut E, fault: StreamFault) -> u8
     ensures status { result ≡ status_of_fault fault }
-    ensures told { TellsFault (E.failed errors.new) (E.contents errors.old)
-        (E.contents errors.new) fault }
+    ensures told { TellsFault (E.failed errors.old) (E.failed errors.new)
+        (E.contents errors.old) (E.contents errors.new) fault }
     ensures run { result ≢ 2 }
 {
     let _ = write_whole(errors, line_of_fault(fault).as_bytes());
@@ -77,8 +77,10 @@ pub fn run_frame<R: Source, W: Sink, E: Sink>(
         × Prints (W.passed_on writer.new) (R.remaining reader.old) (R.remaining reader.new)
         (W.contents writer.old) (W.contents writer.new) ended)
         ⊎ ((fault : StreamFault) × (result ≡ status_of_fault fault)
-        × TellsFault (E.failed errors.new) (E.contents errors.old) (E.contents errors.new) fault
-        × Stops (R.read_failed reader.new) (W.failed writer.new)
+        × TellsFault (E.failed errors.old) (E.failed errors.new)
+        (E.contents errors.old) (E.contents errors.new) fault
+        × Stops (R.read_failed reader.old) (R.read_failed reader.new)
+        (W.failed writer.old) (W.failed writer.new)
         (R.remaining reader.old) (R.remaining reader.new)
         (W.contents writer.old) (W.contents writer.new) fault) }
 {

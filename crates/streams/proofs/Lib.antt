@@ -1,3 +1,5 @@
+-- what a writer has failed by
+pub mod Failing
 -- writing in pieces
 pub mod Sent
 -- reading in pieces, and the lines in them

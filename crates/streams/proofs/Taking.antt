@@ -1,5 +1,5 @@
 -- A line that is taken from several pieces.
-use Rattle.std.proofs.Common.{◌≡◌, ◌≢◌, ℕ, ◌+◌, ◌<◌, Bool, true, false, List, [], ◌∷◌, ◌++◌, length, Option, sym, ap, subst, ◌∙◌, append_assoc, arith}
+use Rattle.std.proofs.Common.{◌≡◌, ◌≢◌, ℕ, ◌+◌, ◌<◌, ◌≤◌, Bool, true, false, List, [], ◌∷◌, ◌++◌, length, Option, sym, ap, subst, ◌∙◌, append_assoc, arith, inl}
 use Rattle.std.proofs.lemmas.List.{append-nil, length-append}
 use Rattle.std.proofs.lemmas.List.Elements.{All-append, All-nil}
 use Rattle.std.specs.Io.KnownBytes.{IsAtEnd}
@@ -69,29 +69,35 @@ taking_rest old filled r s line so_far none end = record {
 }
 
 -- a cause of reading within a longer one
-cause_more : (failed memory : Type 0) (a b c d : ℕ) (fault : StreamFault) → (a < b → c < d) → IsReadFault failed (a < b) memory fault → IsReadFault failed (c < d) Unit fault
-cause_more failed memory a b c d Read more cause = cause
-cause_more failed memory a b c d InputTooLong more cause = more cause
-cause_more failed memory a b c d Write more cause = cause
-cause_more failed memory a b c d BrokenPipe more cause = cause
-cause_more failed memory a b c d Memory more cause = tt
+cause_more : (failed too_long memory longer lacks : Type 0) (fault : StreamFault) → (too_long → longer) → (memory → lacks) → IsReadFault failed too_long memory fault → IsReadFault failed longer lacks fault
+cause_more failed too_long memory longer lacks Read more less cause = cause
+cause_more failed too_long memory longer lacks InputTooLong more less cause = more cause
+cause_more failed too_long memory longer lacks Write more less cause = cause
+cause_more failed too_long memory longer lacks BrokenPipe more less cause = cause
+cause_more failed too_long memory longer lacks Memory more less cause = (less cause.0, cause.1)
 
-pub taking_stopped : (failed memory : Type 0) (old now : Pending) (r s t : Option (List ℕ)) (line : List ℕ) (fault : StreamFault) → Taking old now r s line → StopsReading failed memory now s t fault → StopsReading failed Unit old r t fault
+-- the reader failed, or gave too much
+pub taking_stopped : (failed memory : Type 0) (old now : Pending) (r s t : Option (List ℕ)) (line : List ℕ) (fault : StreamFault) → Taking old now r s line → StopsReading failed ⊥ now s t fault → StopsReading failed memory old r t fault
 taking_stopped failed memory old now r s t line fault so_far stop =
     let first = so_far.reads.bytes in
     record {
       bytes = first ++ stop.bytes;
       consumed = Consumes-then r s t first stop.bytes so_far.reads.consumed stop.consumed;
       cause =
-          cause_more failed memory now.left (length stop.bytes) old.left (length (first ++ stop.bytes)) fault
-          (λ lt. let a = so_far.reads.counted in omega (arith, length-append first stop.bytes)) stop.cause;
+          cause_more failed (now.left < length stop.bytes) (⊥ × (length stop.bytes ≤ now.left))
+          (old.left < length (first ++ stop.bytes)) (memory × (length (first ++ stop.bytes) ≤ old.left)) fault
+          (λ lt. let a = so_far.reads.counted in omega (arith, length-append first stop.bytes)) (λ never. absurd never.0) stop.cause;
     }
 
-pub taking_refused : (failed : Type 0) (old now : Pending) (r s : Option (List ℕ)) (line : List ℕ) (fault : StreamFault) → Taking old now r s line → fault ≡ Memory → StopsReading failed Unit old r s fault
-taking_refused failed old now r s line fault so_far e = record {
+-- memory for the line was refused
+pub taking_refused : (failed memory : Type 0) (old now : Pending) (r s : Option (List ℕ)) (line : List ℕ) (fault : StreamFault) → Taking old now r s line → memory → fault ≡ Memory → StopsReading failed memory old r s fault
+taking_refused failed memory old now r s line fault so_far lacks e = record {
   bytes = so_far.reads.bytes;
   consumed = so_far.reads.consumed;
-  cause = subst (IsReadFault failed (old.left < length so_far.reads.bytes) Unit) (sym e) tt;
+  cause =
+      let within : length so_far.reads.bytes ≤ old.left = let a = so_far.reads.counted in omega arith in
+      subst (IsReadFault failed (old.left < length so_far.reads.bytes) (memory × (length so_far.reads.bytes ≤ old.left))) (sym e)
+      ((lacks, within), inl (λ kind has. has));
 }
 
 -- a piece that was moved leaves less to do

@@ -1,5 +1,5 @@
 -- Why a run over a reader and a writer stopped.
-use Rattle.std.specs.Prelude.{◌≡◌, ℕ, List, Option, Some, None, codes}
+use Rattle.std.specs.Prelude.{◌≡◌, ◌⊎◌, ℕ, List, Option, Some, None, codes}
 use Rattle.std.specs.declared.io.ErrorKind.{ErrorKind}
 use Rattle.std.specs.declared.io.ErrorKind.TheVariants as kinds
 use Rattle.streams.specs.declared.fault.StreamFault.{StreamFault}
@@ -31,32 +31,39 @@ fault_of_kind kinds.BrokenPipe = BrokenPipe
 fault_of_kind kinds.OutOfMemory = Memory
 fault_of_kind kind = Write
 
--- the writer has answered an error that is this fault
-pub record IsWriterFault (failed : Failed) (fault : StreamFault) : Type 0 where
-  pub kind : ErrorKind
-  pub answered : failed kind
-  pub fault_is : fault ≡ fault_of_kind kind
-
 -- the writer has failed in no way in which it had not failed before
 abbrev pub FailsNoMore : Failed → Failed → Type 0
 FailsNoMore old new = (kind : ErrorKind) → new kind → old kind
 
+-- the writer has failed in no way in which it had not failed before, but by an error of this kind
+abbrev pub FailsOnly : Failed → Failed → ErrorKind → Type 0
+FailsOnly old new kind = (other : ErrorKind) → new other → old other ⊎ (other ≡ kind)
+
+-- the writer has answered an error that is this fault, and has failed in no other new way
+pub record IsWriterFault (old new : Failed) (fault : StreamFault) : Type 0 where
+  pub kind : ErrorKind
+  pub answered : new kind
+  pub only : FailsOnly old new kind
+  pub fault_is : fault ≡ fault_of_kind kind
+
 -- each fault has its cause: the reader failed, more than the limit was read, the writer answered an
--- error of a kind. Want of memory has the cause `memory`, which says nothing where a contract can't
--- name one.
-abbrev pub HasCause : (read_failed too_long : Type 0) (failed : Failed) (memory : Type 0)
+-- error of a kind. Want of memory is told only where nothing else has failed anew: `memory` says
+-- this of the reading, and the writer has not failed anew, or was itself out of memory.
+abbrev pub HasCause : (read_failed too_long memory : Type 0) (old new : Failed)
     → StreamFault → Type 0
-HasCause read_failed too_long failed memory Read = read_failed
-HasCause read_failed too_long failed memory InputTooLong = too_long
-HasCause read_failed too_long failed memory Write = IsWriterFault failed Write
-HasCause read_failed too_long failed memory BrokenPipe = IsWriterFault failed BrokenPipe
-HasCause read_failed too_long failed memory Memory = memory
+HasCause read_failed too_long memory old new Read = read_failed
+HasCause read_failed too_long memory old new InputTooLong = too_long
+HasCause read_failed too_long memory old new Write = IsWriterFault old new Write
+HasCause read_failed too_long memory old new BrokenPipe = IsWriterFault old new BrokenPipe
+HasCause read_failed too_long memory old new Memory =
+    memory × (FailsNoMore old new ⊎ IsWriterFault old new Memory)
 
--- a fault of writing: the writer failed, or want of memory
-abbrev pub IsWriteFault : (failed : Failed) (memory : Type 0) → StreamFault → Type 0
-IsWriteFault failed memory fault = HasCause ⊥ ⊥ failed memory fault
+-- a fault of writing, where nothing is read: the writer failed, or want of memory
+abbrev pub IsWriteFault : (old new : Failed) → StreamFault → Type 0
+IsWriteFault old new fault = HasCause ⊥ ⊥ (Unit {0}) old new fault
 
--- a fault of reading
+-- a fault of reading, where nothing is written: the reader failed, or gave too much, or want of
+-- memory
 abbrev pub IsReadFault : (read_failed too_long memory : Type 0) → StreamFault → Type 0
 IsReadFault read_failed too_long memory fault =
-    HasCause read_failed too_long (λ kind. ⊥) memory fault
+    HasCause read_failed too_long memory (λ kind. ⊥) (λ kind. ⊥) fault

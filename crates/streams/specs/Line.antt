@@ -1,5 +1,5 @@
 -- Lines: a line feed ends a line; the last line may lack it.
-use Rattle.std.specs.Prelude.{◌≡◌, ◌≢◌, ◌<◌, ◌+◌, ℕ, List, [], ◌∷◌, ◌++◌, length, All, Bool, Option, MatchBool, ◌==◌, if◌then◌else◌}
+use Rattle.std.specs.Prelude.{◌≡◌, ◌≢◌, ◌<◌, ◌≤◌, ◌+◌, ℕ, List, [], ◌∷◌, ◌++◌, length, All, Bool, Option, MatchBool, ◌==◌, if◌then◌else◌}
 use Rattle.std.specs.Io.KnownBytes.{Consumes, IsAtEnd}
 use Rattle.streams.specs.declared.fault.StreamFault.{StreamFault}
 use Rattle.streams.specs.Fault.{IsReadFault}
@@ -43,12 +43,14 @@ pub record TakesLine (old new : Pending) (reader_old reader_new : Option (List �
       (old.bytes ++ reads.bytes ≡ line ++ 10 ∷ new.bytes)
       ((old.bytes ++ reads.bytes ≡ line) × (new.bytes ≡ []) × IsAtEnd reader_new)
 
--- a fault of reading: what was read until then, and the fault's cause
+-- a fault of reading: what was read until then, and the fault's cause. Memory was wanting only
+-- where `memory` holds and what was read is within what may still be read.
 pub record StopsReading (read_failed memory : Type 0) (old : Pending)
     (reader_old reader_new : Option (List ℕ)) (fault : StreamFault) : Type 0 where
   pub bytes : List ℕ
   pub consumed : Consumes reader_old reader_new bytes
-  pub cause : IsReadFault read_failed (old.left < length bytes) memory fault
+  pub cause : IsReadFault read_failed (old.left < length bytes)
+      (memory × (length bytes ≤ old.left)) fault
 
 -- ---- what private functions cite
 

@@ -7,6 +7,8 @@
 //! while lines.next_line(&mut reader, &mut line)? {
 //!     write_whole(&mut writer, line.as_slice())?;
 //! }
+//! // A last line that lacks its line feed is in `line` now; otherwise `line` is empty.
+//! write_whole(&mut writer, line.as_slice())?;
 //! ```
 //!
 //! Read `source` and `sink`, `line`, then `fault` and `laws`.

@@ -1,6 +1,6 @@
 //! The lines of a reader, read in pieces within a limit.
 
-ghost use Rattle.std.specs.Prelude.{◌≡◌, ◌≢◌, ◌<◌, ◌⊎◌, ◌++◌, ◌∷◌, [], ℕ, List, length, IfOk, IfErr, OnOk, OnErr, IsTrue, ◌↔◌, MatchBool, ⊤};
+ghost use Rattle.std.specs.Prelude.{◌≡◌, ◌≢◌, ◌<◌, ◌⊎◌, ◌++◌, ◌∷◌, [], ℕ, List, length, IfOk, IfErr, OnOk, OnErr, IsTrue, ◌↔◌, MatchBool};
 ghost use Rattle.streams.specs.Fault.{IsReadFault};
 ghost use Rattle.streams.specs.Line.{input_limit, IsOneLine, TakesLine, StopsReading, Fills, Moves};
 
@@ -33,7 +33,8 @@ impl Model for LineBuffer {
 
     ghost view = { λ b. record { bytes = slice_range b.piece.items b.start b.end; left = b.left } };
 
-    ghost invariant = { λ b. (b.start ≤ b.end) × (b.end ≤ length b.piece.items) × (0 < length b.piece.items) };
+    ghost invariant = { λ b. (b.start ≤ b.end) × (b.end ≤ length b.piece.items)
+        × (0 < length b.piece.items) };
 }
 
 impl LineBuffer {
@@ -117,8 +118,9 @@ impl LineBuffer {
         ensures ok { IfOk result (λ ended. TakesLine self.old self.new (R.remaining reader.old)
             (R.remaining reader.new) line.new.items ended) }
         ensures err { IfErr result
-            (λ fault. StopsReading (R.read_failed reader.new) ⊤ self.old (R.remaining reader.old)
-            (R.remaining reader.new) fault) }
+            (λ fault. StopsReading (R.read_failed reader.new)
+            (R.read_failed reader.new → R.read_failed reader.old) self.old
+            (R.remaining reader.old) (R.remaining reader.new) fault) }
         ensures sound { OnOk result (R.read_failed reader.new → R.read_failed reader.old) }
     {
         line.clear();

@@ -4,7 +4,7 @@ ghost use Rattle.std.specs.Prelude.{◌≡◌, ◌<◌, ⊤, length, OnOk, IfOk,
 ghost use Rattle.std.specs.IoError.{error_kind};
 ghost use Rattle.std.specs.Io.{WritesAtMost};
 ghost use Rattle.std.specs.Io.KnownBytes.{WriteAppends, Keeps, Appends};
-ghost use Rattle.streams.specs.Fault.{Failed, FailsNoMore, IsWriterFault, fault_of_kind};
+ghost use Rattle.streams.specs.Fault.{Failed, FailsNoMore, FailsOnly, IsWriterFault, fault_of_kind};
 ghost use Rattle.streams.specs.Written.{AppendsFront};
 
 use crate::fault::StreamFault;
@@ -27,8 +27,11 @@ pub trait Sink: Write {
         ensures bytes { WriteAppends (Self.contents self.old)
             (Self.contents self.new) result bytes.now }
         ensures cause { IfErr result (λ e. failed self.new (error_kind e)) }
+        ensures only { IfErr result (λ e. FailsOnly (failed self.old) (failed self.new)
+            (error_kind e)) }
         ensures full { IfOk result (λ n. n ≡ 0 → 0 < length bytes.now
-            → failed self.new ErrorKind.WriteZero) }
+            → failed self.new ErrorKind.WriteZero
+            × FailsOnly (failed self.old) (failed self.new) ErrorKind.WriteZero) }
         ensures sound { IfOk result (λ n. 0 < n → FailsNoMore (failed self.old)
             (failed self.new)) };
 
@@ -36,6 +39,8 @@ pub trait Sink: Write {
     fn pass_on(&mut self) -> io::Result<()>
         ensures bytes { Keeps (Self.contents self.old) (Self.contents self.new) }
         ensures cause { IfErr result (λ e. failed self.new (error_kind e)) }
+        ensures only { IfErr result (λ e. FailsOnly (failed self.old) (failed self.new)
+            (error_kind e)) }
         ensures done { OnOk result (passed_on self.new) }
         ensures sound { OnOk result (FailsNoMore (failed self.old) (failed self.new)) };
 }
@@ -99,7 +104,8 @@ pub fn write_whole<W: Sink>(writer: &mut W, bytes: &[u8]) -> Result<(), StreamFa
     ensures ok { OnOk result (Appends (W.contents writer.old) (W.contents writer.new) bytes.now) }
     ensures err { OnErr result
         (AppendsFront (W.contents writer.old) (W.contents writer.new) bytes.now) }
-    ensures cause { IfErr result (λ fault. IsWriterFault (W.failed writer.new) fault) }
+    ensures cause { IfErr result (λ fault. IsWriterFault (W.failed writer.old)
+        (W.failed writer.new) fault) }
     ensures sound { OnOk result (FailsNoMore (W.failed writer.old) (W.failed writer.new)) }
 {
     let mut rest = bytes;
@@ -116,7 +122,8 @@ pub fn write_whole<W: Sink>(writer: &mut W, bytes: &[u8]) -> Result<(), StreamFa
 /// Passes on what the writer holds back.
 pub fn flush<W: Sink>(writer: &mut W) -> Result<(), StreamFault>
     ensures bytes { Keeps (W.contents writer.old) (W.contents writer.new) }
-    ensures cause { IfErr result (λ fault. IsWriterFault (W.failed writer.new) fault) }
+    ensures cause { IfErr result (λ fault. IsWriterFault (W.failed writer.old)
+        (W.failed writer.new) fault) }
     ensures done { OnOk result (W.passed_on writer.new) }
     ensures sound { OnOk result (FailsNoMore (W.failed writer.old) (W.failed writer.new)) }
 {

@@ -23,5 +23,5 @@ returns-in_err-write_whole-clause-err g c =
       text = text;
       text_is = c.in_ok-is_frame.ensures.text;
       appended = subst (AppendsFront (g.W.Write.contents c.args.writer.now) (g.W.Write.contents c.write_whole.new.writer)) bytes c.in_err-write_whole.ensures.err;
-      cause = cause_of_writer (g.W.Sink.failed c.write_whole.new.writer) c.in_err-write_whole.field-0.0 c.in_err-write_whole.ensures.cause;
+      cause = cause_of_writer (g.W.Sink.failed c.args.writer.now) (g.W.Sink.failed c.write_whole.new.writer) c.in_err-write_whole.field-0.0 c.in_err-write_whole.ensures.cause;
     })

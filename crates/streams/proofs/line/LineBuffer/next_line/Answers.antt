@@ -17,8 +17,9 @@ pub returns-in_err-take-clause-err : goal.returns-in_err-take-clause-err
 returns-in_err-take-clause-err g c =
     let p = err_from_is_err_and c.from_residual-in_err-take.result c.from_residual-in_err-take.ensures.1 in
     rw p.1
-    (taking_refused _ c.args.self.now c.fill.new.self _ _ c.loop-self.line.items p.0
-    (taking_filled c.args.self.now c.loop-self.self c.fill.new.self _ _ _ c.loop-self.line.items _ c.loop-self.invariant.0 c.in_ok-fill.ensures.ok) p.2)
+    (taking_refused _ _ c.args.self.now c.fill.new.self _ _ c.loop-self.line.items p.0
+    (taking_filled c.args.self.now c.loop-self.self c.fill.new.self _ _ _ c.loop-self.line.items _ c.loop-self.invariant.0 c.in_ok-fill.ensures.ok)
+    (λ failed. c.loop-self.invariant.1 (c.in_ok-fill.ensures.sound failed)) p.2)
 
 pub returns-then-branch-2-clause-ok : goal.returns-then-branch-2-clause-ok
 returns-then-branch-2-clause-ok g c =
