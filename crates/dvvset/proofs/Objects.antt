@@ -1,24 +1,14 @@
 -- when lists are objects and vectors
-use Rattle.std.proofs.Common.{◌≡◌, ℕ, ◌+◌, ◌<◌, ◌≤◌, ◌^◌, List, [], ◌∷◌, length, map, refl, sym, ap, subst, arith}
-use Rattle.std.proofs.lemmas.List.{length-map}
+use Rattle.std.proofs.Common.{◌≡◌, List, [], ◌∷◌, refl, sym, ap, subst}
 use Rattle.std.proofs.lemmas.List.Elements.{All-map, All-weaker}
 use Rattle.dvvset.specs.Object.{Entry, Counter, RisesFrom, ids_of, ids_counted, IsEntry, IsObject, IsCounter, IsVector}
 use Rattle.dvvset.specs.Clock.{join}
-use Rattle.dvvset.proofs.Rising.{Rest, RisesFrom-length}
-
--- rising ids of nodes are few
-few : {X : Type 0} (id : X → ℕ) (P : X → Type 0) (xs : List X) → ((x : X) → P x → id x < 16) → Rest id P 0 xs → length xs < 2 ^ 16
-few id P xs node rest =
-    let below = All-map (λ n. n < 16) id xs (All-weaker P (λ x. id x < 16) node xs rest.lawful) in
-    let most : length (map id xs) + 0 ≤ 16 = RisesFrom-length (map id xs) 0 16 (omega arith) rest.rising below in
-    let same : length (map id xs) ≡ length xs = length-map xs id in
-    omega arith
+use Rattle.dvvset.proofs.Rising.{Rest}
 
 pub object_from_rest : (es : List Entry) → Rest (λ e. e.id) IsEntry 0 es → IsObject es
 object_from_rest es rest = record {
   rising = rest.rising;
   entries = rest.lawful;
-  few = few (λ e. e.id) IsEntry es (λ e is. is.node) rest;
 }
 
 pub rest_from_object : (es : List Entry) → IsObject es → Rest (λ e. e.id) IsEntry 0 es
@@ -28,7 +18,6 @@ pub vector_from_rest : (cs : List Counter) → Rest (λ c. c.id) IsCounter 0 cs 
 vector_from_rest cs rest = record {
   rising = rest.rising;
   counters = rest.lawful;
-  few = few (λ c. c.id) IsCounter cs (λ c is. is.node) rest;
 }
 
 -- ---- the vector of an object
@@ -42,5 +31,5 @@ IsVector-join es is =
     vector_from_rest (join es) (record {
       rising = subst (λ ns. RisesFrom 0 ns) (sym (ids_counted-join es)) is.rising;
       lawful = All-map IsCounter (λ (e : Entry). record { id = e.id; count = e.count }) es
-          (All-weaker IsEntry (λ e. IsCounter (record { id = e.id; count = e.count })) (λ e one. record { node = one.node; counted = one.counted }) es is.entries);
+          (All-weaker IsEntry (λ e. IsCounter (record { id = e.id; count = e.count })) (λ e one. record { writer = one.writer; counted = one.counted }) es is.entries);
     })

@@ -4,7 +4,7 @@ use Rattle.std.proofs.lemmas.Bool.{eqb-true, eqb-false, eq-eqb, ne_eqb, leb-true
 use Rattle.std.proofs.lemmas.List.{length-take, take_all}
 use Rattle.std.proofs.lemmas.List.Elements.{All-nil, All-cons, All-head, All-tail, All-take}
 use Rattle.std.proofs.lemmas.List.Concat.{flat_map-cons}
-use Rattle.meta_types.specs.Node.{IsNode}
+use Rattle.meta_types.specs.Actor.{IsWriter}
 use Rattle.meta_types.specs.Value.{ValueParts, IsValue}
 use Rattle.dvvset.specs.Object.{Entry, Counter, RisesFrom, ids_of, ids_counted, IsEntry, IsObject, IsCounter, IsVector}
 use Rattle.dvvset.specs.Clock.{join, cover, cut, count_for, sync_entry, sync_from, sync, blanks, raise, update, values_of}
@@ -116,7 +116,7 @@ Rises-sync (x ∷ xs) ys low left right =
 
 IsEntry-cut : (e : Entry) (low : ℕ) → IsEntry e → IsEntry (cut e low)
 IsEntry-cut e low is = record {
-  node = is.node;
+  writer = is.writer;
   counted = is.counted;
   within = let within = is.within in omega (arith, length-take (e.count - low) e.values);
   written = All-take IsValue (e.count - low) e.values is.written;
@@ -253,7 +253,7 @@ All-blanks : (cs : List Counter) → All IsCounter cs → All IsEntry (blanks cs
 All-blanks [] all = All-nil IsEntry
 All-blanks (c ∷ cs) all =
     let first = All-head IsCounter c cs all in
-    All-cons IsEntry (blank c) (blanks cs) (record { node = first.node; counted = first.counted; within = omega arith; written = All-nil IsValue }) (All-blanks cs (All-tail IsCounter c cs all))
+    All-cons IsEntry (blank c) (blanks cs) (record { writer = first.writer; counted = first.counted; within = omega arith; written = All-nil IsValue }) (All-blanks cs (All-tail IsCounter c cs all))
 
 pub IsObject-blanks : (cs : List Counter) → IsVector cs → IsObject (blanks cs)
 IsObject-blanks cs is = object_from_rest (blanks cs) (record { rising = Rises-blanks cs 0 is.rising; lawful = All-blanks cs is.counters })
@@ -402,9 +402,9 @@ Rises-raise id v (x ∷ xs) low le rises =
           ] refl
     ] refl
 
-IsEntry-first : (id : ℕ) (v : ValueParts) → IsNode id → IsValue v → IsEntry (raised id v None)
+IsEntry-first : (id : ℕ) (v : ValueParts) → IsWriter id → IsValue v → IsEntry (raised id v None)
 IsEntry-first id v node value = record {
-  node = node;
+  writer = node;
   counted = record { least = omega arith; most = omega arith };
   within = omega arith;
   written = All-cons IsValue v [] value (All-nil IsValue);
@@ -412,13 +412,13 @@ IsEntry-first id v node value = record {
 
 IsEntry-grown : (x : Entry) (v : ValueParts) → IsEntry x → IsValue v → x.count < 18446744073709551615 → IsEntry (grown x v)
 IsEntry-grown x v is value room = record {
-  node = is.node;
+  writer = is.writer;
   counted = record { least = omega arith; most = omega arith };
   within = let within = is.within in omega arith;
   written = All-cons IsValue v x.values value is.written;
 }
 
-All-raise : (id : ℕ) (v : ValueParts) (es : List Entry) → IsNode id → IsValue v → All IsEntry es → count_of es id < 18446744073709551615 → All IsEntry (raise id v es)
+All-raise : (id : ℕ) (v : ValueParts) (es : List Entry) → IsWriter id → IsValue v → All IsEntry es → count_of es id < 18446744073709551615 → All IsEntry (raise id v es)
 All-raise id v [] node value all room = All-cons IsEntry (raised id v None) [] (IsEntry-first id v node value) (All-nil IsEntry)
 All-raise id v (x ∷ xs) node value all room =
     let first = All-head IsEntry x xs all in
@@ -436,7 +436,7 @@ All-raise id v (x ∷ xs) node value all room =
           ] refl
     ]
 
-pub IsObject-raise : (id : ℕ) (v : ValueParts) (es : List Entry) → IsNode id → IsValue v → IsObject es → count_of es id < 18446744073709551615 → IsObject (raise id v es)
+pub IsObject-raise : (id : ℕ) (v : ValueParts) (es : List Entry) → IsWriter id → IsValue v → IsObject es → count_of es id < 18446744073709551615 → IsObject (raise id v es)
 IsObject-raise id v es node value is room =
     object_from_rest (raise id v es) (record { rising = Rises-raise id v es 0 (omega arith) is.rising; lawful = All-raise id v es node value is.entries room })
 

@@ -1,6 +1,6 @@
 -- What must be believed of clocks, in the order in which to read it.
 -- names and values, which the contracts of this crate speak of too
-pub use Rattle.meta_types.specs.Node
+pub use Rattle.meta_types.specs.Actor
 pub use Rattle.meta_types.specs.Value
 -- what an object and a vector are, and their rules
 pub mod Object

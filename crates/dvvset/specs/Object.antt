@@ -3,7 +3,7 @@
 -- dotted version vectors of Almeida, Baquero, Gonçalves, Preguiça and Fonte (from 2012 on); there
 -- are no anonymous values, the rule here is our own, and no agreement in corner cases is claimed.
 use Rattle.std.specs.Prelude.{ℕ, ◌+◌, ◌<◌, ◌≤◌, ◌^◌, List, [], ◌∷◌, length, map, All}
-use Rattle.meta_types.specs.Node.{IsNode}
+use Rattle.meta_types.specs.Actor.{IsWriter}
 use Rattle.meta_types.specs.Value.{ValueParts, IsValue}
 
 -- the events of one writer: how many there were, and the values of the newest of them, newest first
@@ -34,9 +34,10 @@ pub record IsCount (n : ℕ) : Type 0 where
   pub least : 1 ≤ n
   pub most : n < 2 ^ 64
 
--- the writer is a node, it has at least one event, and no more values are shown than it has events
+-- the writer is a node in one of its lives, it has at least one event, and no more values are shown
+-- than it has events
 pub record IsEntry (e : Entry) : Type 0 where
-  pub node : IsNode e.id
+  pub writer : IsWriter e.id
   pub counted : IsCount e.count
   pub within : length e.values ≤ e.count
   pub written : All IsValue e.values
@@ -45,14 +46,12 @@ pub record IsEntry (e : Entry) : Type 0 where
 pub record IsObject (es : List Entry) : Type 0 where
   pub rising : RisesFrom 0 (ids_of es)
   pub entries : All IsEntry es
-  pub few : length es < 2 ^ 16
 
 pub record IsCounter (c : Counter) : Type 0 where
-  pub node : IsNode c.id
+  pub writer : IsWriter c.id
   pub counted : IsCount c.count
 
 -- a vector: counters in the order of their writers. The empty list has read nothing.
 pub record IsVector (cs : List Counter) : Type 0 where
   pub rising : RisesFrom 0 (ids_counted cs)
   pub counters : All IsCounter cs
-  pub few : length cs < 2 ^ 16

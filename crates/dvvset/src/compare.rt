@@ -8,10 +8,10 @@ ghost use Rattle.dvvset.specs.Writer.{count_of, shapes};
 use crate::entries::Entries;
 use crate::entry::Entry;
 use crate::vector::{Counter, Vector};
-use meta_types::NodeId;
+use meta_types::Actor;
 
 /// How many events of the writer the entries know: 0 where it has no entry. Takes no memory.
-pub fn count_of(entries: &[Entry], id: NodeId) -> u64
+pub fn count_of(entries: &[Entry], id: Actor) -> u64
     ensures { result ≡ count_of entries.now id }
 {
     for entry in entries {

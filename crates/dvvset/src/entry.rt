@@ -4,7 +4,7 @@ ghost use Rattle.dvvset.specs.Clock.{cover, cut};
 ghost use Rattle.dvvset.specs.declared.fault.ClockFault.TheVariants.{CounterSpent, Memory};
 
 use crate::fault::ClockFault;
-use meta_types::{NodeId, Value};
+use meta_types::{Actor, Value};
 use std::alloc::{AllocError, Global};
 use std::marker::Model;
 
@@ -14,7 +14,7 @@ use std::marker::Model;
 /// An entry is plain parts, whatever they are: `Entries::from_parts` tells whether they are lawful.
 #[derive(Debug, Drop)]
 pub struct Entry {
-    id: NodeId,
+    id: Actor,
     count: u64,
     values: Vec<Value>,
 }
@@ -28,14 +28,14 @@ impl Model for Entry {
 }
 
 impl Entry {
-    pub fn new(id: NodeId, count: u64, values: Vec<Value>) -> Self
+    pub fn new(id: Actor, count: u64, values: Vec<Value>) -> Self
         ensures { result ≡ record { id = id; count = count; values = values.items } }
     {
         Entry { id, count, values }
     }
 
     /// The writer.
-    pub fn id(&self) -> NodeId
+    pub fn id(&self) -> Actor
         ensures { result ≡ self.now.id }
     {
         self.id
@@ -56,7 +56,7 @@ impl Entry {
     }
 
     /// The writer, its count and its values, without taking memory.
-    pub fn into_parts(self) -> (NodeId, u64, Vec<Value>)
+    pub fn into_parts(self) -> (Actor, u64, Vec<Value>)
         ensures writer { (result.0 ≡ self.id) × (result.1 ≡ self.count) }
         ensures values { result.2.items ≡ self.values }
     {

@@ -5,11 +5,12 @@
 //!
 //! ```
 //! let blind = Vector::empty(alloc);
-//! let here = update(alloc, &blind, &Entries::empty(alloc), NodeId::new(0)?, red)?;
-//! let there = update(alloc, &blind, &Entries::empty(alloc), NodeId::new(1)?, blue)?;
+//! let (zero, one) = (Actor::new(NodeId::new(0)?, 1), Actor::new(NodeId::new(1)?, 1));
+//! let here = update(alloc, &blind, &Entries::empty(alloc), zero, red)?;
+//! let there = update(alloc, &blind, &Entries::empty(alloc), one, blue)?;
 //! let both = sync(alloc, &here, &there)?; // shows red and blue
 //! let read = join(alloc, &both)?; // the vector of a read
-//! let after = update(alloc, &read, &both, NodeId::new(1)?, green)?; // shows green
+//! let after = update(alloc, &read, &both, one, green)?; // shows green
 //! ```
 //!
 //! Read `entry`, `entries`, `vector` (the types), `merge` (`sync`), `write` (`update`), `compare`,

@@ -5,14 +5,14 @@ ghost use Rattle.dvvset.specs.Clock.{join};
 use crate::entries::Entries;
 use crate::entry::Entry;
 use crate::fault::ClockFault;
-use meta_types::NodeId;
+use meta_types::Actor;
 use std::alloc::{AllocError, Global};
 use std::marker::Model;
 
 /// How many events of one writer are known.
 #[derive(Clone, Copy, Debug, PartialEq, Eq)]
 pub struct Counter {
-    id: NodeId,
+    id: Actor,
     count: u64,
 }
 
@@ -27,14 +27,14 @@ impl Model for Counter {
 }
 
 impl Counter {
-    pub fn new(id: NodeId, count: u64) -> Self
+    pub fn new(id: Actor, count: u64) -> Self
         ensures { result ≡ record { id = id; count = count } }
     {
         Counter { id, count }
     }
 
     /// The writer.
-    pub fn id(self) -> NodeId
+    pub fn id(self) -> Actor
         ensures { result ≡ self.id }
     {
         self.id

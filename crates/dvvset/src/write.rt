@@ -13,7 +13,7 @@ use crate::entry::Entry;
 use crate::fault::ClockFault;
 use crate::merge::merge;
 use crate::vector::{Counter, Vector};
-use meta_types::{NodeId, Value};
+use meta_types::{Actor, Value};
 use std::alloc::{AllocError, Global};
 
 /// Counters as entries that show nothing.
@@ -28,7 +28,7 @@ fn blanks(alloc: Global, counters: &[Counter]) -> Result<Vec<Entry>, AllocError>
 }
 
 /// The place of the first entry whose writer is not below this one.
-fn place(entries: &[Entry], id: NodeId) -> usize
+fn place(entries: &[Entry], id: Actor) -> usize
     ensures { IsPlace id entries.now result }
 {
     for (at, entry) in entries.iter().enumerate() {
@@ -40,7 +40,7 @@ fn place(entries: &[Entry], id: NodeId) -> usize
 }
 
 /// The entries with one more event of a writer.
-fn raise(entries: Vec<Entry>, id: NodeId, value: Value) -> Result<Vec<Entry>, ClockFault>
+fn raise(entries: Vec<Entry>, id: Actor, value: Value) -> Result<Vec<Entry>, ClockFault>
     requires { IsObject entries.items }
     ensures value { IfOk result (λ raised. raised.items ≡ raise id value entries.items) }
     ensures room { OnOk result (count_of entries.items id < u64.MAX) }
@@ -69,7 +69,7 @@ pub fn update(
     alloc: Global,
     read: &Vector,
     object: &Entries,
-    id: NodeId,
+    id: Actor,
     value: Value,
 ) -> Result<Entries, ClockFault>
     ensures value { IfOk result (λ written. written ≡ update read.now object.now id value) }

@@ -1,8 +1,8 @@
 use super::*;
 
 // PRUNE from 1 to 0, number 5, and after it NEIGHBOR from 1 to 2, number 1, priority high.
-const TWO_FRAMES: [u8; 41] = *b"PT\x01\x04\0\x01\0\0\0\0\0\0\0\0\0\x05\0\0\0\0\
-    PT\x01\x08\0\x01\0\x02\0\0\0\0\0\0\0\x01\0\0\0\x01\x01";
+const TWO_FRAMES: [u8; 41] = *b"PT\x02\x04\0\x01\0\0\0\0\0\0\0\0\0\x05\0\0\0\0\
+    PT\x02\x08\0\x01\0\x02\0\0\0\0\0\0\0\x01\0\0\0\x01\x01";
 
 #[test]
 fn two_frames_are_read_and_written_with_ample_memory(rt: HostRuntime) {

@@ -6,6 +6,7 @@ use Rattle.std.proofs.lemmas.Bool.{le-leb, leb-true}
 use Rattle.std.specs.Cmp.{first_so, second_so}
 use Rattle.std.proofs.lemmas.List.{length-append}
 use Rattle.std.proofs.lemmas.List.Elements.{All-cons, All-nil, All-head, All-tail}
+use Rattle.meta_types.specs.Actor.{IsWriter, writer_number, node_of_writer, incarnation_of_writer}
 use Rattle.meta_types.specs.Name.{Prefix, Key, IsKey}
 use Rattle.meta_types.specs.Value.{ValueParts, IsBody, IsValue}
 use Rattle.dvvset.specs.Object.{Entry, Counter, RisesFrom, ids_of, ids_counted, IsCount, IsEntry, IsObject, IsCounter, IsVector}
@@ -14,8 +15,8 @@ use Rattle.std.proofs.lemmas.List.Concat.{flat_map-cons}
 use Rattle.frame_fields.specs.declared.prefixes.PrefixDigest.{PrefixDigest}
 use Rattle.frame_fields.specs.declared.keys.KeyDigest.{KeyDigest}
 use Rattle.frame_fields.specs.Form.{Form, EachFits, spell_each}
-use Rattle.frame_fields.specs.Field.{number, name, key, counter_form, above_counter, vector, greatest_count, no_state, forget, body_form, tag_of, bytes_or_none, value, entry, above_entry, object, is_bare, has_value, node, nodes, digest, digests, place, prefix_row, prefix_of, lowest, prefixes, key_row, key_bytes, keys}
-use Rattle.frame_fields.specs.Size.{IsShort, IsShortKey}
+use Rattle.frame_fields.specs.Field.{number, name, key, writer_from, node_before, counter_form, above_counter, vector, greatest_count, no_state, forget, body_form, tag_of, bytes_or_none, value, entry, above_entry, object, is_bare, has_value, node, nodes, digest, digests, place, prefix_row, prefix_of, lowest, prefixes, key_row, key_bytes, keys}
+use Rattle.frame_fields.specs.Size.{IsShort, AreFew, IsShortKey}
 
 -- what a number with a rule keeps
 pub record IsWithin (low high n : ℕ) : Type 0 where
@@ -69,6 +70,30 @@ values_fit : (vs : List ValueParts) → All IsValue vs → EachFits (λ (_ : ℕ
 values_fit [] all = tt
 values_fit (v ∷ vs) all = (value_fits v (All-head IsValue v vs all), values_fit vs (All-tail IsValue v vs all))
 
+-- ---- writers
+
+pub writer_again : (w : ℕ) → writer_number (node_of_writer w) (incarnation_of_writer w) ≡ w
+writer_again w = omega arith
+
+-- what a writer that has a spelling keeps
+pub record IsWriterFrom (low w : ℕ) : Type 0 where
+  pub least : low ≤ w
+  pub writer : IsWriter w
+
+pub writer_within : (low w : ℕ) → (writer_from low).Fits w → IsWriterFrom low w
+writer_within low w fits =
+    let node = number_within w16 (node_before low) 15 (node_of_writer w) fits.0 in
+    record {
+      least = subst (λ n. low ≤ n) (writer_again w) (leb-true low (writer_number (node_of_writer w) (incarnation_of_writer w)) fits.1.1);
+      writer = omega (arith, node.most);
+    }
+
+pub writer_fits : (low w : ℕ) → low ≤ w → IsWriter w → (writer_from low).Fits w
+writer_fits low w least is = (
+  number_fits w16 (node_before low) 15 (node_of_writer w) (omega (arith, is)) (omega (arith, least)) (omega (arith, is)),
+  (omega arith, le-leb low (writer_number (node_of_writer w) (incarnation_of_writer w)) (omega (arith, least))),
+)
+
 -- ---- vectors
 
 count_in_range : (n : ℕ) → (number w64 1 greatest_count).Fits n → IsCount n
@@ -78,54 +103,55 @@ count_fits : (n : ℕ) → IsCount n → (number w64 1 greatest_count).Fits n
 count_fits n is = number_fits w64 1 greatest_count n is.most is.least (omega (arith, is.most))
 
 counter_in_range : (low : ℕ) (c : Counter) → (counter_form low).Fits c → IsCounter c
-counter_in_range low c fits = let within = number_within w16 low 15 c.id fits.0 in record { node = omega (arith, within.most); counted = count_in_range c.count fits.1 }
+counter_in_range low c fits = record { writer = (writer_within low c.id fits.0).writer; counted = count_in_range c.count fits.1 }
 
 counters_rise : (low : ℕ) (cs : List Counter) → EachFits counter_form above_counter low cs → RisesFrom low (ids_counted cs)
 counters_rise low [] fits = tt
-counters_rise low (c ∷ cs) fits = ((number_within w16 low 15 c.id fits.0.0).least, counters_rise (c.id + 1) cs fits.1)
+counters_rise low (c ∷ cs) fits = ((writer_within low c.id fits.0.0).least, counters_rise (c.id + 1) cs fits.1)
 
 counters_in_range : (low : ℕ) (cs : List Counter) → EachFits counter_form above_counter low cs → All IsCounter cs
 counters_in_range low [] fits = All-nil IsCounter
 counters_in_range low (c ∷ cs) fits = All-cons IsCounter c cs (counter_in_range low c fits.0) (counters_in_range (c.id + 1) cs fits.1)
 
 pub vector_in_range : (cs : List Counter) → vector.Fits cs → IsVector cs
-vector_in_range cs fits =
-    let few = number_within w16 1 65535 (length cs) fits.0 in
-    record { rising = counters_rise 0 cs fits.1.1; counters = counters_in_range 0 cs fits.1.1; few = omega (arith, few.most) }
+vector_in_range cs fits = record { rising = counters_rise 0 cs fits.1.1; counters = counters_in_range 0 cs fits.1.1 }
+
+pub few_counters : (cs : List Counter) → vector.Fits cs → AreFew cs
+few_counters cs fits = let few = number_within w16 1 65535 (length cs) fits.0 in omega (arith, few.most)
 
 counters_fit : (low : ℕ) (cs : List Counter) → RisesFrom low (ids_counted cs) → All IsCounter cs → EachFits counter_form above_counter low cs
 counters_fit low [] rises all = tt
 counters_fit low (c ∷ cs) rises all =
     let one = All-head IsCounter c cs all in
-    ((number_fits w16 low 15 c.id (omega (arith, one.node)) rises.0 (omega (arith, one.node)), count_fits c.count one.counted), counters_fit (c.id + 1) cs rises.1 (All-tail IsCounter c cs all))
+    ((writer_fits low c.id rises.0 one.writer, count_fits c.count one.counted), counters_fit (c.id + 1) cs rises.1 (All-tail IsCounter c cs all))
 
-pub vector_fits : (cs : List Counter) → IsVector cs → 1 ≤ length cs → vector.Fits cs
-vector_fits cs is least = (number_fits w16 1 65535 (length cs) is.few least (omega (arith, is.few)), (refl, counters_fit 0 cs is.rising is.counters))
+pub vector_fits : (cs : List Counter) → IsVector cs → AreFew cs → 1 ≤ length cs → vector.Fits cs
+vector_fits cs is few least = (number_fits w16 1 65535 (length cs) few least (omega (arith, few)), (refl, counters_fit 0 cs is.rising is.counters))
 
--- what tells whether a vector counts some writer
-pub some_vector : (cs : List Counter) (empty : Bool) → IsVector cs → (empty ≡ true) ↔ (cs ≡ []) → (not empty ≡ true) ↔ vector.Fits cs
-some_vector [] empty is tells = ((λ h. absurd (let yes : empty ≡ true = tells.1 refl in let no : not true ≡ true = ap not (sym yes) ∙ h in cc)), (λ fits. absurd (let few = number_within w16 1 65535 0 fits.0 in omega (arith, few.least))))
-some_vector (c ∷ cs) true is tells = absurd (let no : c ∷ cs ≡ [] = tells.0 refl in cc)
-some_vector (c ∷ cs) false is tells = ((λ h. vector_fits (c ∷ cs) is (omega arith)), (λ fits. refl))
+-- a count of counters tells whether they are a vector that has a spelling
+pub counted_vector : (cs counters : List Counter) (is_count : Bool) → counters ≡ cs → IsVector cs → (is_count ≡ true) ↔ ((1 ≤ length counters) × (length counters < 2 ^ 16)) → (is_count ≡ true) ↔ vector.Fits cs
+counted_vector cs counters is_count same is tells = (
+  (λ yes. let count = subst (λ xs. (1 ≤ length xs) × (length xs < 2 ^ 16)) same (tells.0 yes) in vector_fits cs is count.1 count.0),
+  (λ fits. tells.1 (subst (λ xs. (1 ≤ length xs) × (length xs < 2 ^ 16)) (sym same) ((number_within w16 1 65535 (length cs) fits.0).least, few_counters cs fits))),
+)
 
-counters_size : (low : ℕ) (cs : List Counter) → length (spell_each counter_form above_counter low cs) ≡ 10 * length cs
+counters_size : (low : ℕ) (cs : List Counter) → length (spell_each counter_form above_counter low cs) ≡ 14 * length cs
 counters_size low [] = refl
-counters_size low (c ∷ cs) = let rest : length (spell_each counter_form above_counter (c.id + 1) cs) ≡ 10 * length cs = counters_size (c.id + 1) cs in omega arith
+counters_size low (c ∷ cs) = let rest : length (spell_each counter_form above_counter (c.id + 1) cs) ≡ 14 * length cs = counters_size (c.id + 1) cs in omega arith
 
-pub vector_size : (cs : List Counter) → 2 + 10 * length cs ≡ length (vector.spell cs)
-vector_size cs = let n : length (spell_each counter_form above_counter 0 cs) ≡ 10 * length cs = counters_size 0 cs in omega arith
+pub vector_size : (cs : List Counter) → 2 + 14 * length cs ≡ length (vector.spell cs)
+vector_size cs = let n : length (spell_each counter_form above_counter 0 cs) ≡ 14 * length cs = counters_size 0 cs in omega arith
 
 -- ---- objects
 
 entry_in_range : (low : ℕ) (e : Entry) → (entry low).Fits e → IsEntry e
 entry_in_range low e fits =
-    let within = number_within w16 low 15 e.id fits.0 in
     let many = number_within w16 0 e.count (length e.values) fits.1.1.0 in
-    record { node = omega (arith, within.most); counted = count_in_range e.count fits.1.0; within = many.most; written = values_in_range e.values fits.1.1.1.1 }
+    record { writer = (writer_within low e.id fits.0).writer; counted = count_in_range e.count fits.1.0; within = many.most; written = values_in_range e.values fits.1.1.1.1 }
 
 pub entries_rise : (low : ℕ) (es : List Entry) → EachFits entry above_entry low es → RisesFrom low (ids_of es)
 entries_rise low [] fits = tt
-entries_rise low (e ∷ es) fits = ((number_within w16 low 15 e.id fits.0.0).least, entries_rise (e.id + 1) es fits.1)
+entries_rise low (e ∷ es) fits = ((writer_within low e.id fits.0.0).least, entries_rise (e.id + 1) es fits.1)
 
 pub entries_in_range : (low : ℕ) (es : List Entry) → EachFits entry above_entry low es → All IsEntry es
 entries_in_range low [] fits = All-nil IsEntry
@@ -144,7 +170,7 @@ entries_fit low (e ∷ es) rises all short =
     let one = All-head IsEntry e es all in
     let few : length e.values < 2 ^ 16 = All-head IsShort e es short in (
       (
-        number_fits w16 low 15 e.id (omega (arith, one.node)) rises.0 (omega (arith, one.node)),
+        writer_fits low e.id rises.0 one.writer,
         (count_fits e.count one.counted, (number_fits w16 0 e.count (length e.values) few (omega arith) one.within, (refl, values_fit e.values one.written))),
       ),
       entries_fit (e.id + 1) es rises.1 (All-tail IsEntry e es all) (All-tail IsShort e es short),
@@ -153,6 +179,7 @@ entries_fit low (e ∷ es) rises all short =
 -- what an object that has a spelling keeps beside its own rule
 pub record HasSpelling (es : List Entry) : Type 0 where
   pub object : IsObject es
+  pub few : AreFew es
   pub short : All IsShort es
   pub shows : has_value es ≡ true
 
@@ -160,7 +187,8 @@ pub spelled_object : (es : List Entry) → object.Fits es → HasSpelling es
 spelled_object es fits =
     let few = number_within w16 1 65535 (length es) fits.0.0 in
     record {
-      object = record { rising = entries_rise 0 es fits.0.1.1; entries = entries_in_range 0 es fits.0.1.1; few = omega (arith, few.most) };
+      object = record { rising = entries_rise 0 es fits.0.1.1; entries = entries_in_range 0 es fits.0.1.1 };
+      few = omega (arith, few.most);
       short = short_entries 0 es fits.0.1.1;
       shows = fits.1;
     }
@@ -169,9 +197,9 @@ one_at_least : (es : List Entry) → has_value es ≡ true → 1 ≤ length es
 one_at_least [] shows = cc
 one_at_least (e ∷ es) shows = omega arith
 
-pub object_fits : (es : List Entry) → IsObject es → All IsShort es → has_value es ≡ true → object.Fits es
-object_fits es is short shows =
-    ((number_fits w16 1 65535 (length es) is.few (one_at_least es shows) (omega (arith, is.few)), (refl, entries_fit 0 es is.rising is.entries short)), shows)
+pub object_fits : (es : List Entry) → IsObject es → AreFew es → All IsShort es → has_value es ≡ true → object.Fits es
+object_fits es is few short shows =
+    ((number_fits w16 1 65535 (length es) few (one_at_least es shows) (omega (arith, few)), (refl, entries_fit 0 es is.rising is.entries short)), shows)
 
 -- ---- one after another: what is spelled depends on nothing but the values
 
@@ -239,10 +267,10 @@ place_below n fits = let within = number_within w8 0 15 n fits in omega (arith, 
 
 -- ---- what the tests of an object answer
 
-pub shown_object : (es entries : List Entry) (bare : Bool) → entries ≡ es → IsObject es → All IsShort entries → bare ≡ list_all is_bare entries → (not bare ≡ true) ↔ object.Fits es
-shown_object es entries bare same is short bare_is =
+pub shown_object : (es entries : List Entry) (bare : Bool) → entries ≡ es → IsObject es → AreFew entries → All IsShort entries → bare ≡ list_all is_bare entries → (not bare ≡ true) ↔ object.Fits es
+shown_object es entries bare same is few short bare_is =
     let shows : has_value es ≡ not bare = (λ i. not (list_all is_bare (sym same i))) ∙ ap not (sym bare_is) in
-    ((λ h. object_fits es is (subst (λ xs. All IsShort xs) same short) (shows ∙ h)), (λ fits. sym shows ∙ (spelled_object es fits).shows))
+    ((λ h. object_fits es is (subst AreFew same few) (subst (λ xs. All IsShort xs) same short) (shows ∙ h)), (λ fits. sym shows ∙ (spelled_object es fits).shows))
 
 pub long_object : (es entries : List Entry) (short : Bool) → entries ≡ es → (short ≡ true) ↔ All IsShort entries → short ≡ false → (short ≡ true) ↔ object.Fits es
 long_object es entries short same tells is_false =

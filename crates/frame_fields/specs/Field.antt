@@ -1,8 +1,9 @@
 -- The forms of the fields of frames. Numbers are big-endian.
-use Rattle.std.specs.Prelude.{ℕ, zero, suc, ◌+◌, List, [], length, Option, Some, None, Bool, ◌&&◌, ◌||◌, not, nat_le, ◌==◌}
+use Rattle.std.specs.Prelude.{ℕ, zero, suc, ◌+◌, ◌-◌, List, [], length, Option, Some, None, Bool, ◌&&◌, ◌||◌, not, nat_le, ◌==◌}
 use Rattle.std.specs.List.{list_all}
-use Rattle.std.specs.Int.{Width, w8, w16, w64}
+use Rattle.std.specs.Int.{Width, w8, w16, w32, w64}
 use Rattle.std.specs.Ordering.{is_lt}
+use Rattle.meta_types.specs.Actor.{writer_number, node_of_writer, incarnation_of_writer}
 use Rattle.meta_types.specs.Name.{Prefix, Key}
 use Rattle.meta_types.specs.Order.{bytes_cmp}
 use Rattle.meta_types.specs.Value.{ValueParts}
@@ -35,6 +36,10 @@ answer_number Yes = 1
 
 abbrev pub answer : Form NeighborAnswer
 answer = seen_as (number w8 0 1) answer_number
+
+-- the number of a node's life
+abbrev pub life : Form ℕ
+life = number w32 1 4294967295
 
 -- a length and so many bytes: two fields
 abbrev pub counted_bytes : List ℕ → ℕ × List ℕ
@@ -145,7 +150,27 @@ key_bytes row = row.key
 abbrev pub keys : Form (List KeyDigest)
 keys = list 0 most_rows key_row key_bytes []
 
--- ---- vectors: ids rise strictly, so a counter is told the least id that it may have
+-- ---- writers: they rise strictly, so each is told the least that it may be
+
+abbrev pub writer_parts : ℕ → ℕ × ℕ
+writer_parts writer = (node_of_writer writer, incarnation_of_writer writer)
+
+-- the node of the writer before `low`
+abbrev pub node_before : ℕ → ℕ
+node_before low = node_of_writer (low - 1)
+
+-- the incarnation makes a writer that is `low` or more
+abbrev pub reaches : ℕ → ℕ → ℕ → Bool
+reaches low node incarnation = nat_le low (writer_number node incarnation)
+
+-- a node and an incarnation: two fields. A writer below `low` is at fault at its node where that is
+-- less than the node of the writer before `low`, and otherwise at its incarnation
+abbrev pub writer_from : ℕ → Form ℕ
+writer_from low =
+    seen_as (then_form (number w16 (node_before low) 15)
+    (λ node. ruled (any_number w32) (reaches low node))) writer_parts
+
+-- ---- vectors
 
 abbrev pub counter_parts : Counter → ℕ × ℕ
 counter_parts c = (c.id, c.count)
@@ -155,7 +180,7 @@ greatest_count = 18446744073709551615
 
 abbrev pub counter_form : ℕ → Form Counter
 counter_form low =
-    seen_as (then_form (number w16 low 15) (λ _. number w64 1 greatest_count)) counter_parts
+    seen_as (then_form (writer_from low) (λ _. number w64 1 greatest_count)) counter_parts
 
 abbrev pub above_counter : Counter → ℕ
 above_counter c = c.id + 1
@@ -193,7 +218,7 @@ entry_parts e = (e.id, (e.count, e.values))
 -- at most as many values as the count
 abbrev pub entry : ℕ → Form Entry
 entry low =
-    seen_as (then_form (number w16 low 15)
+    seen_as (then_form (writer_from low)
     (λ _. then_form (number w64 1 greatest_count)
     (λ count. list 0 count (λ (_ : ℕ). value) forget no_state))) entry_parts
 

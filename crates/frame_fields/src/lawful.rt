@@ -1,10 +1,10 @@
 //! Which values of the fields have a spelling.
 
-ghost use Rattle.std.specs.Prelude.{◌≡◌, ◌<◌, ◌^◌, ◌↔◌, IsTrue, All};
+ghost use Rattle.std.specs.Prelude.{◌≡◌, ◌<◌, ◌≤◌, ◌^◌, ◌↔◌, IsTrue, All};
 ghost use Rattle.std.specs.Int.{w8, w16};
 ghost use Rattle.std.specs.List.{list_all};
 ghost use Rattle.frame_fields.specs.Form.{any_number};
-ghost use Rattle.frame_fields.specs.Field.{answer, digest, digests, is_bare, key, keys, node, nodes, object, place, prefix, prefixes, priority, vector};
+ghost use Rattle.frame_fields.specs.Field.{answer, digest, digests, is_bare, key, keys, life, node, nodes, object, place, prefix, prefixes, priority, vector};
 ghost use Rattle.frame_fields.specs.Size.{IsShort};
 
 use crate::digest::Digest;
@@ -16,12 +16,22 @@ use crate::prefixes::PrefixDigests;
 use dvvset::{Entries, Entry, Vector};
 use meta_types::{FullPrefix, MetaKey, NodeId};
 
+/// The most that a count of 16 bits can say.
+const MAX_COUNT: usize = 65_535;
+
 /// Always true: what a frame asks of a number of 16 bits its type keeps.
 pub fn is_u16(number: &u16) -> bool
     ensures { IsTrue result ↔ (any_number w16).Fits number.now }
 {
     let _number = *number;
     true
+}
+
+/// Returns whether a number is that of a life: at least 1.
+pub fn is_life(number: &u32) -> bool
+    ensures { IsTrue result ↔ life.Fits number.now }
+{
+    *number >= 1
 }
 
 /// Always true, as for `is_u16`.
@@ -123,20 +133,30 @@ pub fn is_key(k: &MetaKey) -> bool
     true
 }
 
-/// Returns whether a vector has a spelling in frames: it counts some writer.
+/// Returns whether a vector has a spelling in frames: it counts some writer, and no more than
+/// 65,535.
 pub fn is_vector(v: &Vector) -> bool
     ensures { IsTrue result ↔ vector.Fits v.now }
 {
-    let _counters = v.counters();
-    !v.is_empty()
+    is_count(v.counters().len())
 }
 
-/// Returns whether an object has a spelling in frames: it shows a value, and no entry shows more
-/// than 65,535.
+/// Returns whether a count is at least 1 and can be said in 16 bits.
+fn is_count(count: usize) -> bool
+    ensures { IsTrue result ↔ ((1 ≤ count) × (count < 2 ^ 16)) }
+{
+    1 <= count && count <= MAX_COUNT
+}
+
+/// Returns whether an object has a spelling in frames: it shows a value, has no more than 65,535
+/// entries, and no entry shows more values than that.
 pub fn is_object(o: &Entries) -> bool
     ensures { IsTrue result ↔ object.Fits o.now }
 {
     let entries = o.entries();
+    if entries.len() > MAX_COUNT {
+        return false;
+    }
     all_are_short(entries) && !all_are_bare(entries)
 }
 
@@ -144,7 +164,7 @@ fn all_are_short(entries: &[Entry]) -> bool
     ensures { IsTrue result ↔ All IsShort entries.now }
 {
     for entry in entries {
-        if entry.values().len() > 65535 {
+        if entry.values().len() > MAX_COUNT {
             return false;
         }
     }

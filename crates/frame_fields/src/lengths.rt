@@ -35,9 +35,9 @@ pub fn key_len(k: &MetaKey) -> usize
 pub fn vector_len(v: &Vector) -> usize
     requires { vector.Fits v.now }
     ensures value { result ≡ length (vector.spell v.now) }
-    ensures small { result ≤ 655360 }
+    ensures small { result ≤ 917504 }
 {
-    2 + 10 * v.counters().len()
+    2 + 14 * v.counters().len()
 }
 
 fn value_len(v: &Value) -> usize
@@ -67,7 +67,7 @@ fn entry_len(e: &Entry) -> usize
     ensures value { result ≡ length ((entry 0).spell e.now) }
     ensures small { result ≤ 67829000 }
 {
-    12 + values_len(e.values())
+    16 + values_len(e.values())
 }
 
 fn entries_len(entries: &[Entry]) -> usize

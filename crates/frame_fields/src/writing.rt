@@ -3,7 +3,7 @@
 ghost use Rattle.std.specs.Prelude.{◌≡◌, ◌++◌, ◌∷◌, [], ◌<◌, ◌≤◌, ◌^◌, List, length, OnOk, All};
 ghost use Rattle.std.specs.Int.{w8, w16, w32, w64, to_be_bytes};
 ghost use Rattle.std.specs.List.{flat_map};
-ghost use Rattle.frame_fields.specs.Field.{answer, name, prefix, priority, key, value, entry, object, counter_form, vector, node, nodes, digest, digests, prefix_row, prefixes, lowest, key_row, keys};
+ghost use Rattle.frame_fields.specs.Field.{answer, name, prefix, priority, key, value, entry, object, counter_form, vector, node, nodes, digest, digests, prefix_row, prefixes, lowest, key_row, keys, writer_from};
 ghost use Rattle.frame_fields.specs.Size.{IsShort, IsShortKey};
 
 use crate::digest::Digest;
@@ -13,7 +13,7 @@ use crate::neighbor::{NeighborAnswer, Priority};
 use crate::nodes::Nodes;
 use crate::prefixes::{PrefixDigest, PrefixDigests};
 use dvvset::{Counter, Entries, Entry, Vector};
-use meta_types::{FullPrefix, MetaKey, NodeId, Value};
+use meta_types::{Actor, FullPrefix, MetaKey, NodeId, Value};
 use std::alloc::AllocError;
 
 pub fn write_u8(out: &mut Vec<u8>, number: u8) -> Result<(), AllocError>
@@ -89,13 +89,28 @@ pub fn write_key(out: &mut Vec<u8>, k: &MetaKey) -> Result<(), AllocError>
     Ok(())
 }
 
+fn write_writer(out: &mut Vec<u8>, writer: Actor) -> Result<(), AllocError>
+    ensures { OnOk result (out.new.items ≡ out.old.items ++ (writer_from 0).spell writer) }
+{
+    write_node(out, writer.node())?;
+    write_u32(out, writer.incarnation())?;
+    Ok(())
+}
+
+fn write_counter(out: &mut Vec<u8>, counter: Counter) -> Result<(), AllocError>
+    ensures { OnOk result (out.new.items ≡ out.old.items ++ (counter_form 0).spell counter) }
+{
+    write_writer(out, counter.id())?;
+    write_u64(out, counter.count())?;
+    Ok(())
+}
+
 fn write_counters(out: &mut Vec<u8>, counters: &[Counter]) -> Result<(), AllocError>
     ensures { OnOk result (out.new.items ≡ out.old.items
         ++ flat_map (counter_form 0).spell counters.now) }
 {
     for counter in counters {
-        write_node(out, counter.id())?;
-        write_u64(out, counter.count())?;
+        write_counter(out, *counter)?;
     }
     Ok(())
 }
@@ -139,7 +154,7 @@ fn write_entry(out: &mut Vec<u8>, e: &Entry) -> Result<(), AllocError>
     requires { IsShort e.now }
     ensures { OnOk result (out.new.items ≡ out.old.items ++ (entry 0).spell e.now) }
 {
-    write_node(out, e.id())?;
+    write_writer(out, e.id())?;
     write_u64(out, e.count())?;
     write_u16(out, e.values().len() as u16)?;
     write_values(out, e.values())?;

@@ -1,16 +1,17 @@
 -- The readers of the fields belong to their forms.
-use Rattle.std.proofs.Common.{◌≡◌, ℕ, zero, suc, ◌≤◌, ◌&&◌, cond, leb, ap, ◌∙◌, List, [], Option, Some, None, refl, sym, arith}
-use Rattle.std.specs.Int.{Width, w8, w16, w64}
+use Rattle.std.proofs.Common.{◌≡◌, ℕ, zero, suc, ◌<◌, ◌^◌, ◌≤◌, ◌&&◌, cond, leb, ap, ◌∙◌, List, [], Option, Some, None, refl, sym, arith}
+use Rattle.std.specs.Int.{Width, w8, w16, w32, w64}
 use Rattle.std.proofs.lemmas.Bool.{ne_eqb}
 use Rattle.frame_fields.specs.declared.neighbor.Priority.{Priority}
 use Rattle.frame_fields.specs.declared.neighbor.Priority.TheVariants.{Low, High}
 use Rattle.frame_fields.specs.declared.neighbor.NeighborAnswer.{NeighborAnswer}
 use Rattle.frame_fields.specs.declared.neighbor.NeighborAnswer.TheVariants.{No, Yes}
-use Rattle.frame_fields.specs.Form.{Form, any_number, some_bytes, then_form, each}
-use Rattle.frame_fields.specs.Field.{number, node, priority_number, priority, answer_number, answer, name, counted_bytes, prefix, prefix_parts, key, key_parts, list, counted, counter_form, counter_parts, above_counter, vector, greatest_count, no_state, forget, tag_of, bytes_or_none, body_form, value, value_parts, entry, entry_parts, above_entry, object, has_value}
-use Rattle.frame_readers.specs.Reader.{Reader, number_reader, bytes_reader, then_reader, made_reader, each_reader, within_reader, node_reader, priority_from, priority_reader, answer_from, answer_reader, name_reader, prefix_reader, key_reader, counter_reader, vector_reader, body_of_tag, body_reader, value_reader, values_reader, entry_reader, entries_reader, object_reader}
-use Rattle.frame_fields.proofs.Spellable.{number_within}
-use Rattle.frame_readers.proofs.Readers.{Reads, IsWide, wide8, wide16, wide64, number_reads, bytes_reads, nothing_reads, ruled_reads, then_reads, made_reads, each_reads}
+use Rattle.meta_types.specs.Actor.{writer_number, node_of_writer, incarnation_of_writer}
+use Rattle.frame_fields.specs.Form.{Form, any_number, some_bytes, then_form, each, ruled}
+use Rattle.frame_fields.specs.Field.{number, node, writer_parts, node_before, reaches, writer_from, priority_number, priority, answer_number, answer, name, counted_bytes, prefix, prefix_parts, key, key_parts, list, counted, counter_form, counter_parts, above_counter, vector, greatest_count, no_state, forget, tag_of, bytes_or_none, body_form, value, value_parts, entry, entry_parts, above_entry, object, has_value}
+use Rattle.frame_readers.specs.Reader.{Reader, ruled_reader, writer_reader, number_reader, bytes_reader, then_reader, made_reader, each_reader, within_reader, node_reader, priority_from, priority_reader, answer_from, answer_reader, name_reader, prefix_reader, key_reader, counter_reader, vector_reader, body_of_tag, body_reader, value_reader, values_reader, entry_reader, entries_reader, object_reader}
+use Rattle.frame_fields.proofs.Spellable.{number_within, writer_again}
+use Rattle.frame_readers.proofs.Readers.{Reads, IsWide, wide8, wide16, wide32, wide64, number_reads, bytes_reads, nothing_reads, ruled_reads, then_reads, made_reads, each_reads}
 
 pub within_reads : (w : Width) → IsWide w → (low high : ℕ) → Reads (number w low high) (within_reader w low high)
 unfolding within_reader
@@ -79,14 +80,31 @@ list_reads low high form read next s reads =
     (λ x fits i. (fits.1.0 i, x.1)) (λ y. refl)
     (then_reads (number w16 low high) (each form next s) (within_reader w16 low high) (each_reader read next s) (within_reads w16 wide16 low high) (λ n. each_reads form read next reads s n))
 
+-- ---- writers
+
+writer_there : (n i : ℕ) → i < 2 ^ 32 → writer_parts (writer_number n i) ≡ (n, i)
+writer_there n i small =
+    let node : node_of_writer (writer_number n i) ≡ n = omega (arith, small) in
+    let incarnation : incarnation_of_writer (writer_number n i) ≡ i = omega (arith, small) in
+    λ j. (node j, incarnation j)
+
+pub writer_reads : (low : ℕ) → Reads (writer_from low) (writer_reader low)
+unfolding writer_reader
+writer_reads low =
+    made_reads (then_form (number w16 (node_before low) 15) (λ node. ruled (any_number w32) (reaches low node)))
+    (then_reader (within_reader w16 (node_before low) 15) (λ node. ruled_reader (number_reader w32) (reaches low node))) writer_parts (λ p. writer_number p.0 p.1)
+    (λ x fits. writer_there x.0 x.1 fits.1.0) writer_again
+    (then_reads (number w16 (node_before low) 15) (λ node. ruled (any_number w32) (reaches low node)) (within_reader w16 (node_before low) 15) (λ node. ruled_reader (number_reader w32) (reaches low node))
+    (within_reads w16 wide16 (node_before low) 15) (λ node. ruled_reads (any_number w32) (number_reader w32) (reaches low node) (number_reads w32 wide32)))
+
 -- ---- vectors
 
 pub counter_reads : (low : ℕ) → Reads (counter_form low) (counter_reader low)
 unfolding counter_reader
 counter_reads low =
-    made_reads (then_form (number w16 low 15) (λ _. number w64 1 greatest_count)) (then_reader (within_reader w16 low 15) (λ _. within_reader w64 1 greatest_count)) counter_parts (λ p. record { id = p.0; count = p.1 })
+    made_reads (then_form (writer_from low) (λ _. number w64 1 greatest_count)) (then_reader (writer_reader low) (λ _. within_reader w64 1 greatest_count)) counter_parts (λ p. record { id = p.0; count = p.1 })
     (λ x fits. refl) (λ y. refl)
-    (then_reads (number w16 low 15) (λ _. number w64 1 greatest_count) (within_reader w16 low 15) (λ _. within_reader w64 1 greatest_count) (within_reads w16 wide16 low 15) (λ _. within_reads w64 wide64 1 greatest_count))
+    (then_reads (writer_from low) (λ _. number w64 1 greatest_count) (writer_reader low) (λ _. within_reader w64 1 greatest_count) (writer_reads low) (λ _. within_reads w64 wide64 1 greatest_count))
 
 pub vector_reads : Reads vector vector_reader
 unfolding vector_reader
@@ -123,9 +141,9 @@ values_reads count = list_reads 0 count (λ (_ : ℕ). value) (λ _. value_reade
 pub entry_reads : (low : ℕ) → Reads (entry low) (entry_reader low)
 unfolding entry_reader
 entry_reads low =
-    made_reads (then_form (number w16 low 15) (λ _. then_form (number w64 1 greatest_count) (λ count. list 0 count (λ (_ : ℕ). value) forget no_state))) (then_reader (within_reader w16 low 15) (λ _. then_reader (within_reader w64 1 greatest_count) values_reader)) entry_parts
+    made_reads (then_form (writer_from low) (λ _. then_form (number w64 1 greatest_count) (λ count. list 0 count (λ (_ : ℕ). value) forget no_state))) (then_reader (writer_reader low) (λ _. then_reader (within_reader w64 1 greatest_count) values_reader)) entry_parts
     (λ p. record { id = p.0; count = p.1.0; values = p.1.1 }) (λ x fits. refl) (λ y. refl)
-    (then_reads (number w16 low 15) (λ _. then_form (number w64 1 greatest_count) (λ count. list 0 count (λ (_ : ℕ). value) forget no_state)) (within_reader w16 low 15) (λ _. then_reader (within_reader w64 1 greatest_count) values_reader) (within_reads w16 wide16 low 15)
+    (then_reads (writer_from low) (λ _. then_form (number w64 1 greatest_count) (λ count. list 0 count (λ (_ : ℕ). value) forget no_state)) (writer_reader low) (λ _. then_reader (within_reader w64 1 greatest_count) values_reader) (writer_reads low)
     (λ _. then_reads (number w64 1 greatest_count) (λ count. list 0 count (λ (_ : ℕ). value) forget no_state) (within_reader w64 1 greatest_count) values_reader (within_reads w64 wide64 1 greatest_count) values_reads))
 
 pub entries_reads : Reads (list 1 65535 entry above_entry 0) entries_reader

@@ -4,13 +4,14 @@
 -- `proofs/Listed.antt`).
 use Rattle.std.specs.Prelude.{◌≡◌, ℕ, zero, suc, List, [], ◌∷◌, length, take, drop, Option, Some, None, Result, Ok, Err, Bool, ◌&&◌, ◌||◌, not, nat_lt, nat_le, ◌==◌, if◌then◌else◌}
 use Rattle.std.specs.Borrow.{Bor}
-use Rattle.std.specs.Int.{Width, w8, w16, w64, byte_len, from_be_bytes}
+use Rattle.std.specs.Int.{Width, w8, w16, w32, w64, byte_len, from_be_bytes}
+use Rattle.meta_types.specs.Actor.{writer_number}
 use Rattle.meta_types.specs.Name.{Prefix, Key}
 use Rattle.meta_types.specs.Value.{ValueParts}
 use Rattle.dvvset.specs.Object.{Entry, Counter}
 use Rattle.frame_fields.specs.declared.prefixes.PrefixDigest.{PrefixDigest}
 use Rattle.frame_fields.specs.declared.keys.KeyDigest.{KeyDigest}
-use Rattle.frame_fields.specs.Field.{greatest_count, most_rows, no_state, forget, above_counter, above_entry, has_value, is_before, lowest, prefix_of, key_bytes}
+use Rattle.frame_fields.specs.Field.{node_before, reaches, greatest_count, most_rows, no_state, forget, above_counter, above_entry, has_value, is_before, lowest, prefix_of, key_bytes}
 use Rattle.frame_fields.specs.declared.neighbor.Priority.{Priority}
 use Rattle.frame_fields.specs.declared.neighbor.Priority.TheVariants.{Low, High}
 use Rattle.frame_fields.specs.declared.neighbor.NeighborAnswer.{NeighborAnswer}
@@ -97,9 +98,15 @@ key_reader =
     made_reader (then_reader prefix_reader (λ _. name_reader 1 256))
     (λ p. record { prefix = p.0; key = p.1 })
 
+unfoldable pub writer_reader : ℕ → Reader ℕ
+writer_reader low =
+    made_reader (then_reader (within_reader w16 (node_before low) 15)
+    (λ node. ruled_reader (number_reader w32) (reaches low node)))
+    (λ p. writer_number p.0 p.1)
+
 unfoldable pub counter_reader : ℕ → Reader Counter
 counter_reader low =
-    made_reader (then_reader (within_reader w16 low 15) (λ _. within_reader w64 1 greatest_count))
+    made_reader (then_reader (writer_reader low) (λ _. within_reader w64 1 greatest_count))
     (λ p. record { id = p.0; count = p.1 })
 
 unfoldable pub vector_reader : Reader (List Counter)
@@ -129,7 +136,7 @@ values_reader count =
 
 unfoldable pub entry_reader : ℕ → Reader Entry
 entry_reader low =
-    made_reader (then_reader (within_reader w16 low 15)
+    made_reader (then_reader (writer_reader low)
     (λ _. then_reader (within_reader w64 1 greatest_count) values_reader))
     (λ p. record { id = p.0; count = p.1.0; values = p.1.1 })
 

@@ -1,18 +1,23 @@
 //! Reading fields from the front of bytes. Each function answers the value and the bytes after it.
 
 ghost use Rattle.std.specs.Prelude.{◌≡◌, ◌≢◌, ◌+◌, ◌≤◌, ◌<◌, List, length, Ok, IfOk, IfErr, IsTrue, ◌↔◌};
-ghost use Rattle.std.specs.Int.{w8, w16, w64};
+ghost use Rattle.std.specs.Int.{w8, w16, w32, w64};
 ghost use Rattle.meta_types.specs.Node.{IsNode};
-ghost use Rattle.frame_fields.specs.Field.{no_state, forget, above_entry, above_counter};
-ghost use Rattle.frame_readers.specs.Reader.{Gives, MatchesReader, number_reader, answer_reader, answer_from, bytes_reader, node_reader, priority_reader, priority_from, within_reader, name_reader, prefix_reader, key_reader, value_reader, values_reader, entry_reader, entries_reader, object_reader, each_reader, counter_reader, vector_reader};
+ghost use Rattle.meta_types.specs.Actor.{writer_number};
+ghost use Rattle.frame_fields.specs.Field.{node_before, no_state, forget, above_entry, above_counter};
+ghost use Rattle.frame_readers.specs.Reader.{Gives, MatchesReader, number_reader, answer_reader, answer_from, bytes_reader, node_reader, priority_reader, priority_from, within_reader, name_reader, prefix_reader, key_reader, value_reader, values_reader, entry_reader, entries_reader, object_reader, each_reader, counter_reader, writer_reader, vector_reader};
 ghost use Rattle.frame_readers.specs.declared.fault.FieldFault.TheVariants.{Memory};
 
 use crate::fault::FieldFault;
 use dvvset::{Counter, Entries, Entry, Vector};
 use frame_fields::lawful::all_are_bare;
 use frame_fields::{NeighborAnswer, Priority};
-use meta_types::{FullPrefix, MetaKey, NodeId, Value};
+use meta_types::actor::INCARNATIONS;
+use meta_types::{Actor, FullPrefix, MetaKey, NodeId, Value};
 use std::alloc::Global;
+
+/// One more than the greatest number of a writer.
+const MOST_WRITERS: u64 = 16 * INCARNATIONS;
 
 pub fn read_u8(bytes: &[u8]) -> Result<(u8, &[u8]), FieldFault>
     ensures value { MatchesReader result (number_reader w8 bytes.now) }
@@ -34,6 +39,20 @@ pub fn read_u16(bytes: &[u8]) -> Result<(u16, &[u8]), FieldFault>
     }
     let (front, rest) = bytes.split_at(2);
     Ok((u16::from_be_bytes([front[0], front[1]]), rest))
+}
+
+pub fn read_u32(bytes: &[u8]) -> Result<(u32, &[u8]), FieldFault>
+    ensures value { MatchesReader result (number_reader w32 bytes.now) }
+    ensures memory { IfErr result (λ fault. fault ≢ Memory) }
+{
+    if bytes.len() < 4 {
+        return Err(FieldFault::Left(bytes.len()));
+    }
+    let (front, rest) = bytes.split_at(4);
+    Ok((
+        u32::from_be_bytes([front[0], front[1], front[2], front[3]]),
+        rest,
+    ))
 }
 
 pub(crate) fn read_u64(bytes: &[u8]) -> Result<(u64, &[u8]), FieldFault>
@@ -171,6 +190,20 @@ pub fn read_answer(bytes: &[u8]) -> Result<(NeighborAnswer, &[u8]), FieldFault>
     Ok((answer_from(answer), rest))
 }
 
+/// The number of a life.
+#[tactic(auto, unfolding(crate::specs::Reader::within_reader))]
+pub fn read_life(bytes: &[u8]) -> Result<(u32, &[u8]), FieldFault>
+    ensures value { MatchesReader result (within_reader w32 1 4294967295 bytes.now) }
+    ensures memory { IfErr result (λ fault. fault ≢ Memory) }
+{
+    let (number, rest) = read_u32(bytes)?;
+    if number >= 1 {
+        Ok((number, rest))
+    } else {
+        Err(FieldFault::Left(bytes.len()))
+    }
+}
+
 /// The number of one of sixteen.
 pub fn read_place(bytes: &[u8]) -> Result<(u8, &[u8]), FieldFault>
     ensures value { MatchesReader result (within_reader w8 0 15 bytes.now) }
@@ -197,15 +230,50 @@ pub fn read_key(alloc: Global, bytes: &[u8]) -> Result<(MetaKey, &[u8]), FieldFa
     Ok((MetaKey::new(prefix, key).unwrap(), rest))
 }
 
+/// The node of the writer before `low`.
+fn node_before(low: u64) -> u16
+    requires { low ≤ MOST_WRITERS }
+    ensures { result ≡ node_before low }
+{
+    (low.saturating_sub(1) / INCARNATIONS) as u16
+}
+
+/// The node and the incarnation of a writer that is `low` or more.
+#[tactic(auto, unfolding(crate::specs::Reader::writer_reader))]
+fn read_writer(low: u64, bytes: &[u8]) -> Result<(u16, u32, &[u8]), FieldFault>
+    requires { low ≤ MOST_WRITERS }
+    ensures value { Gives (λ x. (writer_number x.0 x.1, x.2.now)) result
+        (writer_reader low bytes.now) }
+    ensures range { IfOk result (λ x. IsNode x.0) }
+    ensures memory { IfErr result (λ fault. fault ≢ Memory) }
+{
+    let (node, rest) = u16_within(node_before(low), 15, bytes)?;
+    let (incarnation, after) = read_u32(rest)?;
+    if low <= writer_from(node, incarnation).number() {
+        Ok((node, incarnation, after))
+    } else {
+        Err(FieldFault::Left(rest.len()))
+    }
+}
+
+fn writer_from(node: u16, incarnation: u32) -> Actor
+    requires { IsNode node }
+    ensures { result ≡ writer_number node incarnation }
+{
+    Actor::new(node_from(node), incarnation)
+}
+
+/// The node, the incarnation and the count of a counter whose writer is `low` or more.
 #[tactic(auto, unfolding(crate::specs::Reader::counter_reader))]
-fn read_counter(low: u16, bytes: &[u8]) -> Result<(u16, u64, &[u8]), FieldFault>
-    ensures value { Gives (λ x. (record { id = x.0; count = x.1 }, x.2.now)) result
+fn read_counter(low: u64, bytes: &[u8]) -> Result<(u16, u32, u64, &[u8]), FieldFault>
+    requires { low ≤ MOST_WRITERS }
+    ensures value { Gives (λ x. (record { id = writer_number x.0 x.1; count = x.2 }, x.3.now)) result
         (counter_reader low bytes.now) }
     ensures range { IfOk result (λ x. IsNode x.0) }
 {
-    let (id, rest) = u16_within(low, 15, bytes)?;
+    let (node, incarnation, rest) = read_writer(low, bytes)?;
     let (count, rest) = u64_within(1, u64::MAX, rest)?;
-    Ok((id, count, rest))
+    Ok((node, incarnation, count, rest))
 }
 
 #[tactic(auto, unfolding(crate::specs::Reader::value_reader))]
@@ -246,13 +314,17 @@ fn each_value(alloc: Global, len: u16, bytes: &[u8]) -> Result<(Vec<Value>, &[u8
 }
 
 #[tactic(auto, unfolding(crate::specs::Reader::entry_reader))]
-fn read_entry(alloc: Global, low: u16, bytes: &[u8]) -> Result<(Entry, &[u8]), FieldFault>
+fn read_entry(alloc: Global, low: u64, bytes: &[u8]) -> Result<(Entry, &[u8]), FieldFault>
+    requires { low ≤ MOST_WRITERS }
     ensures { MatchesReader result (entry_reader low bytes.now) }
 {
-    let (id, rest) = u16_within(low, 15, bytes)?;
+    let (node, incarnation, rest) = read_writer(low, bytes)?;
     let (count, rest) = u64_within(1, u64::MAX, rest)?;
     let (values, rest) = read_values(alloc, count, rest)?;
-    Ok((Entry::new(NodeId::new(id).unwrap(), count, values), rest))
+    Ok((
+        Entry::new(writer_from(node, incarnation), count, values),
+        rest,
+    ))
 }
 
 #[tactic(auto, unfolding(crate::specs::Reader::entries_reader))]
@@ -310,19 +382,13 @@ fn each_counter(alloc: Global, len: u16, bytes: &[u8]) -> Result<(Vec<Counter>, 
     let mut rest = bytes;
     let mut low = 0;
     for _ in 0..len {
-        let (id, count, after) = read_counter(low, rest)?;
-        low = id + 1;
-        counters.push(counter_from(id, count))?;
+        let (node, incarnation, count, after) = read_counter(low, rest)?;
+        let writer = writer_from(node, incarnation);
+        low = writer.number() + 1;
+        counters.push(Counter::new(writer, count))?;
         rest = after;
     }
     Ok((counters, rest))
-}
-
-fn counter_from(id: u16, count: u64) -> Counter
-    requires { IsNode id }
-    ensures { result ≡ record { id = id; count = count } }
-{
-    Counter::new(NodeId::new(id).unwrap(), count)
 }
 
 pub fn read_vector(alloc: Global, bytes: &[u8]) -> Result<(Vector, &[u8]), FieldFault>

@@ -15,7 +15,7 @@ fn is_vector_read(alloc: Global, bytes: &[u8], left: usize) -> bool {
 fn a_prefix_and_a_vector_are_read_from_the_front(rt: HostRuntime) {
     let alloc = rt.alloc();
     assert!(rt; is_prefix_read(alloc, b"\0\x01a\0\x02bc\xff", 1));
-    assert!(rt; is_vector_read(alloc, b"\0\x01\0\x02\0\0\0\0\0\0\0\x05!!", 2));
+    assert!(rt; is_vector_read(alloc, b"\0\x01\0\x02\0\0\0\x01\0\0\0\0\0\0\0\x05!!", 2));
 }
 
 #[test]

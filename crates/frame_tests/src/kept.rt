@@ -5,7 +5,7 @@ use std::alloc::{AllocError, Global};
 
 /// The bytes of a frame from 0 to 1, number 1, of this kind and body.
 pub(crate) fn framed(alloc: Global, kind: u8, body: &[u8]) -> Result<Vec<u8>, AllocError> {
-    let mut bytes = b"PT\x01".to_vec(alloc)?;
+    let mut bytes = b"PT\x02".to_vec(alloc)?;
     bytes.push(kind)?;
     bytes.extend_from_slice(b"\0\x00\0\x01\0\0\0\0\0\0\0\x01")?;
     bytes.extend_from_slice(&u32::try_from(body.len()).unwrap_or(u32::MAX).to_be_bytes())?;

@@ -2,13 +2,13 @@
 
 use crate::kept::is_body_kept;
 
-// Round 0, key a/b/k, one value x of node 0.
+// Round 0, key a/b/k, one value x of node 0 in its first life.
 pub(crate) const GOSSIP: &[u8] = b"\0\x00\0\x01a\0\x01b\0\x01k\
-    \0\x01\0\x00\0\0\0\0\0\0\0\x01\0\x01\x01\0\0\0\0\0\0\0\0\0\x01x";
+    \0\x01\0\x00\0\0\0\x01\0\0\0\0\0\0\0\x01\0\x01\x01\0\0\0\0\0\0\0\0\0\x01x";
 
-// Round 3, key a/b/k, the vector 0:2,1:1.
+// Round 3, key a/b/k, the vector 0.1:2,0.2:1.
 pub(crate) const IHAVE: &[u8] = b"\0\x03\0\x01a\0\x01b\0\x01k\
-    \0\x02\0\x00\0\0\0\0\0\0\0\x02\0\x01\0\0\0\0\0\0\0\x01";
+    \0\x02\0\x00\0\0\0\x01\0\0\0\0\0\0\0\x02\0\x00\0\0\0\x02\0\0\0\0\0\0\0\x01";
 
 // Origin 15, ttl 255, nodes 3, 15, 2 and 15.
 pub(crate) const SHUFFLE: &[u8] = b"\0\x0f\xff\0\x04\0\x03\0\x0f\0\x02\0\x0f";
@@ -48,16 +48,16 @@ pub(crate) const XBUCKET: &[u8] = b"\0\x01a\0\x01b\xca\0\x02\
     \0\x01lfedcba9876543210fedcba9876543210";
 
 // Key a/b/k; node 0 has a tombstone with stamp 9, node 1 two events and no value, node 2 one value
-// of no byte.
+// of no byte; their incarnations are 7, 0 and the greatest.
 const XOBJECT: &[u8] = b"\0\x01a\0\x01b\0\x01k\0\x03\
-    \0\x00\0\0\0\0\0\0\0\x01\0\x01\0\0\0\0\0\0\0\0\x09\
-    \0\x01\0\0\0\0\0\0\0\x02\0\x00\
-    \0\x02\0\0\0\0\0\0\0\x01\0\x01\x01\0\0\0\0\0\0\0\0\0\x00";
+    \0\x00\0\0\0\x07\0\0\0\0\0\0\0\x01\0\x01\0\0\0\0\0\0\0\0\x09\
+    \0\x01\0\0\0\x00\0\0\0\0\0\0\0\x02\0\x00\
+    \0\x02\xff\xff\xff\xff\0\0\0\0\0\0\0\x01\0\x01\x01\0\0\0\0\0\0\0\0\0\x00";
 
 const XWANT: &[u8] = b"\0\x01a\0\x01b\0\x01k";
 
 // The kinds with their numbers; the priority high, and the answer no.
-const BODIES: [(u8, &[u8]); 18] = [
+const BODIES: [(u8, &[u8]); 21] = [
     (1, GOSSIP),
     (2, IHAVE),
     (3, IHAVE),
@@ -76,6 +76,9 @@ const BODIES: [(u8, &[u8]); 18] = [
     (16, XBUCKET),
     (17, XOBJECT),
     (18, XWANT),
+    (19, b"\0\0\0\x01"),
+    (19, b"\xff\xff\xff\xff"),
+    (20, b""),
 ];
 
 #[test]

@@ -1,4 +1,4 @@
-//! Frames at their limits: names of 64, 64 and 256 bytes, 16 writers, 65,535 values, 8,192 rows,
+//! Frames at their limits: names of 64, 64 and 256 bytes, 65,535 writers, 65,535 values, 8,192 rows,
 //! and 16,777,216 bytes.
 
 use crate::kept::{is_body_kept, is_body_written};
@@ -76,15 +76,15 @@ const DIGESTS: Rows = (1, &[Piece::Bytes(8, LINE)]);
 
 const SIXTEEN: Rows = (1, &[Piece::Bytes(1, b"\0\x10")]);
 
-// A counter of eight letters for each number.
-const COUNTERS: Rows = (16, &[Piece::Number, Piece::Bytes(1, b"xxxxxxxx")]);
+// An incarnation of four letters and a counter of eight for each number.
+const COUNTERS: Rows = (16, &[Piece::Number, Piece::Bytes(1, b"xxxxxxxxxxxx")]);
 
 // And after each three values of 1,024 letters, with a stamp of eight.
 const ENTRIES: Rows = (
     16,
     &[
         Piece::Number,
-        Piece::Bytes(1, b"xxxxxxxx\0\x03\x01xxxxxxxx\x04\0"),
+        Piece::Bytes(1, b"xxxxxxxxxxxx\0\x03\x01xxxxxxxx\x04\0"),
         Piece::Bytes(16, LINE),
         Piece::Bytes(1, b"\x01xxxxxxxx\x04\0"),
         Piece::Bytes(16, LINE),
@@ -94,9 +94,31 @@ const ENTRIES: Rows = (
 );
 
 // The front of an object of one entry with 65,535 values.
-const MOST: Rows = (1, &[Piece::Bytes(1, b"\0\x01\0\x0fxxxxxxxx\xff\xff")]);
+const MOST: Rows = (1, &[Piece::Bytes(1, b"\0\x01\0\x0fxxxxxxxxxxxx\xff\xff")]);
 
 const TOMBSTONES: Rows = (65_535, &[Piece::Bytes(1, b"\0xxxxxxxx")]);
+
+// The lives of node 0 of the numbers from 0 to 65,534: each with a counter of eight letters, and with
+// a tombstone.
+const MOST_LIVES: Rows = (1, &[Piece::Bytes(1, b"\xff\xff")]);
+
+const LIVES: Rows = (
+    65_535,
+    &[
+        Piece::Bytes(1, b"\0\x00\0\x00"),
+        Piece::Number,
+        Piece::Bytes(1, b"xxxxxxxx"),
+    ],
+);
+
+const WRITTEN_LIVES: Rows = (
+    65_535,
+    &[
+        Piece::Bytes(1, b"\0\x00\0\x00"),
+        Piece::Number,
+        Piece::Bytes(1, b"xxxxxxxx\0\x01\0xxxxxxxx"),
+    ],
+);
 
 const ROW_COUNT: Rows = (1, &[Piece::Bytes(1, b"\x20\0")]);
 
@@ -123,15 +145,17 @@ const KEYS: Rows = (
 );
 
 // Bodies by the numbers of their kinds.
-const BODIES: [(u8, &[Rows]); 9] = [
+const BODIES: [(u8, &[Rows]); 11] = [
     (1, &[ROUND, PREFIX, LONGEST_NAME, SIXTEEN, ENTRIES]),
     (2, &[ROUND, PREFIX, LONGEST_NAME, SIXTEEN, COUNTERS]),
     (3, &[ROUND, PREFIX, LONGEST_NAME, SIXTEEN, COUNTERS]),
+    (3, &[ROUND, PREFIX, LONGEST_NAME, MOST_LIVES, LIVES]),
     (13, &[ROW_COUNT, PREFIXES]),
     (14, &[PREFIX, DIGESTS]),
     (15, &[PREFIX, INNER, DIGESTS]),
     (16, &[PREFIX, LEAF, ROW_COUNT, KEYS]),
     (17, &[PREFIX, LONGEST_NAME, MOST, TOMBSTONES]),
+    (17, &[PREFIX, LONGEST_NAME, MOST_LIVES, WRITTEN_LIVES]),
     (18, &[PREFIX, LONGEST_NAME]),
 ];
 
@@ -148,7 +172,7 @@ fn frames_at_their_limits_are_read_copied_and_written(rt: HostRuntime) {
 }
 
 // The front of an object of one entry with 16,210 values, and all but the last of them.
-const LONG: Rows = (1, &[Piece::Bytes(1, b"\0\x01\0\x00xxxxxxxx\x3f\x52")]);
+const LONG: Rows = (1, &[Piece::Bytes(1, b"\0\x01\0\x00xxxxxxxxxxxx\x3f\x52")]);
 
 const VALUES: Rows = (
     16_209,
@@ -158,21 +182,21 @@ const VALUES: Rows = (
     ],
 );
 
-// The front of an XOBJECT of a key with the longest names has 410 bytes, that of such an object 14,
-// and a value 11 beside its own: with 466 bytes in the last value the frame has 16,777,216.
+// The front of an XOBJECT of a key with the longest names has 410 bytes, that of such an object 18,
+// and a value 11 beside its own: with 462 bytes in the last value the frame has 16,777,216.
 const LAST: Rows = (
     1,
     &[
-        Piece::Bytes(1, b"\x01xxxxxxxx\x01\xd2"),
-        Piece::Bytes(466, b"x"),
+        Piece::Bytes(1, b"\x01xxxxxxxx\x01\xce"),
+        Piece::Bytes(462, b"x"),
     ],
 );
 
 const LONGER: Rows = (
     1,
     &[
-        Piece::Bytes(1, b"\x01xxxxxxxx\x01\xd3"),
-        Piece::Bytes(467, b"x"),
+        Piece::Bytes(1, b"\x01xxxxxxxx\x01\xcf"),
+        Piece::Bytes(463, b"x"),
     ],
 );
 

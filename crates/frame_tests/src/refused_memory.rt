@@ -56,8 +56,8 @@ fn is_object_kept(alloc: Global, bytes: &[u8]) -> bool {
     }
 }
 
-// One value x of node 0.
-const OBJECT: &[u8] = b"\0\x01\0\x00\0\0\0\0\0\0\0\x01\0\x01\x01\0\0\0\0\0\0\0\0\0\x01x";
+// One value x of node 0 in its first life.
+const OBJECT: &[u8] = b"\0\x01\0\x00\0\0\0\x01\0\0\0\0\0\0\0\x01\0\x01\x01\0\0\0\0\0\0\0\0\0\x01x";
 
 // Allocates at most 20 times.
 #[test]

@@ -13,7 +13,7 @@ use Rattle.meta_frame.specs.declared.fault.FrameFault.TheVariants.{Short, BadMag
 use Rattle.meta_frame.specs.Frame.{kind_of, body, is_kind, limit, header, spelling, IsLawful, Spells, number_in, kind_in, from_in, to_in, len_in, header_tests, IsBodyFault, RefusesBytes}
 use Rattle.meta_frame.specs.Reading.{message_reader, framed, whole, checked, decode_of, Decodes}
 use Rattle.frame_readers.proofs.Readers.{IsBytes, IsBytes-drop, IsBytes-take, IsWide, wide8, wide16, wide32, wide64}
-use Rattle.meta_frame.proofs.Rows.{message_again, message_refuses, message_takes, message_faulty, known_kind, small_kind}
+use Rattle.meta_frame.proofs.Rows.{message_again, message_refuses, message_takes, message_faulty, kind_is_known, small_kind}
 
 chosen : {A : Type 0} (b : Bool) (x y z : A) → cond b x y ≡ z → ((b ≡ true) × (x ≡ z)) ⊎ ((b ≡ false) × (y ≡ z))
 chosen true x y z e = inl (refl, e)
@@ -38,7 +38,7 @@ or_false false b e = (refl, e)
 pub record Passes (bytes : List ℕ) : Type 0 where
   pub long : 20 ≤ length bytes
   pub magic : number_in w16 0 bytes ≡ 20564
-  pub version : number_in w8 2 bytes ≡ 1
+  pub version : number_in w8 2 bytes ≡ 2
   pub kind : is_kind (kind_in bytes) ≡ true
   pub short : 20 + len_in bytes ≤ limit
   pub len : 20 + len_in bytes ≡ length bytes
@@ -50,7 +50,7 @@ pub passes : (bytes : List ℕ) → first_that_applies (header_tests bytes) ≡ 
 passes bytes e =
     let a = none_first (ltb (length bytes) 20) Short _ e in
     let b = none_first (not (eqb (number_in w16 0 bytes) 20564)) BadMagic _ a.1 in
-    let c = none_first (not (eqb (number_in w8 2 bytes) 1)) BadVersion _ b.1 in
+    let c = none_first (not (eqb (number_in w8 2 bytes) 2)) BadVersion _ b.1 in
     let d = none_first (not (is_kind (kind_in bytes))) BadKind _ c.1 in
     let f = none_first (ltb limit (20 + len_in bytes)) TooLong _ d.1 in
     let g = none_first (ltb (length bytes) (20 + len_in bytes)) Short _ f.1 in
@@ -63,7 +63,7 @@ passes bytes e =
     record {
       long = ltb-false (length bytes) 20 a.0;
       magic = eqb-true (number_in w16 0 bytes) 20564 (not_false _ b.0);
-      version = eqb-true (number_in w8 2 bytes) 1 (not_false _ c.0);
+      version = eqb-true (number_in w8 2 bytes) 2 (not_false _ c.0);
       kind = not_false _ d.0;
       short = ltb-false limit (20 + len_in bytes) f.0;
       len = omega (arith, x, y);
@@ -148,7 +148,7 @@ tests_pass f law short =
     let from : from_in (spelling f) ≡ f.from = wide16.again f.from (omega (arith, law.from)) in
     let to : to_in (spelling f) ≡ f.to = wide16.again f.to (omega (arith, law.to)) in
     let a : ltb (length (spelling f)) 20 ≡ false = le-ltb _ _ (omega (arith, long)) in
-    let b : is_kind (kind_in (spelling f)) ≡ true = ap is_kind kind ∙ known_kind f.message in
+    let b : is_kind (kind_in (spelling f)) ≡ true = ap is_kind kind ∙ kind_is_known f.message in
     let c : ltb limit (20 + len_in (spelling f)) ≡ false = le-ltb _ _ (omega (arith, short, long, len)) in
     let d : ltb (length (spelling f)) (20 + len_in (spelling f)) ≡ false = le-ltb _ _ (omega (arith, long, len)) in
     let e : ltb (20 + len_in (spelling f)) (length (spelling f)) ≡ false = le-ltb _ _ (omega (arith, long, len)) in

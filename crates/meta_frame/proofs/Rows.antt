@@ -1,18 +1,18 @@
 -- The table of kinds: a row for each, with the laws of its reader.
 use Rattle.std.proofs.Common.{◌≡◌, ◌≢◌, ℕ, ◌+◌, ◌^◌, ◌<◌, ◌≤◌, true, false, cond, eqb, leb, List, [], ◌∷◌, ◌++◌, length, Ok, Err, refl, sym, ap, subst, ◌∙◌, arith, inl, inr}
-use Rattle.std.specs.Int.{w8, w16}
+use Rattle.std.specs.Int.{w8, w16, w32}
 use Rattle.std.proofs.lemmas.Bool.{eqb-true, eqb-false, leb-true, and_parts}
 use Rattle.meta_frame.specs.declared.message.Message.{Message}
-use Rattle.meta_frame.specs.declared.message.Message.TheVariants.{Gossip, IHave, Graft, Prune, Join, ForwardJoin, Disconnect, Neighbor, NeighborReply, Shuffle, ShuffleReply, XRoot, XPrefixes, XInner, XLeaves, XBucket, XObject, XWant}
+use Rattle.meta_frame.specs.declared.message.Message.TheVariants.{Gossip, IHave, Graft, Prune, Join, ForwardJoin, Disconnect, Neighbor, NeighborReply, Shuffle, ShuffleReply, XRoot, XPrefixes, XInner, XLeaves, XBucket, XObject, XWant, Hello, Bye}
 use Rattle.frame_fields.specs.Form.{Form, any_number, then_form}
-use Rattle.frame_fields.specs.Field.{node, nodes, priority, answer, digest, digests, place, prefix, prefixes, keys, key, vector, object}
+use Rattle.frame_fields.specs.Field.{node, nodes, priority, answer, digest, digests, place, prefix, prefixes, keys, key, vector, object, life}
 use Rattle.meta_types.specs.Name.{Prefix, Key}
 use Rattle.frame_fields.specs.declared.neighbor.Priority.TheVariants.{Low}
 use Rattle.frame_fields.specs.declared.neighbor.NeighborAnswer.TheVariants.{No}
 use Rattle.meta_frame.specs.Frame.{row_of, kind_of, gossip, announcement, forward_join, shuffle, inner_digests, leaf_digests, bucket, key_and_object, body, IsMessage, BadFields, last_kind, is_kind}
 use Rattle.frame_readers.specs.Reader.{Reader, ◌>>=◌, number_reader, then_reader, made_reader, within_reader, node_reader, nodes_reader, priority_reader, answer_reader, digest_reader, digests_reader, prefix_reader, prefixes_reader, keys_reader, key_reader, vector_reader, object_reader}
-use Rattle.meta_frame.specs.Reading.{gossip_reader, announced_reader, forwarded_reader, shuffle_reader, inner_reader, leaves_reader, bucket_reader, carried_reader, message_reader}
-use Rattle.frame_readers.proofs.Readers.{IsBytes, Reads, wide8, wide16, number_reads, then_reads, bind_ok, bind_err, ok_is, done}
+use Rattle.meta_frame.specs.Reading.{gossip_reader, announced_reader, forwarded_reader, shuffle_reader, inner_reader, leaves_reader, bucket_reader, carried_reader, life_reader, message_reader}
+use Rattle.frame_readers.proofs.Readers.{IsBytes, Reads, wide8, wide16, wide32, number_reads, then_reads, bind_ok, bind_err, ok_is, done}
 use Rattle.frame_readers.proofs.Listed.{nodes_reads, digest_reads, digests_reads, prefixes_reads, keys_reads}
 use Rattle.frame_readers.proofs.Fields.{within_reads, prefix_reads, node_reads, priority_reads, answer_reads, key_reads, vector_reads, object_reads}
 
@@ -112,6 +112,9 @@ prune_kind = bare_reads Prune (record { fits = refl; spelled = refl; bad = λ by
 join_kind : ReadsKind Join (λ bytes. Ok (Join, bytes))
 join_kind = bare_reads Join (record { fits = refl; spelled = refl; bad = λ bytes left bad. bad })
 
+bye_kind : ReadsKind Bye (λ bytes. Ok (Bye, bytes))
+bye_kind = bare_reads Bye (record { fits = refl; spelled = refl; bad = λ bytes left bad. bad })
+
 disconnect_kind : ReadsKind Disconnect (λ bytes. Ok (Disconnect, bytes))
 disconnect_kind = bare_reads Disconnect (record { fits = refl; spelled = refl; bad = λ bytes left bad. bad })
 
@@ -190,6 +193,12 @@ xobject_kind =
 xwant_kind : ReadsKind (XWant some_key) (made_reader key_reader (λ k. XWant k))
 xwant_kind = kind_reads (XWant some_key) key key_reader (λ k. XWant k) key_reads (record { kind_is = λ x. refl; fits = λ x fits. fits; spelled = λ x. refl; bad = λ bytes left bad. bad; bad_back = λ bytes left bad. bad })
 
+life_reads : Reads life life_reader
+life_reads = within_reads w32 wide32 1 4294967295
+
+hello_kind : ReadsKind (Hello 1) (made_reader life_reader (λ l. Hello l))
+hello_kind = kind_reads (Hello 1) life life_reader (λ l. Hello l) life_reads (record { kind_is = λ x. refl; fits = λ x fits. fits; spelled = λ x. refl; bad = λ bytes left bad. bad; bad_back = λ bytes left bad. bad })
+
 pub message_again : (m : Message) (rest : List ℕ) → IsMessage m → message_reader (kind_of m) (body m ++ rest) ≡ Ok (m, rest)
 unfolding message_reader gossip_reader announced_reader carried_reader forwarded_reader shuffle_reader inner_reader leaves_reader bucket_reader
 message_again (Gossip round k o) rest fits = rw (gossip_reads.again (round, (k, o)) rest fits) refl
@@ -210,26 +219,30 @@ message_again (XLeaves p i ds) rest fits = rw (leaves_reads.again (p, (i, ds)) r
 message_again (XBucket p leaf rs) rest fits = rw (bucket_reads.again (p, (leaf, rs)) rest fits) refl
 message_again (XObject k o) rest fits = rw (carried_reads.again (k, o) rest fits) refl
 message_again (XWant k) rest fits = rw (key_reads.again k rest fits) refl
+message_again (Hello l) rest fits = rw (life_reads.again l rest fits) refl
+message_again Bye rest fits = refl
 
-pub known_kind : (m : Message) → is_kind (kind_of m) ≡ true
-known_kind (Gossip round k o) = refl
-known_kind (IHave round k v) = refl
-known_kind (Graft round k v) = refl
-known_kind Prune = refl
-known_kind Join = refl
-known_kind (ForwardJoin n ttl) = refl
-known_kind Disconnect = refl
-known_kind (Neighbor p) = refl
-known_kind (NeighborReply a) = refl
-known_kind (Shuffle origin ttl ns) = refl
-known_kind (ShuffleReply ns) = refl
-known_kind (XRoot d) = refl
-known_kind (XPrefixes rs) = refl
-known_kind (XInner p ds) = refl
-known_kind (XLeaves p i ds) = refl
-known_kind (XBucket p leaf rs) = refl
-known_kind (XObject k o) = refl
-known_kind (XWant k) = refl
+pub kind_is_known : (m : Message) → is_kind (kind_of m) ≡ true
+kind_is_known (Gossip round k o) = refl
+kind_is_known (IHave round k v) = refl
+kind_is_known (Graft round k v) = refl
+kind_is_known Prune = refl
+kind_is_known Join = refl
+kind_is_known (ForwardJoin n ttl) = refl
+kind_is_known Disconnect = refl
+kind_is_known (Neighbor p) = refl
+kind_is_known (NeighborReply a) = refl
+kind_is_known (Shuffle origin ttl ns) = refl
+kind_is_known (ShuffleReply ns) = refl
+kind_is_known (XRoot d) = refl
+kind_is_known (XPrefixes rs) = refl
+kind_is_known (XInner p ds) = refl
+kind_is_known (XLeaves p i ds) = refl
+kind_is_known (XBucket p leaf rs) = refl
+kind_is_known (XObject k o) = refl
+kind_is_known (XWant k) = refl
+kind_is_known (Hello l) = refl
+kind_is_known Bye = refl
 
 pub small_kind : (m : Message) → kind_of m < 2 ^ 8
 small_kind (Gossip round k o) = omega arith
@@ -250,6 +263,8 @@ small_kind (XLeaves p i ds) = omega arith
 small_kind (XBucket p leaf rs) = omega arith
 small_kind (XObject k o) = omega arith
 small_kind (XWant k) = omega arith
+small_kind (Hello l) = omega arith
+small_kind Bye = omega arith
 
 -- ---- any kind
 
@@ -279,6 +294,8 @@ lines =
     ∷ (record { some = XBucket some_prefix 0 []; read = bucket_reader; reads = xbucket_kind })
     ∷ (record { some = XObject some_key []; read = carried_reader; reads = xobject_kind })
     ∷ (record { some = XWant some_key; read = made_reader key_reader (λ k. XWant k); reads = xwant_kind })
+    ∷ (record { some = Hello 1; read = made_reader life_reader (λ l. Hello l); reads = hello_kind })
+    ∷ (record { some = Bye; read = λ bytes. Ok (Bye, bytes); reads = bye_kind })
     ∷ []
 
 -- the reader of these lines
@@ -317,7 +334,7 @@ faulty_by (l ∷ ls) n number bytes left is from low high e =
     ] refl e
 
 from_one : AreFrom 1 lines
-from_one = (refl, (refl, (refl, (refl, (refl, (refl, (refl, (refl, (refl, (refl, (refl, (refl, (refl, (refl, (refl, (refl, (refl, (refl, tt))))))))))))))))))
+from_one = (refl, (refl, (refl, (refl, (refl, (refl, (refl, (refl, (refl, (refl, (refl, (refl, (refl, (refl, (refl, (refl, (refl, (refl, (refl, (refl, tt))))))))))))))))))))
 
 -- each kind refuses what is at fault in its bodies
 refuses_message : (m : Message) (bytes : List ℕ) (left : ℕ) → (row_of m).Bad bytes left → message_reader (kind_of m) bytes ≡ Err left
@@ -340,6 +357,8 @@ refuses_message (XLeaves p i ds) bytes left bad = xleaves_kind.refuses bytes lef
 refuses_message (XBucket p leaf rs) bytes left bad = xbucket_kind.refuses bytes left bad
 refuses_message (XObject k o) bytes left bad = xobject_kind.refuses bytes left bad
 refuses_message (XWant k) bytes left bad = xwant_kind.refuses bytes left bad
+refuses_message (Hello l) bytes left bad = hello_kind.refuses bytes left bad
+refuses_message Bye bytes left bad = bye_kind.refuses bytes left bad
 
 pub message_takes : (number : ℕ) (bytes : List ℕ) (p : Message × List ℕ) → IsBytes bytes → message_reader number bytes ≡ Ok p → TookBoth number bytes p
 message_takes number bytes p is e = takes_by lines number bytes p is (sym (by_lines number bytes) ∙ e)

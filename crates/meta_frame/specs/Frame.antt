@@ -2,13 +2,13 @@
 use Rattle.std.specs.Prelude.{◌≡◌, ℕ, ◌+◌, ◌-◌, ◌<◌, ◌≤◌, ◌^◌, ◌==◌, ◌≢◌, nat_lt, nat_le, ◌⊎◌, List, [], ◌∷◌, ◌++◌, length, take, drop, Bool, not, ◌&&◌, ◌||◌, MatchOption, codes}
 use Rattle.std.specs.Int.{Width, byte_len, w8, w16, w32, w64, to_be_bytes, from_be_bytes}
 use Rattle.meta_frame.specs.declared.message.Message.{Message}
-use Rattle.meta_frame.specs.declared.message.Message.TheVariants.{Gossip, IHave, Graft, Prune, Join, ForwardJoin, Disconnect, Neighbor, NeighborReply, Shuffle, ShuffleReply, XRoot, XPrefixes, XInner, XLeaves, XBucket, XObject, XWant}
+use Rattle.meta_frame.specs.declared.message.Message.TheVariants.{Gossip, IHave, Graft, Prune, Join, ForwardJoin, Disconnect, Neighbor, NeighborReply, Shuffle, ShuffleReply, XRoot, XPrefixes, XInner, XLeaves, XBucket, XObject, XWant, Hello, Bye}
 use Rattle.meta_frame.specs.declared.message.Frame.{Frame}
 use Rattle.meta_frame.specs.declared.fault.FrameFault.{FrameFault}
 use Rattle.meta_frame.specs.declared.fault.FrameFault.TheVariants.{Short, BadMagic, BadVersion, BadKind, TooLong, BadBody, LeftOver}
 use Rattle.frame_fields.specs.declared.keys.KeyDigest.{KeyDigest}
 use Rattle.frame_fields.specs.Form.{Form, any_number, no_bytes, then_form}
-use Rattle.frame_fields.specs.Field.{node, nodes, priority, answer, digest, digests, place, prefix, prefixes, keys, key, vector, object}
+use Rattle.frame_fields.specs.Field.{node, nodes, priority, answer, digest, digests, place, prefix, prefixes, keys, key, vector, object, life}
 use Rattle.meta_types.specs.Name.{Prefix, Key}
 use Rattle.meta_types.specs.First.{first_that_applies}
 use Rattle.dvvset.specs.Object.{Entry, Counter}
@@ -92,10 +92,12 @@ row_of (XLeaves p i ds) = kind 15 (codes "XLEAVES") leaf_digests (p, (i, ds))
 row_of (XBucket p leaf rs) = kind 16 (codes "XBUCKET") bucket (p, (leaf, rs))
 row_of (XObject k o) = kind 17 (codes "XOBJECT") key_and_object (k, o)
 row_of (XWant k) = kind 18 (codes "XWANT") key k
+row_of (Hello l) = kind 19 (codes "HELLO") life l
+row_of Bye = kind 20 (codes "BYE") no_fields tt
 
--- the greatest number of a kind; the least is 1
+-- the kinds are the numbers from 1 to this one
 abbrev pub last_kind : ℕ
-last_kind = 18
+last_kind = 20
 
 abbrev pub is_kind : ℕ → Bool
 is_kind number = nat_le 1 number && nat_le number last_kind
@@ -126,10 +128,10 @@ pub record BadFields (number : ℕ) (bytes : List ℕ) (left : ℕ) : Type 0 whe
 abbrev pub limit : ℕ
 limit = 16777216
 
--- 50 54 (hexadecimal), version 1, kind, sender, addressee, number, length of the body
+-- 50 54 (hexadecimal), version 2, kind, sender, addressee, number, length of the body
 abbrev pub header : Frame → List ℕ
 header f =
-    to_be_bytes w16 20564 ++ to_be_bytes w8 1 ++ to_be_bytes w8 (kind_of f.message)
+    to_be_bytes w16 20564 ++ to_be_bytes w8 2 ++ to_be_bytes w8 (kind_of f.message)
     ++ to_be_bytes w16 f.from ++ to_be_bytes w16 f.to ++ to_be_bytes w64 f.number
     ++ to_be_bytes w32 (length (body f.message))
 
@@ -174,7 +176,7 @@ abbrev pub header_tests : List ℕ → List (Bool × FrameFault)
 header_tests bytes =
     (nat_lt (length bytes) 20, Short)
     ∷ (not (number_in w16 0 bytes == 20564), BadMagic)
-    ∷ (not (number_in w8 2 bytes == 1), BadVersion)
+    ∷ (not (number_in w8 2 bytes == 2), BadVersion)
     ∷ (not (is_kind (kind_in bytes)), BadKind)
     ∷ (nat_lt limit (20 + len_in bytes), TooLong)
     ∷ (nat_lt (length bytes) (20 + len_in bytes), Short)
@@ -184,10 +186,10 @@ header_tests bytes =
     ∷ []
 
 -- bytes are left over after the last field
-pub record IsLeftOver (kind : ℕ) (bytes : List ℕ) (left : ℕ) : Type 0 where
+pub record IsLeftOver (number : ℕ) (bytes : List ℕ) (left : ℕ) : Type 0 where
   pub message : Message
   pub rest : List ℕ
-  pub kind_is : kind ≡ kind_of message
+  pub kind_is : number ≡ kind_of message
   pub fits : IsMessage message
   pub spelled : bytes ≡ body message ++ rest
   pub more : 0 < length rest

@@ -1,14 +1,14 @@
 -- Messages and frames as readers on lists, made of the readers of the fields. Private functions are
 -- proved against these, and the readers against the forms; no public contract cites this file.
 use Rattle.std.specs.Prelude.{◌≡◌, ℕ, List, length, drop, Option, Some, None, Result, Ok, Err, ◌==◌, ◌-◌, ◌<◌, ◌≤◌, ◌⊎◌, if◌then◌else◌}
-use Rattle.std.specs.Int.{w8, w16, w64}
+use Rattle.std.specs.Int.{w8, w16, w32, w64}
 use Rattle.meta_types.specs.Name.{Key}
 use Rattle.meta_types.specs.First.{first_that_applies}
 use Rattle.dvvset.specs.Object.{Counter}
 use Rattle.frame_readers.specs.Reader.{Reader, number_reader, then_reader, made_reader, within_reader, node_reader, nodes_reader, priority_reader, answer_reader, digest_reader, digests_reader, prefix_reader, prefixes_reader, keys_reader, key_reader, vector_reader, object_reader}
 use Rattle.meta_frame.specs.Frame.{number_in, kind_in, from_in, to_in, header_tests}
 use Rattle.meta_frame.specs.declared.message.Message.{Message}
-use Rattle.meta_frame.specs.declared.message.Message.TheVariants.{Gossip, IHave, Graft, Prune, Join, ForwardJoin, Disconnect, Neighbor, NeighborReply, Shuffle, ShuffleReply, XRoot, XPrefixes, XInner, XLeaves, XBucket, XObject, XWant}
+use Rattle.meta_frame.specs.declared.message.Message.TheVariants.{Gossip, IHave, Graft, Prune, Join, ForwardJoin, Disconnect, Neighbor, NeighborReply, Shuffle, ShuffleReply, XRoot, XPrefixes, XInner, XLeaves, XBucket, XObject, XWant, Hello, Bye}
 use Rattle.meta_frame.specs.declared.message.Frame.{Frame}
 use Rattle.meta_frame.specs.declared.fault.FrameFault.{FrameFault}
 use Rattle.meta_frame.specs.declared.fault.FrameFault.TheVariants as frames
@@ -51,6 +51,9 @@ bucket_reader =
 unfoldable pub carried_reader : Reader Message
 carried_reader = made_reader (then_reader key_reader (λ _. object_reader)) (λ p. XObject p.0 p.1)
 
+abbrev pub life_reader : Reader ℕ
+life_reader = within_reader w32 1 4294967295
+
 unfoldable pub message_reader : ℕ → Reader Message
 message_reader kind bytes =
     if kind == 1 then gossip_reader bytes else (
@@ -70,8 +73,10 @@ message_reader kind bytes =
     if kind == 15 then leaves_reader bytes else (
     if kind == 16 then bucket_reader bytes else (
     if kind == 17 then carried_reader bytes else (
-    if kind == 18 then made_reader key_reader (λ k. XWant k) bytes
-    else Err (length bytes))))))))))))))))))
+    if kind == 18 then made_reader key_reader (λ k. XWant k) bytes else (
+    if kind == 19 then made_reader life_reader (λ life. Hello life) bytes else (
+    if kind == 20 then Ok (Bye, bytes)
+    else Err (length bytes))))))))))))))))))))
 
 -- the frame of a header and a message
 abbrev pub framed : List ℕ → Message → Frame

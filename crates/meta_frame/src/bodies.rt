@@ -2,16 +2,16 @@
 //! proof of one function that read them all takes many times as long.
 
 ghost use Rattle.std.specs.Prelude.{◌≡◌};
-ghost use Rattle.meta_frame.specs.declared.message.Message.TheVariants.{IHave, Graft, Neighbor, NeighborReply, ShuffleReply, XRoot, XPrefixes, XWant};
+ghost use Rattle.meta_frame.specs.declared.message.Message.TheVariants.{IHave, Graft, Neighbor, NeighborReply, ShuffleReply, XRoot, XPrefixes, XWant, Hello};
 ghost use Rattle.frame_readers.specs.Reader.{MatchesReader, made_reader, priority_reader, answer_reader, nodes_reader, digest_reader, prefixes_reader, key_reader};
-ghost use Rattle.meta_frame.specs.Reading.{message_reader, gossip_reader, announced_reader, forwarded_reader, shuffle_reader, inner_reader, leaves_reader, bucket_reader, carried_reader};
+ghost use Rattle.meta_frame.specs.Reading.{message_reader, gossip_reader, announced_reader, forwarded_reader, shuffle_reader, inner_reader, leaves_reader, bucket_reader, carried_reader, life_reader};
 
 use crate::message::Message;
 use frame_fields::Digest;
 use frame_readers::FieldFault;
 use frame_readers::listing::{read_digest, read_digests, read_keys, read_nodes, read_prefixes};
 use frame_readers::reading::{
-    node_from, read_answer, read_key, read_node, read_object, read_place, read_prefix,
+    node_from, read_answer, read_key, read_life, read_node, read_object, read_place, read_prefix,
     read_priority, read_u8, read_u16, read_vector,
 };
 use std::alloc::Global;
@@ -44,6 +44,8 @@ pub(crate) fn read_message(
         16 => read_bucket(alloc, bytes),
         17 => read_carried(alloc, bytes),
         18 => read_wanted(alloc, bytes),
+        19 => read_hello(bytes),
+        20 => Ok((Message::Bye, bytes)),
         _ => Err(FieldFault::Left(bytes.len())),
     }
 }
@@ -186,4 +188,11 @@ fn read_wanted(alloc: Global, bytes: &[u8]) -> Result<(Message, &[u8]), FieldFau
 {
     let (key, rest) = read_key(alloc, bytes)?;
     Ok((Message::XWant { key }, rest))
+}
+
+fn read_hello(bytes: &[u8]) -> Result<(Message, &[u8]), FieldFault>
+    ensures { MatchesReader result (made_reader life_reader (λ life. Hello life) bytes.now) }
+{
+    let (life, rest) = read_life(bytes)?;
+    Ok((Message::Hello { life }, rest))
 }

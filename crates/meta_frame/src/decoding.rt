@@ -22,6 +22,9 @@ pub const MAX_FRAME_LEN: usize = 16_777_216;
 /// The bytes of a header.
 pub const HEADER_LEN: usize = 20;
 
+/// The version of frames, their third byte.
+pub const VERSION: u8 = 2;
+
 fn u8_at(bytes: &[u8], at: usize) -> u8
     requires { at + 1 ≤ length bytes.now }
     ensures { result ≡ number_in w8 at bytes.now }
@@ -71,7 +74,7 @@ fn header_fault(bytes: &[u8]) -> Option<FrameFault>
     let (from, to) = (u16_at(bytes, 4), u16_at(bytes, 6));
     if u16_at(bytes, 0) != 0x5054 {
         Some(FrameFault::BadMagic)
-    } else if u8_at(bytes, 2) != 1 {
+    } else if u8_at(bytes, 2) != VERSION {
         Some(FrameFault::BadVersion)
     } else if !is_known(u8_at(bytes, 3)) {
         Some(FrameFault::BadKind)

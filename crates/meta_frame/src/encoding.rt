@@ -5,7 +5,7 @@ ghost use Rattle.meta_types.specs.Failing.{FailsWith};
 ghost use Rattle.frame_fields.specs.Field.{object};
 ghost use Rattle.meta_frame.specs.Frame.{IsLawful, Spells, spelling, limit, body};
 
-use crate::decoding::{HEADER_LEN, MAX_FRAME_LEN};
+use crate::decoding::{HEADER_LEN, MAX_FRAME_LEN, VERSION};
 use crate::fault::FrameFault;
 use crate::kinds::{body_len, kind_number, write_message};
 use crate::message::Frame;
@@ -20,7 +20,7 @@ fn write(out: &mut Vec<u8>, frame: &Frame, len: u32) -> Result<(), AllocError>
     ensures { OnOk result (out.new.items ≡ out.old.items ++ spelling frame.now) }
 {
     write_u16(out, 0x5054)?;
-    write_u8(out, 1)?;
+    write_u8(out, VERSION)?;
     write_u8(out, kind_number(&frame.message))?;
     write_node(out, frame.from)?;
     write_node(out, frame.to)?;

@@ -14,7 +14,7 @@ pub enum FrameFault {
     Short,
     /// 11: the first two bytes are not those of a frame.
     BadMagic,
-    /// 12: a version other than 1.
+    /// 12: a version other than 2.
     BadVersion,
     /// 13: no message has this kind.
     BadKind,

@@ -8,15 +8,16 @@ use crate::copies::{copy_announced, copy_carried, copy_digests, copy_keys};
 use crate::message::Message;
 use frame_fields::digest::DIGEST_LEN;
 use frame_fields::lawful::{
-    is_answer, is_digest, is_digests, is_key, is_keys, is_node, is_nodes, is_object, is_place,
-    is_prefix, is_prefixes, is_priority, is_u8, is_u16, is_vector,
+    is_answer, is_digest, is_digests, is_key, is_keys, is_life, is_node, is_nodes, is_object,
+    is_place, is_prefix, is_prefixes, is_priority, is_u8, is_u16, is_vector,
 };
 use frame_fields::lengths::{
     digests_len, key_len, keys_len, nodes_len, object_len, prefix_len, prefixes_len, vector_len,
 };
 use frame_fields::writing::{
     write_answer, write_digest, write_digests, write_key, write_keys, write_node, write_nodes,
-    write_object, write_prefix, write_prefixes, write_priority, write_u8, write_u16, write_vector,
+    write_object, write_prefix, write_prefixes, write_priority, write_u8, write_u16, write_u32,
+    write_vector,
 };
 use std::alloc::AllocError;
 
@@ -41,6 +42,8 @@ macro_rules! frame_kinds {
             16 "XBUCKET" XBucket { prefix: prefix, leaf: number8, keys: keys }
             17 "XOBJECT" XObject { key: key, object: object }
             18 "XWANT" XWant { key: key }
+            19 "HELLO" Hello { life: life }
+            20 "BYE" Bye {}
         }
     };
 }
@@ -97,6 +100,9 @@ macro_rules! field_fits {
     };
     (number8 $field:ident) => {
         is_u8($field)
+    };
+    (life $field:ident) => {
+        is_life($field)
     };
     (node $field:ident) => {
         is_node($field)
@@ -161,6 +167,9 @@ macro_rules! write_field {
     };
     (number8 $out:ident $field:ident) => {
         write_u8($out, *$field)?
+    };
+    (life $out:ident $field:ident) => {
+        write_u32($out, *$field)?
     };
     (node $out:ident $field:ident) => {
         write_node($out, *$field)?
@@ -230,6 +239,9 @@ macro_rules! field_len {
     (number8 $field:ident) => {
         1
     };
+    (life $field:ident) => {
+        4
+    };
     (node $field:ident) => {
         2
     };
@@ -294,6 +306,9 @@ macro_rules! copy_field {
         *$field
     };
     (number8 $field:ident) => {
+        *$field
+    };
+    (life $field:ident) => {
         *$field
     };
     (node $field:ident) => {

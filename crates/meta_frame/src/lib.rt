@@ -21,7 +21,7 @@ pub mod lawful;
 pub mod laws;
 pub mod message;
 
-pub use decoding::{HEADER_LEN, MAX_FRAME_LEN, decode};
+pub use decoding::{HEADER_LEN, MAX_FRAME_LEN, VERSION, decode};
 pub use encoding::{encode, put_object};
 pub use fault::FrameFault;
 pub use field::{get_key, get_object, get_prefix, get_vector};

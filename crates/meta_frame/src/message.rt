@@ -91,6 +91,12 @@ pub enum Message {
     XWant {
         key: MetaKey,
     },
+    /// 19: the sender is in this life, which is numbered from 1.
+    Hello {
+        life: u32,
+    },
+    /// 20: the sender leaves.
+    Bye,
 }
 
 /// A message on its way. The number counts the frames of the sender's life from 1; receivers don't

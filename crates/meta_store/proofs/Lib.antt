@@ -8,5 +8,3 @@ pub mod Tables
 pub mod Sizes
 -- a merge holds the object of the union
 mod Unions
--- counts of a writer, row by row
-mod Counts

@@ -31,6 +31,10 @@ is_stale table key vector = descends (join (object_at table key)) vector
 abbrev pub most_keys : ℕ
 most_keys = 8192
 
+-- of the entries of an object
+abbrev pub most_entries : ℕ
+most_entries = 65535
+
 -- of the values of one writer that an object shows
 abbrev pub most_values : ℕ
 most_values = 65535
@@ -46,10 +50,11 @@ most_merged = 16000000
 abbrev pub has_few_values : Entry → Bool
 has_few_values e = nat_le (length e.values) most_values
 
--- each entry shows few enough values, and as a field of a frame the object has at most so many
--- bytes
+-- the object has few enough entries, each of which shows few enough values, and as a field of a
+-- frame it has at most so many bytes
 abbrev pub is_small_enough : ℕ → List Entry → Bool
-is_small_enough most es = list_all has_few_values es && nat_le (length (object.spell es)) most
+is_small_enough most es = nat_le (length es) most_entries
+    && (list_all has_few_values es && nat_le (length (object.spell es)) most)
 
 -- ---- tables
 

@@ -19,8 +19,9 @@ pub enum StoreFault {
     StoreFull,
     /// 26: the context is of another key.
     WrongKey,
-    /// 27: as the object's field of a frame, what would be held has more than 1,048,576 bytes after
-    /// a write, or 16,000,000 after a merge; or it shows more than 65,535 values of one writer.
+    /// 27: what would be held has more than 65,535 entries, or shows more than 65,535 values of one
+    /// writer; or as an object's field of a frame it has more than 1,048,576 bytes after a write,
+    /// or 16,000,000 after a merge.
     ObjectTooLarge,
     /// 99: an allocation was refused. It may stand in place of any other refusal.
     Memory,

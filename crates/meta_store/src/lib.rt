@@ -2,9 +2,9 @@
 //!
 //! ```
 //! let mut store = Store::new(alloc);
-//! store.put(node, key.copy()?, red, None)?; // a blind write
-//! let (values, context) = store.look(&key, Source { node, step: 1 })?; // shows red
-//! store.put(node, key, green, Some(&context))?; // replaces what was read
+//! store.put(actor, key.copy()?, red, None)?; // a blind write
+//! let (values, context) = store.look(&key, Source { actor, step: 1 })?; // shows red
+//! store.put(actor, key, green, Some(&context))?; // replaces what was read
 //! ```
 //!
 //! Read `store`, `put`, `merge`, `context` with `source`, then `laws` and `fault`; `size` and

@@ -7,7 +7,7 @@ ghost use Rattle.dvvset.specs.Clock.{join};
 ghost use Rattle.past_model.specs.declared.happening.Happening.{Happening};
 ghost use Rattle.past_model.specs.Sets.{Places, union};
 ghost use Rattle.past_model.specs.Past.{writes};
-ghost use Rattle.past_model.specs.History.{RestartsKeepOwnWrites};
+ghost use Rattle.past_model.specs.History.{IsHistory};
 ghost use Rattle.past_model.specs.Shown.{IsObjectOf};
 ghost use Rattle.meta_store.specs.Table.{IsHeld, is_stale, object_at};
 ghost use Rattle.meta_store.specs.Step.{table_after_merge, answer_of_merge, merge_of, object_after_merge, refusal_of_merge};
@@ -40,9 +40,10 @@ impl Store {
     ///
     /// What isn't stale is refused, in this order, with 21 `BadEntries` where the merge would show
     /// no value, as only forged objects give, 25 `StoreFull` for a new key where 8,192 are held,
-    /// and 27 `ObjectTooLarge` where the merge would have more than 16,000,000 bytes as its field
-    /// of a frame, or more than 65,535 values of one writer; 99 `Memory` may stand in place of any
-    /// answer. Then nothing changes. Key and object are dropped with a refusal.
+    /// and 27 `ObjectTooLarge` where the merge would have more than 65,535 entries, more than
+    /// 65,535 values of one writer, or more than 16,000,000 bytes as its field of a frame; 99
+    /// `Memory` may stand in place of any answer. Then nothing changes. Key and object are dropped
+    /// with a refusal.
     pub fn merge(&mut self, key: MetaKey, object: Entries) -> Result<Merged, StoreFault>
         ensures stale { is_stale self.old key (join object) ≡ true → result ≡ Ok Stale }
         ensures value { OnOk result (self.new ≡ table_after_merge self.old key object) }
@@ -51,7 +52,7 @@ impl Store {
             (object_at self.new key ≡ object_after_merge self.old key object) }
         ensures elsewhere { OnOk result ((other : Key) → other ≢ key
             → object_at self.new other ≡ object_at self.old other) }
-        ensures union { OnOk result ((hs : List Happening) → RestartsKeepOwnWrites hs
+        ensures union { OnOk result ((hs : List Happening) → IsHistory hs
             → (S T : Places)
             → IsObjectOf (writes hs) key S (object_at self.old key)
             → IsObjectOf (writes hs) key T object

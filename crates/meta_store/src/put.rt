@@ -13,7 +13,7 @@ use crate::fault::StoreFault;
 use crate::size::is_small_enough;
 use crate::store::Store;
 use dvvset::{Entries, Vector, update};
-use meta_types::{MetaKey, NodeId, Value};
+use meta_types::{Actor, MetaKey, Value};
 
 /// The most bytes of an object after a write, as its field of a frame.
 pub const MAX_WRITTEN_LEN: usize = 1_048_576;
@@ -23,7 +23,7 @@ impl Store {
     /// changes. The value is dropped with a refusal.
     pub fn preview_put(
         &self,
-        id: NodeId,
+        id: Actor,
         key: &MetaKey,
         value: Value,
         context: Option<&Context>,
@@ -61,12 +61,13 @@ impl Store {
     /// Refused, in this order, with 26 `WrongKey` where the context is of another key, 25
     /// `StoreFull` for a new key where 8,192 are held, 20 `CounterSpent` where the writer's
     /// counter, in what is held or in what was read, is 18,446,744,073,709,551,615, and 27
-    /// `ObjectTooLarge` where the object would have more than 1,048,576 bytes as its field of a
-    /// frame, or more than 65,535 values of one writer; 99 `Memory` may stand in place of any
-    /// answer. Then nothing changes. Key and value are dropped with a refusal.
+    /// `ObjectTooLarge` where the object would have more than 65,535 entries, more than 65,535
+    /// values of one writer, or more than 1,048,576 bytes as its field of a frame; 99 `Memory` may
+    /// stand in place of any answer. Then nothing changes. Key and value are dropped with a
+    /// refusal.
     pub fn put(
         &mut self,
-        id: NodeId,
+        id: Actor,
         key: MetaKey,
         value: Value,
         context: Option<&Context>,

@@ -4,7 +4,6 @@ ghost use Rattle.std.specs.FinMap.{find, is_sorted};
 ghost use Rattle.meta_types.specs.Name.{Key};
 ghost use Rattle.meta_types.specs.Order.{key_cmp};
 ghost use Rattle.dvvset.specs.Clock.{join, values_of};
-ghost use Rattle.dvvset.specs.Writer.{count_of};
 ghost use Rattle.meta_store.specs.Table.{IsHeld, IsTable, is_stale, object_at, with_object};
 ghost use Rattle.meta_store.specs.Context.{reading_at};
 ghost use Rattle.meta_store.specs.Step.{is_full_for};
@@ -13,8 +12,8 @@ ghost use Rattle.meta_store.specs.Place.{IsAt, IsGap};
 use crate::context::Context;
 use crate::source::Source;
 use crate::stale::{has_read, knows};
-use dvvset::{Entries, Entry, Vector, count_of, join, values};
-use meta_types::{MetaKey, NodeId, Value};
+use dvvset::{Entries, Entry, Vector, join, values};
+use meta_types::{MetaKey, Value};
 use std::alloc::{AllocError, Global};
 use std::marker::Model;
 
@@ -124,30 +123,6 @@ impl Store {
         ensures { result ≡ is_stale self.now key.now (join other.now) }
     {
         knows(self.entries_under(key), other.entries())
-    }
-
-    /// Returns whether this store counts, under each key, at least as many events of the writer as
-    /// the other does. It takes no memory.
-    pub fn counts_as_many(&self, other: &Store, writer: NodeId) -> bool
-        ensures { IsTrue result ↔ ((key : Key)
-            → count_of (object_at other.now key) writer
-            ≤ count_of (object_at self.now key) writer) }
-    {
-        self.counts_rows(other.rows.as_slice(), writer)
-    }
-
-    /// As `counts_as_many`, of rows whose keys rise.
-    fn counts_rows(&self, rows: &[(MetaKey, Entries)], writer: NodeId) -> bool
-        requires { is_sorted key_cmp rows.now ≡ true }
-        ensures { IsTrue result ↔ ((key : Key)
-            → count_of (object_at rows.now key) writer ≤ count_of (object_at self.now key) writer) }
-    {
-        for (key, object) in rows {
-            if count_of(self.entries_under(key), writer) < count_of(object.entries(), writer) {
-                return false;
-            }
-        }
-        true
     }
 
     /// The entries of the object under the key, none where nothing is held.

@@ -1,6 +1,8 @@
 -- What must be believed of node numbers, names and values, in the order in which to read it.
 -- the numbers of nodes
 pub mod Node
+-- who counts writes: a node in one of its lives
+pub mod Actor
 -- the parts of a prefix and of a key, and their lengths
 pub mod Name
 -- the parts of a value, and the length of its body

@@ -9,10 +9,11 @@
 //! let red = Value::new(0, Some(b"red".to_vec(alloc)?))?;
 //! ```
 //!
-//! Read `node`, `prefix`, `key`, `value`, then `fault`; `bytes` is the string that names are made
+//! Read `node`, `actor`, `prefix`, `key`, `value`, then `fault`; `bytes` is the string that names are made
 //! of, and `laws` says that comparisons are what they seem.
 #![tactic(auto)]
 
+pub mod actor;
 pub mod bytes;
 pub mod fault;
 pub mod key;
@@ -21,6 +22,7 @@ pub mod node;
 pub mod prefix;
 pub mod value;
 
+pub use actor::Actor;
 pub use bytes::ByteString;
 pub use fault::TypeFault;
 pub use key::MetaKey;

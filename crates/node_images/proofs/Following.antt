@@ -14,13 +14,13 @@ use Rattle.dvvset.specs.Clock.{descends, join, sync, update}
 use Rattle.past_model.specs.declared.happening.Happening.{Happening}
 use Rattle.past_model.specs.declared.happening.Happening.TheVariants.{Wrote, Looked, Sent, Got, Kept, Restarted}
 use Rattle.past_model.specs.Sets.{key_eq}
-use Rattle.past_model.specs.History.{RestartsKeepOwnWrites}
+use Rattle.past_model.specs.History.{IsHistory}
 use Rattle.past_model.proofs.Keys.{key_eq-true, key_eq-self}
 use Rattle.meta_store.specs.Context.{Reading, vector_read}
 use Rattle.meta_store.specs.Table.{Table, is_stale, object_at, with_object}
 use Rattle.meta_store.specs.Step.{table_after_merge, merge_of, object_after_put}
 use Rattle.meta_store.proofs.Tables.{object_at-elsewhere, object_at-here}
-use Rattle.past_objects.specs.Objects.{held_object, image_object, last_image, read_object, sent_object, standing_object}
+use Rattle.past_objects.specs.Objects.{held_object, image_object, incarnation, last_image, object_of_read, sent_object, standing_object, writer}
 use Rattle.past_objects.specs.Laws.{MakesImage}
 use Rattle.node_images.specs.Images.{change_of, changed, holdings}
 use Rattle.node_images.specs.Node.{Node, IsImagedNode, change_at, with_image, with_kept, with_merge, with_restart, with_write}
@@ -33,45 +33,46 @@ use Rattle.node_images.proofs.Noding.{reads_before, reads_new}
 -- ---- where nothing changes for the node
 
 same : (hs more : List Happening) (n : ℕ) (node : Node) → Follows hs n node → ((k : Key) → held_object more n k ≡ held_object hs n k) → last_image more n ≡ last_image hs n
-    → ((j : ℕ) (k : Key) → image_object more n j k ≡ image_object hs n j k) → ((k : Key) → standing_object more n k ≡ standing_object hs n k) → Follows more n node
-same hs more n node f holds number images standing = record {
+    → ((j : ℕ) (k : Key) → image_object more n j k ≡ image_object hs n j k) → ((k : Key) → standing_object more n k ≡ standing_object hs n k) → incarnation more n ≡ incarnation hs n → Follows more n node
+same hs more n node f holds number images standing life = record {
   holds = λ k. f.holds k ∙ sym (holds k);
   number = f.number ∙ sym number;
   images = λ j low k. f.images j low k ∙ sym (images j k);
   standing = λ k. f.standing k ∙ sym (standing k);
+  life = f.life ∙ sym life;
 }
 
 -- reading and sending change no node
 pub follows_look : (hs : List Happening) (m : ℕ) (k : Key) (n : ℕ) (node : Node) → Follows hs n node → Follows (hs ++ Looked m k ∷ []) n node
 follows_look hs m k n node f =
     let a = after_look hs m k in
-    same hs (hs ++ Looked m k ∷ []) n node f (a.holds.same n) (a.image.numbers n) (λ j. (a.image.images n).same j) (a.standing.same n)
+    same hs (hs ++ Looked m k ∷ []) n node f (a.holds.same n) (a.image.numbers n) (λ j. (a.image.images n).same j) (a.standing.same n) (a.lives.same n)
 
 pub follows_sending : (hs : List Happening) (m : ℕ) (k : Key) (n : ℕ) (node : Node) → Follows hs n node → Follows (hs ++ Sent m k ∷ []) n node
 follows_sending hs m k n node f =
     let a = after_sending hs m k in
-    same hs (hs ++ Sent m k ∷ []) n node f (a.holds.same n) (a.image.numbers n) (λ j. (a.image.images n).same j) (a.standing.same n)
+    same hs (hs ++ Sent m k ∷ []) n node f (a.holds.same n) (a.image.numbers n) (λ j. (a.image.images n).same j) (a.standing.same n) (a.lives.same n)
 
 -- the rest change one node
 pub write_elsewhere : (hs : List Happening) (m : ℕ) (k : Key) (v : ValueParts) (r : Option ℕ) (n : ℕ) (node : Node) → n ≢ m → Follows hs n node → Follows (hs ++ Wrote m k v r ∷ []) n node
 write_elsewhere hs m k v r n node ne f =
     let a = after_write hs m k v r in
-    same hs (hs ++ Wrote m k v r ∷ []) n node f (a.holds.elsewhere n ne) (a.image.other_numbers n ne) (λ j. (a.image.other_images n ne).same j) (a.image.standing.elsewhere n ne)
+    same hs (hs ++ Wrote m k v r ∷ []) n node f (a.holds.elsewhere n ne) (a.image.other_numbers n ne) (λ j. (a.image.other_images n ne).same j) (a.image.standing.elsewhere n ne) (a.lives.same n)
 
 pub keeping_elsewhere : (hs : List Happening) (m : ℕ) (k : Key) (n : ℕ) (node : Node) → n ≢ m → Follows hs n node → Follows (hs ++ Kept m k ∷ []) n node
 keeping_elsewhere hs m k n node ne f =
     let a = after_keeping hs m k in
-    same hs (hs ++ Kept m k ∷ []) n node f (a.holds.same n) (a.image.other_numbers n ne) (λ j. (a.image.other_images n ne).same j) (a.image.standing.elsewhere n ne)
+    same hs (hs ++ Kept m k ∷ []) n node f (a.holds.same n) (a.image.other_numbers n ne) (λ j. (a.image.other_images n ne).same j) (a.image.standing.elsewhere n ne) (a.lives.same n)
 
 pub delivery_elsewhere : (hs : List Happening) (m i n : ℕ) (node : Node) → n ≢ m → Follows hs n node → Follows (hs ++ Got m i ∷ []) n node
 delivery_elsewhere hs m i n node ne f =
     let a = after_delivery hs m i in
-    same hs (hs ++ Got m i ∷ []) n node f (a.holds.elsewhere n ne) (a.image.numbers n) (λ j. (a.image.images n).same j) (a.standing.same n)
+    same hs (hs ++ Got m i ∷ []) n node f (a.holds.elsewhere n ne) (a.image.numbers n) (λ j. (a.image.images n).same j) (a.standing.same n) (a.lives.same n)
 
 pub restart_elsewhere : (hs : List Happening) (m j n : ℕ) (node : Node) → n ≢ m → Follows hs n node → Follows (hs ++ Restarted m j ∷ []) n node
 restart_elsewhere hs m j n node ne f =
     let a = after_restart hs m j in
-    same hs (hs ++ Restarted m j ∷ []) n node f (a.holds.elsewhere n ne) (a.image.numbers n) (λ i. (a.image.images n).same i) (a.standing.elsewhere n ne)
+    same hs (hs ++ Restarted m j ∷ []) n node f (a.holds.elsewhere n ne) (a.image.numbers n) (λ i. (a.image.images n).same i) (a.standing.elsewhere n ne) (a.lives.others n ne)
 
 -- ---- one image more
 
@@ -99,6 +100,7 @@ record Imaged (hs more : List Happening) (n : ℕ) (k : Key) (node : Node) (tabl
   grows : (l : Key) → object_at node.table l ≢ [] → object_at table l ≢ []
   before : Follows hs n node
   now : (l : Key) → object_at table l ≡ held_object more n l
+  life : incarnation more n ≡ incarnation hs n
 
 new_image_by : (hs : List Happening) (h : Happening) (n : ℕ) (k : Key) (node : Node) (table : Table) → MakesImage hs h n k → Imaged hs (hs ++ h ∷ []) n k node table → (l : Key) (b : Bool) → key_eq l k ≡ b
     → changed (holdings node.images node.standing) (change_at table k) l ≡ image_object (hs ++ h ∷ []) n (last_image hs n + 1) l
@@ -139,36 +141,38 @@ imaged hs h n k node table made i =
       number = long ∙ ap (λ m. m + 1) i.before.number ∙ sym made.number;
       images = λ j low l. images_by hs h n k node table made i j (leb j (length node.images)) refl (omega (arith, low, long)) l;
       standing = λ l. new_image hs h n k node table made i l ∙ sym (made.standing.here l);
+      life = i.before.life ∙ sym i.life;
     }
 
 -- ---- the four changes of a node
 
-write_by : (hs : List Happening) (n : ℕ) (k : Key) (v : ValueParts) (r : Option ℕ) (context : Option Reading) (node : Node) → Follows hs n node → vector_read context ≡ join (read_object hs k r)
-    → (l : Key) (b : Bool) → key_eq l k ≡ b → object_at (with_object k (object_after_put node.table n k v context) node.table) l ≡ held_object (hs ++ Wrote n k v r ∷ []) n l
-write_by hs n k v r context node f read l true e =
+write_by : (hs : List Happening) (n w : ℕ) (k : Key) (v : ValueParts) (r : Option ℕ) (context : Option Reading) (node : Node) → w ≡ writer hs n → Follows hs n node → vector_read context ≡ join (object_of_read hs k r)
+    → (l : Key) (b : Bool) → key_eq l k ≡ b → object_at (with_object k (object_after_put node.table w k v context) node.table) l ≡ held_object (hs ++ Wrote n k v r ∷ []) n l
+write_by hs n w k v r context node by f read l true e =
     let a = after_write hs n k v r in
-    subst (λ m. object_at (with_object k (object_after_put node.table n k v context) node.table) m ≡ held_object (hs ++ Wrote n k v r ∷ []) n m) (sym (key_eq-true l k e))
-    (object_at-here k (object_after_put node.table n k v context) node.table
-    ∙ ap (λ vector. update vector (object_at node.table k) n v) read
-    ∙ ap (λ o. update (join (read_object hs k r)) o n v) (f.holds k)
+    subst (λ m. object_at (with_object k (object_after_put node.table w k v context) node.table) m ≡ held_object (hs ++ Wrote n k v r ∷ []) n m) (sym (key_eq-true l k e))
+    (object_at-here k (object_after_put node.table w k v context) node.table
+    ∙ ap (λ vector. update vector (object_at node.table k) w v) read
+    ∙ ap (λ o. update (join (object_of_read hs k r)) o w v) (f.holds k)
+    ∙ ap (λ x. update (join (object_of_read hs k r)) (held_object hs n k) x v) by
     ∙ sym a.holds.here)
-write_by hs n k v r context node f read l false e =
+write_by hs n w k v r context node by f read l false e =
     let a = after_write hs n k v r in
     let ne : l ≢ k = λ same. let t : key_eq l k ≡ true = ap (λ m. key_eq l m) (sym same) ∙ key_eq-self l in let no : true ≡ false = sym t ∙ e in cc in
-    object_at-elsewhere k (object_after_put node.table n k v context) node.table l ne ∙ f.holds l ∙ sym (a.holds.other_keys l ne)
+    object_at-elsewhere k (object_after_put node.table w k v context) node.table l ne ∙ f.holds l ∙ sym (a.holds.other_keys l ne)
 
 -- a write with a context of what the Looked at place r saw
-pub follows_write : (hs : List Happening) (n : ℕ) (k : Key) (v : ValueParts) (r : Option ℕ) (context : Option Reading) (node : Node) → IsImagedNode node
-    → ((l : Key) → object_at node.table l ≢ [] → object_at (with_object k (object_after_put node.table n k v context) node.table) l ≢ [])
-    → Follows hs n node → vector_read context ≡ join (read_object hs k r) → Follows (hs ++ Wrote n k v r ∷ []) n (with_write n k v context node)
-follows_write hs n k v r context node is grows f read =
-    imaged hs (Wrote n k v r) n k node (with_object k (object_after_put node.table n k v context) node.table) (after_write hs n k v r).image
-    (record { is = is; grows = grows; before = f; now = λ l. write_by hs n k v r context node f read l (key_eq l k) refl })
+pub follows_write : (hs : List Happening) (n w : ℕ) (k : Key) (v : ValueParts) (r : Option ℕ) (context : Option Reading) (node : Node) → w ≡ writer hs n → IsImagedNode node
+    → ((l : Key) → object_at node.table l ≢ [] → object_at (with_object k (object_after_put node.table w k v context) node.table) l ≢ [])
+    → Follows hs n node → vector_read context ≡ join (object_of_read hs k r) → Follows (hs ++ Wrote n k v r ∷ []) n (with_write w k v context node)
+follows_write hs n w k v r context node by is grows f read =
+    imaged hs (Wrote n k v r) n k node (with_object k (object_after_put node.table w k v context) node.table) (after_write hs n k v r).image
+    (record { is = is; grows = grows; before = f; now = λ l. write_by hs n w k v r context node by f read l (key_eq l k) refl; life = (after_write hs n k v r).lives.same n })
 
 pub follows_keep : (hs : List Happening) (n : ℕ) (k : Key) (node : Node) → IsImagedNode node → Follows hs n node → Follows (hs ++ Kept n k ∷ []) n (with_kept k node)
 follows_keep hs n k node is f =
     let a = after_keeping hs n k in
-    imaged hs (Kept n k) n k node node.table a.image (record { is = is; grows = λ l some. some; before = f; now = λ l. f.holds l ∙ sym (a.holds.same n l) })
+    imaged hs (Kept n k) n k node node.table a.image (record { is = is; grows = λ l some. some; before = f; now = λ l. f.holds l ∙ sym (a.holds.same n l); life = a.lives.same n })
 
 pub follows_restart : (hs : List Happening) (n j : ℕ) (node : Node) (table : Table) → Follows hs n node → j ≤ length node.images → ((k : Key) → object_at table k ≡ holdings node.images j k)
     → Follows (hs ++ Restarted n j ∷ []) n (with_restart table j node)
@@ -179,29 +183,30 @@ follows_restart hs n j node table f low restored =
       number = f.number ∙ sym (a.image.numbers n);
       images = λ i within k. f.images i within k ∙ sym ((a.image.images n).same i k);
       standing = λ k. f.images j low k ∙ sym (a.standing.here k);
+      life = ap (λ i. i + 1) f.life ∙ sym a.lives.next;
     }
 
 -- ---- a delivery
 
-take_here_by : (hs : List Happening) (n i : ℕ) (k : Key) (came : List Entry) (node : Node) → RestartsKeepOwnWrites hs → Follows hs n node → came ≡ sent_object hs i k
+take_here_by : (hs : List Happening) (n i : ℕ) (k : Key) (came : List Entry) (node : Node) → IsHistory hs → Follows hs n node → came ≡ sent_object hs i k
     → (b : Bool) → is_stale node.table k (join came) ≡ b → object_at (cond b node.table (with_object k (merge_of node.table k came) node.table)) k ≡ sync (held_object hs n k) (sent_object hs i k)
-take_here_by hs n i k came node keeps f is true stale =
+take_here_by hs n i k came node history f is true stale =
     f.holds k
-    ∙ sym (stale_unchanged hs keeps n i k (ap (λ o. descends (join o) (join (sent_object hs i k))) (sym (f.holds k)) ∙ ap (λ c. descends (join (object_at node.table k)) (join c)) (sym is) ∙ stale))
-take_here_by hs n i k came node keeps f is false fresh =
+    ∙ sym (stale_unchanged hs history n i k (ap (λ o. descends (join o) (join (sent_object hs i k))) (sym (f.holds k)) ∙ ap (λ c. descends (join (object_at node.table k)) (join c)) (sym is) ∙ stale))
+take_here_by hs n i k came node history f is false fresh =
     object_at-here k (merge_of node.table k came) node.table ∙ ap (λ o. sync o came) (f.holds k) ∙ ap (λ c. sync (held_object hs n k) c) is
 
 take_there_by : (node : Node) (k l : Key) (came : List Entry) → l ≢ k → (b : Bool) → object_at (cond b node.table (with_object k (merge_of node.table k came) node.table)) l ≡ object_at node.table l
 take_there_by node k l came ne true = refl
 take_there_by node k l came ne false = object_at-elsewhere k (merge_of node.table k came) node.table l ne
 
-take_by : (hs : List Happening) (n i m : ℕ) (k : Key) (came : List Entry) (node : Node) → RestartsKeepOwnWrites hs → Follows hs n node → slice_get hs i ≡ Some (Sent m k) → came ≡ sent_object hs i k
+take_by : (hs : List Happening) (n i m : ℕ) (k : Key) (came : List Entry) (node : Node) → IsHistory hs → Follows hs n node → slice_get hs i ≡ Some (Sent m k) → came ≡ sent_object hs i k
     → (l : Key) (b : Bool) → key_eq l k ≡ b → object_at (table_after_merge node.table k came) l ≡ held_object (hs ++ Got n i ∷ []) n l
-take_by hs n i m k came node keeps f at is l true e =
+take_by hs n i m k came node history f at is l true e =
     let a = after_delivery hs n i in
     subst (λ j. object_at (table_after_merge node.table k came) j ≡ held_object (hs ++ Got n i ∷ []) n j) (sym (key_eq-true l k e))
-    (take_here_by hs n i k came node keeps f is (is_stale node.table k (join came)) refl ∙ sym (a.holds.here k))
-take_by hs n i m k came node keeps f at is l false e =
+    (take_here_by hs n i k came node history f is (is_stale node.table k (join came)) refl ∙ sym (a.holds.here k))
+take_by hs n i m k came node history f at is l false e =
     let a = after_delivery hs n i in
     let ne : l ≢ k = λ same. let t : key_eq l k ≡ true = ap (λ j. key_eq l j) (sym same) ∙ key_eq-self l in let no : true ≡ false = sym t ∙ e in cc in
     take_there_by node k l came ne (is_stale node.table k (join came))
@@ -211,13 +216,14 @@ take_by hs n i m k came node keeps f at is l false e =
     ∙ sym (a.holds.here l)
 
 -- what the Sent at place i has sent was taken, stale or fresh
-pub follows_take : (hs : List Happening) (n i m : ℕ) (k : Key) (came : List Entry) (node : Node) → RestartsKeepOwnWrites hs → Follows hs n node → slice_get hs i ≡ Some (Sent m k) → came ≡ sent_object hs i k
+pub follows_take : (hs : List Happening) (n i m : ℕ) (k : Key) (came : List Entry) (node : Node) → IsHistory hs → Follows hs n node → slice_get hs i ≡ Some (Sent m k) → came ≡ sent_object hs i k
     → Follows (hs ++ Got n i ∷ []) n (with_merge k came node)
-follows_take hs n i m k came node keeps f at is =
+follows_take hs n i m k came node history f at is =
     let a = after_delivery hs n i in
     record {
-      holds = λ l. take_by hs n i m k came node keeps f at is l (key_eq l k) refl;
+      holds = λ l. take_by hs n i m k came node history f at is l (key_eq l k) refl;
       number = f.number ∙ sym (a.image.numbers n);
       images = λ j within l. f.images j within l ∙ sym ((a.image.images n).same j l);
       standing = λ l. f.standing l ∙ sym (a.standing.same n l);
+      life = f.life ∙ sym (a.lives.same n);
     }

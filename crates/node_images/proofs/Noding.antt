@@ -22,7 +22,7 @@ use Rattle.meta_store.proofs.Keys.{key_total}
 use Rattle.meta_store.proofs.Tables.{found_row, not_absent, object_at-elsewhere, object_at-here, table_put}
 use Rattle.past_objects.specs.Objects.{Holding}
 use Rattle.node_images.specs.Images.{Image, ChangeEarlier, IsTabled, change_of, changed, holdings}
-use Rattle.node_images.specs.Node.{Node, IsImagedNode, change_at, new_node, with_image}
+use Rattle.node_images.specs.Node.{Node, IsImagedNode, change_at, most_incarnation, new_node, with_image, with_restart}
 use Rattle.node_images.proofs.Bounded.{KeysWithin, found_from, room_within, shown_from}
 use Rattle.node_images.proofs.Chains.{holdings_snoc, none}
 
@@ -38,6 +38,7 @@ pub is_node-new : IsImagedNode new_node
 is_node-new = record {
   earlier = record { earlier = λ at d low. let no : at < 0 = low in absurd (omega (arith, no)) };
   standing = omega arith;
+  lives = omega arith;
   tabled = λ number low. tabled-none [] number low;
   within = λ k some. absurd (some refl);
 }
@@ -128,6 +129,7 @@ is_node-image node table key is is_table more =
     let longer : length (node.images ++ image ∷ []) ≡ length node.images + 1 = length-append node.images (image ∷ []) in
     record {
       earlier = earlier_snoc node.images image is.earlier is.standing;
+      lives = is.lives;
       standing = omega (arith, longer);
       tabled = λ number low. tabled_at node.images image is.tabled (tabled_by node table key is g (find key_cmp key table) refl) number (leb number (length node.images)) refl low;
       within = λ k some.
@@ -138,6 +140,7 @@ is_node-image node table key is is_table more =
 -- a table that shows at least as many keys, and the images as they were
 pub is_node-table : (node : Node) (table : Table) → IsImagedNode node → ((k : Key) → object_at node.table k ≢ [] → object_at table k ≢ []) → IsImagedNode (record node { table = table })
 is_node-table node table is more = record {
+  lives = is.lives;
   earlier = is.earlier;
   standing = is.standing;
   tabled = is.tabled;
@@ -145,9 +148,10 @@ is_node-table node table is more = record {
 }
 
 -- the table of an image
-pub is_node-restart : (node : Node) (table : Table) (number : ℕ) → IsImagedNode node → number ≤ length node.images → ((k : Key) → object_at table k ≡ holdings node.images number k)
-    → IsImagedNode (record { table = table; images = node.images; standing = number })
-is_node-restart node table number is low same = record {
+pub is_node-restart : (node : Node) (table : Table) (number : ℕ) → IsImagedNode node → number ≤ length node.images → node.incarnation < most_incarnation → ((k : Key) → object_at table k ≡ holdings node.images number k)
+    → IsImagedNode (with_restart table number node)
+is_node-restart node table number is low left same = record {
+  lives = omega (arith, left);
   earlier = is.earlier;
   standing = low;
   tabled = is.tabled;
@@ -189,19 +193,19 @@ merge_grows table key came is = merge_grows_by table key came (is_stale table ke
 
 pub is_node-added : (node : Node) (table : Table) (key : Key) → IsImagedNode node → IsTable table → ((k : Key) → object_at node.table k ≢ [] → object_at table k ≢ [])
     → (image : Image) (images : List Image) (standing : ℕ) → image ≡ record { base = node.standing; change = change_at table key } → images ≡ node.images ++ image ∷ [] → standing ≡ length images
-    → IsImagedNode (record { table = table; images = images; standing = standing })
+    → IsImagedNode (record { table = table; images = images; standing = standing; incarnation = node.incarnation })
 is_node-added node table key is is_table more image images standing made e l =
     let whole : IsImagedNode (with_image table key node) = is_node-image node table key is is_table more in
     let new : List Image = node.images ++ (record { base = node.standing; change = change_at table key }) ∷ [] in
     let same : images ≡ new = e ∙ ap (λ x. node.images ++ x ∷ []) made in
     let long : length new ≡ length node.images + 1 = length-append node.images ((record { base = node.standing; change = change_at table key }) ∷ []) in
     let last : standing ≡ length node.images + 1 = l ∙ ap length same ∙ long in
-    subst (λ n. IsImagedNode (record { table = table; images = images; standing = n })) (sym last)
-    (subst (λ xs. IsImagedNode (record { table = table; images = xs; standing = length node.images + 1 })) (sym same) whole)
+    subst (λ n. IsImagedNode (record { table = table; images = images; standing = n; incarnation = node.incarnation })) (sym last)
+    (subst (λ xs. IsImagedNode (record { table = table; images = xs; standing = length node.images + 1; incarnation = node.incarnation })) (sym same) whole)
 
 pub is_node-written : (node : Node) (table : Table) (key : Key) (o : List Entry) → IsImagedNode node → IsTable table → table ≡ with_object key o node.table
     → (image : Image) (images : List Image) (standing : ℕ) → image ≡ record { base = node.standing; change = Some (key, o) } → images ≡ node.images ++ image ∷ [] → standing ≡ length images
-    → IsImagedNode (record { table = table; images = images; standing = standing })
+    → IsImagedNode (record { table = table; images = images; standing = standing; incarnation = node.incarnation })
 is_node-written node table key o is is_table put image images standing made e l =
     let held : IsHeld o = held_at node.table key o (subst IsTable put is_table) in
     is_node-added node table key is is_table (λ k some. subst (λ t. object_at t k ≢ []) (sym put) (put_grows node.table key o held k some))

@@ -1,6 +1,6 @@
 //! What the world keeps of one node.
 
-ghost use Rattle.std.specs.Prelude.{◌≡◌, ◌≤◌, ◌⊎◌, [], length, true, Ok, None, IfOk, IfErr, OnOk, OnErr};
+ghost use Rattle.std.specs.Prelude.{◌≡◌, ◌<◌, ◌≤◌, ◌⊎◌, [], length, true, Ok, None, IfOk, IfErr, OnOk, OnErr};
 ghost use Rattle.meta_types.specs.Failing.{FailsBy};
 ghost use Rattle.std.specs.Option.{option_copied};
 ghost use Rattle.meta_types.specs.Name.{Key};
@@ -10,23 +10,25 @@ ghost use Rattle.meta_store.specs.Step.{answer_of_merge, refusal_of_merge, refus
 ghost use Rattle.meta_store.specs.declared.fault.StoreFault.TheVariants.{Memory};
 ghost use Rattle.meta_store.specs.declared.merge.Merged.TheVariants.{Stale};
 ghost use Rattle.node_images.specs.Images.{IsChange, holdings};
-ghost use Rattle.node_images.specs.Node.{IsImagedNode, change_at, new_node, image_of_write, with_kept, with_merge, with_restart, with_write};
+ghost use Rattle.node_images.specs.Node.{IsImagedNode, change_at, most_incarnation, new_node, image_of_write, with_kept, with_merge, with_restart, with_write};
 
 use crate::image::Image;
 use crate::restore::restore;
 use dvvset::{Entries, Vector, join};
 use meta_store::{Context, Merged, Store, StoreFault};
-use meta_types::{MetaKey, NodeId, Value};
+use meta_types::{Actor, MetaKey, Value};
 use std::alloc::{AllocError, Global};
 use std::marker::Model;
 
-/// A node's store, its images, and the number of the standing one, which the next image changes:
-/// the one that was made last, or from which the node was restarted if that came later.
+/// A node's store, its images, the number of the standing one, which the next image changes: the
+/// one that was made last, or from which the node was restarted if that came later; and the life
+/// that the node is in, from 1.
 #[derive(Debug, Drop)]
 pub struct Node {
     store: Store,
     images: Vec<Image>,
     standing: usize,
+    incarnation: u32,
 }
 
 impl Model for Node {
@@ -34,13 +36,13 @@ impl Model for Node {
 
     ghost Value = { Parts };
 
-    ghost view = { λ n. record { table = n.store; images = n.images.items; standing = n.standing } };
+    ghost view = { λ n. record { table = n.store; images = n.images.items; standing = n.standing; incarnation = n.incarnation } };
 
-    ghost invariant = { λ n. IsImagedNode (record { table = n.store; images = n.images.items; standing = n.standing }) };
+    ghost invariant = { λ n. IsImagedNode (record { table = n.store; images = n.images.items; standing = n.standing; incarnation = n.incarnation }) };
 }
 
 impl Node {
-    /// A node that holds nothing and has no image but the empty one.
+    /// A node in its first life, which holds nothing and has no image but the empty one.
     pub fn new(alloc: Global) -> Self
         ensures { result ≡ new_node }
     {
@@ -48,6 +50,7 @@ impl Node {
             store: Store::new(alloc),
             images: Vec::new(alloc),
             standing: 0,
+            incarnation: 1,
         }
     }
 
@@ -64,6 +67,14 @@ impl Node {
         ensures is_node { IsImagedNode self.now }
     {
         self.images.as_slice()
+    }
+
+    /// The life that the node is in: its first is 1, and each restart adds one.
+    pub fn incarnation(&self) -> u32
+        ensures value { result ≡ self.now.incarnation }
+        ensures is_node { IsImagedNode self.now }
+    {
+        self.incarnation
     }
 
     /// Keeps what the node holds under the key in its next image; nothing else changes. Fails only
@@ -83,7 +94,7 @@ impl Node {
     /// is refused as `Store::put` would be.
     pub fn next_image(
         &self,
-        id: NodeId,
+        id: Actor,
         key: &MetaKey,
         value: Value,
         context: Option<&Context>,
@@ -114,7 +125,7 @@ impl Node {
     pub fn write(
         &mut self,
         image: Image,
-        id: NodeId,
+        id: Actor,
         key: MetaKey,
         value: Value,
         context: Option<&Context>,
@@ -159,16 +170,18 @@ impl Node {
         restore(*self.images.allocator(), self.images.as_slice(), number)
     }
 
-    /// The node begins again from the image of that number, with a store that holds what the image
-    /// has; its images stay.
+    /// The node begins its next life from the image of that number, with a store that holds what the
+    /// image has; its images stay.
     pub fn restart(&mut self, store: Store, number: usize)
         requires number { number ≤ length self.old.images }
+        requires left { self.old.incarnation < most_incarnation }
         requires restored { (key : Key)
             → object_at store key ≡ holdings self.old.images number key }
         ensures { self.new ≡ with_restart store number self.old }
     {
         self.store = store;
         self.standing = number;
+        self.incarnation += 1;
     }
 }
 

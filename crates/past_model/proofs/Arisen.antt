@@ -16,20 +16,20 @@ use Rattle.past_model.proofs.Order.{set_from_context, subset_left, subset_right,
 
 pub arisen_sync : (hs : List Happening) (k : Key) (a b : List Entry) → IsArisen hs k a → IsArisen hs k b → IsArisen hs k (sync a b)
 arisen_sync hs k a b left right = record {
-  keeps = left.keeps;
+  history = left.history;
   set = union left.set right.set;
-  object_of = sync_object (writes hs) k left.set right.set a b (orderly hs left.keeps) left.object_of right.object_of;
+  object_of = sync_object (writes hs) k left.set right.set a b (orderly hs left.history) left.object_of right.object_of;
 }
 
 pub arisen_comm : (hs : List Happening) (k : Key) (a b : List Entry) → IsArisen hs k a → IsArisen hs k b → sync a b ≡ sync b a
-arisen_comm hs k a b left right = sync-comm (writes hs) k left.set right.set a b (orderly hs left.keeps) left.object_of right.object_of
+arisen_comm hs k a b left right = sync-comm (writes hs) k left.set right.set a b (orderly hs left.history) left.object_of right.object_of
 
 pub arisen_assoc : (hs : List Happening) (k : Key) (a b c : List Entry) → IsArisen hs k a → IsArisen hs k b → IsArisen hs k c → sync (sync a b) c ≡ sync a (sync b c)
 arisen_assoc hs k a b c first second third =
-    sync-assoc (writes hs) k first.set second.set third.set a b c (orderly hs first.keeps) first.object_of second.object_of third.object_of
+    sync-assoc (writes hs) k first.set second.set third.set a b c (orderly hs first.history) first.object_of second.object_of third.object_of
 
 pub arisen_idem : (hs : List Happening) (k : Key) (a : List Entry) → IsArisen hs k a → sync a a ≡ a
-arisen_idem hs k a is = sync-within (writes hs) k is.set is.set a a (orderly hs is.keeps) is.object_of is.object_of (λ p e. e)
+arisen_idem hs k a is = sync-within (writes hs) k is.set is.set a a (orderly hs is.history) is.object_of is.object_of (λ p e. e)
 
 -- an object of two sets: both are the same
 pub set_of_object : (hs : List Happening) (k : Key) (S T : Places) (a : List Entry) → Orderly (writes hs) → IsObjectOf (writes hs) k S a → IsObjectOf (writes hs) k T a → (p : ℕ) → S p ≡ T p
@@ -42,7 +42,7 @@ subset_from S T U V left right sub =
 
 pub least_upper_bound : (hs : List Happening) (k : Key) (a b : List Entry) → IsArisen hs k a → IsArisen hs k b → IsLeastUpperBound hs k a b (sync a b)
 least_upper_bound hs k a b left right =
-    let o : Orderly (writes hs) = orderly hs left.keeps in
+    let o : Orderly (writes hs) = orderly hs left.history in
     let both : IsObjectOf (writes hs) k (union left.set right.set) (sync a b) =
     sync_object (writes hs) k left.set right.set a b o left.object_of right.object_of in
     record {
@@ -77,5 +77,5 @@ pub object_from_context : (hs : List Happening) (k : Key) (a b : List Entry) →
 object_from_context hs k a b left right same =
     one_object (writes hs) k right.set a b
     (same_set (writes hs) k left.set right.set a
-    (set_from_context (writes hs) k left.set right.set a b (orderly hs left.keeps).ordered.falling left.object_of right.object_of same) left.object_of)
+    (set_from_context (writes hs) k left.set right.set a b (orderly hs left.history).ordered.falling left.object_of right.object_of same) left.object_of)
     right.object_of

@@ -6,47 +6,46 @@ use Rattle.std.proofs.lemmas.List.{append_assoc}
 use Rattle.meta_types.specs.Name.{Key}
 use Rattle.meta_types.specs.Value.{ValueParts}
 use Rattle.past_model.specs.declared.happening.Happening.{Happening}
-use Rattle.past_model.specs.declared.happening.Happening.TheVariants.{Wrote, Restarted}
+use Rattle.past_model.specs.declared.happening.Happening.TheVariants.{Wrote}
 use Rattle.past_model.specs.Sets.{key_eq}
-use Rattle.past_model.specs.Past.{Past, Write, past, writes}
-use Rattle.past_model.specs.History.{RestartsKeepOwnWrites}
+use Rattle.past_model.specs.Past.{Past, Write, known, past, writer_of, writes}
+use Rattle.past_model.specs.History.{IsHistory}
 use Rattle.past_model.specs.Shown.{count_in}
 use Rattle.past_model.specs.Arisen.{counter_of}
 use Rattle.past_model.proofs.Keys.{key_eq-true, key_eq-self}
+use Rattle.past_model.proofs.Fitting.{history_before}
 use Rattle.past_model.proofs.Members.{all_kept}
 use Rattle.past_model.proofs.Closed.{in_set, is_of, writes_of, count_in-own}
 use Rattle.past_model.proofs.Placed.{written}
 use Rattle.past_model.proofs.Sound.{Sound, sound_past}
 use Rattle.past_model.proofs.Staying.{past_snoc, stays}
 
--- a part from the front keeps the restart premise
-pub keeps_before : (hs more : List Happening) → RestartsKeepOwnWrites (hs ++ more) → RestartsKeepOwnWrites hs
-keeps_before hs more keeps =
-    record {
-      keeps = λ before after n j e.
-          keeps.keeps before (after ++ more) n j (ap (λ l. l ++ more) e ∙ append_assoc before (Restarted n j ∷ after) more);
-    }
-
--- a node knows all its own writes, so it counts them all
-pub own_counted : (s : Past) → Sound s → (n : ℕ) (k : Key) → count_in s.writes (s.known n k) n ≡ length (writes_of s.writes k n)
+-- a node knows all that it wrote in the life that it is in, so it counts all of it
+pub own_counted : (s : Past) → Sound s → (n : ℕ) (k : Key) → count_in s.writes (s.known n k) (writer_of s n) ≡ length (writes_of s.writes k (writer_of s n))
 own_counted s sound n k =
-    count_in-own s.writes k (s.known n k) n sound.placed.ordered.falling (sound.reached.known n k)
-    ∙ all_kept (in_set (s.known n k)) (is_of k n) s.writes
+    let w = writer_of s n in
+    count_in-own s.writes k (s.known n k) w sound.placed.ordered.falling (sound.reached.known n k)
+    ∙ all_kept (in_set (s.known n k)) (is_of k w) s.writes
     (λ x m e.
-    let mine : (eqb x.writer n ≡ true) × (key_eq x.key k ≡ true) = and_parts (eqb x.writer n) (key_eq x.key k) e in
-    ap (λ l. s.known n l x.place) (sym (key_eq-true x.key k mine.1)) ∙ (sound.own n).own x m (eqb-true x.writer n mine.0))
+    let mine : (eqb x.writer w ≡ true) × (key_eq x.key k ≡ true) = and_parts (eqb x.writer w) (key_eq x.key k) e in
+    ap (λ l. s.known n l x.place) (sym (key_eq-true x.key k mine.1)) ∙ (sound.own n).own x m (eqb-true x.writer w mine.0))
 
--- how many writes of the node under the key there are
+-- how many writes of the writer under the key there are
 abbrev made : List Happening → ℕ → Key → ℕ
-made hs n k = length (writes_of (writes hs) k n)
+made hs w k = length (writes_of (writes hs) k w)
 
-counter_of-made : (before : List Happening) (n : ℕ) (k : Key) (v : ValueParts) (r : Option ℕ) → RestartsKeepOwnWrites (before ++ Wrote n k v r ∷ []) → counter_of before n k v r ≡ made (before ++ Wrote n k v r ∷ []) n k
-counter_of-made before n k v r keeps = own_counted (past (before ++ Wrote n k v r ∷ [])) (sound_past (before ++ Wrote n k v r ∷ []) keeps) n k
+counter_of-made : (before : List Happening) (n : ℕ) (k : Key) (v : ValueParts) (r : Option ℕ) → IsHistory (before ++ Wrote n k v r ∷ [])
+    → counter_of before n k v r ≡ made (before ++ Wrote n k v r ∷ []) (writer_of (past before) n) k
+counter_of-made before n k v r history =
+    let after = before ++ Wrote n k v r ∷ [] in
+    let same : writer_of (past after) n ≡ writer_of (past before) n = ap (λ s. writer_of s n) (past_snoc before (Wrote n k v r)) in
+    subst (λ w. count_in (writes after) (known after n k) w ≡ made after w k) same (own_counted (past after) (sound_past after history) n k)
 
-made-wrote : (before : List Happening) (n : ℕ) (k : Key) (v : ValueParts) (r : Option ℕ) → made (before ++ Wrote n k v r ∷ []) n k ≡ suc (made before n k)
+made-wrote : (before : List Happening) (n : ℕ) (k : Key) (v : ValueParts) (r : Option ℕ) → made (before ++ Wrote n k v r ∷ []) (writer_of (past before) n) k ≡ suc (made before (writer_of (past before) n) k)
 made-wrote before n k v r =
-    ap (λ s. length (writes_of s.writes k n)) (past_snoc before (Wrote n k v r))
-    ∙ ap (λ b. length (cond b (written (past before) n k v r ∷ writes_of (writes before) k n) (writes_of (writes before) k n))) (and_from (eqb n n) (key_eq k k) (eq-eqb n n refl) (key_eq-self k))
+    let w = writer_of (past before) n in
+    ap (λ s. length (writes_of s.writes k w)) (past_snoc before (Wrote n k v r))
+    ∙ ap (λ b. length (cond b (written (past before) n k v r ∷ writes_of (writes before) k w) (writes_of (writes before) k w))) (and_from (eqb w w) (key_eq k k) (eq-eqb w w refl) (key_eq-self k))
 
 record AtLeast (low : ℕ) (n : ℕ) (k : Key) (ws : List Write) : Type 0 where
   pub least : low ≤ length (writes_of ws k n)
@@ -60,22 +59,26 @@ made-more : (hs more : List Happening) (n : ℕ) (k : Key) → made hs n k ≤ m
 made-more hs more n k =
     (stays (AtLeast (made hs n k) n k) (λ x ws below is. at_least-more (made hs n k) n k x ws is) hs more (record { least = omega arith })).least
 
--- a later write of the node under the key has a greater counter
-pub counters_rise : (before mid after : List Happening) (n : ℕ) (k : Key) (v u : ValueParts) (r q : Option ℕ)
-    → RestartsKeepOwnWrites ((before ++ Wrote n k v r ∷ mid) ++ Wrote n k u q ∷ after)
-    → counter_of before n k v r < counter_of (before ++ Wrote n k v r ∷ mid) n k u q
-counters_rise before mid after n k v u r q keeps =
-    let later : RestartsKeepOwnWrites ((before ++ Wrote n k v r ∷ mid) ++ Wrote n k u q ∷ []) =
-    keeps_before ((before ++ Wrote n k v r ∷ mid) ++ Wrote n k u q ∷ []) after
-    (subst RestartsKeepOwnWrites (sym (append_assoc (before ++ Wrote n k v r ∷ mid) (Wrote n k u q ∷ []) after)) keeps) in
-    let joined : (before ++ Wrote n k v r ∷ []) ++ mid ≡ before ++ Wrote n k v r ∷ mid = append_assoc before (Wrote n k v r ∷ []) mid in
-    let between : RestartsKeepOwnWrites (before ++ Wrote n k v r ∷ mid) = keeps_before (before ++ Wrote n k v r ∷ mid) (Wrote n k u q ∷ after) keeps in
-    let first : RestartsKeepOwnWrites (before ++ Wrote n k v r ∷ []) = keeps_before (before ++ Wrote n k v r ∷ []) mid (subst RestartsKeepOwnWrites (sym joined) between) in
-    let one : counter_of before n k v r ≡ made (before ++ Wrote n k v r ∷ []) n k = counter_of-made before n k v r first in
-    let two : counter_of (before ++ Wrote n k v r ∷ mid) n k u q ≡ made ((before ++ Wrote n k v r ∷ mid) ++ Wrote n k u q ∷ []) n k = counter_of-made (before ++ Wrote n k v r ∷ mid) n k u q later in
-    let up : made ((before ++ Wrote n k v r ∷ mid) ++ Wrote n k u q ∷ []) n k ≡ suc (made (before ++ Wrote n k v r ∷ mid) n k) = made-wrote (before ++ Wrote n k v r ∷ mid) n k u q in
-    let grow : made (before ++ Wrote n k v r ∷ []) n k ≤ made ((before ++ Wrote n k v r ∷ []) ++ mid) n k = made-more (before ++ Wrote n k v r ∷ []) mid n k in
-    let same : made ((before ++ Wrote n k v r ∷ []) ++ mid) n k ≡ made (before ++ Wrote n k v r ∷ mid) n k = ap (λ l. made l n k) joined in
+-- a later write of the writer under the key has a greater counter
+pub counters_rise : (before mid after : List Happening) (n m : ℕ) (k : Key) (v u : ValueParts) (r q : Option ℕ)
+    → IsHistory ((before ++ Wrote n k v r ∷ mid) ++ Wrote m k u q ∷ after)
+    → writer_of (past before) n ≡ writer_of (past (before ++ Wrote n k v r ∷ mid)) m
+    → counter_of before n k v r < counter_of (before ++ Wrote n k v r ∷ mid) m k u q
+counters_rise before mid after n m k v u r q history by =
+    let w = writer_of (past before) n in
+    let last = before ++ Wrote n k v r ∷ mid in
+    let later : IsHistory (last ++ Wrote m k u q ∷ []) =
+    history_before (last ++ Wrote m k u q ∷ []) after (subst IsHistory (sym (append_assoc last (Wrote m k u q ∷ []) after)) history) in
+    let joined : (before ++ Wrote n k v r ∷ []) ++ mid ≡ last = append_assoc before (Wrote n k v r ∷ []) mid in
+    let between : IsHistory last = history_before last (Wrote m k u q ∷ after) history in
+    let first : IsHistory (before ++ Wrote n k v r ∷ []) = history_before (before ++ Wrote n k v r ∷ []) mid (subst IsHistory (sym joined) between) in
+    let one : counter_of before n k v r ≡ made (before ++ Wrote n k v r ∷ []) w k = counter_of-made before n k v r first in
+    let two : counter_of last m k u q ≡ made (last ++ Wrote m k u q ∷ []) w k =
+    subst (λ x. counter_of last m k u q ≡ made (last ++ Wrote m k u q ∷ []) x k) (sym by) (counter_of-made last m k u q later) in
+    let up : made (last ++ Wrote m k u q ∷ []) w k ≡ suc (made last w k) =
+    subst (λ x. made (last ++ Wrote m k u q ∷ []) x k ≡ suc (made last x k)) (sym by) (made-wrote last m k u q) in
+    let grow : made (before ++ Wrote n k v r ∷ []) w k ≤ made ((before ++ Wrote n k v r ∷ []) ++ mid) w k = made-more (before ++ Wrote n k v r ∷ []) mid w k in
+    let same : made ((before ++ Wrote n k v r ∷ []) ++ mid) w k ≡ made last w k = ap (λ l. made l w k) joined in
     omega arith
 
 -- ---- two splits of one list
@@ -99,22 +102,23 @@ two_splits (z ∷ b) a (w ∷ e) l x y same =
     (λ h. ⊎_elim (λ f. inr (inl (IsLater-cons x z w b e head f))) (λ f. inr (inr (IsLater-cons y w z e b (sym head) f))) h)
     (two_splits b a e l x y tail)
 
--- equal counters are those of one write
-pub one_counter : (hs : List Happening) → RestartsKeepOwnWrites hs → (n : ℕ) (k : Key) (before after earlier later : List Happening) (v u : ValueParts) (r q : Option ℕ)
-    → hs ≡ before ++ Wrote n k v r ∷ after → hs ≡ earlier ++ Wrote n k u q ∷ later → counter_of before n k v r ≡ counter_of earlier n k u q → before ≡ earlier
-one_counter hs keeps n k before after earlier later v u r q one two same =
+-- equal counters of one writer are those of one write
+pub one_counter : (hs : List Happening) → IsHistory hs → (n m : ℕ) (k : Key) (before after earlier later : List Happening) (v u : ValueParts) (r q : Option ℕ)
+    → hs ≡ before ++ Wrote n k v r ∷ after → hs ≡ earlier ++ Wrote m k u q ∷ later
+    → writer_of (past before) n ≡ writer_of (past earlier) m → counter_of before n k v r ≡ counter_of earlier m k u q → before ≡ earlier
+one_counter hs history n m k before after earlier later v u r q one two by same =
     ⊎_elim (λ h. h)
     (λ h. ⊎_elim
     (λ f.
     let at : earlier ≡ before ++ Wrote n k v r ∷ f.mid = f.at in
-    let rise : counter_of before n k v r < counter_of (before ++ Wrote n k v r ∷ f.mid) n k u q =
-    counters_rise before f.mid later n k v u r q (subst RestartsKeepOwnWrites (two ∙ ap (λ b. b ++ Wrote n k u q ∷ later) at) keeps) in
-    let there : counter_of earlier n k u q ≡ counter_of (before ++ Wrote n k v r ∷ f.mid) n k u q = ap (λ b. counter_of b n k u q) at in
+    let rise : counter_of before n k v r < counter_of (before ++ Wrote n k v r ∷ f.mid) m k u q =
+    counters_rise before f.mid later n m k v u r q (subst IsHistory (two ∙ ap (λ b. b ++ Wrote m k u q ∷ later) at) history) (by ∙ ap (λ b. writer_of (past b) m) at) in
+    let there : counter_of earlier m k u q ≡ counter_of (before ++ Wrote n k v r ∷ f.mid) m k u q = ap (λ b. counter_of b m k u q) at in
     absurd (omega arith))
     (λ f.
-    let at : before ≡ earlier ++ Wrote n k u q ∷ f.mid = f.at in
-    let rise : counter_of earlier n k u q < counter_of (earlier ++ Wrote n k u q ∷ f.mid) n k v r =
-    counters_rise earlier f.mid after n k u v q r (subst RestartsKeepOwnWrites (one ∙ ap (λ b. b ++ Wrote n k v r ∷ after) at) keeps) in
-    let there : counter_of before n k v r ≡ counter_of (earlier ++ Wrote n k u q ∷ f.mid) n k v r = ap (λ b. counter_of b n k v r) at in
+    let at : before ≡ earlier ++ Wrote m k u q ∷ f.mid = f.at in
+    let rise : counter_of earlier m k u q < counter_of (earlier ++ Wrote m k u q ∷ f.mid) n k v r =
+    counters_rise earlier f.mid after m n k u v q r (subst IsHistory (one ∙ ap (λ b. b ++ Wrote n k v r ∷ after) at) history) (sym by ∙ ap (λ b. writer_of (past b) n) at) in
+    let there : counter_of before n k v r ≡ counter_of (earlier ++ Wrote m k u q ∷ f.mid) n k v r = ap (λ b. counter_of b n k v r) at in
     absurd (omega arith)) h)
-    (two_splits before after earlier later (Wrote n k v r) (Wrote n k u q) (sym one ∙ two))
+    (two_splits before after earlier later (Wrote n k v r) (Wrote m k u q) (sym one ∙ two))

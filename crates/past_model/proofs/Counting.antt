@@ -6,7 +6,7 @@ use Rattle.std.proofs.lemmas.Bool.{and_from, and_left, and_right}
 use Rattle.past_model.specs.declared.happening.Happening.{Happening}
 use Rattle.past_model.specs.declared.happening.Happening.TheVariants.{Wrote, Looked, Sent, Got, Kept, Restarted}
 use Rattle.past_model.specs.Sets.{Places}
-use Rattle.past_model.specs.Past.{Past, Write, happens, past, writes}
+use Rattle.past_model.specs.Past.{Past, Write, happens, past, writer_of, writes}
 use Rattle.past_model.specs.Shown.{count_in}
 use Rattle.past_model.specs.Moment.{writes_of_happening, marked_places}
 use Rattle.past_model.proofs.Walking.{take_next}
@@ -38,7 +38,7 @@ none_counted true n = refl
 none_counted false n = refl
 
 count_made : (s : Past) (h : Happening) (ws : List Write) (S : Places) (w : ℕ) → count_in (writes_of_happening s h ++ ws) S w ≡ cond (S s.next && list_any (λ x. eqb x.writer w) (writes_of_happening s h)) (count_in ws S w + 1) (count_in ws S w)
-count_made s (Wrote n k v r) ws S w = one_counted (eqb n w) (S s.next) (written s n k v r) (filter (λ x. eqb x.writer w && S x.place) ws)
+count_made s (Wrote n k v r) ws S w = one_counted (eqb (writer_of s n) w) (S s.next) (written s n k v r) (filter (λ x. eqb x.writer w && S x.place) ws)
 count_made s (Looked n k) ws S w = none_counted (S s.next) (count_in ws S w)
 count_made s (Sent n k) ws S w = none_counted (S s.next) (count_in ws S w)
 count_made s (Got n i) ws S w = none_counted (S s.next) (count_in ws S w)

@@ -1,7 +1,8 @@
 -- Well-formed histories, place by place.
-use Rattle.std.proofs.Common.{◌≡◌, ℕ, ◌+◌, ◌<◌, ◌≤◌, Bool, true, zero, suc, List, [], ◌∷◌, ◌++◌, length, take, drop, get_or, sym, ap, refl, subst, ◌∙◌, arith, ⊎_elim, Option, Some, None}
+use Rattle.std.proofs.Common.{◌≡◌, ℕ, ◌+◌, ◌<◌, ◌≤◌, Bool, true, zero, suc, List, [], ◌∷◌, ◌++◌, length, take, drop, get_or, sym, ap, refl, subst, ◌∙◌, arith, ⊎_elim, append_assoc, Option, Some, None}
 use Rattle.std.specs.Prelude.{slice_get, ◌↔◌, IsTrue}
 use Rattle.std.proofs.lemmas.Bool.{cases_lt}
+use Rattle.std.proofs.lemmas.List.{take-append-drop}
 use Rattle.std.proofs.lemmas.Option.{slice_get_within, get_or_from_slice_get}
 use Rattle.meta_types.specs.Name.{Key}
 use Rattle.meta_types.specs.Value.{ValueParts}
@@ -92,3 +93,16 @@ so_far_all hs i le far = record {
       let less : length before < length hs = slice_get_within hs (length before) h at in
       subst (λ l. Fits l h) (ap (take (length before)) split ∙ front before (h ∷ after)) (far.fits (length before) h (omega arith) at);
 }
+
+-- ---- fronts of a history
+
+-- a front of a history is one
+pub history_before : (hs more : List Happening) → IsHistory (hs ++ more) → IsHistory hs
+history_before hs more history =
+    record {
+      fits = λ before after h e.
+          history.fits before (after ++ more) h (ap (λ l. l ++ more) e ∙ append_assoc before (h ∷ after) more);
+    }
+
+pub history_taken : (hs : List Happening) (i : ℕ) → IsHistory hs → IsHistory (take i hs)
+history_taken hs i history = history_before (take i hs) (drop i hs) (subst IsHistory (sym (take-append-drop i hs)) history)

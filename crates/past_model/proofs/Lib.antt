@@ -12,7 +12,9 @@ pub mod Older
 pub mod Rendered
 -- what holds of places after every list of happenings
 pub mod Placed
--- what holds of the past after every list that keeps the restart premise
+-- the writers of a past: whose they are, and in which life
+pub mod Lives
+-- what holds of the past after every history
 pub mod Sound
 -- members of lists of writes, and tests over them
 pub mod Members
@@ -52,6 +54,10 @@ pub mod Counting
 pub mod Reading
 -- lists by place and by writer
 pub mod Listing
+-- each node in each of its lives
+pub mod EachLife
+-- going over a list of writers
+pub mod Gone
 -- well-formed histories, place by place
 pub mod Fitting
 -- what was seen and sent before
@@ -60,3 +66,5 @@ pub mod Told
 pub mod Moving
 -- marks of unions and of sets under a key
 pub mod Marking
+-- no incarnation is used twice
+pub mod Renewed

@@ -1,5 +1,5 @@
 -- Lists by writer and by place: siblings, counters, and the places of a set.
-use Rattle.std.proofs.Common.{◌≡◌, ℕ, ◌+◌, ◌<◌, ◌≤◌, Bool, true, false, cond, zero, suc, List, [], ◌∷◌, ◌++◌, length, map, take, get_or, All, sym, ap, refl, subst, ◌∙◌, arith, ⊎_elim, inl, inr, eqb, Some, add-one, append_assoc}
+use Rattle.std.proofs.Common.{◌≡◌, ℕ, ◌+◌, ◌*◌, ◌<◌, ◌≤◌, Bool, true, false, cond, zero, suc, List, [], ◌∷◌, ◌++◌, length, map, take, get_or, All, sym, ap, refl, subst, ◌∙◌, arith, ⊎_elim, inl, inr, eqb, Some, add-one, append_assoc}
 use Rattle.std.specs.Prelude.{slice_get, ◌&&◌, ◌||◌, not, filter}
 use Rattle.std.specs.List.{list_any}
 use Rattle.std.proofs.Math.Bool.{or-false, and-false, and-true}
@@ -9,6 +9,7 @@ use Rattle.std.proofs.lemmas.List.{append-nil, map-append}
 use Rattle.std.proofs.lemmas.List.Elements.{All-nil, All-cons, All-head, All-tail, All-append, All-push, All-weaker, filter-append}
 use Rattle.std.proofs.lemmas.List.Folds.{list_any-append}
 use Rattle.meta_types.specs.Node.{IsNode}
+use Rattle.meta_types.specs.Actor.{IsWriter, incarnations, writer_number}
 use Rattle.meta_types.specs.Value.{ValueParts}
 use Rattle.dvvset.specs.Object.{Counter, RisesFrom, ids_counted, IsCounter, IsVector}
 use Rattle.dvvset.specs.Clock.{count_for}
@@ -16,11 +17,14 @@ use Rattle.dvvset.proofs.Objects.{vector_from_rest}
 use Rattle.past_model.specs.declared.happening.Happening.{Happening}
 use Rattle.past_model.specs.declared.happening.Happening.TheVariants.{Wrote, Looked, Sent, Got, Kept, Restarted}
 use Rattle.past_model.specs.Sets.{Places}
-use Rattle.past_model.specs.Past.{Past, Write, In, start, happens, run, past, writes}
+use Rattle.past_model.specs.Past.{Past, Write, In, start, happens, run, past, writer_of, writes}
+use Rattle.past_model.specs.History.{IsHistory, most_restarts}
 use Rattle.past_model.specs.Shown.{ArePlaces, was_read, is_sibling, InOrder, Shows, count_in, IsContext, siblings_by}
 use Rattle.past_model.specs.Moment.{writes_of_happening, node_of}
 use Rattle.past_model.proofs.Orderly.{IsFalling}
 use Rattle.past_model.proofs.Placed.{written, ordered}
+use Rattle.past_model.proofs.Lives.{IsLifeOfNode, more-restarted}
+use Rattle.past_model.proofs.Sound.{sound_past}
 use Rattle.past_model.proofs.Members.{in_filter, of_filter}
 use Rattle.past_model.proofs.Showing.{in_append, append_left, append_right, order_append, order_filter}
 use Rattle.past_model.proofs.Counting.{writes_next, writes_made}
@@ -60,7 +64,7 @@ none_kept false = refl
 -- the write that a happening makes is kept where its place is a sibling's
 filter_made : (s : Past) (h : Happening) (ws : List Write) (S : Places) (w : ℕ) (b : Bool) → (S s.next && not (was_read ws S s.next)) ≡ b → filter (λ x. eqb x.writer w && is_sibling ws S x) (writes_of_happening s h) ≡ cond b (filter (λ x. eqb x.writer w) (writes_of_happening s h)) []
 filter_made s (Wrote n k v r) ws S w b e =
-    ap (λ t. cond (eqb n w && t) (written s n k v r ∷ []) []) e ∙ one_kept (eqb n w) b (written s n k v r)
+    ap (λ t. cond (eqb (writer_of s n) w && t) (written s n k v r ∷ []) []) e ∙ one_kept (eqb (writer_of s n) w) b (written s n k v r)
 filter_made s (Looked n k) ws S w b e = none_kept b
 filter_made s (Sent n k) ws S w b e = none_kept b
 filter_made s (Got n i) ws S w b e = none_kept b
@@ -156,7 +160,7 @@ writers_ordered ws S (suc n) falling =
 
 -- ---- all writers are nodes
 
-made_by : (s : Past) (h : Happening) (x : Write) → In x (writes_of_happening s h) → x.writer ≡ node_of h
+made_by : (s : Past) (h : Happening) (x : Write) → In x (writes_of_happening s h) → x.writer ≡ writer_of s (node_of h)
 made_by s (Wrote n k v r) x m = ⊎_elim (λ here. ap (λ z. z.writer) here) (λ later. absurd later) m
 made_by s (Looked n k) x m = absurd m
 made_by s (Sent n k) x m = absurd m
@@ -164,34 +168,59 @@ made_by s (Got n i) x m = absurd m
 made_by s (Kept n k) x m = absurd m
 made_by s (Restarted n j) x m = absurd m
 
-pub record Writers (ws : List Write) : Type 0 where
-  pub nodes : (x : Write) → In x ws → IsNode x.writer
+-- one more than the greatest number of a writer
+abbrev pub writers : ℕ
+writers = 16 * incarnations
 
-writers_run : (s : Past) (hs : List Happening) → ((p : ℕ) (h : Happening) → slice_get hs p ≡ Some h → IsNode (node_of h)) → Writers s.writes → Writers (run s hs).writes
+-- each writer is that of a node in a life that has begun
+pub record Writers (s : Past) : Type 0 where
+  pub below : (x : Write) → In x s.writes → IsLifeOfNode s.restarts x.writer
+
+writers_more : (s : Past) (h : Happening) (w : ℕ) → IsLifeOfNode s.restarts w → IsLifeOfNode (happens s h).restarts w
+writers_more s (Wrote n k v r) w is = is
+writers_more s (Looked n k) w is = is
+writers_more s (Sent n k) w is = is
+writers_more s (Got n i) w is = is
+writers_more s (Kept n k) w is = is
+writers_more s (Restarted n j) w is =
+    let begun : is.life ≤ s.restarts is.node + 1 = is.begun in
+    record { node = is.node; life = is.life; writer = is.writer; in_range = is.in_range; least = is.least; begun = omega (arith, begun, more-restarted s n is.node) }
+
+writers_run : (s : Past) (hs : List Happening) → ((p : ℕ) (h : Happening) → slice_get hs p ≡ Some h → IsNode (node_of h)) → Writers s → Writers (run s hs)
 writers_run s [] nodes w = w
 writers_run s (h ∷ hs) nodes w =
     writers_run (happens s h) hs (λ p g at. nodes (suc p) g at)
     (record {
-      nodes = λ x m. ⊎_elim
-          (λ new. let node : node_of h < 16 = nodes 0 h refl in let by : x.writer ≡ node_of h = made_by s h x new in omega arith)
-          (λ old. w.nodes x old)
+      below = λ x m. ⊎_elim
+          (λ new. writers_more s h x.writer
+          (record { node = node_of h; life = s.restarts (node_of h) + 1; writer = made_by s h x new; in_range = nodes 0 h refl; least = omega arith; begun = omega arith }))
+          (λ old. writers_more s h x.writer (w.below x old))
           (in_append (writes_of_happening s h) s.writes x (subst (λ ws. In x ws) (writes_made s h) m));
     })
 
-pub writers_are_nodes : (hs : List Happening) → ((p : ℕ) (h : Happening) → slice_get hs p ≡ Some h → IsNode (node_of h)) → Writers (writes hs)
-writers_are_nodes hs nodes = writers_run start hs nodes (record { nodes = λ x m. absurd m })
+pub writers_of_nodes : (hs : List Happening) → ((p : ℕ) (h : Happening) → slice_get hs p ≡ Some h → IsNode (node_of h)) → Writers (past hs)
+writers_of_nodes hs nodes = writers_run start hs nodes (record { below = λ x m. absurd m })
 
-pub all_shown : (hs : List Happening) (S : Places) (values : List ValueParts) → ((p : ℕ) (h : Happening) → slice_get hs p ≡ Some h → IsNode (node_of h)) → values ≡ map (λ x. x.value) (by_writers (writes hs) S 16) → Shows (writes hs) S values
-all_shown hs S values nodes is =
+pub writers_below : (hs : List Happening) → IsHistory hs → ((p : ℕ) (h : Happening) → slice_get hs p ≡ Some h → IsNode (node_of h)) → (x : Write) → In x (writes hs) → x.writer < writers
+writers_below hs history nodes x m =
+    let of = (writers_of_nodes hs nodes).below x m in
+    let few : (past hs).restarts of.node ≤ most_restarts = (sound_past hs history).lives.few of.node in
+    let in_range : of.node < 16 = of.in_range in
+    let begun : of.life ≤ (past hs).restarts of.node + 1 = of.begun in
+    let is : x.writer ≡ writer_number of.node of.life = of.writer in
+    omega (arith, few, in_range, begun, is)
+
+pub all_shown : (hs : List Happening) (S : Places) (values : List ValueParts) → IsHistory hs → ((p : ℕ) (h : Happening) → slice_get hs p ≡ Some h → IsNode (node_of h)) → values ≡ map (λ x. x.value) (by_writers (writes hs) S writers) → Shows (writes hs) S values
+all_shown hs S values history nodes is =
     let ws : List Write = writes hs in
     record {
-      siblings = by_writers ws S 16;
+      siblings = by_writers ws S writers;
       are = record {
         members = λ x. (
-          λ m. let one : IsBelow ws S x 16 = of_writers ws S 16 x m in (one.member, one.sibling),
-          λ m. in_writers ws S 16 x m.0 ((writers_are_nodes hs nodes).nodes x m.0) m.1,
+          λ m. let one : IsBelow ws S x writers = of_writers ws S writers x m in (one.member, one.sibling),
+          λ m. in_writers ws S writers x m.0 (writers_below hs history nodes x m.0) m.1,
         );
-        ordered = writers_ordered ws S 16 (ordered hs).falling;
+        ordered = writers_ordered ws S writers (ordered hs).falling;
       };
       of_siblings = is;
     }
@@ -209,18 +238,26 @@ pub record Rise (n : ℕ) (ns : List ℕ) : Type 0 where
   pub rising : RisesFrom 0 ns
   pub below : All (λ k. k < n) ns
 
-rise_none : Rise 0 []
+pub rise_none : Rise 0 []
 rise_none = record { rising = tt; below = All-nil (λ k. k < 0) }
 
+pub rise_below : (n m : ℕ) (ns : List ℕ) → n ≤ m → Rise n ns → Rise m ns
+rise_below n m ns le r = record { rising = r.rising; below = All-weaker (λ k. k < n) (λ k. k < m) (λ k lt. omega (arith, lt, le)) ns r.below }
+
 rise_same : (n : ℕ) (ns : List ℕ) → Rise n ns → Rise (suc n) ns
-rise_same n ns r = record { rising = r.rising; below = All-weaker (λ k. k < n) (λ k. k < suc n) (λ k lt. omega arith) ns r.below }
+rise_same n ns r = rise_below n (suc n) ns (omega arith) r
+
+-- one more number, and all stay below
+pub rise_on : (n w m : ℕ) (ns : List ℕ) → n ≤ w → w < m → Rise n ns → Rise m (ns ++ w ∷ [])
+rise_on n w m ns le lt r =
+    let below : All (λ k. k < w) ns = All-weaker (λ k. k < n) (λ k. k < w) (λ k less. omega (arith, less, le)) ns r.below in
+    record {
+      rising = rises_snoc ns 0 w (omega arith) r.rising below;
+      below = All-push (λ k. k < m) ns w (All-weaker (λ k. k < w) (λ k. k < m) (λ k less. omega (arith, less, lt)) ns below) lt;
+    }
 
 rise_more : (n : ℕ) (ns : List ℕ) → Rise n ns → Rise (suc n) (ns ++ n ∷ [])
-rise_more n ns r =
-    record {
-      rising = rises_snoc ns 0 n (omega arith) r.rising r.below;
-      below = All-push (λ k. k < suc n) ns n (All-weaker (λ k. k < n) (λ k. k < suc n) (λ k lt. omega arith) ns r.below) (omega arith);
-    }
+rise_more n ns r = rise_on n n (suc n) ns (omega arith) (omega arith) r
 
 -- ---- the places of a set
 
@@ -352,13 +389,13 @@ counters_held ws S zero = All-nil (λ (c : Counter). 1 ≤ c.count)
 counters_held ws S (suc n) = All-append (λ (c : Counter). 1 ≤ c.count) (counters_to ws S n) (counter_of n (count_in ws S n)) (counters_held ws S n) (counter_held n (count_in ws S n))
 
 -- a writer that is no node has no write
-no_writes : (ws : List Write) (S : Places) (w : ℕ) → Writers ws → 16 ≤ w → count_in ws S w ≡ 0
-no_writes [] S w nodes le = refl
-no_writes (x ∷ xs) S w nodes le =
-    let node : x.writer < 16 = nodes.nodes x (inl refl) in
+no_writes : (ws : List Write) (S : Places) (most w : ℕ) → ((x : Write) → In x ws → x.writer < most) → most ≤ w → count_in ws S w ≡ 0
+no_writes [] S most w below le = refl
+no_writes (x ∷ xs) S most w below le =
+    let node : x.writer < most = below x (inl refl) in
     let other : (x.writer ≡ w → ⊥) = λ e. absurd (omega arith) in
     ap (λ b. length (cond (b && S x.place) (x ∷ filter (λ y. eqb y.writer w && S y.place) xs) (filter (λ y. eqb y.writer w && S y.place) xs))) (ne_eqb x.writer w other)
-    ∙ no_writes xs S w (record { nodes = λ y m. nodes.nodes y (inr m) }) le
+    ∙ no_writes xs S most w (λ y m. below y (inr m)) le
 
 -- the counters so far, and they are lawful
 pub record Counters (ws : List Write) (S : Places) (n : ℕ) (cs : List Counter) : Type 0 where
@@ -368,13 +405,13 @@ pub record Counters (ws : List Write) (S : Places) (n : ℕ) (cs : List Counter)
 pub Counters-start : (ws : List Write) (S : Places) → Counters ws S 0 []
 Counters-start ws S = record { are = refl; lawful = All-nil IsCounter }
 
-lawful_counter : (w n : ℕ) → w < 16 → n < 18446744073709551616 → All IsCounter (counter_of w n)
+lawful_counter : (w n : ℕ) → IsWriter w → n < 18446744073709551616 → All IsCounter (counter_of w n)
 lawful_counter w zero node lt = All-nil IsCounter
 lawful_counter w (suc n) node lt =
     subst (All IsCounter) (sym (some_counter w n))
-    (All-cons IsCounter (record { id = w; count = suc n }) [] (record { node = node; counted = record { least = omega arith; most = lt } }) (All-nil IsCounter))
+    (All-cons IsCounter (record { id = w; count = suc n }) [] (record { writer = node; counted = record { least = omega arith; most = lt } }) (All-nil IsCounter))
 
-pub Counters-next : (ws : List Write) (S : Places) (n m : ℕ) (cs more : List Counter) → n < 16 → m < 18446744073709551616 → m ≡ count_in ws S n → more ≡ cs ++ counter_of n m → Counters ws S n cs → Counters ws S (n + 1) more
+pub Counters-next : (ws : List Write) (S : Places) (n m : ℕ) (cs more : List Counter) → IsWriter n → m < 18446744073709551616 → m ≡ count_in ws S n → more ≡ cs ++ counter_of n m → Counters ws S n cs → Counters ws S (n + 1) more
 Counters-next ws S n m cs more node lt count pushed c =
     record {
       are = pushed ∙ ap (λ x. cs ++ counter_of n x) count ∙ ap (λ l. l ++ counter_of n (count_in ws S n)) c.are ∙ sym (ap (counters_to ws S) (add-one n));
@@ -385,12 +422,12 @@ pub counters_vector : (ws : List Write) (S : Places) (n : ℕ) (cs : List Counte
 counters_vector ws S n cs c =
     vector_from_rest cs (record { rising = subst (λ l. RisesFrom 0 (ids_counted l)) (sym c.are) (counters_rise ws S n).rising; lawful = c.lawful })
 
-pub counters_context : (hs : List Happening) (S : Places) (cs : List Counter) → ((p : ℕ) (h : Happening) → slice_get hs p ≡ Some h → IsNode (node_of h)) → Counters (writes hs) S 16 cs → IsContext (writes hs) S cs
-counters_context hs S cs nodes c =
+pub counters_context : (hs : List Happening) (S : Places) (cs : List Counter) → IsHistory hs → ((p : ℕ) (h : Happening) → slice_get hs p ≡ Some h → IsNode (node_of h)) → Counters (writes hs) S writers cs → IsContext (writes hs) S cs
+counters_context hs S cs history nodes c =
     let ws : List Write = writes hs in
     subst (IsContext ws S) (sym c.are)
     (record {
-      rising = (counters_rise ws S 16).rising;
-      counts = λ w. ⊎_elim (λ lt. counters_in ws S 16 w lt) (λ le. counters_past ws S 16 w le ∙ sym (no_writes ws S w (writers_are_nodes hs nodes) le)) (cases_lt w 16);
-      held = counters_held ws S 16;
+      rising = (counters_rise ws S writers).rising;
+      counts = λ w. ⊎_elim (λ lt. counters_in ws S writers w lt) (λ le. counters_past ws S writers w le ∙ sym (no_writes ws S writers w (writers_below hs history nodes) le)) (cases_lt w writers);
+      held = counters_held ws S writers;
     })

@@ -16,7 +16,7 @@ pub record Ordered (ws : List Write) : Type 0 where
   pub falling : IsFalling ws
   pub causal : (x : Write) → In x ws → (p : ℕ) → x.read p ≡ true → p < x.place
 
--- of a history that keeps the restart premise: what each has read is closed
+-- of a history: what each has read is closed
 pub record Orderly (ws : List Write) : Type 0 where
   pub ordered : Ordered ws
   pub closed : (x : Write) → In x ws → IsClosed ws x.key x.read

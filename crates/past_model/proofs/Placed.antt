@@ -7,7 +7,7 @@ use Rattle.meta_types.specs.Value.{ValueParts}
 use Rattle.past_model.specs.declared.happening.Happening.{Happening}
 use Rattle.past_model.specs.declared.happening.Happening.TheVariants.{Wrote, Looked, Sent, Got, Kept, Restarted}
 use Rattle.past_model.specs.Sets.{Places}
-use Rattle.past_model.specs.Past.{Past, Write, start, read_of, happens, run, writes}
+use Rattle.past_model.specs.Past.{Past, Write, start, read_of, happens, run, writer_of, writes}
 use Rattle.past_model.proofs.Orderly.{Below, Ordered}
 use Rattle.past_model.proofs.Reached.{Reached, IsGathered, NewKept, Reached-weaken, Reached-happens, Reached-start}
 
@@ -27,7 +27,7 @@ under-gathered bound =
 
 -- the write that a Wrote makes
 abbrev pub written : Past → ℕ → Key → ValueParts → Option ℕ → Write
-written s n k v r = record { place = s.next; writer = n; key = k; value = v; read = read_of s k r }
+written s n k v r = record { place = s.next; writer = writer_of s n; key = k; value = v; read = read_of s k r }
 
 -- a happening makes at most one write
 pub writes-after : (P : List Write → Type 0) (s : Past) (h : Happening) → P s.writes → ((n : ℕ) (k : Key) (v : ValueParts) (r : Option ℕ) → P (written s n k v r ∷ s.writes)) → P (happens s h).writes

@@ -6,7 +6,7 @@ use Rattle.past_model.specs.declared.happening.Happening.{Happening}
 use Rattle.past_model.specs.declared.happening.Happening.TheVariants.{Wrote, Looked, Sent, Got, Kept, Restarted}
 use Rattle.past_model.specs.Sets.{Knowledge, knows_nothing, singleton, union, with_set, union_by_key, set_at}
 use Rattle.past_model.specs.Past.{Past, start, happens, run, past, read_of, with_write_known}
-use Rattle.past_model.specs.Moment.{node_of, makes_image}
+use Rattle.past_model.specs.Moment.{node_of, makes_image, restarts_node}
 use Rattle.past_model.proofs.Rendered.{take-min}
 use Rattle.past_model.proofs.Staying.{past_snoc, run_append}
 
@@ -127,3 +127,16 @@ made_by_node (Restarted m j) n e = absurd (cc)
 
 pub last_next : (hs : List Happening) (i : ℕ) (h : Happening) (n : ℕ) → i < length hs → h ≡ get_or hs i h → (past (take (i + 1) hs)).last n ≡ cond (makes_image n h) ((past (take i hs)).last n + 1) ((past (take i hs)).last n)
 last_next hs i h n lt is = ap (λ s. s.last n) (take_next hs i h lt is) ∙ last_step (past (take i hs)) h n
+
+-- ---- how often a node has restarted
+
+pub restarted_step : (s : Past) (h : Happening) (n : ℕ) → (happens s h).restarts n ≡ cond (restarts_node n h) (s.restarts n + 1) (s.restarts n)
+restarted_step s (Wrote m k v r) n = refl
+restarted_step s (Looked m k) n = refl
+restarted_step s (Sent m k) n = refl
+restarted_step s (Got m i) n = refl
+restarted_step s (Kept m k) n = refl
+restarted_step s (Restarted m j) n = put_counts s.restarts m n
+
+pub restarts_next : (hs : List Happening) (i : ℕ) (h : Happening) (n : ℕ) → i < length hs → h ≡ get_or hs i h → (past (take (i + 1) hs)).restarts n ≡ cond (restarts_node n h) ((past (take i hs)).restarts n + 1) ((past (take i hs)).restarts n)
+restarts_next hs i h n lt is = ap (λ s. s.restarts n) (take_next hs i h lt is) ∙ restarted_step (past (take i hs)) h n

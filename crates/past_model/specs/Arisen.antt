@@ -7,12 +7,12 @@ use Rattle.past_model.specs.declared.happening.Happening.{Happening}
 use Rattle.past_model.specs.declared.happening.Happening.TheVariants.{Wrote}
 use Rattle.past_model.specs.Sets.{Places, IsSubset}
 use Rattle.past_model.specs.Past.{Write, In, past, writes, known, seen, load, image, writer_of}
-use Rattle.past_model.specs.History.{RestartsKeepOwnWrites}
+use Rattle.past_model.specs.History.{IsHistory}
 use Rattle.past_model.specs.Shown.{IsClosed, IsObjectOf, count_in}
 
--- the object of a closed set of writes of a history that keeps the restart premise
+-- the object of a closed set of writes of a history
 pub record IsArisen (hs : List Happening) (k : Key) (object : List Entry) : Type 0 where
-  pub keeps : RestartsKeepOwnWrites hs
+  pub history : IsHistory hs
   pub set : Places
   pub object_of : IsObjectOf (writes hs) k set object
 

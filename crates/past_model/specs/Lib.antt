@@ -9,7 +9,7 @@ pub use Rattle.dvvset.specs.Writer
 pub mod Sets
 -- what each happening does to what the nodes know
 pub mod Past
--- well-formed histories, and the premise on restarts
+-- well-formed histories
 pub mod History
 -- what a set of writes shows: siblings, context, object
 pub mod Shown

@@ -1,12 +1,15 @@
 -- What private functions cite: the slow account of a history, and the tests of a happening that it
 -- goes by.
-use Rattle.std.specs.Prelude.{◌≡◌, ℕ, ◌+◌, ◌<◌, ◌≤◌, ◌==◌, List, [], ◌∷◌, length, take, get_or, slice_get, Option, Some, None, Bool, true, false, ◌&&◌}
+use Rattle.std.specs.Prelude.{◌≡◌, ℕ, zero, suc, ◌+◌, ◌<◌, ◌≤◌, ◌==◌, List, [], ◌∷◌, ◌++◌, All, length, take, get_or, slice_get, Option, Some, None, Bool, true, false, ◌&&◌}
+use Rattle.std.specs.List.{list_any}
+use Rattle.meta_types.specs.Actor.{IsWriter, writer_number}
 use Rattle.meta_types.specs.Node.{IsNode}
 use Rattle.meta_types.specs.Name.{Key}
+use Rattle.dvvset.specs.Object.{RisesFrom}
 use Rattle.past_model.specs.declared.happening.Happening.{Happening}
 use Rattle.past_model.specs.declared.happening.Happening.TheVariants.{Wrote, Looked, Sent, Got, Kept, Restarted}
 use Rattle.past_model.specs.Sets.{Places, Knowledge, key_eq}
-use Rattle.past_model.specs.Past.{Past, Write, past, read_of, writer_of}
+use Rattle.past_model.specs.Past.{Past, Write, In, past, read_of, writer_of}
 use Rattle.past_model.specs.History.{IsHistory}
 
 -- the node that it happened to
@@ -65,6 +68,26 @@ writes_of_happening s (Sent n k) = []
 writes_of_happening s (Got n i) = []
 writes_of_happening s (Kept n k) = []
 writes_of_happening s (Restarted n j) = []
+
+-- a node in its first lives
+abbrev pub lives_of : ℕ → ℕ → List ℕ
+lives_of n zero = []
+lives_of n (suc lives) = lives_of n lives ++ writer_number n (suc lives) ∷ []
+
+-- the writer of each write is among these, which rise
+pub record AreWriters (ws : List Write) (writers : List ℕ) : Type 0 where
+  pub rising : RisesFrom 0 writers
+  pub lawful : All IsWriter writers
+  pub all : (x : Write) → In x ws → list_any (λ w. w == x.writer) writers ≡ true
+
+-- it restarts the node
+abbrev pub restarts_node : ℕ → Happening → Bool
+restarts_node n (Wrote m k v r) = false
+restarts_node n (Looked m k) = false
+restarts_node n (Sent m k) = false
+restarts_node n (Got m i) = false
+restarts_node n (Kept m k) = false
+restarts_node n (Restarted m j) = m == n
 
 -- the set of the places that are marked
 abbrev pub marked_places : List Bool → Places

@@ -2,6 +2,7 @@
 -- a happening's number in that list, counted from 0; a write is named by its place. The rule is our
 -- own. It uses no counters, so that clocks can be measured against it.
 use Rattle.std.specs.Prelude.{◌≡◌, ℕ, ◌+◌, List, [], ◌∷◌, Option, Some, None, ◌⊎◌}
+use Rattle.meta_types.specs.Actor.{writer_number}
 use Rattle.meta_types.specs.Name.{Key}
 use Rattle.meta_types.specs.Value.{ValueParts}
 use Rattle.past_model.specs.declared.happening.Happening.{Happening}
@@ -33,6 +34,7 @@ pub record Past : Type 0 where
   pub last : ℕ → ℕ  -- the number of a node's newest image
   pub images : ℕ → ℕ → Knowledge  -- of each node, by number
   pub standing : ℕ → Knowledge  -- of each node
+  pub restarts : ℕ → ℕ  -- how often a node has restarted
 
 abbrev pub start : Past
 start = record {
@@ -44,11 +46,16 @@ start = record {
   last = λ n. 0;
   images = λ n j. knows_nothing;
   standing = λ n. knows_nothing;
+  restarts = λ n. 0;
 }
 
--- the writer of a write that the node makes now: today, the node
+-- the life that the node is in: its first is 1, and each restart begins the next
+abbrev pub incarnation_of : Past → ℕ → ℕ
+incarnation_of s n = s.restarts n + 1
+
+-- the writer of a write that the node makes now: the node in the life that it is in
 abbrev pub writer_of : Past → ℕ → ℕ
-writer_of s n = n
+writer_of s n = writer_number n (incarnation_of s n)
 
 -- what a write under the key has read: nothing, or what the Looked at place r saw
 abbrev pub read_of : Past → Key → Option ℕ → Places
@@ -76,6 +83,15 @@ with_write_known n k v r s =
       writes = (record { place = s.next; writer = writer_of s n; key = k; value = v; read = read_of s k r }) ∷ s.writes;
     }
 
+-- the node knows what the image has, its images start from that, and its next life begins
+abbrev pub with_image_restored : ℕ → ℕ → Past → Past
+with_image_restored n j s =
+    record s {
+      known = set_at s.known n (s.images n j);
+      standing = set_at s.standing n (s.images n j);
+      restarts = set_at s.restarts n (s.restarts n + 1);
+    }
+
 -- what a happening changes, but for the next place
 abbrev pub happens_at : Past → Happening → Past
 happens_at s (Wrote n k v r) = with_next_image n k (with_write_known n k v r s)
@@ -83,7 +99,7 @@ happens_at s (Looked n k) = record s { seen = set_at s.seen s.next (with_set kno
 happens_at s (Sent n k) = record s { load = set_at s.load s.next (with_set knows_nothing k (s.known n k)) }
 happens_at s (Got n i) = record s { known = set_at s.known n (union_by_key (s.known n) (s.load i)) }
 happens_at s (Kept n k) = with_next_image n k s
-happens_at s (Restarted n j) = record s { known = set_at s.known n (s.images n j); standing = set_at s.standing n (s.images n j) }
+happens_at s (Restarted n j) = with_image_restored n j s
 
 abbrev pub happens : Past → Happening → Past
 happens s h = record (happens_at s h) { next = s.next + 1 }

@@ -31,7 +31,7 @@ pub enum Happening {
         node: NodeId,
         key: MetaKey,
     },
-    /// The node began again from its image of that number; image 0 is the empty one.
+    /// The node began its next life from its image of that number; image 0 is the empty one.
     Restarted {
         node: NodeId,
         image: usize,
@@ -41,7 +41,7 @@ pub enum Happening {
 impl Happening {
     ghost use Rattle.std.specs.Prelude.{◌≡◌, Some};
     ghost use Rattle.meta_types.specs.Node.{IsNode};
-    ghost use Rattle.past_model.specs.Moment.{is_look_under, is_sending, is_write_under, makes_image, node_of};
+    ghost use Rattle.past_model.specs.Moment.{is_look_under, is_sending, is_write_under, makes_image, node_of, restarts_node};
 
     /// The node that it happened to.
     pub(crate) fn node(&self) -> NodeId
@@ -71,6 +71,20 @@ impl Happening {
             Happening::Got { .. } => false,
             Happening::Kept { node, .. } => *node == of,
             Happening::Restarted { .. } => false,
+        }
+    }
+
+    /// Returns whether it restarts the node.
+    pub(crate) fn restarts(&self, of: NodeId) -> bool
+        ensures { result ≡ restarts_node of self.now }
+    {
+        match self {
+            Happening::Wrote { .. } => false,
+            Happening::Looked { .. } => false,
+            Happening::Sent { .. } => false,
+            Happening::Got { .. } => false,
+            Happening::Kept { .. } => false,
+            Happening::Restarted { node, .. } => *node == of,
         }
     }
 

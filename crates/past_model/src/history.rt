@@ -8,9 +8,12 @@ ghost use Rattle.past_model.specs.Moment.{is_look_under, is_sending};
 use crate::happening::Happening;
 use meta_types::{MetaKey, NodeId};
 
+/// The most restarts of a node: each of its lives has a number of its own.
+pub const MOST_RESTARTS: u64 = 4_294_967_294;
+
 /// Returns whether the list is a well-formed history: a `Wrote` names no `Looked`, or an earlier
 /// one of the same key; a `Got` an earlier `Sent`; a `Restarted` an image that its node has made
-/// before, or image 0.
+/// before, or image 0, and its node has a number left for its next life.
 pub fn fits(history: &[Happening]) -> bool
     ensures { IsTrue result ↔ IsHistory history.now }
 {
@@ -34,7 +37,9 @@ fn fits_behind(before: &[Happening], happening: &Happening) -> bool
         Happening::Sent { .. } => true,
         Happening::Got { sent, .. } => is_sending(before, *sent),
         Happening::Kept { .. } => true,
-        Happening::Restarted { node, image } => *image <= images(before, *node),
+        Happening::Restarted { node, image } => {
+            *image <= images(before, *node) && restarts(before, *node) < MOST_RESTARTS
+        }
     }
 }
 
@@ -67,4 +72,17 @@ fn images(before: &[Happening], node: NodeId) -> usize
         }
     }
     images
+}
+
+/// How often the node has restarted.
+pub(crate) fn restarts(before: &[Happening], node: NodeId) -> u64
+    ensures { result ≡ (past before.now).restarts node }
+{
+    let mut restarts = 0;
+    for happening in before {
+        if happening.restarts(node) {
+            restarts += 1;
+        }
+    }
+    restarts
 }

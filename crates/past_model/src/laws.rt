@@ -1,6 +1,5 @@
 //! The laws of merging, writing and reading, over histories. Each function does nothing: its
-//! contract is the law. No law asks for a well-formed history; those that need more than a list of
-//! happenings ask for the restart premise.
+//! contract is the law. Those that need more than a list of happenings ask for a history.
 
 ghost use Rattle.std.specs.Prelude.{◌≡◌, ◌≢◌, ◌↔◌, ◌∷◌, ◌++◌, [], ℕ, true, List, Option, length};
 ghost use Rattle.meta_types.specs.Name.{Key};
@@ -12,20 +11,20 @@ ghost use Rattle.past_model.specs.declared.happening.Happening.{Happening as H};
 ghost use Rattle.past_model.specs.declared.happening.Happening.TheVariants.{Got, Wrote};
 ghost use Rattle.past_model.specs.Sets.{IsSubset, Places, empty, singleton, union};
 ghost use Rattle.past_model.specs.Past.{known, load, past, read, writer_of, writes};
-ghost use Rattle.past_model.specs.History.{RestartsKeepOwnWrites};
+ghost use Rattle.past_model.specs.History.{IsHistory, NoRestart};
 ghost use Rattle.past_model.specs.Shown.{IsClosed, IsContext, IsObjectOf, Shows};
 ghost use Rattle.past_model.specs.Arisen.{IsArisen, IsBelow, IsLeastUpperBound, ReachesClosed, counter_of};
 
 /// What a node knows, what a read saw, what was sent, what a write had read, and what an image
 /// holds is a closed set of writes.
 pub fn what_the_past_reaches_is_closed()
-    ensures { (hs : List H) → RestartsKeepOwnWrites hs → (k : Key) → ReachesClosed hs k }
+    ensures { (hs : List H) → IsHistory hs → (k : Key) → ReachesClosed hs k }
 {}
 
 /// A closed set of writes has an object, and only one; the empty set has the absent object. It
 /// stays the object of that set while the history goes on.
 pub fn a_closed_set_has_one_object()
-    ensures exists { (hs : List H) → RestartsKeepOwnWrites hs
+    ensures exists { (hs : List H) → IsHistory hs
         → (k : Key) (S : Places) → IsClosed (writes hs) k S
         → (object : List Entry) × IsObjectOf (writes hs) k S object }
     ensures absent { (hs : List H) (k : Key) → IsObjectOf (writes hs) k empty [] }
@@ -57,7 +56,7 @@ pub fn an_object_with_a_write_shows_a_value()
 
 /// Merging the objects of two closed sets gives the object of their union.
 pub fn merging_is_union()
-    ensures { (hs : List H) → RestartsKeepOwnWrites hs → (k : Key) (S T : Places) (a b : List Entry)
+    ensures { (hs : List H) → IsHistory hs → (k : Key) (S T : Places) (a b : List Entry)
         → IsObjectOf (writes hs) k S a → IsObjectOf (writes hs) k T b
         → IsObjectOf (writes hs) k (union S T) (sync a b) }
 {}
@@ -83,7 +82,7 @@ pub fn merging_is_the_least_upper_bound()
 /// A context descends another exactly where the other's set is a subset, and so exactly where the
 /// other object is below.
 pub fn descending_is_inclusion()
-    ensures sets { (hs : List H) → RestartsKeepOwnWrites hs
+    ensures sets { (hs : List H) → IsHistory hs
         → (k : Key) (S T : Places) (a b : List Entry)
         → IsObjectOf (writes hs) k S a → IsObjectOf (writes hs) k T b
         → (descends (join b) (join a) ≡ true) ↔ IsSubset S T }
@@ -93,7 +92,7 @@ pub fn descending_is_inclusion()
 
 /// Closed sets with equal contexts are equal, and so are their objects.
 pub fn the_context_determines_the_set()
-    ensures set { (hs : List H) → RestartsKeepOwnWrites hs
+    ensures set { (hs : List H) → IsHistory hs
         → (k : Key) (S T : Places) (a b : List Entry)
         → IsObjectOf (writes hs) k S a → IsObjectOf (writes hs) k T b → join a ≡ join b
         → (p : ℕ) → S p ≡ T p }
@@ -105,7 +104,7 @@ pub fn the_context_determines_the_set()
 pub fn a_delivery_adds_what_was_sent()
     ensures known { (hs : List H) (n i : ℕ) (k : Key)
         → known (hs ++ Got n i ∷ []) n k ≡ union (known hs n k) (load hs i k) }
-    ensures object { (hs : List H) → RestartsKeepOwnWrites hs
+    ensures object { (hs : List H) → IsHistory hs
         → (n i : ℕ) (k : Key) (a b : List Entry)
         → IsObjectOf (writes hs) k (known hs n k) a → IsObjectOf (writes hs) k (load hs i k) b
         → IsObjectOf (writes (hs ++ Got n i ∷ [])) k (known (hs ++ Got n i ∷ []) n k) (sync a b) }
@@ -118,12 +117,12 @@ pub fn a_write_adds_what_it_read_and_itself()
     ensures known { (hs : List H) (n : ℕ) (k : Key) (v : ValueParts) (r : Option ℕ)
         → known (hs ++ Wrote n k v r ∷ []) n k
         ≡ union (known hs n k) (union (read hs k r) (singleton (length hs))) }
-    ensures object { (hs : List H) → RestartsKeepOwnWrites hs
+    ensures object { (hs : List H) → IsHistory hs
         → (n : ℕ) (k : Key) (v : ValueParts) (r : Option ℕ) (a b : List Entry)
         → IsObjectOf (writes hs) k (known hs n k) a → IsObjectOf (writes hs) k (read hs k r) b
         → IsObjectOf (writes (hs ++ Wrote n k v r ∷ [])) k (known (hs ++ Wrote n k v r ∷ []) n k)
         (update (join b) a (writer_of (past hs) n) v) }
-    ensures counter { (hs : List H) → RestartsKeepOwnWrites hs
+    ensures counter { (hs : List H) → IsHistory hs
         → (n : ℕ) (k : Key) (v : ValueParts) (r : Option ℕ) (a b : List Entry)
         → IsObjectOf (writes hs) k (known hs n k) a → IsObjectOf (writes hs) k (read hs k r) b
         → count_of (update (join b) a (writer_of (past hs) n) v) (writer_of (past hs) n)
@@ -132,9 +131,18 @@ pub fn a_write_adds_what_it_read_and_itself()
 
 /// Two writes of one writer under one key have unequal counters.
 pub fn no_two_writes_share_a_counter()
-    ensures { (hs : List H) → RestartsKeepOwnWrites hs → (n m : ℕ) (k : Key)
+    ensures { (hs : List H) → IsHistory hs → (n m : ℕ) (k : Key)
         → (before after earlier later : List H) (v u : ValueParts) (r q : Option ℕ)
         → hs ≡ before ++ Wrote n k v r ∷ after → hs ≡ earlier ++ Wrote m k u q ∷ later
         → writer_of (past before) n ≡ writer_of (past earlier) m
         → counter_of before n k v r ≡ counter_of earlier m k u q → before ≡ earlier }
+{}
+
+/// No incarnation number is used twice by a node: at two places of a history a node, and only it, is
+/// the same writer exactly where it did not restart between them.
+pub fn no_incarnation_is_used_twice()
+    ensures { (before between after : List H) → IsHistory (before ++ between ++ after)
+        → (n m : ℕ)
+        → (writer_of (past before) n ≡ writer_of (past (before ++ between)) m)
+        ↔ ((n ≡ m) × NoRestart n between) }
 {}

@@ -1,21 +1,23 @@
 //! What each node knows and shows after a history, by sets of places. It is slow, and it is what
 //! the arithmetic of clocks is compared with.
 
-ghost use Rattle.std.specs.Prelude.{◌≡◌, ◌<◌, ◌&&◌, ◌++◌, ◌∷◌, [], ◌==◌, ℕ, true, if◌then◌else◌, not, length, map, filter, slice_get, take, Some, Option, IfOk, OnOk};
+ghost use Rattle.std.specs.Prelude.{◌≡◌, ◌<◌, ◌≤◌, ◌+◌, ◌&&◌, ◌++◌, ◌∷◌, [], ◌==◌, ℕ, true, if◌then◌else◌, not, length, map, filter, slice_get, take, Some, Option, IfOk, OnOk};
 ghost use Rattle.std.specs.List.{list_any};
 ghost use Rattle.meta_types.specs.Node.{IsNode};
 ghost use Rattle.meta_types.specs.Value.{ValueParts};
 ghost use Rattle.past_model.specs.declared.happening.Happening.{Happening as H};
 ghost use Rattle.past_model.specs.declared.happening.Happening.TheVariants.{Wrote};
-ghost use Rattle.past_model.specs.Past.{Past, known, read, writes};
-ghost use Rattle.past_model.specs.History.{IsHistory};
+ghost use Rattle.past_model.specs.Past.{Past, known, past, read, writer_of, writes};
+ghost use Rattle.past_model.specs.History.{IsHistory, most_restarts};
 ghost use Rattle.past_model.specs.Shown.{ArePlaces, IsContext, Shows, count_in, is_sibling, siblings_by, was_read};
-ghost use Rattle.past_model.specs.Moment.{IsAccount, is_write_under, marked_places, node_of, writes_of_happening};
+ghost use Rattle.past_model.specs.Moment.{AreWriters, IsAccount, lives_of, is_write_under, marked_places, node_of, writes_of_happening};
 
 use crate::happening::Happening;
+use crate::history::restarts;
 use crate::moment::{Moment, account, is_marked, is_write_under, latest, moment_read, under};
 use dvvset::{Counter, Vector};
-use meta_types::{MetaKey, NodeId, Value};
+use meta_types::node::MAX_NODES;
+use meta_types::{Actor, MetaKey, NodeId, Value};
 use std::alloc::{AllocError, Global};
 use std::marker::Model;
 
@@ -131,11 +133,44 @@ fn siblings(
     ensures { IfOk result (λ values. Shows (writes history.now)
         (marked_places marks.now) values.items) }
 {
+    let writers = writers(alloc, history)?;
     let mut values = Vec::new(alloc);
-    for writer in 0..16 {
-        push_siblings(&mut values, history, moments, marks, key, writer)?;
+    for writer in &writers {
+        push_siblings(&mut values, history, moments, marks, key, *writer)?;
     }
     Ok(values)
+}
+
+/// Each node in each of its lives, rising.
+fn writers(alloc: Global, history: &[Happening]) -> Result<Vec<Actor>, AllocError>
+    requires history { IsHistory history.now }
+    requires nodes { (p : ℕ) (h : H) → slice_get history.now p ≡ Some h → IsNode (node_of h) }
+    ensures { IfOk result (λ writers. AreWriters (writes history.now) writers.items) }
+{
+    let mut writers = Vec::new(alloc);
+    for number in 0..MAX_NODES {
+        push_lives(&mut writers, history, number)?;
+    }
+    Ok(writers)
+}
+
+/// A node in each of its lives, rising.
+fn push_lives(
+    writers: &mut Vec<Actor>,
+    history: &[Happening],
+    number: u16,
+) -> Result<(), AllocError>
+    requires history { IsHistory history.now }
+    requires node { IsNode number }
+    ensures { OnOk result (writers.new.items
+        ≡ writers.old.items ++ lives_of number ((past history.now).restarts number + 1)) }
+{
+    if let Ok(node) = NodeId::new(number) {
+        for life in 0..incarnation(history, node) {
+            writers.push(Actor::new(node, life + 1))?;
+        }
+    }
+    Ok(())
 }
 
 /// The values of one writer's siblings, the later first.
@@ -145,7 +180,7 @@ fn push_siblings(
     moments: &[Moment],
     marks: &[bool],
     key: &MetaKey,
-    writer: u16,
+    writer: Actor,
 ) -> Result<(), AllocError>
     requires account { IsAccount history.now moments.now }
     requires of_key { (p : ℕ) → marked_places marks.now p ≡ true
@@ -156,22 +191,27 @@ fn push_siblings(
     for back in 0..history.len() {
         let place = history.len() - 1 - back;
         if is_sibling(history, moments, marks, key, place) {
-            push_by(values, &history[place], writer)?;
+            push_by(values, &history[..place], &history[place], writer)?;
         }
     }
     Ok(())
 }
 
 /// The value of a write by that writer.
-fn push_by(values: &mut Vec<Value>, happening: &Happening, writer: u16) -> Result<(), AllocError>
-    ensures { OnOk result ((s : Past)
-        → values.new.items ≡ values.old.items
+fn push_by(
+    values: &mut Vec<Value>,
+    before: &[Happening],
+    happening: &Happening,
+    writer: Actor,
+) -> Result<(), AllocError>
+    requires { IsHistory before.now }
+    ensures { OnOk result (values.new.items ≡ values.old.items
         ++ map (λ x. x.value) (filter (λ x. x.writer == writer)
-        (writes_of_happening s happening.now))) }
+        (writes_of_happening (past before.now) happening.now))) }
 {
     match happening {
         Happening::Wrote { node, value, .. } => {
-            if node.number() == writer {
+            if writer_of(before, *node) == writer {
                 values.push(value.copy()?)?;
             }
             Ok(())
@@ -250,38 +290,38 @@ fn had_read(
 }
 
 fn context(alloc: Global, history: &[Happening], marks: &[bool]) -> Result<Vector, AllocError>
-    requires { (p : ℕ) (h : H) → slice_get history.now p ≡ Some h → IsNode (node_of h) }
+    requires history { IsHistory history.now }
+    requires nodes { (p : ℕ) (h : H) → slice_get history.now p ≡ Some h → IsNode (node_of h) }
     ensures { IfOk result (λ vector. IsContext (writes history.now)
         (marked_places marks.now) vector) }
 {
+    let writers = writers(alloc, history)?;
     let mut counters = Vec::new(alloc);
-    for writer in 0..16 {
-        push_counter(&mut counters, writer, count(history, marks, writer))?;
+    for writer in &writers {
+        push_counter(&mut counters, *writer, count(history, marks, *writer))?;
     }
     Ok(Vector::new(counters))
 }
 
 /// A counter, where there is something to count.
-fn push_counter(counters: &mut Vec<Counter>, writer: u16, count: u64) -> Result<(), AllocError>
-    requires { IsNode writer }
+fn push_counter(counters: &mut Vec<Counter>, writer: Actor, count: u64) -> Result<(), AllocError>
     ensures { OnOk result (counters.new.items ≡ counters.old.items
         ++ (if count == 0 then [] else (record { id = writer; count = count }) ∷ [])) }
 {
     if count > 0 {
-        if let Ok(writer) = NodeId::new(writer) {
-            counters.push(Counter::new(writer, count))?;
-        }
+        counters.push(Counter::new(writer, count))?;
     }
     Ok(())
 }
 
 /// How many writes of the set are by that writer.
-fn count(history: &[Happening], marks: &[bool], writer: u16) -> u64
+fn count(history: &[Happening], marks: &[bool], writer: Actor) -> u64
+    requires { IsHistory history.now }
     ensures { result ≡ count_in (writes history.now) (marked_places marks.now) writer }
 {
     let mut count = 0;
     for (place, happening) in history.iter().enumerate() {
-        if is_marked(marks, place) && is_write_by(happening, writer) {
+        if is_marked(marks, place) && is_write_by(&history[..place], happening, writer) {
             count += 1;
         }
     }
@@ -289,16 +329,34 @@ fn count(history: &[Happening], marks: &[bool], writer: u16) -> u64
 }
 
 /// Returns whether it is a write by that writer.
-fn is_write_by(happening: &Happening, writer: u16) -> bool
-    ensures { (s : Past) → result
-        ≡ list_any (λ x. x.writer == writer) (writes_of_happening s happening.now) }
+fn is_write_by(before: &[Happening], happening: &Happening, writer: Actor) -> bool
+    requires { IsHistory before.now }
+    ensures { result ≡ list_any (λ x. x.writer == writer)
+        (writes_of_happening (past before.now) happening.now) }
 {
     match happening {
-        Happening::Wrote { node, .. } => node.number() == writer,
+        Happening::Wrote { node, .. } => writer_of(before, *node) == writer,
         Happening::Looked { .. } => false,
         Happening::Sent { .. } => false,
         Happening::Got { .. } => false,
         Happening::Kept { .. } => false,
         Happening::Restarted { .. } => false,
     }
+}
+
+/// The writer of a write that the node makes after these happenings.
+fn writer_of(before: &[Happening], node: NodeId) -> Actor
+    requires { IsHistory before.now }
+    ensures { result ≡ writer_of (past before.now) node }
+{
+    Actor::new(node, incarnation(before, node))
+}
+
+/// The incarnation that the node has after these happenings: 1 in its first life.
+fn incarnation(before: &[Happening], node: NodeId) -> u32
+    requires { IsHistory before.now }
+    ensures value { result ≡ (past before.now).restarts node + 1 }
+    ensures few { result ≤ most_restarts + 1 }
+{
+    restarts(before, node) as u32 + 1
 }

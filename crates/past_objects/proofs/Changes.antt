@@ -13,7 +13,7 @@ use Rattle.past_model.proofs.Keys.{key_eq-true, key_eq-self}
 use Rattle.past_model.proofs.Sound.{set_at-here}
 use Rattle.past_model.proofs.Walking.{set_at-other}
 use Rattle.past_objects.specs.Objects.{Objects, Holding, holds_nothing, with_held, sync_by_key, start, writer_of, read_of, happens, run, objects}
-use Rattle.past_objects.specs.Laws.{Stays, Becomes, Gains, MakesNoImage, MakesImage, AfterWrite, AfterLook, AfterSending, AfterDelivery, AfterKeeping, AfterRestart}
+use Rattle.past_objects.specs.Laws.{Stays, Becomes, Gains, MakesNoImage, MakesImage, StayInLife, BeginsLife, AfterWrite, AfterLook, AfterSending, AfterDelivery, AfterKeeping, AfterRestart}
 
 -- ---- lists in two parts
 
@@ -119,6 +119,18 @@ makes_image hs h n k made =
       standing = subst (λ o. Becomes (objects hs).standing o.standing n (o.images n ((objects hs).last n + 1))) (sym (objects_snoc hs h)) standing;
     }
 
+-- ---- lives
+
+same_lives : (hs : List Happening) (h : Happening) → (happens (objects hs) h).restarts ≡ (objects hs).restarts → StayInLife hs h
+same_lives hs h e = record { same = λ m. ap (λ o. o.restarts m + 1) (objects_snoc hs h) ∙ ap (λ f. f m + 1) e }
+
+next_life : (hs : List Happening) (n j : ℕ) → BeginsLife hs (Restarted n j) n
+next_life hs n j = record {
+  next = ap (λ o. o.restarts n + 1) (objects_snoc hs (Restarted n j)) ∙ ap (λ x. x + 1) (set_at-here (objects hs).restarts n ((objects hs).restarts n + 1));
+  others = λ m ne. ap (λ o. o.restarts m + 1) (objects_snoc hs (Restarted n j))
+      ∙ ap (λ x. x + 1) (set_at-other (objects hs).restarts n m ((objects hs).restarts n + 1) (λ e. ne (sym e)));
+}
+
 -- ---- the six happenings
 
 pub after_write : (hs : List Happening) (n : ℕ) (k : Key) (v : ValueParts) (r : Option ℕ) → AfterWrite hs n k v r
@@ -127,6 +139,7 @@ after_write hs n k v r = record {
   seen = stays_by (λ o. o.seen) hs (Wrote n k v r) refl;
   sent = stays_by (λ o. o.load) hs (Wrote n k v r) refl;
   image = makes_image hs (Wrote n k v r) n k (record { last = refl; images = refl; standing = refl });
+  lives = same_lives hs (Wrote n k v r) refl;
 }
 
 pub after_look : (hs : List Happening) (n : ℕ) (k : Key) → AfterLook hs n k
@@ -135,6 +148,7 @@ after_look hs n k = record {
   seen = gains_at_place (λ o. o.seen) hs (Looked n k) k ((objects hs).held n k) refl;
   sent = stays_by (λ o. o.load) hs (Looked n k) refl;
   image = no_image hs (Looked n k) refl refl;
+  lives = same_lives hs (Looked n k) refl;
   standing = stays_by (λ o. o.standing) hs (Looked n k) refl;
 }
 
@@ -144,6 +158,7 @@ after_sending hs n k = record {
   seen = stays_by (λ o. o.seen) hs (Sent n k) refl;
   sent = gains_at_place (λ o. o.load) hs (Sent n k) k ((objects hs).held n k) refl;
   image = no_image hs (Sent n k) refl refl;
+  lives = same_lives hs (Sent n k) refl;
   standing = stays_by (λ o. o.standing) hs (Sent n k) refl;
 }
 
@@ -153,6 +168,7 @@ after_delivery hs n i = record {
   seen = stays_by (λ o. o.seen) hs (Got n i) refl;
   sent = stays_by (λ o. o.load) hs (Got n i) refl;
   image = no_image hs (Got n i) refl refl;
+  lives = same_lives hs (Got n i) refl;
   standing = stays_by (λ o. o.standing) hs (Got n i) refl;
 }
 
@@ -162,6 +178,7 @@ after_keeping hs n k = record {
   seen = stays_by (λ o. o.seen) hs (Kept n k) refl;
   sent = stays_by (λ o. o.load) hs (Kept n k) refl;
   image = makes_image hs (Kept n k) n k (record { last = refl; images = refl; standing = refl });
+  lives = same_lives hs (Kept n k) refl;
 }
 
 pub after_restart : (hs : List Happening) (n j : ℕ) → AfterRestart hs n j
@@ -170,5 +187,6 @@ after_restart hs n j = record {
   seen = stays_by (λ o. o.seen) hs (Restarted n j) refl;
   sent = stays_by (λ o. o.load) hs (Restarted n j) refl;
   image = no_image hs (Restarted n j) refl refl;
+  lives = next_life hs n j;
   standing = becomes_by (λ o. o.standing) hs (Restarted n j) n ((objects hs).images n j) refl;
 }

@@ -17,6 +17,7 @@ use Rattle.past_objects.specs.Objects as machine
 pub record Paired (Q : Key → Places → List Entry → Type 0) (s : Past) (o : Objects) : Type 0 where
   pub next : o.next ≡ s.next
   pub last : o.last ≡ s.last
+  pub restarts : o.restarts ≡ s.restarts
   pub known : (n : ℕ) (k : Key) → Q k (s.known n k) (o.held n k)
   pub seen : (p : ℕ) (k : Key) → Q k (s.seen p k) (o.seen p k)
   pub load : (p : ℕ) (k : Key) → Q k (s.load p k) (o.load p k)
@@ -55,6 +56,7 @@ imaged-pairs Q s o n k all =
     record {
       next = all.next;
       last = λ i. set_at (all.last i) n (all.last i n + 1);
+      restarts = all.restarts;
       known = all.known;
       seen = all.seen;
       load = all.load;
@@ -78,6 +80,7 @@ knows_write-pairs Q s o n k v r all new =
     record {
       next = all.next;
       last = all.last;
+      restarts = all.restarts;
       known = set_at-pairs Q s.known o.held n (with_set (s.known n) k (after_write s n k r)) (with_held (o.held n) k (held_after_write o n k v r)) all.known
           (with_set-pairs Q (s.known n) (o.held n) k (after_write s n k r) (held_after_write o n k v r) (all.known n) new);
       seen = all.seen;
@@ -92,6 +95,7 @@ Paired-weaken Q R s o weaker all =
     record {
       next = all.next;
       last = all.last;
+      restarts = all.restarts;
       known = λ n k. weaker k (s.known n k) (o.held n k) (all.known n k);
       seen = λ p k. weaker k (s.seen p k) (o.seen p k) (all.seen p k);
       load = λ p k. weaker k (s.load p k) (o.load p k) (all.load p k);
@@ -122,6 +126,7 @@ Paired-happens Q merging s o (Wrote n k v r) all new =
     record {
       next = ap (λ p. p + 1) all.next;
       last = after.last;
+      restarts = after.restarts;
       known = after.known;
       seen = after.seen;
       load = after.load;
@@ -132,6 +137,7 @@ Paired-happens Q merging s o (Looked n k) all new =
     record {
       next = ap (λ p. p + 1) all.next;
       last = all.last;
+      restarts = all.restarts;
       known = all.known;
       seen = set_at-pairs-at Q s.seen o.seen s.next o.next (with_set knows_nothing k (s.known n k)) (with_held machine.holds_nothing k (o.held n k)) all.next all.seen
           (with_set-pairs Q knows_nothing machine.holds_nothing k (s.known n k) (o.held n k) merging.none (all.known n k));
@@ -143,6 +149,7 @@ Paired-happens Q merging s o (Sent n k) all new =
     record {
       next = ap (λ p. p + 1) all.next;
       last = all.last;
+      restarts = all.restarts;
       known = all.known;
       seen = all.seen;
       load = set_at-pairs-at Q s.load o.load s.next o.next (with_set knows_nothing k (s.known n k)) (with_held machine.holds_nothing k (o.held n k)) all.next all.load
@@ -154,6 +161,7 @@ Paired-happens Q merging s o (Got n i) all new =
     record {
       next = ap (λ p. p + 1) all.next;
       last = all.last;
+      restarts = all.restarts;
       known = set_at-pairs Q s.known o.held n (union_by_key (s.known n) (s.load i)) (sync_by_key (o.held n) (o.load i)) all.known
           (λ l. merging.both l (s.known n l) (s.load i l) (o.held n l) (o.load i l) (all.known n l) (all.load i l));
       seen = all.seen;
@@ -166,6 +174,7 @@ Paired-happens Q merging s o (Kept n k) all new =
     record {
       next = ap (λ p. p + 1) all.next;
       last = after.last;
+      restarts = after.restarts;
       known = after.known;
       seen = after.seen;
       load = after.load;
@@ -176,6 +185,7 @@ Paired-happens Q merging s o (Restarted n j) all new =
     record {
       next = ap (λ p. p + 1) all.next;
       last = all.last;
+      restarts = λ i. set_at (all.restarts i) n (all.restarts i n + 1);
       known = set_at-pairs Q s.known o.held n (s.images n j) (o.images n j) all.known (all.images n j);
       seen = all.seen;
       load = all.load;
@@ -188,6 +198,7 @@ Paired-start Q merging =
     record {
       next = refl;
       last = refl;
+      restarts = refl;
       known = λ n k. merging.none k;
       seen = λ p k. merging.none k;
       load = λ p k. merging.none k;

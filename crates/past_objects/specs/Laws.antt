@@ -8,7 +8,7 @@ use Rattle.dvvset.specs.Object.{Entry}
 use Rattle.dvvset.specs.Clock.{join, sync, update}
 use Rattle.past_model.specs.declared.happening.Happening.{Happening}
 use Rattle.past_model.specs.declared.happening.Happening.TheVariants.{Wrote, Looked, Sent, Got, Kept, Restarted}
-use Rattle.past_objects.specs.Objects.{Holding, holds_nothing, held_object, seen_object, sent_object, read_object, writer, last_image, image_object, standing_object}
+use Rattle.past_objects.specs.Objects.{Holding, holds_nothing, held_object, seen_object, sent_object, object_of_read, incarnation, writer, last_image, image_object, standing_object}
 
 -- ---- changes
 
@@ -46,6 +46,15 @@ pub record MakesImage (hs : List Happening) (h : Happening) (n : ℕ) (k : Key) 
   pub standing : Becomes (standing_object hs) (standing_object (hs ++ h ∷ [])) n
       (image_object (hs ++ h ∷ []) n (last_image hs n + 1))
 
+-- each node stays in the life that it is in
+pub record StayInLife (hs : List Happening) (h : Happening) : Type 0 where
+  pub same : (m : ℕ) → incarnation (hs ++ h ∷ []) m ≡ incarnation hs m
+
+-- the node begins its next life, and no other node does
+pub record BeginsLife (hs : List Happening) (h : Happening) (n : ℕ) : Type 0 where
+  pub next : incarnation (hs ++ h ∷ []) n ≡ incarnation hs n + 1
+  pub others : (m : ℕ) → m ≢ n → incarnation (hs ++ h ∷ []) m ≡ incarnation hs m
+
 -- ---- the six happenings
 
 -- the node holds under the key what it held with the write added, which had read that object, and
@@ -53,10 +62,11 @@ pub record MakesImage (hs : List Happening) (h : Happening) (n : ℕ) (k : Key) 
 pub record AfterWrite (hs : List Happening) (n : ℕ) (k : Key) (v : ValueParts)
     (r : Option ℕ) : Type 0 where
   pub holds : Gains (held_object hs) (held_object (hs ++ Wrote n k v r ∷ [])) n k
-      (update (join (read_object hs k r)) (held_object hs n k) (writer hs n) v) (held_object hs n)
+      (update (join (object_of_read hs k r)) (held_object hs n k) (writer hs n) v) (held_object hs n)
   pub seen : Stays (seen_object hs) (seen_object (hs ++ Wrote n k v r ∷ []))
   pub sent : Stays (sent_object hs) (sent_object (hs ++ Wrote n k v r ∷ []))
   pub image : MakesImage hs (Wrote n k v r) n k
+  pub lives : StayInLife hs (Wrote n k v r)
 
 -- at the place of the look stands what the node holds under the key, and nothing under any other
 pub record AfterLook (hs : List Happening) (n : ℕ) (k : Key) : Type 0 where
@@ -65,6 +75,7 @@ pub record AfterLook (hs : List Happening) (n : ℕ) (k : Key) : Type 0 where
       (held_object hs n k) holds_nothing
   pub sent : Stays (sent_object hs) (sent_object (hs ++ Looked n k ∷ []))
   pub image : MakesNoImage hs (Looked n k)
+  pub lives : StayInLife hs (Looked n k)
   pub standing : Stays (standing_object hs) (standing_object (hs ++ Looked n k ∷ []))
 
 -- at the place of the sending stands what the node holds under the key, and nothing under any other
@@ -74,6 +85,7 @@ pub record AfterSending (hs : List Happening) (n : ℕ) (k : Key) : Type 0 where
   pub sent : Gains (sent_object hs) (sent_object (hs ++ Sent n k ∷ [])) (length hs) k
       (held_object hs n k) holds_nothing
   pub image : MakesNoImage hs (Sent n k)
+  pub lives : StayInLife hs (Sent n k)
   pub standing : Stays (standing_object hs) (standing_object (hs ++ Sent n k ∷ []))
 
 -- the node holds under each key the merge of what it held and what was sent
@@ -83,6 +95,7 @@ pub record AfterDelivery (hs : List Happening) (n i : ℕ) : Type 0 where
   pub seen : Stays (seen_object hs) (seen_object (hs ++ Got n i ∷ []))
   pub sent : Stays (sent_object hs) (sent_object (hs ++ Got n i ∷ []))
   pub image : MakesNoImage hs (Got n i)
+  pub lives : StayInLife hs (Got n i)
   pub standing : Stays (standing_object hs) (standing_object (hs ++ Got n i ∷ []))
 
 -- the node makes an image
@@ -91,13 +104,15 @@ pub record AfterKeeping (hs : List Happening) (n : ℕ) (k : Key) : Type 0 where
   pub seen : Stays (seen_object hs) (seen_object (hs ++ Kept n k ∷ []))
   pub sent : Stays (sent_object hs) (sent_object (hs ++ Kept n k ∷ []))
   pub image : MakesImage hs (Kept n k) n k
+  pub lives : StayInLife hs (Kept n k)
 
--- the node holds what the image has, and its images start from that
+-- the node holds what the image has, its images start from that, and its next life begins
 pub record AfterRestart (hs : List Happening) (n j : ℕ) : Type 0 where
   pub holds : Becomes (held_object hs) (held_object (hs ++ Restarted n j ∷ [])) n
       (image_object hs n j)
   pub seen : Stays (seen_object hs) (seen_object (hs ++ Restarted n j ∷ []))
   pub sent : Stays (sent_object hs) (sent_object (hs ++ Restarted n j ∷ []))
   pub image : MakesNoImage hs (Restarted n j)
+  pub lives : BeginsLife hs (Restarted n j) n
   pub standing : Becomes (standing_object hs) (standing_object (hs ++ Restarted n j ∷ [])) n
       (image_object hs n j)

@@ -1,5 +1,6 @@
 -- What must be believed of the object machine, in the order in which to read it.
 -- names, values, clocks and the past, which the contracts of this crate speak of too
+pub use Rattle.meta_types.specs.Actor
 pub use Rattle.meta_types.specs.Name
 pub use Rattle.meta_types.specs.Value
 pub use Rattle.dvvset.specs.Object

@@ -4,6 +4,7 @@
 -- and `update` where it adds a write. It has no sets, no list of writes, and no counters of its
 -- own. The rule is our own.
 use Rattle.std.specs.Prelude.{ℕ, ◌+◌, if◌then◌else◌, List, [], ◌∷◌, Option, Some, None}
+use Rattle.meta_types.specs.Actor.{writer_number}
 use Rattle.meta_types.specs.Name.{Key}
 use Rattle.meta_types.specs.Value.{ValueParts}
 use Rattle.dvvset.specs.Object.{Entry}
@@ -37,6 +38,7 @@ pub record Objects : Type 0 where
   pub last : ℕ → ℕ  -- the number of a node's newest image
   pub images : ℕ → ℕ → Holding  -- of each node, by number
   pub standing : ℕ → Holding  -- of each node
+  pub restarts : ℕ → ℕ  -- how often a node has restarted
 
 abbrev pub start : Objects
 start = record {
@@ -47,11 +49,16 @@ start = record {
   last = λ n. 0;
   images = λ n j. holds_nothing;
   standing = λ n. holds_nothing;
+  restarts = λ n. 0;
 }
 
--- the writer of a write that the node makes now, as the past has it: today, the node
+-- the life that the node is in: its first is 1, and each restart begins the next
+abbrev pub incarnation_of : Objects → ℕ → ℕ
+incarnation_of o n = o.restarts n + 1
+
+-- the writer of a write that the node makes now: the node in the life that it is in
 abbrev pub writer_of : Objects → ℕ → ℕ
-writer_of o n = n
+writer_of o n = writer_number n (incarnation_of o n)
 
 -- the object that a write under the key has read: none, or what the Looked at place r saw
 abbrev pub read_of : Objects → Key → Option ℕ → List Entry
@@ -76,6 +83,15 @@ with_next_image n k o =
 abbrev pub holds_write : ℕ → Key → ValueParts → Option ℕ → Objects → Objects
 holds_write n k v r o = holds n k (update (join (read_of o k r)) (o.held n k) (writer_of o n) v) o
 
+-- the node holds what the image has, its images start from that, and its next life begins
+abbrev pub with_image_restored : ℕ → ℕ → Objects → Objects
+with_image_restored n j o =
+    record o {
+      held = set_at o.held n (o.images n j);
+      standing = set_at o.standing n (o.images n j);
+      restarts = set_at o.restarts n (o.restarts n + 1);
+    }
+
 -- what a happening changes, but for the next place
 abbrev pub happens_at : Objects → Happening → Objects
 happens_at o (Wrote n k v r) = with_next_image n k (holds_write n k v r o)
@@ -83,7 +99,7 @@ happens_at o (Looked n k) = record o { seen = set_at o.seen o.next (with_held ho
 happens_at o (Sent n k) = record o { load = set_at o.load o.next (with_held holds_nothing k (o.held n k)) }
 happens_at o (Got n i) = record o { held = set_at o.held n (sync_by_key (o.held n) (o.load i)) }
 happens_at o (Kept n k) = with_next_image n k o
-happens_at o (Restarted n j) = record o { held = set_at o.held n (o.images n j); standing = set_at o.standing n (o.images n j) }
+happens_at o (Restarted n j) = with_image_restored n j o
 
 abbrev pub happens : Objects → Happening → Objects
 happens o h = record (happens_at o h) { next = o.next + 1 }
@@ -109,10 +125,13 @@ abbrev pub sent_object : List Happening → ℕ → Key → List Entry
 sent_object hs p k = (objects hs).load p k
 
 -- the object that a write under the key would have read, were it made now and named r
-abbrev pub read_object : List Happening → Key → Option ℕ → List Entry
-read_object hs k r = read_of (objects hs) k r
+abbrev pub object_of_read : List Happening → Key → Option ℕ → List Entry
+object_of_read hs k r = read_of (objects hs) k r
 
--- the writer of a write that the node would make now
+-- the life that the node is in, and the writer of a write that it would make now
+abbrev pub incarnation : List Happening → ℕ → ℕ
+incarnation hs n = incarnation_of (objects hs) n
+
 abbrev pub writer : List Happening → ℕ → ℕ
 writer hs n = writer_of (objects hs) n
 

@@ -6,28 +6,28 @@ ghost use Rattle.meta_types.specs.Name.{Key};
 ghost use Rattle.meta_types.specs.Value.{ValueParts};
 ghost use Rattle.dvvset.specs.Object.{Entry};
 ghost use Rattle.dvvset.specs.Clock.{descends, join, sync, values_of};
-ghost use Rattle.dvvset.specs.Writer.{count_of};
 ghost use Rattle.past_model.specs.declared.happening.Happening.{Happening as H};
 ghost use Rattle.past_model.specs.declared.happening.Happening.TheVariants.{Got, Looked, Restarted, Sent, Wrote};
 ghost use Rattle.past_model.specs.Sets.{IsSubset};
-ghost use Rattle.past_model.specs.Past.{known, load, image, past, seen, writer_of, writes};
-ghost use Rattle.past_model.specs.History.{RestartsKeepOwnWrites};
+ghost use Rattle.past_model.specs.Past.{known, load, image, incarnation_of, past, seen, writer_of, writes};
+ghost use Rattle.past_model.specs.History.{IsHistory};
 ghost use Rattle.past_model.specs.Shown.{IsObjectOf};
-ghost use Rattle.past_objects.specs.Objects.{happens, held_object, image_object, last_image, objects, seen_object, sent_object, start, writer};
+ghost use Rattle.past_objects.specs.Objects.{happens, held_object, image_object, incarnation, last_image, objects, seen_object, sent_object, start, writer};
 ghost use Rattle.past_objects.specs.Laws.{AfterDelivery, AfterKeeping, AfterLook, AfterRestart, AfterSending, AfterWrite};
 
 /// What a node holds, what a read saw, what was sent, and what an image has are the objects of the
-/// sets of writes that the past has there. The machine's writers and its numbers of images are the
-/// past's.
+/// sets of writes that the past has there. The machine's lives, its writers and its numbers of
+/// images are the past's.
 pub fn each_object_is_that_of_its_set()
-    ensures held { (hs : List H) → RestartsKeepOwnWrites hs → (n : ℕ) (k : Key)
+    ensures held { (hs : List H) → IsHistory hs → (n : ℕ) (k : Key)
         → IsObjectOf (writes hs) k (known hs n k) (held_object hs n k) }
-    ensures seen { (hs : List H) → RestartsKeepOwnWrites hs → (p : ℕ) (k : Key)
+    ensures seen { (hs : List H) → IsHistory hs → (p : ℕ) (k : Key)
         → IsObjectOf (writes hs) k (seen hs p k) (seen_object hs p k) }
-    ensures sent { (hs : List H) → RestartsKeepOwnWrites hs → (p : ℕ) (k : Key)
+    ensures sent { (hs : List H) → IsHistory hs → (p : ℕ) (k : Key)
         → IsObjectOf (writes hs) k (load hs p k) (sent_object hs p k) }
-    ensures images { (hs : List H) → RestartsKeepOwnWrites hs → (n j : ℕ) (k : Key)
+    ensures images { (hs : List H) → IsHistory hs → (n j : ℕ) (k : Key)
         → IsObjectOf (writes hs) k (image hs n j k) (image_object hs n j k) }
+    ensures lives { (hs : List H) (n : ℕ) → incarnation hs n ≡ incarnation_of (past hs) n }
     ensures writers { (hs : List H) (n : ℕ) → writer hs n ≡ writer_of (past hs) n }
     ensures numbers { (hs : List H) (n : ℕ) → last_image hs n ≡ (past hs).last n }
 {}
@@ -50,34 +50,21 @@ pub fn the_machine_goes_on_with_each_happening()
 /// What was sent is stale for a node, by vectors, exactly where the node knows all that the sender
 /// knew; then merging it changes nothing.
 pub fn a_delivery_is_stale_where_it_is_known()
-    ensures exactly { (hs : List H) → RestartsKeepOwnWrites hs → (n i : ℕ) (k : Key)
+    ensures exactly { (hs : List H) → IsHistory hs → (n i : ℕ) (k : Key)
         → (descends (join (held_object hs n k)) (join (sent_object hs i k)) ≡ true)
         ↔ IsSubset (load hs i k) (known hs n k) }
-    ensures unchanged { (hs : List H) → RestartsKeepOwnWrites hs → (n i : ℕ) (k : Key)
+    ensures unchanged { (hs : List H) → IsHistory hs → (n i : ℕ) (k : Key)
         → descends (join (held_object hs n k)) (join (sent_object hs i k)) ≡ true
         → sync (held_object hs n k) (sent_object hs i k) ≡ held_object hs n k }
 {}
 
 /// What is held, what was sent, and the merge of both show a value, but for the absent object.
 pub fn what_is_held_shows_a_value()
-    ensures held { (hs : List H) → RestartsKeepOwnWrites hs → (n : ℕ) (k : Key)
+    ensures held { (hs : List H) → IsHistory hs → (n : ℕ) (k : Key)
         → held_object hs n k ≢ [] → values_of (held_object hs n k) ≢ [] }
-    ensures sent { (hs : List H) → RestartsKeepOwnWrites hs → (p : ℕ) (k : Key)
+    ensures sent { (hs : List H) → IsHistory hs → (p : ℕ) (k : Key)
         → sent_object hs p k ≢ [] → values_of (sent_object hs p k) ≢ [] }
-    ensures merged { (hs : List H) → RestartsKeepOwnWrites hs → (n p : ℕ) (k : Key)
+    ensures merged { (hs : List H) → IsHistory hs → (n p : ℕ) (k : Key)
         → sync (held_object hs n k) (sent_object hs p k) ≢ []
         → values_of (sync (held_object hs n k) (sent_object hs p k)) ≢ [] }
-{}
-
-/// The restart premise holds after a restart exactly where, under every key, the image counts at
-/// least as many of the node's own writes as the node does now. It holds at the start, and no other
-/// happening ends it.
-pub fn a_restart_keeps_own_writes_exactly_where_own_counters_stay()
-    ensures exactly { (hs : List H) → RestartsKeepOwnWrites hs → (n j : ℕ)
-        → RestartsKeepOwnWrites (hs ++ Restarted n j ∷ [])
-        ↔ ((k : Key) → count_of (held_object hs n k) (writer_of (past hs) n)
-        ≤ count_of (image_object hs n j k) (writer_of (past hs) n)) }
-    ensures first { RestartsKeepOwnWrites [] }
-    ensures others { (hs : List H) (h : H) → RestartsKeepOwnWrites hs
-        → ((n j : ℕ) → h ≢ Restarted n j) → RestartsKeepOwnWrites (hs ++ h ∷ []) }
 {}

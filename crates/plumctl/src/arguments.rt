@@ -30,7 +30,7 @@ const FRAME_HELP: &str =
 Spaces are skipped, and digits may be of either case. A carriage return is no digit.
 
 Example:
-  echo 50540104 0001 0000 0000000000000005 00000000 | plumctl frame
+  echo 50540204 0001 0000 0000000000000005 00000000 | plumctl frame
 prints
   PRUNE from 1 to 0 number 5
 

@@ -2,8 +2,13 @@
 use Rattle.std.specs.Prelude.{ℕ, ◌==◌, ◌&&◌, ◌||◌, nat_le, Bool, not, if◌then◌else◌, List, [], ◌++◌, length, Option, Some, None, codes, decimal}
 use Rattle.std.specs.List.{list_all}
 use Rattle.hex.specs.Hex.{encode_lower}
+use Rattle.meta_types.specs.Actor.{node_of_writer, incarnation_of_writer}
 use Rattle.meta_types.specs.Name.{Prefix, Key}
 use Rattle.meta_types.specs.Value.{ValueParts}
+
+-- who counts writes: its node and its incarnation, as `0.1`
+unfoldable pub actor_text : ℕ → List ℕ
+actor_text w = decimal (node_of_writer w) ++ codes "." ++ decimal (incarnation_of_writer w)
 
 abbrev between : ℕ → ℕ → ℕ → Bool
 between low high b = nat_le low b && nat_le b high

@@ -1,7 +1,7 @@
 -- Printed frames and refusals.
 use Rattle.std.specs.Prelude.{ℕ, List, [], ◌++◌, codes, decimal}
 use Rattle.meta_frame.specs.declared.message.Message.{Message}
-use Rattle.meta_frame.specs.declared.message.Message.TheVariants.{Gossip, IHave, Graft, Prune, Join, ForwardJoin, Disconnect, Neighbor, NeighborReply, Shuffle, ShuffleReply, XRoot, XPrefixes, XInner, XLeaves, XBucket, XObject, XWant}
+use Rattle.meta_frame.specs.declared.message.Message.TheVariants.{Gossip, IHave, Graft, Prune, Join, ForwardJoin, Disconnect, Neighbor, NeighborReply, Shuffle, ShuffleReply, XRoot, XPrefixes, XInner, XLeaves, XBucket, XObject, XWant, Hello, Bye}
 use Rattle.meta_frame.specs.declared.message.Frame.{Frame}
 use Rattle.frame_fields.specs.declared.neighbor.Priority.{Priority}
 use Rattle.frame_fields.specs.declared.neighbor.Priority.TheVariants.{Low, High}
@@ -50,6 +50,8 @@ message_text (XBucket p leaf rows) = codes " prefix " ++ prefix_text p ++ codes 
     ++ decimal leaf ++ codes " keys " ++ keys_text rows
 message_text (XObject k o) = codes " key " ++ key_text k ++ codes " " ++ object_text o
 message_text (XWant k) = codes " key " ++ key_text k
+message_text (Hello life) = codes " life " ++ decimal life
+message_text Bye = []
 
 -- as `PRUNE from 1 to 0 number 5`
 abbrev pub frame_text : Frame → List ℕ
@@ -61,7 +63,7 @@ abbrev pub offset_text : FrameFault → List ℕ
 offset_text (BadBody at) = codes " at " ++ decimal at
 offset_text fault = []
 
--- as `error 10 Short`, or `error 15 BadBody at 35`
+-- as `error 10 Short`, or `error 15 BadBody at 39`
 abbrev pub frame_fault_text : FrameFault → List ℕ
 frame_fault_text fault = codes "error " ++ decimal (code_of fault) ++ codes " " ++ fault_name fault
     ++ offset_text fault

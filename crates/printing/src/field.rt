@@ -1,10 +1,10 @@
 //! Numbers, names and values.
 
 ghost use Rattle.std.specs.Prelude.{◌≡◌, ◌++◌, OnOk, decimal};
-ghost use Rattle.printing.specs.Field.{is_plain, are_plain, bytes_text, prefix_text, key_text, stamp_text, value_text};
+ghost use Rattle.printing.specs.Field.{actor_text, is_plain, are_plain, bytes_text, prefix_text, key_text, stamp_text, value_text};
 
 use itoa::Buffer;
-use meta_types::{FullPrefix, MetaKey, NodeId, Value};
+use meta_types::{Actor, FullPrefix, MetaKey, NodeId, Value};
 use std::alloc::AllocError;
 
 /// Adds a number in decimal digits.
@@ -20,6 +20,16 @@ pub(crate) fn add_node(out: &mut Vec<u8>, node: NodeId) -> Result<(), AllocError
     ensures { OnOk result (out.new.items ≡ out.old.items ++ decimal node) }
 {
     add_number(out, u64::from(node.number()))
+}
+
+/// Adds who counts writes: its node and its incarnation, as `0.1`.
+#[tactic(auto, unfolding(crate::specs::Field::actor_text))]
+pub(crate) fn add_actor(out: &mut Vec<u8>, actor: Actor) -> Result<(), AllocError>
+    ensures { OnOk result (out.new.items ≡ out.old.items ++ actor_text actor) }
+{
+    add_node(out, actor.node())?;
+    out.extend_from_slice(b".")?;
+    add_number(out, u64::from(actor.incarnation()))
 }
 
 fn is_plain(byte: u8) -> bool

@@ -30,6 +30,8 @@ macro_rules! printed_kinds {
             XBucket { " prefix " prefix: prefix, " leaf " leaf: number, " keys " keys: keys }
             XObject { " key " key: key, " " object: object }
             XWant { " key " key: key }
+            Hello { " life " life: number }
+            Bye {}
         }
     };
 }
@@ -118,7 +120,7 @@ fn add_message(out: &mut Vec<u8>, message: &Message) -> Result<(), AllocError>
 }
 
 /// Adds a frame: the name of its kind, sender, addressee and number, and the fields of its message,
-/// as `GOSSIP from 0 to 1 number 1 round 0 key a/b/k ctx 0:1 values x`.
+/// as `GOSSIP from 0 to 1 number 1 round 0 key a/b/k ctx 0.1:1 values x`.
 pub(crate) fn add_frame(out: &mut Vec<u8>, frame: &Frame) -> Result<(), AllocError>
     ensures { OnOk result (out.new.items ≡ out.old.items ++ frame_text frame.now) }
 {
@@ -143,7 +145,7 @@ fn add_offset(out: &mut Vec<u8>, fault: &FrameFault) -> Result<(), AllocError>
     Ok(())
 }
 
-/// Adds why bytes are no frame, as `error 10 Short`, or `error 15 BadBody at 35` with the offset of
+/// Adds why bytes are no frame, as `error 10 Short`, or `error 15 BadBody at 39` with the offset of
 /// the field at fault in the frame.
 pub(crate) fn add_frame_fault(out: &mut Vec<u8>, fault: &FrameFault) -> Result<(), AllocError>
     ensures { OnOk result (out.new.items ≡ out.old.items ++ frame_fault_text fault.now) }

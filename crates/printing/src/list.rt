@@ -6,7 +6,7 @@ ghost use Rattle.printing.specs.Field.{value_text};
 ghost use Rattle.printing.specs.Joined.{separated, AddsTexts};
 ghost use Rattle.printing.specs.Object.{counter_text, vector_text, values_text, object_text};
 
-use crate::field::{add_node, add_number, add_value};
+use crate::field::{add_actor, add_number, add_value};
 use dvvset::{Counter, Entries, Entry, Vector, join};
 use meta_types::Value;
 use std::alloc::AllocError;
@@ -26,7 +26,7 @@ pub(crate) fn add_comma(out: &mut Vec<u8>, first: bool) -> Result<(), AllocError
 fn add_counter(out: &mut Vec<u8>, counter: Counter) -> Result<(), AllocError>
     ensures { OnOk result (out.new.items ≡ out.old.items ++ counter_text counter) }
 {
-    add_node(out, counter.id())?;
+    add_actor(out, counter.id())?;
     out.push(b':')?;
     add_number(out, counter.count())
 }
@@ -45,7 +45,7 @@ fn add_counters(out: &mut Vec<u8>, counters: &[Counter]) -> Result<(), AllocErro
     Ok(())
 }
 
-/// Adds a context, as `0:2,1:1`, or `-` for the one that has read nothing.
+/// Adds a context, as `0.1:2,1.1:1`, or `-` for the one that has read nothing.
 pub(crate) fn add_vector(out: &mut Vec<u8>, vector: &Vector) -> Result<(), AllocError>
     ensures { OnOk result (out.new.items ≡ out.old.items ++ vector_text vector.now) }
 {
@@ -82,7 +82,7 @@ fn add_entries(out: &mut Vec<u8>, entries: &[Entry]) -> Result<bool, AllocError>
     Ok(first)
 }
 
-/// Adds an object: its context, and the values that it shows, as `ctx 0:2 values y,x`. It takes
+/// Adds an object: its context, and the values that it shows, as `ctx 0.1:2 values y,x`. It takes
 /// memory for the context.
 pub(crate) fn add_object(out: &mut Vec<u8>, object: &Entries) -> Result<(), AllocError>
     ensures { OnOk result (out.new.items ≡ out.old.items ++ object_text object.now) }

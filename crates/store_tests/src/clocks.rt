@@ -1,6 +1,6 @@
-use crate::parts::{Count, LONGEST, Parts, SHORT, SIXTEEN, node, object, prints, value, vector};
+use crate::parts::{Count, LONGEST, Parts, SHORT, SIXTEEN, actor, object, prints, value, vector};
 use dvvset::{ClockFault, Entries, Vector, join, sync, update, values};
-use meta_types::NodeId;
+use meta_types::Actor;
 use std::alloc::Global;
 use std::process::Abort;
 
@@ -17,14 +17,14 @@ fn written_once(
     alloc: Global,
     read: &Vector,
     object: &Entries,
-    id: NodeId,
+    id: Actor,
 ) -> Result<Entries, ClockFault> {
     update(alloc, read, object, id, value(rt, alloc, SHORT, b'w'))
 }
 
 /// Writes w, and once more where memory was refused.
 fn written(rt: &impl Abort, alloc: Global, read: &Vector, object: &Entries, id: u16) -> Entries {
-    let id = node(rt, id);
+    let id = actor(rt, id);
     match written_once(rt, alloc, read, object, id) {
         Err(ClockFault::Memory) => written_once(rt, alloc, read, object, id),
         answer => answer,
@@ -132,7 +132,7 @@ fn is_joined(rt: &impl Abort, alloc: Global, object: &Entries) -> bool {
 
 fn is_written(rt: &impl Abort, alloc: Global, read: &Vector, object: &Entries) -> bool {
     let new = value(rt, alloc, LONGEST, b'w');
-    update(alloc, read, object, node(rt, 15), new).is_ok()
+    update(alloc, read, object, actor(rt, 15), new).is_ok()
 }
 
 /// Returns whether each call that takes memory succeeds on the object, which shows 992 values.

@@ -1,6 +1,6 @@
 //! The example of `dvvset`, with letters for values.
 
-use crate::parts::{self, SHORT, node, value};
+use crate::parts::{self, SHORT, actor, value};
 use dvvset::{Entries, Vector, join, sync, update, values};
 use std::alloc::Global;
 use std::process::Abort;
@@ -14,7 +14,7 @@ fn write(
     letter: u8,
 ) -> Entries {
     let value = value(rt, alloc, SHORT, letter);
-    update(alloc, read, object, node(rt, id), value).expect(rt, "a write")
+    update(alloc, read, object, actor(rt, id), value).expect(rt, "a write")
 }
 
 fn shows(rt: &impl Abort, alloc: Global, object: &Entries, letters: &[u8]) -> bool {

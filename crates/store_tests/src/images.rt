@@ -1,6 +1,6 @@
 use crate::parts::{LONGEST, Parts, SHORT, SIXTEEN, Sizes, key, node, object, value, values};
 use meta_store::{Merged, StoreFault};
-use meta_types::NodeId;
+use meta_types::Actor;
 use node_images::Node;
 use std::alloc::Global;
 use std::process::Abort;
@@ -15,7 +15,7 @@ fn write_once(
     name: u8,
     letter: u8,
 ) -> Result<(), StoreFault> {
-    let id: NodeId = node(rt, 0);
+    let id = Actor::new(node(rt, 0), at.incarnation());
     let (key, value) = (key(rt, alloc, sizes, name), value(rt, alloc, sizes, letter));
     let copy = match value.copy() {
         Ok(copy) => copy,
@@ -66,6 +66,7 @@ fn keep(rt: &impl Abort, alloc: Global, at: &mut Node, sizes: Sizes, name: u8) {
 
 fn restart(rt: &impl Abort, at: &mut Node, image: usize) {
     assert!(rt; image <= at.images().len());
+    assert!(rt; at.incarnation() < u32::MAX);
     let store = match at.restored(image) {
         Ok(store) => store,
         Err(_) => at.restored(image).expect(rt, "memory once more"),
@@ -95,6 +96,8 @@ enum Step {
     Shows(u8, &'static [u8]),
     /// How many images were made.
     Images(usize),
+    /// The life that the node is in.
+    Life(u32),
 }
 
 fn is_done(rt: &impl Abort, alloc: Global, at: &mut Node, step: Step) -> bool {
@@ -105,6 +108,7 @@ fn is_done(rt: &impl Abort, alloc: Global, at: &mut Node, step: Step) -> bool {
         Step::Restart(image) => restart(rt, at, image),
         Step::Shows(name, letters) => return shows(rt, alloc, at, name, letters),
         Step::Images(many) => return at.images().len() == many,
+        Step::Life(life) => return at.incarnation() == life,
     }
     true
 }
@@ -121,9 +125,11 @@ fn are_done(rt: &impl Abort, alloc: Global, steps: &[Step]) -> bool {
 #[test]
 fn a_write_changes_the_image_of_the_last_restart(rt: HostRuntime) {
     let steps = [
+        Step::Life(1),
         Step::Take(b'b', &[(1, 1, b"y")]),
         Step::Keep(b'b'),
         Step::Restart(0),
+        Step::Life(2),
         Step::Shows(b'b', b""),
         Step::Write(b'a', b'x'),
         Step::Images(2),

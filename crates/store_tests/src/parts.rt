@@ -4,7 +4,7 @@
 //! memory get their parts whichever single allocation is refused.
 
 use dvvset::{Counter, Entries, Entry, Vector};
-use meta_types::{FullPrefix, MetaKey, NodeId, Value};
+use meta_types::{Actor, FullPrefix, MetaKey, NodeId, Value};
 use std::alloc::Global;
 use std::fmt::Display;
 use std::process::Abort;
@@ -32,15 +32,16 @@ pub const LONGEST: Sizes = Sizes {
     body: 1_024,
 };
 
-/// A writer, its count, and the letters of the values of its newest events, newest first.
+/// A node in its first life, its count, and the letters of the values of its newest events, newest
+/// first.
 pub type Parts = (u16, u64, &'static [u8]);
 
-/// A writer and its count.
+/// A node in its first life, and its count.
 pub type Count = (u16, u64);
 
 const LETTERS: &[u8] = b"ABCDEFGHIJKLMNOPQRSTUVWXYZabcdefghijklmnopqrstuvwxyz0123456789";
 
-/// Of each of the 16 nodes 62 values. With bodies of 1,024 bytes that is 1,026,914 bytes in a
+/// Of each of the 16 nodes 62 values. With bodies of 1,024 bytes that is 1,026,978 bytes in a
 /// frame, which leaves room for another write.
 pub const SIXTEEN: [Parts; 16] = [
     (0, 100, LETTERS),
@@ -81,6 +82,11 @@ pub fn node(rt: &impl Abort, number: u16) -> NodeId {
     NodeId::new(number).expect(rt, "a node")
 }
 
+/// The node in its first life.
+pub fn actor(rt: &impl Abort, number: u16) -> Actor {
+    Actor::new(node(rt, number), 1)
+}
+
 /// The key of the letter, under a prefix of a's and a sub-prefix of b's.
 pub fn key(rt: &impl Abort, alloc: Global, sizes: Sizes, letter: u8) -> MetaKey {
     let prefix = text(rt, alloc, b'a', sizes.prefix);
@@ -108,7 +114,7 @@ pub fn values(rt: &impl Abort, alloc: Global, sizes: Sizes, letters: &[u8]) -> V
 
 fn entry(rt: &impl Abort, alloc: Global, sizes: Sizes, parts: Parts) -> Entry {
     let values = values(rt, alloc, sizes, parts.2);
-    Entry::new(node(rt, parts.0), parts.1, values)
+    Entry::new(actor(rt, parts.0), parts.1, values)
 }
 
 pub fn object(rt: &impl Abort, alloc: Global, sizes: Sizes, parts: &[Parts]) -> Entries {
@@ -125,7 +131,7 @@ pub fn object(rt: &impl Abort, alloc: Global, sizes: Sizes, parts: &[Parts]) -> 
 pub fn object_of(rt: &impl Abort, alloc: Global, count: u64, values: Vec<Value>) -> Entries {
     let mut entries = room(rt, alloc, 1);
     entries
-        .push(Entry::new(node(rt, 0), count, values))
+        .push(Entry::new(actor(rt, 0), count, values))
         .expect(rt, "room");
     Entries::from_parts(entries).expect(rt, "an object")
 }
@@ -134,7 +140,7 @@ pub fn vector(rt: &impl Abort, alloc: Global, counts: &[Count]) -> Vector {
     let mut counters = room(rt, alloc, counts.len());
     for (id, count) in counts {
         counters
-            .push(Counter::new(node(rt, *id), *count))
+            .push(Counter::new(actor(rt, *id), *count))
             .expect(rt, "room");
     }
     Vector::from_parts(counters).expect(rt, "a vector")

@@ -1,8 +1,8 @@
 //! Random histories, in which objects made by `update` and `sync` show what the sets of places do.
 
 use crate::parts::{self, SHORT, Sizes, key, node, room, value, vector};
-use dvvset::{Entries, Vector, count_of, join, sync, update, values};
-use meta_types::{MetaKey, NodeId, Value};
+use dvvset::{Counter, Entries, Vector, join, sync, update, values};
+use meta_types::{Actor, MetaKey, NodeId, Value};
 use past_model::{Happening, Plain, fits};
 use std::alloc::Global;
 use std::process::Abort;
@@ -143,6 +143,17 @@ fn images(rows: &[Row], node: u16) -> usize {
     images
 }
 
+/// The life that the node is in: each restart begins the next.
+fn life(rows: &[Row], node: u16) -> u32 {
+    let mut life = 1u32;
+    for row in rows {
+        if row.node == node && matches!(row.act, Act::Restarted(_)) {
+            life = life.saturating_add(1);
+        }
+    }
+    life
+}
+
 /// What the node's image of that number has, which is there.
 fn image(rows: &[Row], node: u16, number: usize) -> Pair {
     let mut left = number;
@@ -215,7 +226,8 @@ fn write(
     let read = read(rt, alloc, story, name, seen);
     let value = value(rt, alloc, story.sizes, letter(story.rows.len()));
     let held = object_at(rt, story, row.held.at(name));
-    let object = update(alloc, &read, held, node(rt, id), value).expect(rt, "a write");
+    let writer = Actor::new(node(rt, id), life(&story.rows, id));
+    let object = update(alloc, &read, held, writer, value).expect(rt, "a write");
     add_holding(rt, story, row, object);
 }
 
@@ -229,22 +241,13 @@ fn deliver(rt: &impl Abort, alloc: Global, story: &mut Story, id: u16, place: us
     add_holding(rt, story, row, object);
 }
 
-/// How many events of the node two objects know.
-fn own(rt: &impl Abort, story: &Story, id: u16, pair: Pair) -> (u64, u64) {
-    let (k, l) = (object_at(rt, story, pair.k), object_at(rt, story, pair.l));
-    let id = node(rt, id);
-    (count_of(k.entries(), id), count_of(l.entries(), id))
-}
-
-/// Restarts the node from its image of that number, if that has all its writes.
+/// Restarts the node from its image of that number.
 fn restart(rt: &impl Abort, story: &mut Story, id: u16, name: u8, number: usize) {
     let mut row = next(&story.rows, Act::Restarted(number), id, name);
     let image = image(&story.rows, id, number);
-    if own(rt, story, id, image) == own(rt, story, id, row.held) {
-        row.held = image;
-        row.standing = image;
-        add(rt, story, row);
-    }
+    row.held = image;
+    row.standing = image;
+    add(rt, story, row);
 }
 
 fn is_look_under(rows: &[Row], place: usize, name: u8) -> bool {
@@ -463,6 +466,30 @@ fn is_told(rt: &impl Abort, alloc: Global, plain: &Plain) -> bool {
             &key,
             &vector(rt, alloc, &[(0, 1), (1, 1)]),
         )
+}
+
+/// A write, a restart from the empty image, and a write of the next life.
+const WRITTEN_IN_TWO_LIVES: [(Act, u16); 3] = [
+    (Act::Wrote(None), 0),
+    (Act::Restarted(0), 0),
+    (Act::Wrote(None), 0),
+];
+
+#[test]
+fn a_write_of_the_next_life_has_a_counter_of_its_own(rt: HostRuntime) {
+    let alloc = rt.alloc();
+    let rows = rows(&rt, alloc, &WRITTEN_IN_TWO_LIVES);
+    let history = history(&rt, alloc, SHORT, &rows);
+    assert!(rt; fits(&history));
+    let plain = Plain::replay(alloc, &history).expect(&rt, "memory");
+    let mut counters = room(&rt, alloc, 1);
+    counters
+        .push(Counter::new(Actor::new(node(&rt, 0), 2), 1))
+        .expect(&rt, "room");
+    let second = Vector::from_parts(counters).expect(&rt, "a vector");
+    let (id, key) = (node(&rt, 0), key(&rt, alloc, SHORT, b'k'));
+    assert!(rt; is_known(alloc, &plain, id, &key, &[2]));
+    assert!(rt; is_context(alloc, &plain, id, &key, &second));
 }
 
 fn are_told(rt: &impl Abort, alloc: Global, history: &[Happening]) -> bool {

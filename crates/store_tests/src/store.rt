@@ -1,9 +1,10 @@
 use crate::parts::{
-    Count, LONGEST, Parts, SHORT, SIXTEEN, Sizes, key, node, object, object_of, prints, value,
-    values, vector,
+    Count, LONGEST, Parts, SHORT, SIXTEEN, Sizes, actor, key, node, object, object_of, prints,
+    value, values, vector,
 };
+use dvvset::{Entries, Entry};
 use meta_store::{Context, Merged, Source, Store, StoreFault};
-use meta_types::{MetaKey, Value};
+use meta_types::{Actor, MetaKey, Value};
 use std::alloc::Global;
 use std::process::Abort;
 
@@ -18,7 +19,7 @@ fn put_once(
     read: Option<&Context>,
 ) -> Result<(), StoreFault> {
     let (key, value) = (key(rt, alloc, SHORT, b'k'), value(rt, alloc, SHORT, letter));
-    store.put(node(rt, id), key, value, read)
+    store.put(actor(rt, id), key, value, read)
 }
 
 fn put(
@@ -71,7 +72,7 @@ fn shows(rt: &impl Abort, alloc: Global, store: &Store, letters: &[u8], counts: 
 /// A read at node 0 in step 7.
 fn source(rt: &impl Abort) -> Source {
     Source {
-        node: node(rt, 0),
+        actor: actor(rt, 0),
         step: 7,
     }
 }
@@ -219,29 +220,29 @@ fn long_values(rt: &impl Abort, alloc: Global, first: usize, longest: usize) -> 
 fn put_long(rt: &impl Abort, alloc: Global, store: &mut Store, len: usize) -> u16 {
     let sizes = Sizes { body: len, ..SHORT };
     let (key, value) = (key(rt, alloc, SHORT, b'k'), value(rt, alloc, sizes, b'y'));
-    number(store.put(node(rt, 0), key, value, None))
+    number(store.put(actor(rt, 0), key, value, None))
 }
 
-// 2 bytes for the number of entries, 12 for an entry, 11 for a value and its body: 1,013 values of
-// 1,024 bytes and one of 96 make 1,048,576 bytes.
+// 2 bytes for the number of entries, 16 for an entry, 11 for a value and its body: 1,013 values of
+// 1,024 bytes and one of 92 make 1,048,576 bytes.
 #[test]
 fn a_written_object_has_at_most_1048576_bytes(rt: HostRuntime) {
     let alloc = rt.alloc();
     let mut store = Store::new(alloc);
     let held = long_values(&rt, alloc, 1_024, 1_012);
     take_values(&rt, alloc, &mut store, held).expect(&rt, "a merge");
-    assert_eq!(rt; put_long(&rt, alloc, &mut store, 97), 27);
-    assert_eq!(rt; put_long(&rt, alloc, &mut store, 96), 0);
+    assert_eq!(rt; put_long(&rt, alloc, &mut store, 93), 27);
+    assert_eq!(rt; put_long(&rt, alloc, &mut store, 92), 0);
 }
 
-// As above: 15,458 values of 1,024 bytes and one of 945 make 16,000,000 bytes.
+// As above: 15,458 values of 1,024 bytes and one of 941 make 16,000,000 bytes.
 #[test]
 fn a_merged_object_has_at_most_16000000_bytes(rt: HostRuntime) {
     let alloc = rt.alloc();
     let mut store = Store::new(alloc);
-    let longer = long_values(&rt, alloc, 946, 15_458);
+    let longer = long_values(&rt, alloc, 942, 15_458);
     assert_eq!(rt; number(take_values(&rt, alloc, &mut store, longer)), 27);
-    let longest = long_values(&rt, alloc, 945, 15_458);
+    let longest = long_values(&rt, alloc, 941, 15_458);
     assert_eq!(rt; number(take_values(&rt, alloc, &mut store, longest)), 0);
 }
 
@@ -267,6 +268,29 @@ fn a_writer_shows_at_most_65535_values(rt: HostRuntime) {
     assert_eq!(rt; put_long(&rt, alloc, &mut store, 1), 27);
 }
 
+/// An object of node 0 in so many of its lives, from 1, in each of which it wrote one tombstone.
+fn lives(rt: &impl Abort, alloc: Global, many: u32) -> Entries {
+    let mut entries = Vec::new(alloc);
+    for life in 0..many {
+        let writer = Actor::new(node(rt, 0), life.saturating_add(1));
+        entries
+            .push(Entry::new(writer, 1, tombstones(rt, alloc, 1)))
+            .expect(rt, "memory");
+    }
+    Entries::from_parts(entries).expect(rt, "an object")
+}
+
+#[test]
+fn an_object_has_at_most_65535_entries(rt: HostRuntime) {
+    let alloc = rt.alloc();
+    let mut store = Store::new(alloc);
+    let many = lives(&rt, alloc, 65_536);
+    assert_eq!(rt; number(store.merge(key(&rt, alloc, SHORT, b'k'), many)), 27);
+    let few = lives(&rt, alloc, 65_535);
+    assert_eq!(rt; number(store.merge(key(&rt, alloc, SHORT, b'k'), few)), 0);
+    assert_eq!(rt; number(take(&rt, alloc, &mut store, &[(1, 1, b"x")])), 27);
+}
+
 /// Writes under the key of that number.
 fn put_under(rt: &impl Abort, alloc: Global, store: &mut Store, number: usize) {
     let sizes = Sizes {
@@ -276,7 +300,7 @@ fn put_under(rt: &impl Abort, alloc: Global, store: &mut Store, number: usize) {
     let key = key(rt, alloc, sizes, (number % 32) as u8);
     let value = value(rt, alloc, SHORT, b'x');
     store
-        .put(node(rt, 0), key, value, None)
+        .put(actor(rt, 0), key, value, None)
         .expect(rt, "a write");
 }
 
@@ -317,7 +341,7 @@ fn is_copied(context: &Context) -> bool {
 
 fn is_previewed(rt: &impl Abort, alloc: Global, store: &Store, key: &MetaKey) -> bool {
     let value = value(rt, alloc, LONGEST, b'w');
-    store.preview_put(node(rt, 15), key, value, None).is_ok()
+    store.preview_put(actor(rt, 15), key, value, None).is_ok()
 }
 
 fn is_put(rt: &impl Abort, alloc: Global, store: &mut Store, read: Option<&Context>) -> bool {
@@ -325,7 +349,7 @@ fn is_put(rt: &impl Abort, alloc: Global, store: &mut Store, read: Option<&Conte
         key(rt, alloc, LONGEST, b'k'),
         value(rt, alloc, LONGEST, b'w'),
     );
-    store.put(node(rt, 15), key, value, read).is_ok()
+    store.put(actor(rt, 15), key, value, read).is_ok()
 }
 
 /// Returns whether each call that reads succeeds on the store, which shows so many values.

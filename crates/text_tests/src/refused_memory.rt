@@ -6,11 +6,11 @@ use plumctl_core::{Ended, frame_lines};
 use std::alloc::Global;
 use streams::{MayFail, StreamFault};
 
-const INPUT: &[u8] = b"50540101 0000 0001 0000000000000001 00000025 0000 000161 000162 00016b \
-    0001 0000 0000000000000001 0001 01 0000000000000000 0001 2b\n5g\n";
+const INPUT: &[u8] = b"50540201 0000 0001 0000000000000001 00000029 0000 000161 000162 00016b \
+    0001 0000 00000001 0000000000000001 0001 01 0000000000000000 0001 2b\n5g\n";
 
 const TEXT: &[u8] =
-    b"GOSSIP from 0 to 1 number 1 round 0 key a/b/k ctx 0:1 values hex:2b\nerror 9 BadHex\n";
+    b"GOSSIP from 0 to 1 number 1 round 0 key a/b/k ctx 0.1:1 values hex:2b\nerror 9 BadHex\n";
 
 /// How a run ends, and how many bytes of the output were not written.
 fn run(alloc: Global) -> (Result<Ended, StreamFault>, usize) {

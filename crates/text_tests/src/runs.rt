@@ -6,7 +6,7 @@ use std::alloc::Global;
 use streams::{MayFail, StreamFault};
 
 // A frame, a line that is not all digits, and an empty one: they end at 45, 48 and 49.
-const INPUT: &[u8] = b"50540104 0001 0000 0000000000000005 00000000\n5g\n\n";
+const INPUT: &[u8] = b"50540204 0001 0000 0000000000000005 00000000\n5g\n\n";
 
 // What is printed for them, which ends at 27, 42 and 57.
 const TEXT: &[u8] = b"PRUNE from 1 to 0 number 5\nerror 9 BadHex\nerror 10 Short\n";

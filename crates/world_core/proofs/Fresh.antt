@@ -65,7 +65,7 @@ taken_at w p n place m k f is low there sent of reply answers =
     let b : Bool = descends (join (held_object hs n k)) (join (sent_object hs place k)) in
     fresh_by hs n place k reply b
     (answers ∙ ap (took (table_of w n)) carries ∙ ap (λ o. merged (cond (descends (join o) (join (sent_object hs place k))) Stale Fresh)) shown)
-    (stale_exactly hs is.state.keeps n place k)
+    (stale_exactly hs is.state.is_history n place k)
 
 fresh_answer : (w : World) (number n word : ℕ) (answer : Answer) (new : World) → IsWorld w → Accepts w (Deliver number n word) answer new → FreshExactly w (Deliver number n word) answer
 fresh_answer w zero n word answer new is accepts = λ place m k told sent. let none : None ≡ Some place = told in absurd (cc)

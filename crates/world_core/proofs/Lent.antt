@@ -28,7 +28,7 @@ pub image_shows : (w : World) (n : ℕ) (node : Node) → IsWorld w → n < leng
     → (j : ℕ) → j ≤ length node.images → (k : Key) → IsObjectOf (writes w.told.history) k (image w.told.history n j k) (holdings node.images j k)
 image_shows w n node is low at j there k =
     let hs = w.told.history in
-    subst (IsObjectOf (writes hs) k (image hs n j k)) (sym ((stands w n node is low (same_node w n node low at)).images j there k)) ((matches hs is.state.keeps).images n j k)
+    subst (IsObjectOf (writes hs) k (image hs n j k)) (sym ((stands w n node is low (same_node w n node low at)).images j there k)) ((matches hs is.state.is_history).images n j k)
 
 -- ---- contexts
 
@@ -40,7 +40,7 @@ seen_at w place context is there =
       place = pair.0;
       told_at = pair.1.0;
       looked = pair.1.1.looked;
-      vector = subst (IsContext (writes hs) (seen hs pair.0 context.key)) (sym pair.1.1.vector) ((matches hs is.state.keeps).seen pair.0 context.key).context;
+      vector = subst (IsContext (writes hs) (seen hs pair.0 context.key)) (sym pair.1.1.vector) ((matches hs is.state.is_history).seen pair.0 context.key).context;
     }
 
 pub counts_seen : (w : World) (read : ℕ) (context : Reading) → IsWorld w → numbered w.contexts read ≡ Some context → CountsSeen w.told read context
@@ -60,7 +60,7 @@ load_of w place f k o (Some at) is there told carries =
       place = at;
       told_at = ap option_flatten there;
       sent = told.sent ∙ ap (λ l. Some (Sent f.from l)) same.0;
-      is = subst (IsObjectOf (writes hs) k (load hs at k)) (sym object) ((matches hs is.state.keeps).load at k);
+      is = subst (IsObjectOf (writes hs) k (load hs at k)) (sym object) ((matches hs is.state.is_history).load at k);
     }
 
 load_at : (w : World) (place : ℕ) (f : Frame) (k : Key) (o : List Entry) → IsWorld w → IsFrameOf w (place + 1) f → carried_object f.message ≡ Some (k, o) → CarriesLoad w.told (suc place) f.from k o

@@ -1,5 +1,7 @@
 -- what accepted events tell
 pub mod Telling
+-- the life that a node is in
+pub mod Actors
 -- what a world keeps to, happening by happening
 pub mod Worlds
 -- one more accepted event

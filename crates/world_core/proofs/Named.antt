@@ -3,6 +3,7 @@ use Rattle.std.proofs.Common.{◌≡◌, ℕ, ◌<◌, [], length, get_or, Optio
 use Rattle.std.specs.Prelude.{slice_get, IfSome}
 use Rattle.std.specs.Option.{option_and_then}
 use Rattle.std.proofs.lemmas.Option.{slice_get-get_or}
+use Rattle.meta_types.specs.Actor.{node_of_writer}
 use Rattle.meta_types.specs.Name.{Key}
 use Rattle.meta_types.specs.Value.{ValueParts}
 use Rattle.dvvset.specs.Clock.{join}
@@ -11,7 +12,7 @@ use Rattle.meta_store.specs.Table.{Table}
 use Rattle.meta_store.specs.Step.{refusal_of_put}
 use Rattle.past_model.specs.declared.happening.Happening.TheVariants.{Wrote, Looked}
 use Rattle.past_model.specs.History.{Fits}
-use Rattle.past_objects.specs.Objects.{read_object, seen_object}
+use Rattle.past_objects.specs.Objects.{object_of_read, seen_object}
 use Rattle.world_core.specs.declared.event.Event.TheVariants.{Put}
 use Rattle.world_core.specs.Tells.{Names, look_of, numbered}
 use Rattle.world_core.specs.World.{World, IsRead, IsWorld}
@@ -35,7 +36,7 @@ pub has_read : (w : World) (read place : Option ℕ) → IsPlaceOf w read place 
 has_read w None place is none = none
 has_read w (Some read) None is none = is
 has_read w (Some read) (Some place) is none =
-    let other : Reading = record { key = record { prefix = record { prefix = []; sub = [] }; key = [] }; vector = []; source = record { node = 0; step = 0 } } in
+    let other : Reading = record { key = record { prefix = record { prefix = []; sub = [] }; key = [] }; vector = []; source = record { actor = 0; step = 0 } } in
     let context : Reading = get_or w.contexts place other in
     let there : slice_get w.contexts place ≡ Some context = slice_get-get_or w.contexts place other is.1 in
     let both : Some context ≡ None = sym there ∙ sym (numbered_at w.contexts read place is.0) ∙ none in
@@ -44,29 +45,29 @@ has_read w (Some read) (Some place) is none =
 -- a write may be made with that read
 pub record CanRead (w : World) (n : ℕ) (k : Key) (v : ValueParts) (read : Option ℕ) : Type 0 where
   pub fits : Fits w.told.history (Wrote n k v (look_of w.told read))
-  pub vector : vector_read (context_of w read) ≡ join (read_object w.told.history k (look_of w.told read))
+  pub vector : vector_read (context_of w read) ≡ join (object_of_read w.told.history k (look_of w.told read))
 
 -- the context at a place, and the Looked that handed it out
-can_read_at : (w : World) (n : ℕ) (k : Key) (v : ValueParts) (read place : ℕ) (table : Table) (context : Reading) (look : ℕ) → IsRead w.told.history look context
-    → numbered w.contexts read ≡ Some context → numbered w.told.looks read ≡ Some look → refusal_of_put table n k v (numbered w.contexts read) ≡ None → CanRead w n k v (Some read)
-can_read_at w n k v read place table context look is there looked taken =
-    let key : context.key ≡ k = of_the_key table n k v context (subst (λ c. refusal_of_put table n k v c ≡ None) there taken) in
+can_read_at : (w : World) (n id : ℕ) (k : Key) (v : ValueParts) (read place : ℕ) (table : Table) (context : Reading) (look : ℕ) → IsRead w.told.history look context
+    → numbered w.contexts read ≡ Some context → numbered w.told.looks read ≡ Some look → refusal_of_put table id k v (numbered w.contexts read) ≡ None → CanRead w n k v (Some read)
+can_read_at w n id k v read place table context look is there looked taken =
+    let key : context.key ≡ k = of_the_key table id k v context (subst (λ c. refusal_of_put table id k v c ≡ None) there taken) in
     record {
-      fits = subst (λ r. Fits w.told.history (Wrote n k v r)) (sym looked) (context.source.node, is.looked ∙ ap (λ l. Some (Looked context.source.node l)) key);
+      fits = subst (λ r. Fits w.told.history (Wrote n k v r)) (sym looked) ((node_of_writer context.source.actor), is.looked ∙ ap (λ l. Some (Looked (node_of_writer context.source.actor) l)) key);
       vector =
           ap vector_read there ∙ is.vector ∙ ap (λ l. join (seen_object w.told.history look l)) key
-          ∙ ap (λ r. join (read_object w.told.history k r)) (sym looked);
+          ∙ ap (λ r. join (object_of_read w.told.history k r)) (sym looked);
     }
 
-pub can_read : (w : World) (n : ℕ) (k : Key) (v : ValueParts) (read place : Option ℕ) (table : Table) → IsWorld w → IsPlaceOf w read place → refusal_of_put table n k v (context_of w read) ≡ None → CanRead w n k v read
-can_read w n k v None place table is at taken = record { fits = tt; vector = refl }
-can_read w n k v (Some read) None table is at taken = absurd at
-can_read w n k v (Some read) (Some place) table is at taken =
-    let other : Reading = record { key = k; vector = []; source = record { node = 0; step = 0 } } in
+pub can_read : (w : World) (n id : ℕ) (k : Key) (v : ValueParts) (read place : Option ℕ) (table : Table) → IsWorld w → IsPlaceOf w read place → refusal_of_put table id k v (context_of w read) ≡ None → CanRead w n k v read
+can_read w n id k v None place table is at taken = record { fits = tt; vector = refl }
+can_read w n id k v (Some read) None table is at taken = absurd at
+can_read w n id k v (Some read) (Some place) table is at taken =
+    let other : Reading = record { key = k; vector = []; source = record { actor = 0; step = 0 } } in
     let context : Reading = get_or w.contexts place other in
     let there : slice_get w.contexts place ≡ Some context = slice_get-get_or w.contexts place other at.1 in
     let pair = pair_first (IsRead w.told.history) w.told.looks w.contexts is.state.reads place context there in
-    can_read_at w n k v read place table context pair.0 pair.1.1 (numbered_at w.contexts read place at.0 ∙ there) (numbered_at w.told.looks read place at.0 ∙ pair.1.0) taken
+    can_read_at w n id k v read place table context pair.0 pair.1.1 (numbered_at w.contexts read place at.0 ∙ there) (numbered_at w.told.looks read place at.0 ∙ pair.1.0) taken
 
 -- the looks have that place too
 pub look_in : (w : World) (read place : Option ℕ) → IsWorld w → IsPlaceOf w read place → IfSome place (λ p. p < length w.told.looks)

@@ -20,11 +20,11 @@ use Rattle.past_objects.proofs.Deliveries.{merged_shows}
 use Rattle.world_core.specs.declared.event.Event.{Event}
 use Rattle.world_core.specs.declared.event.Event.TheVariants.{Put, Get, PutOver, Send, Deliver, Junk, Keep, Restart}
 use Rattle.world_core.specs.declared.fault.WorldFault.{WorldFault}
-use Rattle.world_core.specs.declared.fault.WorldFault.TheVariants.{BadNode, LooksLikeFrame, NoSuchFrame, NoSuchImage, NoSuchNode, NoSuchRead, NotAddressed, StaleImage, Store}
+use Rattle.world_core.specs.declared.fault.WorldFault.TheVariants.{BadNode, IncarnationSpent, LooksLikeFrame, NoSuchFrame, NoSuchImage, NoSuchNode, NoSuchRead, NotAddressed, Store}
 use Rattle.world_core.specs.Fault.{of_frame}
 use Rattle.world_core.specs.Tells.{carried_object}
 use Rattle.world_core.specs.World.{World, IsWholeWorld, IsTold, IsWorld}
-use Rattle.world_core.specs.Refusal.{ByBytes, ByFrame, HasNoFrame, HasNoImage, HasNoNode, HasNoRead, IsFrame, IsFrameOf, LacksOwn, RefusesEvent, by_store, context_of, first_cause, no_cause, present, refusal_of_object, table_of}
+use Rattle.world_core.specs.Refusal.{ByBytes, ByFrame, HasNoFrame, HasNoImage, HasNoLifeLeft, HasNoNode, HasNoRead, IsFrame, IsFrameOf, RefusesEvent, actor_at, by_store, context_of, first_cause, no_cause, present, refusal_of_object, table_of}
 use Rattle.world_core.proofs.Applying.{pair_second}
 use Rattle.world_core.proofs.Delivering.{frame_there, told_as}
 use Rattle.world_core.proofs.Outcomes.{world_of}
@@ -84,7 +84,7 @@ shows w n at k is low fresh =
     let mine : object_at (table_of w n) k ≡ held_object hs n k = shown_is_held w n k is.telling.frames is.state low in
     has_value_from_values (merge_of (table_of w n) k (sent_object hs at k))
     (λ no_cause.
-    merged_shows hs is.state.keeps n at k
+    merged_shows hs is.state.is_history n at k
     (λ e.
     let stale : is_stale (table_of w n) k (join (sent_object hs at k)) ≡ true = then_stale (object_at (table_of w n) k) (sent_object hs at k) (ap (λ o. sync o (sent_object hs at k)) mine ∙ e) in
     let both : true ≡ false = sym stale ∙ fresh in
@@ -143,12 +143,12 @@ of_bytes OfFrame.Memory e = cc
 
 never : (w : World) (event : Event) → IsWorld w → RefusesEvent w event (Store OfStore.BadEntries) → ⊥
 never w (Put n k v read) is refused =
-    passed (HasNoNode w n) NoSuchNode (first_cause (HasNoRead w read) NoSuchRead (by_store (refusal_of_put (table_of w n) n k v (context_of w read)))) (λ e. cc)
-    (passed (HasNoRead w read) NoSuchRead (by_store (refusal_of_put (table_of w n) n k v (context_of w read))) (λ e. cc) (put_never (table_of w n) n k v (context_of w read)))
+    passed (HasNoNode w n) NoSuchNode (first_cause (HasNoRead w read) NoSuchRead (by_store (refusal_of_put (table_of w n) (actor_at w n) k v (context_of w read)))) (λ e. cc)
+    (passed (HasNoRead w read) NoSuchRead (by_store (refusal_of_put (table_of w n) (actor_at w n) k v (context_of w read))) (λ e. cc) (put_never (table_of w n) (actor_at w n) k v (context_of w read)))
     refused
 never w (Get n k) is refused = passed (HasNoNode w n) NoSuchNode no_cause (λ e. cc) (λ no. no) refused
 never w (PutOver n k v) is refused =
-    passed (HasNoNode w n) NoSuchNode (by_store (refusal_of_put (table_of w n) n k v (Some (present w n k)))) (λ e. cc) (put_never (table_of w n) n k v (Some (present w n k))) refused
+    passed (HasNoNode w n) NoSuchNode (by_store (refusal_of_put (table_of w n) (actor_at w n) k v (Some (present w n k)))) (λ e. cc) (put_never (table_of w n) (actor_at w n) k v (Some (present w n k))) refused
 never w (Send n k to) is refused = passed (HasNoNode w n ⊎ HasNoNode w to) NoSuchNode (first_cause (n ≡ to) BadNode no_cause) (λ e. cc) (passed (n ≡ to) BadNode no_cause (λ e. cc) (λ no. no)) refused
 never w (Deliver number n word) is refused = delivery_never w number n word is refused
 never w (Junk n bytes) is refused =
@@ -157,8 +157,8 @@ never w (Junk n bytes) is refused =
     refused
 never w (Keep n k) is refused = passed (HasNoNode w n) NoSuchNode no_cause (λ e. cc) (λ no. no) refused
 never w (Restart n image) is refused =
-    passed (HasNoNode w n) NoSuchNode (first_cause (HasNoImage w n image) NoSuchImage (first_cause (LacksOwn w n image) StaleImage no_cause)) (λ e. cc)
-    (passed (HasNoImage w n image) NoSuchImage (first_cause (LacksOwn w n image) StaleImage no_cause) (λ e. cc) (passed (LacksOwn w n image) StaleImage no_cause (λ e. cc) (λ no. no)))
+    passed (HasNoNode w n) NoSuchNode (first_cause (HasNoImage w n image) NoSuchImage (first_cause (HasNoLifeLeft w n) IncarnationSpent no_cause)) (λ e. cc)
+    (passed (HasNoImage w n image) NoSuchImage (first_cause (HasNoLifeLeft w n) IncarnationSpent no_cause) (λ e. cc) (passed (HasNoLifeLeft w n) IncarnationSpent no_cause (λ e. cc) (λ no. no)))
     refused
 
 pub never_of : (w : World) (event : Event) → IsWholeWorld w → RefusesEvent w event (Store OfStore.BadEntries) → ⊥

@@ -20,9 +20,10 @@ use Rattle.world_core.specs.declared.event.Event.TheVariants.{Put, Get, PutOver,
 use Rattle.world_core.specs.declared.fault.WorldFault.TheVariants.{NoSuchNode, NoSuchRead}
 use Rattle.world_core.specs.Tells.{look_of, tell, tell_look}
 use Rattle.world_core.specs.World.{World, IsState, IsWorld}
-use Rattle.world_core.specs.Refusal.{HasNoNode, HasNoRead, context_of, node_at, no_cause, present, table_of}
+use Rattle.world_core.specs.Refusal.{HasNoNode, HasNoRead, actor_at, context_of, node_at, no_cause, present, table_of}
 use Rattle.world_core.specs.Outcome.{next_read, replied, with_node}
 use Rattle.world_core.specs.Steps.{IsPlaceOf}
+use Rattle.world_core.proofs.Actors.{actor_is, actor_node}
 use Rattle.world_core.proofs.Worlds.{slice_get_end, state_keep, state_look, state_write}
 use Rattle.world_core.proofs.Applying.{Stepped, after, next_is, steps_quietly}
 use Rattle.world_core.proofs.Refusing.{none_left, passes, store_takes}
@@ -46,31 +47,31 @@ node_there w n has = there_by w n (ltb n (length w.nodes)) refl has
 -- ---- a write
 
 pub put_steps : (w : World) (n : ℕ) (k : Key) (v : ValueParts) (read place : Option ℕ) (node : Node) → IsWorld w → n < length w.nodes → node ≡ node_at w n → IsImagedNode node
-    → IsPlaceOf w read place → refusal_of_put node.table n k v (context_of w read) ≡ None → IsHeld (object_after_put node.table n k v (context_of w read))
-    → Stepped w (record { event = Put n k v read; answer = replied (OfReply.Wrote (join (object_after_put node.table n k v (context_of w read)))) })
-    (after w (record { event = Put n k v read; answer = replied (OfReply.Wrote (join (object_after_put node.table n k v (context_of w read)))) })
-    (slice_set w.nodes n (with_write n k v (context_of w read) node)) w.contexts (tell (Wrote n k v (look_of w.told read)) w.told))
+    → IsPlaceOf w read place → refusal_of_put node.table (actor_at w n) k v (context_of w read) ≡ None → IsHeld (object_after_put node.table (actor_at w n) k v (context_of w read))
+    → Stepped w (record { event = Put n k v read; answer = replied (OfReply.Wrote (join (object_after_put node.table (actor_at w n) k v (context_of w read)))) })
+    (after w (record { event = Put n k v read; answer = replied (OfReply.Wrote (join (object_after_put node.table (actor_at w n) k v (context_of w read)))) })
+    (slice_set w.nodes n (with_write (actor_at w n) k v (context_of w read) node)) w.contexts (tell (Wrote n k v (look_of w.told read)) w.told))
 put_steps w n k v read place node is low at is_node there taken held_object =
-    let a : Accepted = record { event = Put n k v read; answer = replied (OfReply.Wrote (join (object_after_put node.table n k v (context_of w read)))) } in
-    let can : CanRead w n k v read = can_read w n k v read place node.table is there taken in
+    let a : Accepted = record { event = Put n k v read; answer = replied (OfReply.Wrote (join (object_after_put node.table (actor_at w n) k v (context_of w read)))) } in
+    let can : CanRead w n k v read = can_read w n (actor_at w n) k v read place node.table is there taken in
     let table : node.table ≡ table_of w n = ap (λ m. m.table) at in
-    steps_quietly w a (slice_set w.nodes n (with_write n k v (context_of w read) node)) w.contexts (tell (Wrote n k v (look_of w.told read)) w.told) is
+    steps_quietly w a (slice_set w.nodes n (with_write (actor_at w n) k v (context_of w read) node)) w.contexts (tell (Wrote n k v (look_of w.told read)) w.told) is
     (record {
       none = refl;
       frames = refl;
       told = refl;
       names = put_names w n k v read place is there;
-      many = length-set w.nodes n (with_write n k v (context_of w read) node);
-      leaves = ap (λ m. with_node w n (with_write n k v (context_of w read) m)) at;
+      many = length-set w.nodes n (with_write (actor_at w n) k v (context_of w read) node);
+      leaves = ap (λ m. with_node w n (with_write (actor_at w n) k v (context_of w read) m)) at;
       reads = sym (append-nil w.contexts);
       state = λ sent s.
-          state_write w.nodes w.contexts sent w.told n k v (look_of w.told read) (context_of w read) node s low (at ∙ get_or_default w.nodes n new_node node low) is_node
-          (put_grows node.table k (object_after_put node.table n k v (context_of w read)) held_object) can.fits can.vector;
+          state_write w.nodes w.contexts sent w.told n (actor_at w n) k v (look_of w.told read) (context_of w read) node (actor_is w.told.history n (node_at w n) (s.nodes n new_node low)) s low (at ∙ get_or_default w.nodes n new_node node low) is_node
+          (put_grows node.table k (object_after_put node.table (actor_at w n) k v (context_of w read)) held_object) can.fits can.vector;
       no_refusal =
           passes (HasNoNode w n) NoSuchNode _ (has_node w n low)
           (passes (HasNoRead w read) NoSuchRead _ (has_read w read place there)
-          (store_takes (refusal_of_put (table_of w n) n k v (context_of w read)) (subst (λ t. refusal_of_put t n k v (context_of w read) ≡ None) table taken)));
-      answers = ap (λ t. replied (OfReply.Wrote (join (object_after_put t n k v (context_of w read))))) table;
+          (store_takes (refusal_of_put (table_of w n) (actor_at w n) k v (context_of w read)) (subst (λ t. refusal_of_put t (actor_at w n) k v (context_of w read) ≡ None) table taken)));
+      answers = ap (λ t. replied (OfReply.Wrote (join (object_after_put t (actor_at w n) k v (context_of w read))))) table;
     })
 
 -- ---- a read
@@ -94,7 +95,7 @@ get_steps w n k node is low at =
       many = refl;
       leaves = refl;
       reads = refl;
-      state = λ sent s. state_look w.nodes w.contexts sent w.told n k (present w n k) s refl refl (ap join (shown_is_held w n k sent s low));
+      state = λ sent s. state_look w.nodes w.contexts sent w.told n k (present w n k) s (actor_node w.told.history n (node_at w n) s.is_history (s.nodes n new_node low)) refl (ap join (shown_is_held w n k sent s low));
       no_refusal = passes (HasNoNode w n) NoSuchNode no_cause (has_node w n low) none_left;
       answers = ap (λ m. record { reply = OfReply.Looked (values_of (object_at m.table k)) (present w n k); read = Some (next_read w); sent = [] }) at;
     })
@@ -102,41 +103,41 @@ get_steps w n k node is low at =
 -- ---- a write over what is shown
 
 over_state : (w : World) (n : ℕ) (k : Key) (v : ValueParts) (node : Node) (sent : List Frame) → IsState w.nodes w.contexts sent w.told → n < length w.nodes → node ≡ node_at w n → IsImagedNode node
-    → IsHeld (object_after_put node.table n k v (Some (present w n k)))
-    → IsState (slice_set w.nodes n (with_write n k v (Some (present w n k)) node)) (w.contexts ++ present w n k ∷ []) sent (tell (Wrote n k v (Some (length w.told.history))) (tell_look n k w.told))
+    → IsHeld (object_after_put node.table (actor_at w n) k v (Some (present w n k)))
+    → IsState (slice_set w.nodes n (with_write (actor_at w n) k v (Some (present w n k)) node)) (w.contexts ++ present w n k ∷ []) sent (tell (Wrote n k v (Some (length w.told.history))) (tell_look n k w.told))
 over_state w n k v node sent s low at is_node held_ =
     let hs = w.told.history in
     let looked : IsState w.nodes (w.contexts ++ present w n k ∷ []) sent (tell_look n k w.told) =
-    state_look w.nodes w.contexts sent w.told n k (present w n k) s refl refl (ap join (shown_is_held w n k sent s low)) in
+    state_look w.nodes w.contexts sent w.told n k (present w n k) s (actor_node w.told.history n (node_at w n) s.is_history (s.nodes n new_node low)) refl (ap join (shown_is_held w n k sent s low)) in
     let saw : seen_object (hs ++ Looked n k ∷ []) (length hs) k ≡ held_object hs n k = (after_look hs n k).seen.here in
-    state_write w.nodes (w.contexts ++ present w n k ∷ []) sent (tell_look n k w.told) n k v (Some (length hs)) (Some (present w n k)) node looked low
+    state_write w.nodes (w.contexts ++ present w n k ∷ []) sent (tell_look n k w.told) n (actor_at w n) k v (Some (length hs)) (Some (present w n k)) node (actor_is (hs ++ Looked n k ∷ []) n (node_at w n) (looked.nodes n new_node low)) looked low
     (at ∙ get_or_default w.nodes n new_node node low) is_node
-    (put_grows node.table k (object_after_put node.table n k v (Some (present w n k))) held_)
+    (put_grows node.table k (object_after_put node.table (actor_at w n) k v (Some (present w n k))) held_)
     (n, slice_get_end hs (Looked n k))
     (ap join (shown_is_held w n k sent s low ∙ sym saw))
 
 pub over_steps : (w : World) (n : ℕ) (k : Key) (v : ValueParts) (node : Node) → IsWorld w → n < length w.nodes → node ≡ node_at w n → IsImagedNode node
-    → refusal_of_put node.table n k v (Some (present w n k)) ≡ None → IsHeld (object_after_put node.table n k v (Some (present w n k)))
-    → Stepped w (record { event = PutOver n k v; answer = record { reply = OfReply.Wrote (join (object_after_put node.table n k v (Some (present w n k)))); read = Some (next_read w); sent = [] } })
-    (after w (record { event = PutOver n k v; answer = record { reply = OfReply.Wrote (join (object_after_put node.table n k v (Some (present w n k)))); read = Some (next_read w); sent = [] } })
-    (slice_set w.nodes n (with_write n k v (Some (present w n k)) node)) (w.contexts ++ present w n k ∷ []) (tell (Wrote n k v (Some (length w.told.history))) (tell_look n k w.told)))
+    → refusal_of_put node.table (actor_at w n) k v (Some (present w n k)) ≡ None → IsHeld (object_after_put node.table (actor_at w n) k v (Some (present w n k)))
+    → Stepped w (record { event = PutOver n k v; answer = record { reply = OfReply.Wrote (join (object_after_put node.table (actor_at w n) k v (Some (present w n k)))); read = Some (next_read w); sent = [] } })
+    (after w (record { event = PutOver n k v; answer = record { reply = OfReply.Wrote (join (object_after_put node.table (actor_at w n) k v (Some (present w n k)))); read = Some (next_read w); sent = [] } })
+    (slice_set w.nodes n (with_write (actor_at w n) k v (Some (present w n k)) node)) (w.contexts ++ present w n k ∷ []) (tell (Wrote n k v (Some (length w.told.history))) (tell_look n k w.told)))
 over_steps w n k v node is low at is_node taken held_ =
-    let a : Accepted = record { event = PutOver n k v; answer = record { reply = OfReply.Wrote (join (object_after_put node.table n k v (Some (present w n k)))); read = Some (next_read w); sent = [] } } in
+    let a : Accepted = record { event = PutOver n k v; answer = record { reply = OfReply.Wrote (join (object_after_put node.table (actor_at w n) k v (Some (present w n k)))); read = Some (next_read w); sent = [] } } in
     let table : node.table ≡ table_of w n = ap (λ m. m.table) at in
-    steps_quietly w a (slice_set w.nodes n (with_write n k v (Some (present w n k)) node)) (w.contexts ++ present w n k ∷ []) (tell (Wrote n k v (Some (length w.told.history))) (tell_look n k w.told)) is
+    steps_quietly w a (slice_set w.nodes n (with_write (actor_at w n) k v (Some (present w n k)) node)) (w.contexts ++ present w n k ∷ []) (tell (Wrote n k v (Some (length w.told.history))) (tell_look n k w.told)) is
     (record {
       none = refl;
       frames = refl;
       told = refl;
       names = next_is w is;
-      many = length-set w.nodes n (with_write n k v (Some (present w n k)) node);
-      leaves = ap (λ m. with_node w n (with_write n k v (Some (present w n k)) m)) at;
+      many = length-set w.nodes n (with_write (actor_at w n) k v (Some (present w n k)) node);
+      leaves = ap (λ m. with_node w n (with_write (actor_at w n) k v (Some (present w n k)) m)) at;
       reads = refl;
       state = λ sent s. over_state w n k v node sent s low at is_node held_;
       no_refusal =
           passes (HasNoNode w n) NoSuchNode _ (has_node w n low)
-          (store_takes (refusal_of_put (table_of w n) n k v (Some (present w n k))) (subst (λ t. refusal_of_put t n k v (Some (present w n k)) ≡ None) table taken));
-      answers = ap (λ t. record { reply = OfReply.Wrote (join (object_after_put t n k v (Some (present w n k)))); read = Some (next_read w); sent = [] }) table;
+          (store_takes (refusal_of_put (table_of w n) (actor_at w n) k v (Some (present w n k))) (subst (λ t. refusal_of_put t (actor_at w n) k v (Some (present w n k)) ≡ None) table taken));
+      answers = ap (λ t. record { reply = OfReply.Wrote (join (object_after_put t (actor_at w n) k v (Some (present w n k)))); read = Some (next_read w); sent = [] }) table;
     })
 
 -- ---- an image more

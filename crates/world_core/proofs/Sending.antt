@@ -1,12 +1,9 @@
 -- Sendings: the world after each is one, and is what was to be.
-use Rattle.std.proofs.Common.{◌≡◌, ◌≢◌, ◌⊎◌, ℕ, ◌+◌, ◌<◌, ◌≤◌, ◌^◌, leb, List, [], ◌∷◌, ◌++◌, length, Some, None, inl, inr, refl, sym, ap, subst, ◌∙◌, arith}
+use Rattle.std.proofs.Common.{◌≡◌, ◌≢◌, ◌⊎◌, ℕ, ◌+◌, ◌<◌, ◌≤◌, ◌^◌, List, [], ◌∷◌, ◌++◌, length, Some, None, inl, inr, refl, sym, ap, subst, ◌∙◌, arith}
 use Rattle.std.specs.Prelude.{slice_get}
 use Rattle.std.specs.Int.{w16, to_be_bytes}
 use Rattle.std.specs.FinMap.{find}
-use Rattle.std.specs.Cmp.{first_so, second_so}
-use Rattle.std.specs.List.{list_all}
 use Rattle.std.specs.Option.{unwrap_or}
-use Rattle.std.proofs.lemmas.Bool.{leb-true}
 use Rattle.std.proofs.lemmas.List.{append-nil, length-append}
 use Rattle.meta_types.specs.Name.{Key, IsKey}
 use Rattle.meta_types.specs.Order.{key_cmp}
@@ -17,8 +14,8 @@ use Rattle.meta_frame.specs.Frame.{IsLawful, Spells, body, header, limit, spelli
 use Rattle.meta_frame.specs.declared.message.Frame.{Frame}
 use Rattle.meta_frame.specs.declared.message.Message.TheVariants.{Gossip}
 use Rattle.meta_frame.proofs.Frames.{one_frame}
-use Rattle.meta_store.specs.Table.{IsHeld, has_few_values, most_merged}
-use Rattle.meta_store.proofs.Sizes.{few_values_fit}
+use Rattle.meta_store.specs.Table.{IsHeld, most_merged}
+use Rattle.meta_store.proofs.Sizes.{few_values_fit, small_parts}
 use Rattle.past_model.specs.declared.happening.Happening.TheVariants.{Sent}
 use Rattle.world_core.specs.declared.answer.Accepted.{Accepted}
 use Rattle.world_core.specs.declared.answer.Reply.TheVariants.{Done}
@@ -159,10 +156,10 @@ send_steps w n k to o bytes is low there apart holds spelled =
 -- ---- the bytes of a sending
 
 pub held_fits : (es : List Entry) → IsHeld es → object.Fits es
-held_fits es is = few_values_fit es is.lawful is.shows (first_so (list_all has_few_values es) (leb (length (object.spell es)) most_merged) is.small)
+held_fits es is = let small = small_parts most_merged es is.small in few_values_fit es is.lawful is.shows small.few small.values
 
 held_small : (es : List Entry) → IsHeld es → length (object.spell es) ≤ 16000000
-held_small es is = leb-true (length (object.spell es)) most_merged (second_so (list_all has_few_values es) (leb (length (object.spell es)) most_merged) is.small)
+held_small es is = (small_parts most_merged es is.small).short
 
 key_small : (k : Key) → IsKey k → length (key.spell k) ≤ 390
 key_small k is =

@@ -4,6 +4,7 @@ use Rattle.std.specs.Prelude.{slice_get, slice_set}
 use Rattle.std.proofs.lemmas.Bool.{eqb-true, eqb-false}
 use Rattle.std.proofs.lemmas.List.{get_or_default, get_or-set_same, get_or-set_other, length-set, get_or-replicate, length-replicate}
 use Rattle.std.proofs.lemmas.Option.{slice_get_within}
+use Rattle.meta_types.specs.Actor.{node_of_writer}
 use Rattle.meta_types.specs.Name.{Key}
 use Rattle.meta_types.specs.Value.{ValueParts}
 use Rattle.dvvset.specs.Object.{Entry}
@@ -16,11 +17,11 @@ use Rattle.past_model.specs.declared.happening.Happening.{Happening}
 use Rattle.past_model.specs.declared.happening.Happening.TheVariants.{Wrote, Looked, Sent, Got, Kept, Restarted}
 use Rattle.past_model.specs.Past.{known, writes}
 use Rattle.past_model.specs.Shown.{IsObjectOf}
-use Rattle.past_model.specs.History.{Fits, RestartsKeepOwnWrites}
+use Rattle.past_model.specs.History.{Fits}
 use Rattle.past_model.proofs.Entries.{one_object}
 use Rattle.past_model.proofs.Placed.{ordered}
 use Rattle.past_model.proofs.Showing.{object_shows}
-use Rattle.past_objects.specs.Objects.{held_object, read_object, seen_object, sent_object}
+use Rattle.past_objects.specs.Objects.{held_object, object_of_read, seen_object, sent_object, writer}
 use Rattle.node_images.specs.Images.{holdings}
 use Rattle.node_images.specs.Node.{Node, new_node, IsImagedNode, with_kept, with_merge, with_restart, with_write}
 use Rattle.node_images.specs.Follows.{Follows}
@@ -28,7 +29,6 @@ use Rattle.world_core.specs.Tells.{Told, nothing_told, Pairwise, carried_object,
 use Rattle.world_core.specs.Knowledge.{ShowsKnown}
 use Rattle.world_core.specs.World.{World, IsRead, IsSending, IsState, IsTold, IsWorld, new_world}
 use Rattle.past_objects.proofs.Changes.{after_look, after_sending}
-use Rattle.past_objects.proofs.Restarting.{others_keep, start_keeps}
 use Rattle.past_objects.proofs.Histories.{history_snoc}
 use Rattle.past_objects.proofs.Matching.{matches}
 use Rattle.past_objects.proofs.Standing.{seen_later, sent_later}
@@ -53,7 +53,7 @@ pairwise_map P Q f (x ∷ xs) (y ∷ ys) all = (f x y all.0, pairwise_map P Q f 
 
 read_later : (hs more : List Happening) (place : ℕ) (context : Reading) → IsRead hs place context → IsRead (hs ++ more) place context
 read_later hs more place context is =
-    let within : place < length hs = slice_get_within hs place (Looked context.source.node context.key) is.looked in
+    let within : place < length hs = slice_get_within hs place (Looked (node_of_writer context.source.actor) context.key) is.looked in
     record {
       looked = slice_get_more hs more place within ∙ is.looked;
       vector = is.vector ∙ ap join (sym (seen_later hs more place context.key within));
@@ -71,11 +71,10 @@ told_later hs more frame (Some place) is =
 
 -- ---- one happening more, where reads and frames stay
 
-pub state_next : (old nodes : List Node) (contexts : List Reading) (sent : List Frame) (t : Told) (h : Happening) → IsState old contexts sent t → Fits t.history h → RestartsKeepOwnWrites (t.history ++ h ∷ [])
+pub state_next : (old nodes : List Node) (contexts : List Reading) (sent : List Frame) (t : Told) (h : Happening) → IsState old contexts sent t → Fits t.history h
     → ((n : ℕ) (d : Node) → n < length nodes → Follows (t.history ++ h ∷ []) n (get_or nodes n d)) → IsState nodes contexts sent (tell h t)
-state_next old nodes contexts sent t h s fits keeps follow = record {
+state_next old nodes contexts sent t h s fits follow = record {
   is_history = history_snoc t.history h s.is_history fits;
-  keeps = keeps;
   nodes = follow;
   reads = pairwise_map (IsRead t.history) (IsRead (t.history ++ h ∷ [])) (read_later t.history (h ∷ [])) t.looks contexts s.reads;
   sendings = pairwise_map (IsTold t.history) (IsTold (t.history ++ h ∷ [])) (told_later t.history (h ∷ [])) sent t.sendings s.sendings;
@@ -99,21 +98,21 @@ set_node hs nodes n node low here there m d within =
 
 -- ---- the happenings
 
-pub state_write : (nodes : List Node) (contexts : List Reading) (sent : List Frame) (t : Told) (n : ℕ) (k : Key) (v : ValueParts) (r : Option ℕ) (context : Option Reading) (node : Node)
-    → IsState nodes contexts sent t → n < length nodes → node ≡ get_or nodes n node → IsImagedNode node
-    → ((l : Key) → object_at node.table l ≢ [] → object_at (with_object k (object_after_put node.table n k v context) node.table) l ≢ [])
-    → Fits t.history (Wrote n k v r) → vector_read context ≡ join (read_object t.history k r)
-    → IsState (slice_set nodes n (with_write n k v context node)) contexts sent (tell (Wrote n k v r) t)
-state_write nodes contexts sent t n k v r context node s low at is grows fits read =
-    state_next nodes (slice_set nodes n (with_write n k v context node)) contexts sent t (Wrote n k v r) s fits (others_keep t.history (Wrote n k v r) s.keeps (λ m j e. cc))
-    (set_node (t.history ++ Wrote n k v r ∷ []) nodes n (with_write n k v context node) low
-    (follows_write t.history n k v r context node is grows (subst (Follows t.history n) (sym at) (s.nodes n node low)) read)
+pub state_write : (nodes : List Node) (contexts : List Reading) (sent : List Frame) (t : Told) (n w : ℕ) (k : Key) (v : ValueParts) (r : Option ℕ) (context : Option Reading) (node : Node)
+    → w ≡ writer t.history n → IsState nodes contexts sent t → n < length nodes → node ≡ get_or nodes n node → IsImagedNode node
+    → ((l : Key) → object_at node.table l ≢ [] → object_at (with_object k (object_after_put node.table w k v context) node.table) l ≢ [])
+    → Fits t.history (Wrote n k v r) → vector_read context ≡ join (object_of_read t.history k r)
+    → IsState (slice_set nodes n (with_write w k v context node)) contexts sent (tell (Wrote n k v r) t)
+state_write nodes contexts sent t n w k v r context node by s low at is grows fits read =
+    state_next nodes (slice_set nodes n (with_write w k v context node)) contexts sent t (Wrote n k v r) s fits
+    (set_node (t.history ++ Wrote n k v r ∷ []) nodes n (with_write w k v context node) low
+    (follows_write t.history n w k v r context node by is grows (subst (Follows t.history n) (sym at) (s.nodes n node low)) read)
     (λ m d within ne. write_elsewhere t.history n k v r m (get_or nodes m d) ne (s.nodes m d within)))
 
 pub state_keep : (nodes : List Node) (contexts : List Reading) (sent : List Frame) (t : Told) (n : ℕ) (k : Key) (node : Node)
     → IsState nodes contexts sent t → n < length nodes → node ≡ get_or nodes n node → IsImagedNode node → IsState (slice_set nodes n (with_kept k node)) contexts sent (tell (Kept n k) t)
 state_keep nodes contexts sent t n k node s low at is =
-    state_next nodes (slice_set nodes n (with_kept k node)) contexts sent t (Kept n k) s tt (others_keep t.history (Kept n k) s.keeps (λ m j e. cc))
+    state_next nodes (slice_set nodes n (with_kept k node)) contexts sent t (Kept n k) s tt
     (set_node (t.history ++ Kept n k ∷ []) nodes n (with_kept k node) low
     (follows_keep t.history n k node is (subst (Follows t.history n) (sym at) (s.nodes n node low)))
     (λ m d within ne. keeping_elsewhere t.history n k m (get_or nodes m d) ne (s.nodes m d within)))
@@ -123,17 +122,17 @@ pub state_take : (nodes : List Node) (contexts : List Reading) (sent : List Fram
     → IsState nodes contexts sent t → n < length nodes → node ≡ get_or nodes n node → slice_get t.history i ≡ Some (Sent m k) → came ≡ sent_object t.history i k
     → IsState (slice_set nodes n (with_merge k came node)) contexts sent (tell (Got n i) t)
 state_take nodes contexts sent t n i m k came node s low at there is =
-    state_next nodes (slice_set nodes n (with_merge k came node)) contexts sent t (Got n i) s (m, (k, there)) (others_keep t.history (Got n i) s.keeps (λ m j e. cc))
+    state_next nodes (slice_set nodes n (with_merge k came node)) contexts sent t (Got n i) s (m, (k, there))
     (set_node (t.history ++ Got n i ∷ []) nodes n (with_merge k came node) low
-    (follows_take t.history n i m k came node s.keeps (subst (Follows t.history n) (sym at) (s.nodes n node low)) there is)
+    (follows_take t.history n i m k came node s.is_history (subst (Follows t.history n) (sym at) (s.nodes n node low)) there is)
     (λ m d within ne. delivery_elsewhere t.history n i m (get_or nodes m d) ne (s.nodes m d within)))
 
 pub state_restart : (nodes : List Node) (contexts : List Reading) (sent : List Frame) (t : Told) (n j : ℕ) (table : Table) (node : Node)
     → IsState nodes contexts sent t → n < length nodes → node ≡ get_or nodes n node → j ≤ length node.images → ((k : Key) → object_at table k ≡ holdings node.images j k)
-    → Fits t.history (Restarted n j) → RestartsKeepOwnWrites (t.history ++ Restarted n j ∷ [])
+    → Fits t.history (Restarted n j)
     → IsState (slice_set nodes n (with_restart table j node)) contexts sent (tell (Restarted n j) t)
-state_restart nodes contexts sent t n j table node s low at image restored fits keeps =
-    state_next nodes (slice_set nodes n (with_restart table j node)) contexts sent t (Restarted n j) s fits keeps
+state_restart nodes contexts sent t n j table node s low at image restored fits =
+    state_next nodes (slice_set nodes n (with_restart table j node)) contexts sent t (Restarted n j) s fits
     (set_node (t.history ++ Restarted n j ∷ []) nodes n (with_restart table j node) low
     (follows_restart t.history n j node table (subst (Follows t.history n) (sym at) (s.nodes n node low)) image restored)
     (λ m d within ne. restart_elsewhere t.history n j m (get_or nodes m d) ne (s.nodes m d within)))
@@ -144,18 +143,17 @@ slice_get_end (g ∷ hs) h = slice_get_end hs h
 
 -- a read: its context is of the key and what the node holds there
 pub state_look : (nodes : List Node) (contexts : List Reading) (sent : List Frame) (t : Told) (n : ℕ) (k : Key) (context : Reading)
-    → IsState nodes contexts sent t → context.source.node ≡ n → context.key ≡ k → context.vector ≡ join (held_object t.history n k) → IsState nodes (contexts ++ context ∷ []) sent (tell_look n k t)
+    → IsState nodes contexts sent t → node_of_writer context.source.actor ≡ n → context.key ≡ k → context.vector ≡ join (held_object t.history n k) → IsState nodes (contexts ++ context ∷ []) sent (tell_look n k t)
 state_look nodes contexts sent t n k context s node key vector =
     let hs = t.history in
     let more = hs ++ Looked n k ∷ [] in
-    let next = state_next nodes nodes contexts sent t (Looked n k) s tt (others_keep hs (Looked n k) s.keeps (λ m j e. cc)) (λ m d within. follows_look hs n k m (get_or nodes m d) (s.nodes m d within)) in
+    let next = state_next nodes nodes contexts sent t (Looked n k) s tt (λ m d within. follows_look hs n k m (get_or nodes m d) (s.nodes m d within)) in
     let read : IsRead more (length hs) context = record {
       looked = slice_get_end hs (Looked n k) ∙ ap (λ l. Some (Looked n l)) (sym key) ∙ ap (λ m. Some (Looked m context.key)) (sym node);
       vector = vector ∙ ap join (sym (after_look hs n k).seen.here) ∙ ap (λ l. join (seen_object more (length hs) l)) (sym key);
     } in
     record {
       is_history = next.is_history;
-      keeps = next.keeps;
       nodes = next.nodes;
       reads = pairwise_snoc (IsRead more) t.looks contexts (length hs) context next.reads read;
       sendings = next.sendings;
@@ -167,7 +165,7 @@ pub state_sending : (nodes : List Node) (contexts : List Reading) (sent : List F
 state_sending nodes contexts sent t n k o frame s from carries is =
     let hs = t.history in
     let more = hs ++ Sent n k ∷ [] in
-    let next = state_next nodes nodes contexts sent t (Sent n k) s tt (others_keep hs (Sent n k) s.keeps (λ m j e. cc)) (λ m d within. follows_sending hs n k m (get_or nodes m d) (s.nodes m d within)) in
+    let next = state_next nodes nodes contexts sent t (Sent n k) s tt (λ m d within. follows_sending hs n k m (get_or nodes m d) (s.nodes m d within)) in
     let sending : IsSending more frame (length hs) = record {
       key = k;
       sent = slice_get_end hs (Sent n k) ∙ ap (λ m. Some (Sent m k)) (sym from);
@@ -175,7 +173,6 @@ state_sending nodes contexts sent t n k o frame s from carries is =
     } in
     record {
       is_history = next.is_history;
-      keeps = next.keeps;
       nodes = next.nodes;
       reads = next.reads;
       sendings = pairwise_snoc (IsTold more) sent t.sendings frame (Some (length hs)) next.sendings sending;
@@ -189,6 +186,7 @@ follows_nothing n = record {
   number = refl;
   images = λ j low k. refl;
   standing = λ k. refl;
+  life = refl;
 }
 
 nothing_happened : (before after : List Happening) (h : Happening) → [] ≡ before ++ h ∷ after → ⊥
@@ -198,7 +196,6 @@ nothing_happened (x ∷ before) after h e = cc
 pub state_new : (count : ℕ) → IsState (replicate count new_node) [] [] nothing_told
 state_new count = record {
   is_history = record { fits = λ before after h e. absurd (nothing_happened before after h e) };
-  keeps = start_keeps;
   nodes = λ n d low. subst (Follows [] n) (sym (get_or-replicate count n new_node d (subst (λ m. n < m) (length-replicate count new_node) low))) (follows_nothing n);
   reads = tt;
   sendings = tt;
@@ -226,7 +223,7 @@ pub shows : (w : World) → IsWorld w → (n : ℕ) (node : Node) → n < length
 shows w is n node low at table same k =
     let hs = w.told.history in
     let stands : Follows hs n node = subst (Follows hs n) (sym at) (is.state.nodes n node low) in
-    subst (IsObjectOf (writes hs) k (known hs n k)) (sym (ap (λ t. object_at t k) same ∙ stands.holds k)) ((matches hs is.state.keeps).known n k)
+    subst (IsObjectOf (writes hs) k (known hs n k)) (sym (ap (λ t. object_at t k) same ∙ stands.holds k)) ((matches hs is.state.is_history).known n k)
 
 -- the object of what is known shows it
 pub shows_known : (hs : List Happening) (n : ℕ) (k : Key) (object : List Entry) → IsObjectOf (writes hs) k (known hs n k) object → ShowsKnown hs n k object

@@ -7,13 +7,13 @@ use Rattle.meta_frame.specs.declared.fault.FrameFault.{FrameFault}
 use Rattle.meta_frame.specs.declared.fault.FrameFault.TheVariants as OfFrame
 use Rattle.meta_frame.specs.Fault as frame
 use Rattle.world_core.specs.declared.fault.WorldFault.{WorldFault}
-use Rattle.world_core.specs.declared.fault.WorldFault.TheVariants.{BadNode, NotAddressed, StaleImage, NoSuchFrame, NoSuchRead, NoSuchNode, LooksLikeFrame, NoSuchImage, Store, Frame, Memory}
+use Rattle.world_core.specs.declared.fault.WorldFault.TheVariants.{BadNode, IncarnationSpent, NotAddressed, NoSuchFrame, NoSuchRead, NoSuchNode, LooksLikeFrame, NoSuchImage, Store, Frame, Memory}
 
 -- the number of a refusal
 abbrev pub code_of : WorldFault → ℕ
 code_of BadNode = 3
+code_of IncarnationSpent = 35
 code_of NotAddressed = 40
-code_of StaleImage = 41
 code_of NoSuchFrame = 42
 code_of NoSuchRead = 43
 code_of NoSuchNode = 44
@@ -26,8 +26,8 @@ code_of Memory = 99
 -- the name of a refusal
 abbrev pub fault_name : WorldFault → List ℕ
 fault_name BadNode = codes "BadNode"
+fault_name IncarnationSpent = codes "IncarnationSpent"
 fault_name NotAddressed = codes "NotAddressed"
-fault_name StaleImage = codes "StaleImage"
 fault_name NoSuchFrame = codes "NoSuchFrame"
 fault_name NoSuchRead = codes "NoSuchRead"
 fault_name NoSuchNode = codes "NoSuchNode"

@@ -1,6 +1,7 @@
 -- What the nodes, the contexts, the frames and the replies of a world say, in the words of the
 -- past. The rule is our own.
 use Rattle.std.specs.Prelude.{◌≡◌, ℕ, ◌<◌, List, length, Some, slice_get, ◌↔◌}
+use Rattle.meta_types.specs.Actor.{node_of_writer}
 use Rattle.meta_types.specs.Name.{Key}
 use Rattle.dvvset.specs.Object.{Entry}
 use Rattle.dvvset.specs.Clock.{join, values_of}
@@ -34,7 +35,7 @@ ShowWhatTheyKnow w = (n : ℕ) (key : Key) → n < length w.nodes → IsObjectOf
 pub record CountsSeen (t : Told) (read : ℕ) (context : Reading) : Type 0 where
   pub place : ℕ
   pub told_at : numbered t.looks read ≡ Some place
-  pub looked : slice_get t.history place ≡ Some (Looked context.source.node context.key)
+  pub looked : slice_get t.history place ≡ Some (Looked (node_of_writer context.source.actor) context.key)
   pub vector : IsContext (writes t.history) (seen t.history place context.key) context.vector
 
 -- the object of a frame is that of what its sender knew under its key

@@ -27,7 +27,7 @@ use Rattle.world_core.specs.declared.fault.WorldFault.TheVariants.{Memory, Store
 use Rattle.world_core.specs.Tells.{Pairwise, carried_object, numbers_from, tell_accepted}
 use Rattle.world_core.specs.World.{World}
 use Rattle.world_core.specs.Knowledge.{FreshExactly, ShowWhatTheyKnow}
-use Rattle.world_core.specs.Refusal.{IsFrameOf, RefusesEvent, context_of, node_at, present, table_of}
+use Rattle.world_core.specs.Refusal.{IsFrameOf, RefusesEvent, actor_at, context_of, node_at, present, table_of}
 
 -- ---- answers
 
@@ -40,7 +40,7 @@ abbrev pub next_read : World → ℕ
 next_read w = length w.contexts + 1
 
 abbrev pub wrote : World → ℕ → Key → ValueParts → Option Reading → Reply
-wrote w n k v context = Wrote (join (object_after_put (table_of w n) n k v context))
+wrote w n k v context = Wrote (join (object_after_put (table_of w n) (actor_at w n) k v context))
 
 abbrev pub looked : World → ℕ → Key → Reply
 looked w n k = Looked (values_of (object_at (table_of w n) k)) (present w n k)
@@ -129,9 +129,9 @@ pub record LeavesAfterRestart (w : World) (n image : ℕ) (nodes : List Node) : 
 
 -- the nodes after an event; junk is never accepted
 abbrev pub Leaves : World → Event → List Node → Type 0
-Leaves w (Put n k v read) nodes = nodes ≡ with_node w n (with_write n k v (context_of w read) (node_at w n))
+Leaves w (Put n k v read) nodes = nodes ≡ with_node w n (with_write (actor_at w n) k v (context_of w read) (node_at w n))
 Leaves w (Get n k) nodes = nodes ≡ w.nodes
-Leaves w (PutOver n k v) nodes = nodes ≡ with_node w n (with_write n k v (Some (present w n k)) (node_at w n))
+Leaves w (PutOver n k v) nodes = nodes ≡ with_node w n (with_write (actor_at w n) k v (Some (present w n k)) (node_at w n))
 Leaves w (Send n k to) nodes = nodes ≡ w.nodes
 Leaves w (Deliver number n word) nodes = LeavesAfterFrame w number n nodes
 Leaves w (Junk n bytes) nodes = ⊥

@@ -3,6 +3,7 @@
 -- wanting. The rule is our own.
 use Rattle.std.specs.Prelude.{◌≡◌, ◌≢◌, ℕ, ◌+◌, ◌<◌, ◌≤◌, ◌⊎◌, List, length, get_or, Option, Some, None}
 use Rattle.std.specs.Option.{option_map}
+use Rattle.meta_types.specs.Actor.{writer_number}
 use Rattle.meta_types.specs.Name.{Key}
 use Rattle.dvvset.specs.Object.{Entry}
 use Rattle.meta_frame.specs.Frame.{Spells}
@@ -13,14 +14,12 @@ use Rattle.meta_store.specs.Context.{Reading, reading_at}
 use Rattle.meta_store.specs.Table.{Table}
 use Rattle.meta_store.specs.Step.{refusal_of_merge, refusal_of_put}
 use Rattle.meta_store.specs.declared.fault.StoreFault.{StoreFault}
-use Rattle.past_model.specs.declared.happening.Happening.TheVariants.{Restarted}
-use Rattle.past_model.specs.Past.{happens, past}
-use Rattle.past_model.specs.History.{KnowsOwn}
-use Rattle.node_images.specs.Node.{Node, new_node}
+use Rattle.past_model.specs.Past.{incarnation_of, past}
+use Rattle.node_images.specs.Node.{Node, most_incarnation, new_node}
 use Rattle.world_core.specs.declared.event.Event.{Event}
 use Rattle.world_core.specs.declared.event.Event.TheVariants.{Put, Get, PutOver, Send, Deliver, Junk, Keep, Restart}
 use Rattle.world_core.specs.declared.fault.WorldFault.{WorldFault}
-use Rattle.world_core.specs.declared.fault.WorldFault.TheVariants.{BadNode, NotAddressed, StaleImage, NoSuchFrame, NoSuchRead, NoSuchNode, LooksLikeFrame, NoSuchImage}
+use Rattle.world_core.specs.declared.fault.WorldFault.TheVariants.{BadNode, IncarnationSpent, NotAddressed, NoSuchFrame, NoSuchRead, NoSuchNode, LooksLikeFrame, NoSuchImage}
 use Rattle.world_core.specs.Fault.{of_frame, of_store}
 use Rattle.world_core.specs.Tells.{carried_object, numbered}
 use Rattle.world_core.specs.World.{World}
@@ -34,10 +33,14 @@ node_at w n = get_or w.nodes n new_node
 abbrev pub table_of : World → ℕ → Table
 table_of w n = (node_at w n).table
 
--- the context that a read of the key by the node would hand out now; its source is the node with
--- the read's number
+-- the node in the life that it is in: the writer of what it writes now
+abbrev pub actor_at : World → ℕ → ℕ
+actor_at w n = writer_number n (node_at w n).incarnation
+
+-- the context that a read of the key by the node would hand out now; its source is the node in its
+-- life with the read's number
 abbrev pub present : World → ℕ → Key → Reading
-present w n k = reading_at (table_of w n) k (record { node = n; step = length w.contexts + 1 })
+present w n k = reading_at (table_of w n) k (record { actor = actor_at w n; step = length w.contexts + 1 })
 
 -- the context of a write: that of the read of this number
 abbrev pub context_of : World → Option ℕ → Option Reading
@@ -69,10 +72,9 @@ HasNoFrame w frame = numbered w.frames frame ≡ None
 abbrev pub HasNoImage : World → ℕ → ℕ → Type 0
 HasNoImage w n image = (past w.told.history).last n < image
 
--- the image lacks a write that the node made: after a restart from it the node wouldn't know each
--- of its own
-abbrev pub LacksOwn : World → ℕ → ℕ → Type 0
-LacksOwn w n image = KnowsOwn (happens (past w.told.history) (Restarted n image)) n → ⊥
+-- the node is in the last life that there is a number for
+abbrev pub HasNoLifeLeft : World → ℕ → Type 0
+HasNoLifeLeft w n = incarnation_of (past w.told.history) n ≡ most_incarnation
 
 -- the bytes are a frame
 pub record IsFrame (bytes : List ℕ) : Type 0 where
@@ -111,11 +113,11 @@ pub record ByBytes (bytes : List ℕ) (fault : WorldFault) : Type 0 where
   pub is : fault ≡ of_frame of_bytes
 
 abbrev pub RefusesEvent : World → Event → WorldFault → Type 0
-RefusesEvent w (Put n k v read) = first_cause (HasNoNode w n) NoSuchNode (first_cause (HasNoRead w read) NoSuchRead (by_store (refusal_of_put (table_of w n) n k v (context_of w read))))
+RefusesEvent w (Put n k v read) = first_cause (HasNoNode w n) NoSuchNode (first_cause (HasNoRead w read) NoSuchRead (by_store (refusal_of_put (table_of w n) (actor_at w n) k v (context_of w read))))
 RefusesEvent w (Get n k) = first_cause (HasNoNode w n) NoSuchNode no_cause
-RefusesEvent w (PutOver n k v) = first_cause (HasNoNode w n) NoSuchNode (by_store (refusal_of_put (table_of w n) n k v (Some (present w n k))))
+RefusesEvent w (PutOver n k v) = first_cause (HasNoNode w n) NoSuchNode (by_store (refusal_of_put (table_of w n) (actor_at w n) k v (Some (present w n k))))
 RefusesEvent w (Send n k to) = first_cause (HasNoNode w n ⊎ HasNoNode w to) NoSuchNode (first_cause (n ≡ to) BadNode no_cause)
 RefusesEvent w (Deliver number n word) = first_cause (HasNoNode w n) NoSuchNode (first_cause (HasNoFrame w number) NoSuchFrame (ByFrame w number n))
 RefusesEvent w (Junk n bytes) = first_cause (HasNoNode w n) NoSuchNode (first_cause (IsFrame bytes) LooksLikeFrame (ByBytes bytes))
 RefusesEvent w (Keep n k) = first_cause (HasNoNode w n) NoSuchNode no_cause
-RefusesEvent w (Restart n image) = first_cause (HasNoNode w n) NoSuchNode (first_cause (HasNoImage w n image) NoSuchImage (first_cause (LacksOwn w n image) StaleImage no_cause))
+RefusesEvent w (Restart n image) = first_cause (HasNoNode w n) NoSuchNode (first_cause (HasNoImage w n image) NoSuchImage (first_cause (HasNoLifeLeft w n) IncarnationSpent no_cause))

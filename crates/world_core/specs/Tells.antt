@@ -8,7 +8,7 @@ use Rattle.dvvset.specs.Object.{Entry}
 use Rattle.meta_frame.specs.Frame.{Spells}
 use Rattle.meta_frame.specs.declared.message.Frame.{Frame}
 use Rattle.meta_frame.specs.declared.message.Message.{Message}
-use Rattle.meta_frame.specs.declared.message.Message.TheVariants.{Gossip, IHave, Graft, Prune, Join, ForwardJoin, Disconnect, Neighbor, NeighborReply, Shuffle, ShuffleReply, XRoot, XPrefixes, XInner, XLeaves, XBucket, XObject, XWant}
+use Rattle.meta_frame.specs.declared.message.Message.TheVariants.{Gossip, IHave, Graft, Prune, Join, ForwardJoin, Disconnect, Neighbor, NeighborReply, Shuffle, ShuffleReply, XRoot, XPrefixes, XInner, XLeaves, XBucket, XObject, XWant, Hello, Bye}
 use Rattle.past_model.specs.declared.happening.Happening.{Happening}
 use Rattle.past_model.specs.declared.happening.Happening.TheVariants.{Wrote, Looked, Sent, Got, Kept, Restarted}
 use Rattle.world_core.specs.declared.answer.Accepted.{Accepted}
@@ -96,6 +96,8 @@ carried_object (XLeaves p i ds) = None
 carried_object (XBucket p leaf rs) = None
 carried_object (XObject k o) = Some (k, o)
 carried_object (XWant k) = None
+carried_object (Hello life) = None
+carried_object Bye = None
 
 -- a frame of the node: a Sent, where it carries an object
 abbrev pub tell_sending : ℕ → Option (Key × List Entry) → Told → Told

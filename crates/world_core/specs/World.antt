@@ -1,13 +1,14 @@
 -- A world: its nodes, what it has accepted and sent, the contexts of its reads, and what all that
 -- tells. The rule is our own.
 use Rattle.std.specs.Prelude.{◌≡◌, ℕ, ◌<◌, ◌≤◌, List, [], length, get_or, replicate, slice_get, Option, Some, None}
+use Rattle.meta_types.specs.Actor.{node_of_writer}
 use Rattle.meta_types.specs.Name.{Key}
 use Rattle.dvvset.specs.Clock.{join}
 use Rattle.meta_frame.specs.declared.message.Frame.{Frame}
 use Rattle.meta_store.specs.Context.{Reading}
 use Rattle.past_model.specs.declared.happening.Happening.{Happening}
 use Rattle.past_model.specs.declared.happening.Happening.TheVariants.{Looked, Sent}
-use Rattle.past_model.specs.History.{IsHistory, RestartsKeepOwnWrites}
+use Rattle.past_model.specs.History.{IsHistory}
 use Rattle.world_core.specs.declared.answer.Accepted.{Accepted}
 use Rattle.past_objects.specs.Objects.{seen_object, sent_object}
 use Rattle.node_images.specs.Node.{Node, new_node}
@@ -27,7 +28,7 @@ pub record World : Type 0 where
 -- its node and its key are those of the Looked at the place, and its vector that of what was seen
 -- there
 pub record IsRead (hs : List Happening) (place : ℕ) (context : Reading) : Type 0 where
-  pub looked : slice_get hs place ≡ Some (Looked context.source.node context.key)
+  pub looked : slice_get hs place ≡ Some (Looked (node_of_writer context.source.actor) context.key)
   pub vector : context.vector ≡ join (seen_object hs place context.key)
 
 -- the frame carries, under the key of the Sent at the place, the object that it sent
@@ -41,11 +42,10 @@ abbrev pub IsTold : List Happening → Frame → Option ℕ → Type 0
 IsTold hs frame None = carried_object frame.message ≡ None
 IsTold hs frame (Some place) = IsSending hs frame place
 
--- the history is one and keeps the restart premise; each node stands where it left it; each read's
--- context and each frame's object is what was seen and sent there
+-- the history is one; each node stands where it left it; each read's context and each frame's object
+-- is what was seen and sent there
 pub record IsState (ns : List Node) (contexts : List Reading) (sent : List Frame) (t : Told) : Type 0 where
   pub is_history : IsHistory t.history
-  pub keeps : RestartsKeepOwnWrites t.history
   pub nodes : (n : ℕ) (d : Node) → n < length ns → Follows t.history n (get_or ns n d)
   pub reads : Pairwise (IsRead t.history) t.looks contexts
   pub sendings : Pairwise (IsTold t.history) sent t.sendings

@@ -14,7 +14,7 @@ use std::alloc::{AllocError, Global};
 impl World {
     /// Applies an event, which then stands with its answer in `accepted`, or refuses it and changes
     /// nothing. Of several refusals the first is answered, in this order: 44 `NoSuchNode`, 42
-    /// `NoSuchFrame`, 43 `NoSuchRead`, 46 `NoSuchImage`, 41 `StaleImage`, 45 `LooksLikeFrame`, then
+    /// `NoSuchFrame`, 43 `NoSuchRead`, 46 `NoSuchImage`, 35 `IncarnationSpent`, 45 `LooksLikeFrame`, then
     /// those of the node: 3 `BadNode` of a sending to itself, 40 `NotAddressed`, those of
     /// `Store::put` and `Store::merge` but for 21 `BadEntries`, which never comes, and of junk
     /// those of `decode`. It takes memory, and 99 `Memory` may stand in place of any other answer.

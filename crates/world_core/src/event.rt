@@ -48,7 +48,7 @@ pub enum Event {
         node: u64,
         key: MetaKey,
     },
-    /// The node begins again from its image of that number.
+    /// The node begins its next life from its image of that number, which may be any of them.
     Restart {
         node: u64,
         image: u64,

@@ -14,10 +14,10 @@ use thiserror::Error;
 pub enum WorldFault {
     /// 3: the node would send to itself.
     BadNode,
+    /// 35: the node is in the life of the number 4,294,967,295, and there is no number for another.
+    IncarnationSpent,
     /// 40: the frame is addressed to another node.
     NotAddressed,
-    /// 41: the image lacks a write that the node made.
-    StaleImage,
     /// 42: no frame has this number.
     NoSuchFrame,
     /// 43: no read has this number.
@@ -43,8 +43,8 @@ impl WorldFault {
     {
         match self {
             WorldFault::BadNode => TypeFault::BadNode.code(),
+            WorldFault::IncarnationSpent => 35,
             WorldFault::NotAddressed => 40,
-            WorldFault::StaleImage => 41,
             WorldFault::NoSuchFrame => 42,
             WorldFault::NoSuchRead => 43,
             WorldFault::NoSuchNode => 44,
@@ -62,8 +62,8 @@ impl WorldFault {
     {
         match self {
             WorldFault::BadNode => "BadNode",
+            WorldFault::IncarnationSpent => "IncarnationSpent",
             WorldFault::NotAddressed => "NotAddressed",
-            WorldFault::StaleImage => "StaleImage",
             WorldFault::NoSuchFrame => "NoSuchFrame",
             WorldFault::NoSuchRead => "NoSuchRead",
             WorldFault::NoSuchNode => "NoSuchNode",

@@ -1,15 +1,13 @@
 //! Images made and restarted from.
 
-ghost use Rattle.std.specs.Prelude.{◌≡◌, ◌⊎◌, ◌≤◌, ◌<◌, length, IfOk, IfErr};
-ghost use Rattle.meta_types.specs.Failing.{FailsWith};
+ghost use Rattle.std.specs.Prelude.{◌≡◌, ◌≤◌, ◌<◌, length, IfOk, IfErr, OnOk};
 ghost use Rattle.meta_types.specs.Name.{Key};
-ghost use Rattle.dvvset.specs.Writer.{count_of};
 ghost use Rattle.meta_store.specs.Table.{IsTable, object_at};
 ghost use Rattle.node_images.specs.Images.{holdings};
+ghost use Rattle.node_images.specs.Node.{most_incarnation};
 ghost use Rattle.world_core.specs.Outcome.{Outcome};
-ghost use Rattle.world_core.specs.Refusal.{RefusesEvent, node_at, table_of};
+ghost use Rattle.world_core.specs.Refusal.{RefusesEvent, node_at};
 ghost use Rattle.world_core.specs.declared.event.Event.TheVariants.{Keep, Restart};
-ghost use Rattle.world_core.specs.declared.fault.WorldFault.TheVariants.{Memory, NoSuchImage, StaleImage};
 
 use crate::answer::{Accepted, Answer, Reply};
 use crate::both::{after, both};
@@ -19,6 +17,7 @@ use crate::world::World;
 use meta_store::Store;
 use meta_types::{MetaKey, NodeId};
 use past_model::Happening;
+use std::alloc::AllocError;
 
 impl World {
     /// The next image of a node, with what it holds under the key.
@@ -43,7 +42,7 @@ impl World {
         Ok(Answer::replied(alloc, Reply::Done))
     }
 
-    /// A restart of a node from its image of that number.
+    /// A restart of a node from its image of that number: its next life begins.
     pub(crate) fn restart(&mut self, node: u64, image: u64) -> Result<Answer, WorldFault>
         ensures { Outcome self.old (Restart node image) result self.new }
     {
@@ -53,42 +52,36 @@ impl World {
         self.restart_with(id, number, store)
     }
 
-    /// The number of an image, in memory. Refused with 46 `NoSuchImage`.
+    /// The number of the image that a node restarts from, in memory. Refused with 46 `NoSuchImage`,
+    /// and with 35 `IncarnationSpent`.
     fn image_number(&self, node: NodeId, image: u64) -> Result<usize, WorldFault>
         requires { node < length self.now.nodes }
         ensures value { IfOk result (λ number. (number ≡ image)
             × (image ≤ length (node_at self.now node).images)) }
-        ensures fault { IfErr result (λ fault. (fault ≡ NoSuchImage)
-            × RefusesEvent self.now (Restart node image) NoSuchImage) }
+        ensures left { OnOk result ((node_at self.now node).incarnation < most_incarnation) }
+        ensures fault { IfErr result (RefusesEvent self.now (Restart node image)) }
     {
-        let images = self.nodes[usize::from(node.number())].images();
-        if (images.len() as u64) < image {
+        let there = &self.nodes[usize::from(node.number())];
+        if (there.images().len() as u64) < image {
             return Err(WorldFault::NoSuchImage);
+        }
+        if there.incarnation() == u32::MAX {
+            return Err(WorldFault::IncarnationSpent);
         }
         Ok(usize::try_from(image).unwrap())
     }
 
-    /// A store that holds what the image of that number has. Refused with 41 `StaleImage`, and with
-    /// 99 `Memory`.
-    fn restored(&self, node: NodeId, number: usize) -> Result<Store, WorldFault>
+    /// A store that holds what the image of that number has. Fails only when memory runs out.
+    fn restored(&self, node: NodeId, number: usize) -> Result<Store, AllocError>
         requires low { node < length self.now.nodes }
         requires number { number ≤ length (node_at self.now node).images }
         ensures is_table { IfOk result IsTable }
         ensures restored { IfOk result (λ store. (key : Key)
             → object_at store key ≡ holdings (node_at self.now node).images number key) }
-        ensures counts { IfOk result (λ store. (key : Key)
-            → count_of (object_at (table_of self.now node) key) node
-            ≤ count_of (object_at store key) node) }
-        ensures fault { FailsWith Memory (λ fault. (fault ≡ StaleImage)
-            × RefusesEvent self.now (Restart node number) StaleImage) result }
     {
-        let there = &self.nodes[usize::from(node.number())];
-        let store = there.restored(number)?;
+        let store = self.nodes[usize::from(node.number())].restored(number)?;
         // Read for what it tells: the keys rise and are few enough.
         let _ = store.len();
-        if !store.counts_as_many(there.store(), node) {
-            return Err(WorldFault::StaleImage);
-        }
         Ok(store)
     }
 
@@ -104,9 +97,7 @@ impl World {
         requires is_table { IsTable store }
         requires restored { (key : Key)
             → object_at store key ≡ holdings (node_at self.old node).images number key }
-        requires counts { (key : Key)
-            → count_of (object_at (table_of self.old node) key) node
-            ≤ count_of (object_at store key) node }
+        requires left { (node_at self.old node).incarnation < most_incarnation }
         ensures { Outcome self.old (Restart node number) result self.new }
     {
         let alloc = self.alloc();

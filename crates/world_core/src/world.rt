@@ -7,7 +7,7 @@ ghost use Rattle.meta_store.specs.Table.{object_at};
 ghost use Rattle.past_model.specs.Past.{image, known, past, writes};
 ghost use Rattle.past_model.specs.Shown.{ArePlaces, IsObjectOf};
 ghost use Rattle.node_images.specs.Images.{ChangeEarlier, holdings};
-ghost use Rattle.past_model.specs.History.{IsHistory, RestartsKeepOwnWrites};
+ghost use Rattle.past_model.specs.History.{IsHistory};
 ghost use Rattle.node_images.specs.Node.{new_node};
 ghost use Rattle.dvvset.specs.Object.{Entry};
 ghost use Rattle.meta_frame.specs.declared.message.Frame.{Frame as F};
@@ -96,7 +96,6 @@ impl World {
         ensures value { result.now ≡ self.now.told.history }
         ensures tells { Tells self.now.accepted self.now.frames self.now.told }
         ensures is_history { IsHistory self.now.told.history }
-        ensures premise { RestartsKeepOwnWrites self.now.told.history }
         ensures reads { (read : ℕ) (context : Reading)
             → numbered self.now.contexts read ≡ Some context
             → CountsSeen self.now.told read context }

@@ -9,7 +9,7 @@ ghost use Rattle.meta_store.specs.declared.fault.StoreFault.TheVariants.{Memory}
 ghost use Rattle.node_images.specs.Node.{image_of_write, with_write};
 ghost use Rattle.past_model.specs.declared.happening.Happening.TheVariants.{Wrote};
 ghost use Rattle.world_core.specs.Outcome.{Outcome, next_read};
-ghost use Rattle.world_core.specs.Refusal.{HasNoRead};
+ghost use Rattle.world_core.specs.Refusal.{HasNoRead, actor_at};
 ghost use Rattle.world_core.specs.Plan.{IsShown, IsWrittenNode};
 ghost use Rattle.world_core.specs.Steps.{IsPlaceOf};
 ghost use Rattle.world_core.specs.declared.answer.Reply.TheVariants as OfReply;
@@ -24,7 +24,7 @@ use crate::fault::WorldFault;
 use crate::world::World;
 use dvvset::Vector;
 use meta_store::{Context, Source, Store, StoreFault};
-use meta_types::{MetaKey, NodeId, Value};
+use meta_types::{Actor, MetaKey, NodeId, Value};
 use node_images::{Image, Node};
 use past_model::Happening;
 use std::alloc::{AllocError, Global};
@@ -44,13 +44,23 @@ impl World {
         }
     }
 
+    /// The node in the life that it is in: the writer of what it writes now.
+    fn actor(&self, node: NodeId) -> Actor
+        requires { node < length self.now.nodes }
+        ensures { result ≡ actor_at self.now node }
+    {
+        let there = &self.nodes[usize::from(node.number())];
+        Actor::new(node, there.incarnation())
+    }
+
     /// The node as the source of the next read.
     fn next_source(&self, node: NodeId) -> Source
-        ensures { result ≡ record { node = node; step = next_read self.now } }
+        requires { node < length self.now.nodes }
+        ensures { result ≡ record { actor = actor_at self.now node; step = next_read self.now } }
     {
         let reads = self.chronicle.contexts.len() as u64;
         Source {
-            node,
+            actor: self.actor(node),
             step: reads + 1,
         }
     }
@@ -84,11 +94,12 @@ impl World {
         ensures { Outcome self.old (Put node key.now value.now read) result self.new }
     {
         let alloc = self.alloc();
+        let writer = self.actor(node);
         self.chronicle.reserve()?;
         let seen = look_at(self.chronicle.looks.as_slice(), place);
         let context = context_at(self.chronicle.contexts.as_slice(), place);
         let target = &mut self.nodes[usize::from(node.number())];
-        let written = write(target, node, key, value, context)?;
+        let written = write(target, writer, key, value, context)?;
         let accepted = Accepted {
             event: written.kept.put(u64::from(node.number()), read),
             answer: wrote(alloc, None, written.reply),
@@ -157,7 +168,7 @@ impl World {
         let read = source.step;
         self.chronicle.reserve()?;
         let there = &mut self.nodes[usize::from(node.number())];
-        let ((looked, context), written) = write_over(there, node, key, value, source)?;
+        let ((looked, context), written) = write_over(there, key, value, source)?;
         let accepted = Accepted {
             event: written.kept.put_over(u64::from(node.number())),
             answer: wrote(alloc, Some(read), written.reply),
@@ -200,7 +211,7 @@ impl Written {
 /// `Node::write`, and then nothing changes.
 fn write(
     node: &mut Node,
-    id: NodeId,
+    id: Actor,
     key: &MetaKey,
     value: &Value,
     context: Option<&Context>,
@@ -222,7 +233,7 @@ fn write(
 /// is refused as the write would be.
 fn planned(
     node: &Node,
-    id: NodeId,
+    id: Actor,
     key: &MetaKey,
     value: &Value,
     context: Option<&Context>,
@@ -241,30 +252,30 @@ fn planned(
     Ok(both(stored, Written::of(key, value, vector))?)
 }
 
-/// A read of a node, and a write on it with its context; the key of the read, and its context. It
-/// is refused as by `Node::write`, and then nothing changes.
+/// A read of a node, and a write on it by who reads, with that context; the key of the read, and its
+/// context. It is refused as by `Node::write`, and then nothing changes.
 fn write_over(
     node: &mut Node,
-    id: NodeId,
     key: &MetaKey,
     value: &Value,
     source: Source,
 ) -> Result<((MetaKey, Context), Written), StoreFault>
     ensures value { OnOk result
-        (node.new ≡ with_write id key.now value.now
+        (node.new ≡ with_write source.actor key.now value.now
         (Some (reading_at node.old.table key.now source)) node.old) }
     ensures looked { IfOk result
         (λ over. over.0 ≡ (key.now, reading_at node.old.table key.now source)) }
     ensures written { IfOk result
-        (λ over. IsWrittenNode node.old id key.now value.now
+        (λ over. IsWrittenNode node.old source.actor key.now value.now
         (Some (reading_at node.old.table key.now source)) over.1) }
     ensures fault { IfErr result (λ fault. (fault ≡ Memory)
-        ⊎ (refusal_of_put node.old.table id key.now value.now
+        ⊎ (refusal_of_put node.old.table source.actor key.now value.now
         (Some (reading_at node.old.table key.now source)) ≡ Some fault)) }
     ensures same { OnErr result (node.new ≡ node.old) }
 {
+    let writer = source.actor;
     let context = looked_over(node.store(), key, source)?;
-    let written = write(node, id, key, value, Some(&context.1));
+    let written = write(node, writer, key, value, Some(&context.1));
     both(Ok(context), written)
 }
 

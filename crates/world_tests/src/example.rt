@@ -1,5 +1,6 @@
 //! The example of README.md.
 
+use dvvset::Counter;
 use meta_types::{FullPrefix, MetaKey, Value};
 use std::alloc::Global;
 use std::process::Abort;
@@ -38,15 +39,22 @@ fn shows(rt: &impl Abort, world: &World, key: &MetaKey, texts: &[&str]) -> bool 
             .all(|(value, text)| is_text(value, text))
 }
 
+/// Returns whether it counts one write of the node in its first life.
+fn is_first_write(node: usize, counter: &Counter) -> bool {
+    let writer = counter.id();
+    usize::from(writer.node().number()) == node && writer.incarnation() == 1 && counter.count() == 1
+}
+
 /// Returns whether the context that node 1 shows counts a write of each node.
 fn counts_one_of_each(rt: &impl Abort, world: &World, key: &MetaKey) -> bool {
     let store = world.state(1).expect(rt, "a node");
     let (_, context) = store.get(key).expect(rt, "memory");
     let counters = context.counters();
     counters.len() == 2
-        && counters.iter().enumerate().all(|(node, counter)| usize::from(counter.id().number())
-            == node
-            && counter.count() == 1)
+        && counters
+            .iter()
+            .enumerate()
+            .all(|(node, counter)| is_first_write(node, counter))
 }
 
 fn write(world: &mut World, key: &MetaKey, red: Value, blue: Value) -> Result<(), WorldFault> {
@@ -82,7 +90,8 @@ fn send_and_deliver(world: &mut World, key: &MetaKey) -> Result<(), WorldFault> 
 }
 
 fn replace(world: &mut World, key: &MetaKey, green: Value) -> Result<(), WorldFault> {
-    // Node 1 shows red and blue, and the context 0:1,1:1. A write with that context replaces both.
+    // Node 1 shows red and blue, and the context 0.1:1,1.1:1. A write with that context replaces
+    // both.
     world.apply(Event::Get {
         node: 1,
         key: key.copy()?,

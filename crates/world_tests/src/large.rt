@@ -111,7 +111,8 @@ fn each_kind_of_event_is_accepted_at_the_largest_sizes(rt: HostRuntime) {
     let rows = rows(&rt, alloc, 4, &LAST);
     assert_eq!(rt; first_wrong(&rt, alloc, &mut world, rows.as_slice()), 0);
     assert_eq!(rt; sizes(&rt, alloc, &world, 15), [64, 16, 64]);
-    assert_eq!(rt; sizes(&rt, alloc, &world, 0), [2, 16, 67]);
+    // Node 0 is in its third life, and has written in two of them.
+    assert_eq!(rt; sizes(&rt, alloc, &world, 0), [2, 17, 67]);
     assert!(rt; world.accepted().iter().all(is_copied));
 }
 

@@ -15,8 +15,15 @@ fn prints(rt: &impl Abort, alloc: Global, fault: &WorldFault, text: &str) -> boo
 fn refusals_print_their_names(rt: HostRuntime) {
     let alloc = rt.alloc();
     assert!(rt; prints(&rt, alloc, &WorldFault::BadNode, "BadNode"));
+    assert!(rt;
+        prints(
+            &rt,
+            alloc,
+            &WorldFault::IncarnationSpent,
+            "IncarnationSpent"
+        )
+    );
     assert!(rt; prints(&rt, alloc, &WorldFault::NotAddressed, "NotAddressed"));
-    assert!(rt; prints(&rt, alloc, &WorldFault::StaleImage, "StaleImage"));
     assert!(rt; prints(&rt, alloc, &WorldFault::NoSuchFrame, "NoSuchFrame"));
     assert!(rt; prints(&rt, alloc, &WorldFault::NoSuchRead, "NoSuchRead"));
     assert!(rt; prints(&rt, alloc, &WorldFault::NoSuchNode, "NoSuchNode"));

@@ -9,7 +9,7 @@ use std::process::Abort;
 use world_core::World;
 
 /// The letters of the values that a node shows under K, with dots for none, and how many writes of
-/// node 0 and of node 1 their context counts.
+/// node 0 and of node 1, in all their lives, their context counts.
 pub type Shown = ([u8; 3], [u64; 2]);
 
 /// An event, what it gives, and what nodes 0 and 1 then show.
@@ -18,7 +18,7 @@ pub type Row = (Act, u16, Shown, Shown);
 pub const NOTHING: Shown = (*b"...", [0, 0]);
 
 /// A PRUNE from node 0 to node 1.
-pub const PRUNE: &[u8] = b"PT\x01\x04\0\0\0\x01\0\0\0\0\0\0\0\x05\0\0\0\0";
+pub const PRUNE: &[u8] = b"PT\x02\x04\0\0\0\x01\0\0\0\0\0\0\0\x05\0\0\0\0";
 
 /// The only byte of the value's body, or a question mark.
 fn letter(value: &Value) -> u8 {
@@ -43,12 +43,12 @@ fn letters(object: &Entries) -> [u8; 3] {
 }
 
 fn counts(object: &Entries) -> [u64; 2] {
-    let mut counts = [0, 0];
+    let mut counts = [0u64, 0];
     for entry in object.entries() {
-        if entry.id().number() == 0 {
-            counts[0] = entry.count();
+        if entry.id().node().number() == 0 {
+            counts[0] = counts[0].saturating_add(entry.count());
         } else {
-            counts[1] = entry.count();
+            counts[1] = counts[1].saturating_add(entry.count());
         }
     }
     counts
@@ -309,7 +309,7 @@ fn frames_may_be_repeated_reordered_and_lost(rt: HostRuntime) {
     assert_eq!(rt; first_wrong(&rt, rt.alloc(), &FRAMES), 0);
 }
 
-const RESTARTS: [Row; 14] = [
+const RESTARTS: [Row; 15] = [
     (Act::Put(0, K, b'x', None), DONE, (*b"x..", [1, 0]), NOTHING),
     (
         Act::Put(1, K, b'y', None),
@@ -356,19 +356,31 @@ const RESTARTS: [Row; 14] = [
         (*b"y..", [0, 1]),
     ),
     (Act::Restart(0, 3), 46, (*b"xy.", [1, 1]), (*b"y..", [0, 1])),
+    // The fourth life of node 0 is a writer behind its first.
     (
         Act::Put(0, K, b'z', None),
         DONE,
-        (*b"zxy", [2, 1]),
+        (*b"xzy", [2, 1]),
         (*b"y..", [0, 1]),
     ),
     // Each image before image 3 lacks z, which is of the node itself.
-    (Act::Restart(0, 2), 41, (*b"zxy", [2, 1]), (*b"y..", [0, 1])),
-    (Act::Restart(0, 0), 41, (*b"zxy", [2, 1]), (*b"y..", [0, 1])),
+    (
+        Act::Restart(0, 2),
+        DONE,
+        (*b"xy.", [1, 1]),
+        (*b"y..", [0, 1]),
+    ),
+    (Act::Restart(0, 0), DONE, NOTHING, (*b"y..", [0, 1])),
+    (
+        Act::Put(0, K, b'w', None),
+        DONE,
+        (*b"w..", [1, 0]),
+        (*b"y..", [0, 1]),
+    ),
     (
         Act::Restart(0, 3),
         DONE,
-        (*b"zxy", [2, 1]),
+        (*b"xzy", [2, 1]),
         (*b"y..", [0, 1]),
     ),
 ];
@@ -376,6 +388,79 @@ const RESTARTS: [Row; 14] = [
 #[test]
 fn a_restart_forgets_what_its_image_lacks(rt: HostRuntime) {
     assert_eq!(rt; first_wrong(&rt, rt.alloc(), &RESTARTS), 0);
+}
+
+const OLD_IMAGE: [(Act, u16); 3] = [
+    (Act::Put(0, K, b'x', None), DONE),
+    (Act::Restart(0, 0), DONE),
+    (Act::Put(0, K, b'y', None), DONE),
+];
+
+/// A node loses what it wrote, writes anew, and gets what it lost from the other node: two values,
+/// of two lives.
+const LOST_AND_SENT_BACK: [Row; 8] = [
+    (Act::Put(0, K, b'x', None), DONE, (*b"x..", [1, 0]), NOTHING),
+    (Act::Send(0, K, 1), DONE, (*b"x..", [1, 0]), NOTHING),
+    (
+        Act::Deliver(1, 1),
+        FRESH,
+        (*b"x..", [1, 0]),
+        (*b"x..", [1, 0]),
+    ),
+    (Act::Restart(0, 0), DONE, NOTHING, (*b"x..", [1, 0])),
+    (
+        Act::Put(0, K, b'y', None),
+        DONE,
+        (*b"y..", [1, 0]),
+        (*b"x..", [1, 0]),
+    ),
+    (
+        Act::Send(1, K, 0),
+        DONE,
+        (*b"y..", [1, 0]),
+        (*b"x..", [1, 0]),
+    ),
+    (
+        Act::Deliver(2, 0),
+        FRESH,
+        (*b"xy.", [2, 0]),
+        (*b"x..", [1, 0]),
+    ),
+    (
+        Act::PutOver(0, K, b'z'),
+        DONE,
+        (*b"z..", [3, 0]),
+        (*b"x..", [1, 0]),
+    ),
+];
+
+#[test]
+fn writes_of_two_lives_are_siblings(rt: HostRuntime) {
+    assert_eq!(rt; first_wrong(&rt, rt.alloc(), &LOST_AND_SENT_BACK), 0);
+}
+
+/// Returns whether the context of node 0 counts one write, of its second life.
+fn counts_the_second_life(rt: &impl Abort, alloc: Global, world: &World) -> bool {
+    let store = world.state(0).expect(rt, "a node");
+    let (_, context) = store.get(&key(rt, alloc, SHORT, K)).expect(rt, "memory");
+    match context.counters() {
+        [counter] => {
+            counter.id().node().number() == 0
+                && counter.id().incarnation() == 2
+                && counter.count() == 1
+        }
+        _ => false,
+    }
+}
+
+#[test]
+fn a_write_after_a_restart_from_the_empty_image_is_of_the_second_life(rt: HostRuntime) {
+    let alloc = rt.alloc();
+    let mut world = new_world(&rt, alloc, 2);
+    for (act, number) in OLD_IMAGE {
+        assert_eq!(rt; gives(&rt, alloc, SHORT, &mut world, act), number);
+    }
+    assert!(rt; counts_the_second_life(&rt, alloc, &world));
 }
 
 const REFUSALS: [Row; 11] = [

@@ -1,5 +1,5 @@
-use Rattle.frame_fields.proofs.Spellable.{some_vector}
+use Rattle.frame_fields.proofs.Spellable.{counted_vector}
 use Rattle.frame_fields.proofs.lawful.is_vector.Goals as goal
 
 pub returns : goal.returns
-returns c = some_vector c.args.v.now c.is_empty.result c.counters-counters.ensures.lawful c.is_empty.ensures
+returns c = counted_vector c.args.v.now c.counters.result.now c.is_count.result c.counters.ensures.value c.counters.ensures.lawful c.is_count.ensures

@@ -5,7 +5,7 @@ use Rattle.past_model.proofs.Staying.{object_stays}
 use Rattle.past_model.proofs.laws.a_closed_set_has_one_object.Goals as goal
 
 pub returns-clause-exists : goal.returns-clause-exists
-returns-clause-exists c = λ hs keeps k S closed. object_of (writes hs) k S closed
+returns-clause-exists c = λ hs history k S closed. object_of (writes hs) k S closed
 
 pub returns-clause-one : goal.returns-clause-one
 returns-clause-one c = λ hs k S a b. one_object (writes hs) k S a b

@@ -4,7 +4,7 @@ use Rattle.past_model.proofs.Order.{descends-subset}
 use Rattle.past_model.proofs.laws.descending_is_inclusion.Goals as goal
 
 pub returns-clause-sets : goal.returns-clause-sets
-returns-clause-sets c = λ hs keeps k S T a b. descends-subset (writes hs) k S T a b (ordered hs).falling
+returns-clause-sets c = λ hs history k S T a b. descends-subset (writes hs) k S T a b (ordered hs).falling
 
 pub returns-clause-order : goal.returns-clause-order
 returns-clause-order c =

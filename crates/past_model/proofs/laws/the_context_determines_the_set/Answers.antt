@@ -5,7 +5,7 @@ use Rattle.past_model.proofs.Arisen.{object_from_context}
 use Rattle.past_model.proofs.laws.the_context_determines_the_set.Goals as goal
 
 pub returns-clause-set : goal.returns-clause-set
-returns-clause-set c = λ hs keeps k S T a b. set_from_context (writes hs) k S T a b (orderly hs keeps).ordered.falling
+returns-clause-set c = λ hs history k S T a b. set_from_context (writes hs) k S T a b (orderly hs history).ordered.falling
 
 pub returns-clause-object : goal.returns-clause-object
 returns-clause-object c = object_from_context

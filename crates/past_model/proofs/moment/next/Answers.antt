@@ -54,7 +54,7 @@ after_delivery-requires-clause-sending c =
 
 pub image-requires-clause-made : goal.image-requires-clause-made
 image-requires-clause-made c =
-    fits_at c.args.history.now c.args.place (Restarted c.in-Restarted.node c.in-Restarted.number) c.requires.history (placed c.args.history.now c.args.place c.index-history-place.result (Restarted c.in-Restarted.node c.in-Restarted.number) c.requires.inside c.index-history-place.is c.in-Restarted.is)
+    (fits_at c.args.history.now c.args.place (Restarted c.in-Restarted.node c.in-Restarted.number) c.requires.history (placed c.args.history.now c.args.place c.index-history-place.result (Restarted c.in-Restarted.node c.in-Restarted.number) c.requires.inside c.index-history-place.is c.in-Restarted.is)).0
 
 pub returns-in-Wrote-clause-moment : goal.returns-in-Wrote-clause-moment
 returns-in-Wrote-clause-moment c =

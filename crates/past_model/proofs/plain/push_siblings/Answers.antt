@@ -1,6 +1,6 @@
-use Rattle.std.proofs.Common.{◌≡◌, ℕ, ◌+◌, ◌-◌, ◌<◌, length, take, sym, ◌∙◌, subst, arith}
-use Rattle.past_model.specs.Past.{past}
+use Rattle.std.proofs.Common.{◌≡◌, ℕ, ◌+◌, ◌-◌, ◌<◌, length, sym, ◌∙◌, subst, arith}
 use Rattle.past_model.specs.Moment.{marked_places}
+use Rattle.past_model.proofs.Fitting.{history_taken}
 use Rattle.past_model.proofs.Latest.{inside}
 use Rattle.past_model.proofs.Reading.{read_back}
 use Rattle.past_model.proofs.Listing.{Listed, Listed-sibling, Listed-other}
@@ -23,10 +23,13 @@ loop-back-preserved c =
       | then-is_sibling+in_ok-push_by b ↦
           subst (λ v. Listed hs S w old v.items i) (sym b.values-is)
           (Listed-sibling hs S w old values b.push_by.new.values.items i (length hs - c.loop-back.back) b.index-history-place.result lt b.index-history-place.is before
-          (sym b.if-is_sibling.true ∙ c.is_sibling.ensures) (b.in_ok-push_by.ensures (past (take i hs))) c.loop-back.invariant)
+          (sym b.if-is_sibling.true ∙ c.is_sibling.ensures) b.in_ok-push_by.ensures c.loop-back.invariant)
       | else-is_sibling b ↦
           let at = inside hs i lt in
           subst (λ v. Listed hs S w old v.items i) (sym b.values-is)
           (Listed-other hs S w old values i (length hs - c.loop-back.back) at.0 lt (read_back hs i at.0 at.1) before
           (sym b.if-is_sibling.false ∙ c.is_sibling.ensures) c.loop-back.invariant)
     ])
+
+pub push_by-requires : goal.push_by-requires
+push_by-requires c = history_taken c.args.history.now (length c.args.history.now - 1 - c.loop-back.back) c.requires.account.history

@@ -7,7 +7,7 @@ use Rattle.world_core.specs.World.{World}
 use Rattle.world_core.specs.contracts.world.World.{the_view}
 use Rattle.world_core.specs.declared.answer.Reply.TheVariants as OfReply
 use Rattle.world_core.specs.declared.event.Event.TheVariants.{Get}
-use Rattle.world_core.specs.Refusal.{node_at, present, table_of}
+use Rattle.world_core.specs.Refusal.{actor_at, node_at, present, table_of}
 use Rattle.world_core.specs.Outcome.{next_read}
 use Rattle.world_core.specs.Plan.{IsShown}
 use Rattle.world_core.proofs.Chronicles.{after_look, same_world}
@@ -29,10 +29,10 @@ invariant_of-self-2 c =
     let low : n < length w.nodes = search rules in
     let at : c.index.result.now ≡ node_at w n = same_node w n c.index.result.now low (search rules) in
     let read : Reading = present w n k in
-    let source : c.next_source-source.result ≡ record { node = n; step = next_read w } = search rules in
+    let source : c.next_source-source.result ≡ record { actor = actor_at w n; step = next_read w } = search rules in
     let table : c.store-there.result.now ≡ table_of w n = c.store-there.ensures ∙ ap (λ m. m.table) at in
     let shown : IsShown (table_of w n) read c.in_ok-shown.shown =
-    subst (λ t. IsShown t (record { key = k; vector = join (object_at t k); source = record { node = n; step = next_read w } }) c.in_ok-shown.shown) table
+    subst (λ t. IsShown t (record { key = k; vector = join (object_at t k); source = record { actor = actor_at w n; step = next_read w } }) c.in_ok-shown.shown) table
     (subst (λ s. IsShown c.store-there.result.now (record { key = k; vector = join (object_at c.store-there.result.now k); source = s }) c.in_ok-shown.shown) source c.in_ok-shown.ensures) in
     let steps = get_steps w n k (node_at w n) (world_of w c.self.invariant) low refl in
     let number : c.from-2.result ≡ n = search rules in
@@ -54,10 +54,10 @@ returns c =
     let low : n < length w.nodes = search rules in
     let at : c.index.result.now ≡ node_at w n = same_node w n c.index.result.now low (search rules) in
     let read : Reading = present w n k in
-    let source : c.next_source-source.result ≡ record { node = n; step = next_read w } = search rules in
+    let source : c.next_source-source.result ≡ record { actor = actor_at w n; step = next_read w } = search rules in
     let table : c.store-there.result.now ≡ table_of w n = c.store-there.ensures ∙ ap (λ m. m.table) at in
     let shown : IsShown (table_of w n) read c.in_ok-shown.shown =
-    subst (λ t. IsShown t (record { key = k; vector = join (object_at t k); source = record { node = n; step = next_read w } }) c.in_ok-shown.shown) table
+    subst (λ t. IsShown t (record { key = k; vector = join (object_at t k); source = record { actor = actor_at w n; step = next_read w } }) c.in_ok-shown.shown) table
     (subst (λ s. IsShown c.store-there.result.now (record { key = k; vector = join (object_at c.store-there.result.now k); source = s }) c.in_ok-shown.shown) source c.in_ok-shown.ensures) in
     let steps = get_steps w n k (node_at w n) (world_of w c.self.invariant) low refl in
     let number : c.from-2.result ≡ n = search rules in

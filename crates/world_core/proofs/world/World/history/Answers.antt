@@ -1,6 +1,6 @@
 use Rattle.std.proofs.Common.{◌≡◌, ℕ, Some, subst}
 use Rattle.meta_store.specs.Context.{Reading}
-use Rattle.past_model.specs.History.{IsHistory, RestartsKeepOwnWrites}
+use Rattle.past_model.specs.History.{IsHistory}
 use Rattle.world_core.specs.Tells.{Tells, numbered}
 use Rattle.world_core.specs.Knowledge.{CountsSeen}
 use Rattle.world_core.specs.World.{World}
@@ -14,9 +14,6 @@ returns-clause-tells c = subst (λ w. Tells w.accepted w.frames w.told) c.self.v
 
 pub returns-clause-is_history : goal.returns-clause-is_history
 returns-clause-is_history c = subst (λ w. IsHistory w.told.history) c.self.view_is ((world_of (the_view c.self.inside) c.self.invariant).state.is_history)
-
-pub returns-clause-premise : goal.returns-clause-premise
-returns-clause-premise c = subst (λ w. RestartsKeepOwnWrites w.told.history) c.self.view_is ((world_of (the_view c.self.inside) c.self.invariant).state.keeps)
 
 pub returns-clause-reads : goal.returns-clause-reads
 returns-clause-reads c =

@@ -1,30 +1,30 @@
-use Rattle.std.proofs.Common.{rules, ◌≡◌, ◌<◌, ◌≤◌, length, refl, subst}
+use Rattle.std.proofs.Common.{rules, ◌≡◌, ◌<◌, ◌≤◌, length, ap, sym, subst, ◌∙◌}
+use Rattle.node_images.specs.Node.{most_incarnation}
 use Rattle.world_core.specs.World.{World}
 use Rattle.world_core.specs.contracts.world.World.{the_view}
 use Rattle.world_core.specs.Refusal.{RefusesEvent, node_at}
 use Rattle.world_core.specs.declared.event.Event.TheVariants.{Restart}
-use Rattle.world_core.specs.declared.fault.WorldFault.TheVariants.{NoSuchImage}
+use Rattle.world_core.specs.declared.fault.WorldFault.TheVariants.{IncarnationSpent, NoSuchImage}
 use Rattle.world_core.proofs.Outcomes.{world_of}
 use Rattle.world_core.proofs.Putting.{same_node}
-use Rattle.world_core.proofs.Restarts.{no_image, no_image_refuses}
+use Rattle.world_core.proofs.Restarts.{no_image, no_image_refuses, spent_refuses}
 use Rattle.world_core.proofs.world.World.image_number.Goals as goal
 
 pub returns-then-images-image-clause-fault : goal.returns-then-images-image-clause-fault
 returns-then-images-image-clause-fault c =
     let w : World = the_view c.self.inside in
     let low : c.args.node < length w.nodes = search rules in
-    let at : c.index.result.now ≡ node_at w c.args.node = same_node w c.args.node c.index.result.now low (search rules) in
-    let fewer : length c.index.result.now.images < c.args.image = search rules in (
-      refl,
-      subst (λ (v : World). RefusesEvent v (Restart c.args.node c.args.image) NoSuchImage) c.self.view_is
-          (no_image_refuses w c.args.node c.args.image low (no_image w c.args.node c.args.image c.index.result.now (world_of w c.self.invariant) low at fewer)),
-    )
+    let at : c.index-there.result.now ≡ node_at w c.args.node = same_node w c.args.node c.index-there.result.now low (search rules) in
+    let fewer : length c.index-there.result.now.images < c.args.image = search rules in
+    subst (λ (v : World). RefusesEvent v (Restart c.args.node c.args.image) NoSuchImage) c.self.view_is
+    (no_image_refuses w c.args.node c.args.image low (no_image w c.args.node c.args.image c.index-there.result.now (world_of w c.self.invariant) low at fewer))
 
-pub returns-clause-value : goal.returns-clause-value
-returns-clause-value c =
+pub returns-then-incarnation-clause-fault : goal.returns-then-incarnation-clause-fault
+returns-then-incarnation-clause-fault c =
     let w : World = the_view c.self.inside in
     let low : c.args.node < length w.nodes = search rules in
-    let at : c.index.result.now ≡ node_at w c.args.node = same_node w c.args.node c.index.result.now low (search rules) in
-    let enough : c.args.image ≤ length c.index.result.now.images = search rules in
-    let same : c.unwrap.result ≡ c.args.image = search rules in
-    (same, subst (λ (v : World). c.args.image ≤ length (node_at v c.args.node).images) c.self.view_is (subst (λ m. c.args.image ≤ length m.images) at enough))
+    let at : c.index-there.result.now ≡ node_at w c.args.node = same_node w c.args.node c.index-there.result.now low (search rules) in
+    let enough : c.args.image ≤ length c.index-there.result.now.images = search rules in
+    let last : c.index-there.result.now.incarnation ≡ most_incarnation = search rules in
+    subst (λ (v : World). RefusesEvent v (Restart c.args.node c.args.image) IncarnationSpent) c.self.view_is
+    (spent_refuses w c.args.node c.args.image (world_of w c.self.invariant) low (subst (λ m. c.args.image ≤ length m.images) at enough) (sym (ap (λ m. m.incarnation) at) ∙ last))

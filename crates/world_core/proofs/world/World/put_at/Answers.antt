@@ -12,7 +12,7 @@ use Rattle.world_core.specs.World.{World}
 use Rattle.world_core.specs.contracts.world.World.{the_view}
 use Rattle.world_core.specs.declared.answer.Reply.TheVariants as OfReply
 use Rattle.world_core.specs.declared.event.Event.TheVariants.{Put}
-use Rattle.world_core.specs.Refusal.{context_of, node_at, table_of}
+use Rattle.world_core.specs.Refusal.{actor_at, context_of, node_at, table_of}
 use Rattle.world_core.specs.Outcome.{replied}
 use Rattle.world_core.specs.Plan.{IsWrittenNode}
 use Rattle.world_core.specs.Steps.{IsPlaceOf}
@@ -42,12 +42,13 @@ returns-in_err-written c =
     let low : n < length w.nodes = search rules in
     let place : IsPlaceOf w c.args.read c.args.place = subst (λ u. IsPlaceOf u c.args.read c.args.place) (sym c.self.view_is) c.requires.place in
     let number : c.from.result ≡ n = search rules in
+    let writer : c.actor-writer.result ≡ actor_at w n = search rules in
     let at : c.index_mut-target.result.now ≡ node_at w n = same_node w n c.index_mut-target.result.now low (search rules) in
     let there : option_copied c.context_at-context.result ≡ option_and_then (slice_get w.contexts) c.args.place = search rules in
     let context : option_copied c.context_at-context.result ≡ context_of w c.args.read = there ∙ context_there w c.args.read c.args.place place in
-    let same : refusal_of_put c.index_mut-target.result.now.table n k v (option_copied c.context_at-context.result) ≡ refusal_of_put (table_of w n) n k v (context_of w c.args.read) =
-    λ i. refusal_of_put (at i).table n k v (context i) in
-    store_refused _ w c.self.view_is (refusal_of_put (table_of w n) n k v (context_of w c.args.read)) c.in_err-written.field-0.0 (search rules)
+    let same : refusal_of_put c.index_mut-target.result.now.table c.actor-writer.result k v (option_copied c.context_at-context.result) ≡ refusal_of_put (table_of w n) (actor_at w n) k v (context_of w c.args.read) =
+    λ i. refusal_of_put (at i).table (writer i) k v (context i) in
+    store_refused _ w c.self.view_is (refusal_of_put (table_of w n) (actor_at w n) k v (context_of w c.args.read)) c.in_err-written.field-0.0 (search rules)
     (subst (λ r. (c.in_err-written.field-0.0 ≡ Memory) ⊎ (r ≡ Some c.in_err-written.field-0.0)) same c.in_err-written.ensures.fault)
     (λ f is. inr (has_node w n low, inr (has_read w c.args.read c.args.place place, is)))
     (same_world w.nodes c.self.inside.chronicle c.reserve.new.self c.reserve.ensures.same
@@ -62,22 +63,24 @@ invariant_of-self-2 c =
     let low : n < length w.nodes = search rules in
     let place : IsPlaceOf w c.args.read c.args.place = subst (λ u. IsPlaceOf u c.args.read c.args.place) (sym c.self.view_is) c.requires.place in
     let number : c.from.result ≡ n = search rules in
+    let writer : c.actor-writer.result ≡ actor_at w n = search rules in
     let at : c.index_mut-target.result.now ≡ node_at w n = same_node w n c.index_mut-target.result.now low (search rules) in
     let there : option_copied c.context_at-context.result ≡ option_and_then (slice_get w.contexts) c.args.place = search rules in
     let context : option_copied c.context_at-context.result ≡ context_of w c.args.read = there ∙ context_there w c.args.read c.args.place place in
     let seen_at : c.look_at-seen.result ≡ option_and_then (slice_get w.told.looks) c.args.place = search rules in
     let seen : c.look_at-seen.result ≡ look_of w.told c.args.read = seen_at ∙ look_there w c.args.read c.args.place place in
-    let left : IsWrittenNode c.index_mut-target.result.now n k v (context_of w c.args.read) c.in_ok-written.written =
-    subst (λ x. IsWrittenNode c.index_mut-target.result.now n k v x c.in_ok-written.written) context c.in_ok-written.ensures.written in
-    let node : c.write.new.node ≡ with_write n k v (context_of w c.args.read) c.index_mut-target.result.now =
-    c.in_ok-written.ensures.value ∙ ap (λ x. with_write n k v x c.index_mut-target.result.now) context in
+    let left : IsWrittenNode c.index_mut-target.result.now (actor_at w n) k v (context_of w c.args.read) c.in_ok-written.written =
+    subst (λ u. IsWrittenNode c.index_mut-target.result.now u k v (context_of w c.args.read) c.in_ok-written.written) writer
+    (subst (λ x. IsWrittenNode c.index_mut-target.result.now c.actor-writer.result k v x c.in_ok-written.written) context c.in_ok-written.ensures.written) in
+    let node : c.write.new.node ≡ with_write (actor_at w n) k v (context_of w c.args.read) c.index_mut-target.result.now =
+    c.in_ok-written.ensures.value ∙ (λ i. with_write (writer i) k v (context i) c.index_mut-target.result.now) in
     let steps = put_steps w n k v c.args.read c.args.place c.index_mut-target.result.now (world_of w c.self.invariant) low at left.is_node place left.taken left.held in
     let event : c.put.result ≡ Put n k v c.args.read = search rules in
-    let kept : c.wrote.result ≡ replied (OfReply.Wrote (join (object_after_put c.index_mut-target.result.now.table n k v (context_of w c.args.read)))) = c.wrote.ensures ∙ ap (λ x. replied (OfReply.Wrote x)) left.reply in
+    let kept : c.wrote.result ≡ replied (OfReply.Wrote (join (object_after_put c.index_mut-target.result.now.table (actor_at w n) k v (context_of w c.args.read)))) = c.wrote.ensures ∙ ap (λ x. replied (OfReply.Wrote x)) left.reply in
     let told : c.wrote-2.result ≡ Wrote n k v (look_of w.told c.args.read) = c.wrote-2.ensures ∙ (λ i. Wrote n (left.told i).key (left.told i).value (seen i)) in
     let is =
-    after_tell w.nodes (slice_set w.nodes n (with_write n k v (context_of w c.args.read) c.index_mut-target.result.now)) c.self.inside.chronicle c.reserve.new.self c.tell.new.self
-    (record { event = Put n k v c.args.read; answer = replied (OfReply.Wrote (join (object_after_put c.index_mut-target.result.now.table n k v (context_of w c.args.read)))) })
+    after_tell w.nodes (slice_set w.nodes n (with_write (actor_at w n) k v (context_of w c.args.read) c.index_mut-target.result.now)) c.self.inside.chronicle c.reserve.new.self c.tell.new.self
+    (record { event = Put n k v c.args.read; answer = replied (OfReply.Wrote (join (object_after_put c.index_mut-target.result.now.table (actor_at w n) k v (context_of w c.args.read)))) })
     (Wrote n k v (look_of w.told c.args.read))
     c.reserve.ensures.same (λ i. slice_set w.nodes (number i) (node i)) (λ i. record { event = event i; answer = kept i }) told
     c.tell.ensures.accepted c.tell.ensures.frames c.tell.ensures.contexts c.tell.ensures.told in
@@ -92,22 +95,24 @@ returns c =
     let low : n < length w.nodes = search rules in
     let place : IsPlaceOf w c.args.read c.args.place = subst (λ u. IsPlaceOf u c.args.read c.args.place) (sym c.self.view_is) c.requires.place in
     let number : c.from.result ≡ n = search rules in
+    let writer : c.actor-writer.result ≡ actor_at w n = search rules in
     let at : c.index_mut-target.result.now ≡ node_at w n = same_node w n c.index_mut-target.result.now low (search rules) in
     let there : option_copied c.context_at-context.result ≡ option_and_then (slice_get w.contexts) c.args.place = search rules in
     let context : option_copied c.context_at-context.result ≡ context_of w c.args.read = there ∙ context_there w c.args.read c.args.place place in
     let seen_at : c.look_at-seen.result ≡ option_and_then (slice_get w.told.looks) c.args.place = search rules in
     let seen : c.look_at-seen.result ≡ look_of w.told c.args.read = seen_at ∙ look_there w c.args.read c.args.place place in
-    let left : IsWrittenNode c.index_mut-target.result.now n k v (context_of w c.args.read) c.in_ok-written.written =
-    subst (λ x. IsWrittenNode c.index_mut-target.result.now n k v x c.in_ok-written.written) context c.in_ok-written.ensures.written in
-    let node : c.write.new.node ≡ with_write n k v (context_of w c.args.read) c.index_mut-target.result.now =
-    c.in_ok-written.ensures.value ∙ ap (λ x. with_write n k v x c.index_mut-target.result.now) context in
+    let left : IsWrittenNode c.index_mut-target.result.now (actor_at w n) k v (context_of w c.args.read) c.in_ok-written.written =
+    subst (λ u. IsWrittenNode c.index_mut-target.result.now u k v (context_of w c.args.read) c.in_ok-written.written) writer
+    (subst (λ x. IsWrittenNode c.index_mut-target.result.now c.actor-writer.result k v x c.in_ok-written.written) context c.in_ok-written.ensures.written) in
+    let node : c.write.new.node ≡ with_write (actor_at w n) k v (context_of w c.args.read) c.index_mut-target.result.now =
+    c.in_ok-written.ensures.value ∙ (λ i. with_write (writer i) k v (context i) c.index_mut-target.result.now) in
     let steps = put_steps w n k v c.args.read c.args.place c.index_mut-target.result.now (world_of w c.self.invariant) low at left.is_node place left.taken left.held in
     let event : c.put.result ≡ Put n k v c.args.read = search rules in
-    let kept : c.wrote.result ≡ replied (OfReply.Wrote (join (object_after_put c.index_mut-target.result.now.table n k v (context_of w c.args.read)))) = c.wrote.ensures ∙ ap (λ x. replied (OfReply.Wrote x)) left.reply in
+    let kept : c.wrote.result ≡ replied (OfReply.Wrote (join (object_after_put c.index_mut-target.result.now.table (actor_at w n) k v (context_of w c.args.read)))) = c.wrote.ensures ∙ ap (λ x. replied (OfReply.Wrote x)) left.reply in
     let told : c.wrote-2.result ≡ Wrote n k v (look_of w.told c.args.read) = c.wrote-2.ensures ∙ (λ i. Wrote n (left.told i).key (left.told i).value (seen i)) in
     let is =
-    after_tell w.nodes (slice_set w.nodes n (with_write n k v (context_of w c.args.read) c.index_mut-target.result.now)) c.self.inside.chronicle c.reserve.new.self c.tell.new.self
-    (record { event = Put n k v c.args.read; answer = replied (OfReply.Wrote (join (object_after_put c.index_mut-target.result.now.table n k v (context_of w c.args.read)))) })
+    after_tell w.nodes (slice_set w.nodes n (with_write (actor_at w n) k v (context_of w c.args.read) c.index_mut-target.result.now)) c.self.inside.chronicle c.reserve.new.self c.tell.new.self
+    (record { event = Put n k v c.args.read; answer = replied (OfReply.Wrote (join (object_after_put c.index_mut-target.result.now.table (actor_at w n) k v (context_of w c.args.read)))) })
     (Wrote n k v (look_of w.told c.args.read))
     c.reserve.ensures.same (λ i. slice_set w.nodes (number i) (node i)) (λ i. record { event = event i; answer = kept i }) told
     c.tell.ensures.accepted c.tell.ensures.frames c.tell.ensures.contexts c.tell.ensures.told in

@@ -1,15 +1,14 @@
 use Rattle.std.proofs.Common.{rules, ◌≡◌, ℕ, ◌<◌, ◌≤◌, length, refl, sym, subst, ◌∙◌}
 use Rattle.std.specs.Prelude.{slice_set}
 use Rattle.meta_types.specs.Name.{Key}
-use Rattle.dvvset.specs.Writer.{count_of}
 use Rattle.meta_store.specs.Table.{object_at}
 use Rattle.node_images.specs.Images.{holdings}
-use Rattle.node_images.specs.Node.{with_restart}
+use Rattle.node_images.specs.Node.{most_incarnation, with_restart}
 use Rattle.past_model.specs.declared.happening.Happening.TheVariants.{Restarted}
 use Rattle.world_core.specs.World.{World}
 use Rattle.world_core.specs.contracts.world.World.{the_view}
 use Rattle.world_core.specs.Outcome.{replied}
-use Rattle.world_core.specs.Refusal.{node_at, table_of}
+use Rattle.world_core.specs.Refusal.{node_at}
 use Rattle.world_core.specs.declared.answer.Reply.TheVariants.{Done}
 use Rattle.world_core.specs.declared.event.Event.TheVariants.{Restart}
 use Rattle.world_core.proofs.Chronicles.{after_tell, same_world}
@@ -62,10 +61,9 @@ invariant_of-self-2 c =
     let enough : j ≤ length (node_at w n).images = subst (λ (v : World). j ≤ length (node_at v n).images) (sym c.self.view_is) c.requires.number in
     let restored : (k : Key) → object_at c.args.store k ≡ holdings (node_at w n).images j k =
     subst (λ (v : World). (k : Key) → object_at c.args.store k ≡ holdings (node_at v n).images j k) (sym c.self.view_is) c.requires.restored in
-    let counts : (k : Key) → count_of (object_at (table_of w n) k) n ≤ count_of (object_at c.args.store k) n =
-    subst (λ (v : World). (k : Key) → count_of (object_at (table_of v n) k) n ≤ count_of (object_at c.args.store k) n) (sym c.self.view_is) c.requires.counts in
+    let left : (node_at w n).incarnation < most_incarnation = subst (λ (v : World). (node_at v n).incarnation < most_incarnation) (sym c.self.view_is) c.requires.left in
     let node : c.restart.new.self ≡ with_restart c.args.store j (node_at w n) = c.restart.ensures ∙ (λ i. with_restart (store i) j (at i)) in
-    let steps = restart_steps w n j (node_at w n) c.args.store (world_of w c.self.invariant) low refl enough restored c.requires.is_table counts in
+    let steps = restart_steps w n j (node_at w n) c.args.store (world_of w c.self.invariant) low refl enough restored c.requires.is_table left in
     let event : c.from-2.result ≡ n = search rules in
     let is =
     after_tell w.nodes (slice_set w.nodes n (with_restart c.args.store j (node_at w n))) c.self.inside.chronicle c.reserve.new.self c.tell.new.self
@@ -86,10 +84,9 @@ returns c =
     let enough : j ≤ length (node_at w n).images = subst (λ (v : World). j ≤ length (node_at v n).images) (sym c.self.view_is) c.requires.number in
     let restored : (k : Key) → object_at c.args.store k ≡ holdings (node_at w n).images j k =
     subst (λ (v : World). (k : Key) → object_at c.args.store k ≡ holdings (node_at v n).images j k) (sym c.self.view_is) c.requires.restored in
-    let counts : (k : Key) → count_of (object_at (table_of w n) k) n ≤ count_of (object_at c.args.store k) n =
-    subst (λ (v : World). (k : Key) → count_of (object_at (table_of v n) k) n ≤ count_of (object_at c.args.store k) n) (sym c.self.view_is) c.requires.counts in
+    let left : (node_at w n).incarnation < most_incarnation = subst (λ (v : World). (node_at v n).incarnation < most_incarnation) (sym c.self.view_is) c.requires.left in
     let node : c.restart.new.self ≡ with_restart c.args.store j (node_at w n) = c.restart.ensures ∙ (λ i. with_restart (store i) j (at i)) in
-    let steps = restart_steps w n j (node_at w n) c.args.store (world_of w c.self.invariant) low refl enough restored c.requires.is_table counts in
+    let steps = restart_steps w n j (node_at w n) c.args.store (world_of w c.self.invariant) low refl enough restored c.requires.is_table left in
     let event : c.from-2.result ≡ n = search rules in
     let is =
     after_tell w.nodes (slice_set w.nodes n (with_restart c.args.store j (node_at w n))) c.self.inside.chronicle c.reserve.new.self c.tell.new.self
@@ -97,3 +94,12 @@ returns c =
     c.reserve.ensures.same (λ i. slice_set w.nodes (number i) (node i)) (λ i. record { event = Restart (event i) j; answer = c.replied.ensures i }) refl
     c.tell.ensures.accepted c.tell.ensures.frames c.tell.ensures.contexts c.tell.ensures.told in
     stepped_outcome _ w c.self.view_is _ _ steps c.replied-2.ensures is
+
+pub restart-requires-clause-left : goal.restart-requires-clause-left
+restart-requires-clause-left c =
+    let w : World = the_view c.self.inside in
+    let n : ℕ = c.args.node in
+    let low : n < length w.nodes = search rules in
+    let number : c.from.result ≡ n = search rules in
+    let at : c.index_mut.result.now ≡ node_at w n = same_node w n c.index_mut.result.now low (search rules) in
+    subst (λ m. m.incarnation < most_incarnation) (sym at) (subst (λ (v : World). (node_at v n).incarnation < most_incarnation) (sym c.self.view_is) c.requires.left)
