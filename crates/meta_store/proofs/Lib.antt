@@ -1,7 +1,11 @@
 -- the order of keys
 pub mod Keys
--- where a key stands in a table
-mod Places
+-- ordered maps in the words of a table
+mod Maps
+-- a table that is kept by full prefix
+mod Kept
+-- a store after an object was held
+mod Holding
 -- a table after an object was put there
 pub mod Tables
 -- objects within a length

@@ -1,13 +1,13 @@
 -- What a table is after an object was put under a key, and what is read there.
-use Rattle.std.proofs.Common.{◌≡◌, ◌≢◌, ℕ, ◌+◌, ◌<◌, ◌≤◌, Bool, true, false, cond, ◌&&◌, T, List, [], ◌∷◌, length, All, Option, Some, None, is_some, is_none, refl, sym, ap, subst, ◌∙◌, arith, leb}
+use Rattle.std.proofs.Common.{◌≡◌, ◌≢◌, ℕ, ◌+◌, ◌<◌, ◌≤◌, zero, suc, Bool, true, false, cond, ◌&&◌, T, List, [], ◌∷◌, length, get_or, All, Option, Some, None, is_some, is_none, refl, sym, ap, subst, ◌∙◌, arith, leb}
 use Rattle.std.specs.Bool.{passes}
 use Rattle.std.specs.Option.{unwrap_or}
-use Rattle.std.specs.Ordering.{is_eq}
+use Rattle.std.specs.Ordering.{is_eq, is_lt}
 use Rattle.std.specs.declared.cmp.Ordering.{Ordering}
 use Rattle.std.specs.declared.cmp.Ordering.TheVariants.{Less, Equal, Greater}
 use Rattle.std.specs.Cmp.{tied_itself}
 use Rattle.std.specs.FinMap.{find, put, is_sorted}
-use Rattle.std.specs.FinMap.Entries.{by_order, is_sorted-put, find-put, length-put, same_entries}
+use Rattle.std.specs.FinMap.Entries.{below_all, by_order, is_sorted-put, find-put, length-put, same_entries}
 use Rattle.std.proofs.lemmas.Bool.{leb-false}
 use Rattle.std.proofs.lemmas.List.Elements.{All-cons, All-head, All-tail, All-nil}
 use Rattle.meta_types.specs.Name.{Key, IsKey}
@@ -110,3 +110,29 @@ pub same_table : (table other : Table) → IsTable table → IsTable other → (
 same_table table other is js alike =
     same_entries key_cmp key_total same_key table other (passes (is_sorted key_cmp table) is.rising) (passes (is_sorted key_cmp other) js.rising)
     (λ k. same_found k (find key_cmp k table) (find key_cmp k other) (λ o. found_row k table o is.held is.keys) (λ o. found_row k other o js.held js.keys) (alike k))
+
+-- ---- a sorted table rises from each place to each later one
+
+less : (o : Ordering) → T (is_lt o) → o ≡ Less
+less Less p = refl
+less Equal p = absurd p
+less Greater p = absurd p
+
+first_of : (a b : Bool) → T (a && b) → T a
+first_of true b p = tt
+first_of false b p = absurd p
+
+second_of : (a b : Bool) → T (a && b) → T b
+second_of true b p = p
+second_of false b p = absurd p
+
+below_at : (k : Key) (table : Table) (j : ℕ) (d : Row) → T (below_all key_cmp k table) → j < length table → key_cmp k (get_or table j d).0 ≡ Less
+below_at k [] j d h lt = absurd (omega (arith, lt))
+below_at k (row ∷ rows) zero d h lt = less (key_cmp k row.0) (first_of (is_lt (key_cmp k row.0)) (below_all key_cmp k rows) h)
+below_at k (row ∷ rows) (suc j) d h lt = below_at k rows j d (second_of (is_lt (key_cmp k row.0)) (below_all key_cmp k rows) h) (omega (arith, lt))
+
+pub rises : (table : Table) (i j : ℕ) (d : Row) → T (is_sorted key_cmp table) → i < j → j < length table → key_cmp (get_or table i d).0 (get_or table j d).0 ≡ Less
+rises [] i j d h lt within = absurd (omega (arith, within))
+rises (row ∷ rows) i zero d h lt within = absurd (omega (arith, lt))
+rises (row ∷ rows) zero (suc j) d h lt within = below_at row.0 rows j d (first_of (below_all key_cmp row.0 rows) (is_sorted key_cmp rows) h) (omega (arith, within))
+rises (row ∷ rows) (suc i) (suc j) d h lt within = rises rows i j d (second_of (below_all key_cmp row.0 rows) (is_sorted key_cmp rows) h) (omega (arith, lt)) (omega (arith, within))

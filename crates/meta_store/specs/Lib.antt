@@ -22,5 +22,5 @@ pub mod Context
 pub mod Step
 -- the numbers of refusals
 pub mod Fault
--- what private functions alone cite: where a key stands
-pub mod Place
+-- how a store keeps its table, by full prefix: what is gone over row by row
+pub mod Kept

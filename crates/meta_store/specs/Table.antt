@@ -1,10 +1,10 @@
 -- A table: what one node holds. The rule is our own.
-use Rattle.std.specs.Prelude.{◌≡◌, ℕ, ◌≤◌, nat_le, Bool, true, ◌&&◌, List, [], length, All}
-use Rattle.std.specs.List.{list_all}
+use Rattle.std.specs.Prelude.{◌≡◌, ℕ, ◌≤◌, nat_le, Bool, true, ◌&&◌, List, [], length, map, All}
+use Rattle.std.specs.List.{dedup, filter, list_all}
 use Rattle.std.specs.Option.{unwrap_or}
 use Rattle.std.specs.FinMap.{find, put, is_sorted}
-use Rattle.meta_types.specs.Name.{Key, IsKey}
-use Rattle.meta_types.specs.Order.{key_cmp}
+use Rattle.meta_types.specs.Name.{Prefix, Key, IsKey}
+use Rattle.meta_types.specs.Order.{key_cmp, prefix_eq}
 use Rattle.dvvset.specs.Object.{Entry, Counter, IsObject}
 use Rattle.dvvset.specs.Clock.{join, descends}
 use Rattle.frame_fields.specs.Field.{object, has_value}
@@ -24,6 +24,16 @@ with_object key object table = put key_cmp key object table
 -- the vector of what is held has read all that the other has read
 abbrev pub is_stale : Table → Key → List Counter → Bool
 is_stale table key vector = descends (join (object_at table key)) vector
+
+-- ---- listing
+
+-- the keys under a full prefix, in order
+abbrev pub keys_under : Prefix → Table → List Key
+keys_under prefix table = filter (λ key. prefix_eq prefix key.prefix) (map (λ row. row.0) table)
+
+-- the full prefixes that hold a key, in order, each once
+abbrev pub prefixes_of : Table → List Prefix
+prefixes_of table = dedup prefix_eq (map (λ row. row.0.prefix) table)
 
 -- ---- limits
 

@@ -7,16 +7,18 @@
 //! store.put(actor, key, green, Some(&context))?; // replaces what was read
 //! ```
 //!
-//! Read `store`, `put`, `merge`, `context` with `source`, then `laws` and `fault`; `size` and
-//! `stale` are private tests.
+//! Read `store` with `rows`, `put`, `merge`, `context` with `source`, then `laws` and `fault`;
+//! `size` tells what may be held, `parts` and `stale` are private.
 #![tactic(auto)]
 
 pub mod context;
 pub mod fault;
 pub mod laws;
 pub mod merge;
+mod parts;
 pub mod put;
-mod size;
+pub mod rows;
+pub mod size;
 pub mod source;
 mod stale;
 pub mod store;
@@ -24,5 +26,6 @@ pub mod store;
 pub use context::Context;
 pub use fault::StoreFault;
 pub use merge::Merged;
+pub use rows::Rows;
 pub use source::Source;
 pub use store::Store;

@@ -1,40 +1,52 @@
-ghost use Rattle.std.specs.Prelude.{◌≡◌, [], length, None, IfOk, IfErr, OnOk, OnErr, IfSome, true, false, IsTrue, ◌↔◌, ◌≤◌};
+ghost use Rattle.std.specs.Prelude.{◌≡◌, ◌≢◌, [], length, map, None, IfOk, IfErr, OnOk, OnErr, IfSome, true, false, IsTrue, ◌↔◌, ◌≤◌, All};
 ghost use Rattle.std.specs.Option.{option_copied};
 ghost use Rattle.std.specs.FinMap.{find, is_sorted};
 ghost use Rattle.meta_types.specs.Name.{Key};
-ghost use Rattle.meta_types.specs.Order.{key_cmp};
+ghost use Rattle.meta_types.specs.Order.{key_cmp, prefix_cmp};
 ghost use Rattle.dvvset.specs.Clock.{join, values_of};
-ghost use Rattle.meta_store.specs.Table.{IsHeld, IsTable, is_stale, object_at, with_object};
+ghost use Rattle.meta_store.specs.Table.{IsHeld, IsTable, is_stale, keys_under, object_at, prefixes_of, with_object};
+ghost use Rattle.meta_store.specs.Kept.{AreParts, table_of};
 ghost use Rattle.meta_store.specs.Context.{reading_at};
 ghost use Rattle.meta_store.specs.Step.{is_full_for};
-ghost use Rattle.meta_store.specs.Place.{IsAt, IsGap};
 
 use crate::context::Context;
+use crate::parts::{copy_parts, put_part};
+use crate::rows::Rows;
 use crate::source::Source;
 use crate::stale::{has_read, knows};
 use dvvset::{Entries, Entry, Vector, join, values};
-use meta_types::{MetaKey, Value};
+use meta_types::{FullPrefix, MetaKey, Value};
 use std::alloc::{AllocError, Global};
+use std::collections::BTreeMap;
+use std::collections::btree_map::Iter;
 use std::marker::Model;
 
 /// The most keys of a store.
 pub const MAX_KEYS: usize = 8_192;
 
-/// What one node holds: a map from key to object. Each object held shows a value; a key without an
-/// object is read as one with the absent object.
+/// What one node holds: a map from key to object, by full prefix and then by the keys' own bytes, so
+/// that a full prefix is kept once. Each object held shows a value; a key without an object is read
+/// as one with the absent object.
 #[derive(Debug, Drop)]
 pub struct Store {
-    rows: Vec<(MetaKey, Entries)>,
+    alloc: Global,
+    parts: BTreeMap<FullPrefix, Rows>,
+    len: usize,
 }
 
 impl Model for Store {
-    ghost use Rattle.meta_store.specs.Table.{Table, IsTable};
+    ghost use Rattle.std.specs.Prelude.{◌≡◌, length};
+    ghost use Rattle.meta_store.specs.Table.{Table};
+    ghost use Rattle.meta_store.specs.Kept.{AreParts, table_of};
 
     ghost Value = { Table };
 
-    ghost view = { λ s. s.rows.items };
+    ghost view = { λ s. table_of s.parts.entries };
 
-    ghost invariant = { λ s. IsTable s.rows.items };
+    ghost invariant = { λ s. record {
+      parts : AreParts s.parts.entries;
+      counted : s.len ≡ length (table_of s.parts.entries);
+    } };
 }
 
 impl Store {
@@ -44,7 +56,9 @@ impl Store {
         ensures { result ≡ [] }
     {
         Store {
-            rows: Vec::new(alloc),
+            alloc,
+            parts: BTreeMap::new(alloc),
+            len: 0,
         }
     }
 
@@ -53,22 +67,14 @@ impl Store {
         ensures value { result ≡ length self.now }
         ensures is_table { IsTable self.now }
     {
-        self.rows.len()
+        self.len
     }
 
     /// Returns whether no key is held.
     pub fn is_empty(&self) -> bool
         ensures { IsTrue result ↔ (self.now ≡ []) }
     {
-        self.rows.is_empty()
-    }
-
-    /// Where the key stands, or else where it would.
-    fn place(&self, key: &MetaKey) -> Result<usize, usize>
-        ensures found { IfOk result (IsAt self.now key.now) }
-        ensures absent { IfErr result (IsGap self.now key.now) }
-    {
-        self.rows.binary_search_by(|row| row.0.cmp(key))
+        self.len == 0
     }
 
     /// The object that is held under the key.
@@ -76,10 +82,7 @@ impl Store {
         ensures value { option_copied result ≡ find key_cmp key.now self.now }
         ensures lawful { IfSome result (λ object. IsHeld object.now) }
     {
-        match self.place(key) {
-            Ok(at) => Some(&self.rows[at].1),
-            Err(_) => None,
-        }
+        self.parts.get(key.prefix())?.object(key.own_bytes())
     }
 
     /// The values under the key, which are siblings if there are several, by writer and of each the
@@ -90,10 +93,9 @@ impl Store {
             (λ read. read.0.items ≡ values_of (object_at self.now key.now)) }
         ensures vector { IfOk result (λ read. read.1 ≡ join (object_at self.now key.now)) }
     {
-        let alloc = *self.rows.allocator();
         match self.object(key) {
-            Some(object) => Ok((values(alloc, object)?, join(alloc, object)?)),
-            None => Ok((Vec::new(alloc), Vector::empty(alloc))),
+            Some(object) => Ok((values(self.alloc, object)?, join(self.alloc, object)?)),
+            None => Ok((Vec::new(self.alloc), Vector::empty(self.alloc))),
         }
     }
 
@@ -145,20 +147,61 @@ impl Store {
         ensures absent { OnErr result (find key_cmp key self.old ≡ None) }
         ensures same { OnErr result (self.new ≡ self.old) }
     {
-        // Read for what it tells: the key is in range.
-        let _ = key.key();
-        match self.place(&key) {
-            Ok(at) => self.rows[at] = (key, object),
-            Err(at) => self.rows.insert(at, (key, object))?,
+        let (prefix, own) = key.into_parts();
+        if put_part(self.alloc, &mut self.parts, prefix, own, object)? {
+            self.len += 1;
         }
         Ok(())
+    }
+
+    /// The keys under the full prefix, in order; none where it holds none. They are copies. Fails
+    /// only when memory runs out.
+    pub fn list(&self, prefix: &FullPrefix) -> Result<Vec<MetaKey>, AllocError>
+        ensures { IfOk result (λ keys. keys.items ≡ keys_under prefix.now self.now) }
+    {
+        match self.parts.get(prefix) {
+            Some(rows) => rows.keys(self.alloc, prefix),
+            None => Ok(Vec::new(self.alloc)),
+        }
+    }
+
+    /// The full prefixes that hold a key, in order. They are copies. Fails only when memory runs
+    /// out.
+    pub fn prefixes(&self) -> Result<Vec<FullPrefix>, AllocError>
+        ensures { IfOk result (λ prefixes. prefixes.items ≡ prefixes_of self.now) }
+    {
+        let mut prefixes = Vec::with_capacity(self.alloc, self.parts.len())?;
+        for prefix in self.parts.keys() {
+            prefixes.push(prefix.copy()?)?;
+        }
+        Ok(prefixes)
+    }
+
+    /// Goes over the full prefixes in order, each with its keys and their objects: all that is held,
+    /// without taking memory.
+    pub fn iter(&self) -> Iter<'_, FullPrefix, Rows>
+        ensures rows { table_of result ≡ self.now }
+        ensures parts { AreParts result }
+    {
+        self.parts.iter()
+    }
+
+    /// Fails only when memory runs out.
+    pub fn copy(&self) -> Result<Self, AllocError>
+        ensures { IfOk result (λ copy. copy ≡ self.now) }
+    {
+        Ok(Store {
+            alloc: self.alloc,
+            parts: copy_parts(self.alloc, &self.parts)?,
+            len: self.len,
+        })
     }
 
     /// Returns whether the key would be one too many.
     pub(crate) fn is_full_for(&self, key: &MetaKey) -> bool
         ensures { result ≡ is_full_for self.now key.now }
     {
-        MAX_KEYS <= self.rows.len() && self.object(key).is_none()
+        MAX_KEYS <= self.len && self.object(key).is_none()
     }
 
     /// The object under the key, the absent one where nothing is held. `absent` is borrowed for it.
@@ -170,6 +213,6 @@ impl Store {
     }
 
     pub(crate) fn allocator(&self) -> Global {
-        *self.rows.allocator()
+        self.alloc
     }
 }

@@ -1,7 +1,7 @@
 -- Orders: of bytes as in a dictionary, of prefixes and keys part by part, of values by stamp first.
-use Rattle.std.specs.Prelude.{ℕ, ◌≡◌, ◌<◌, ◌⊎◌, List, ◌∷◌, ◌++◌, Option, Some, None}
+use Rattle.std.specs.Prelude.{ℕ, ◌≡◌, ◌<◌, ◌⊎◌, Bool, List, ◌∷◌, ◌++◌, Option, Some, None}
 use Rattle.std.specs.declared.cmp.Ordering.{Ordering}
-use Rattle.std.specs.Ordering.{nat_cmp, on, then_cmp}
+use Rattle.std.specs.Ordering.{eq_by_cmp, nat_cmp, on, then_cmp}
 use Rattle.std.specs.Cmp.Lexicographic.{slice_cmp}
 use Rattle.std.specs.Option.{option_cmp}
 use Rattle.meta_types.specs.Name.{Prefix, Key}
@@ -53,6 +53,10 @@ bytes_cmp = slice_cmp nat_cmp
 
 abbrev pub prefix_cmp : Prefix → Prefix → Ordering
 prefix_cmp = then_cmp (on (λ p. p.prefix) bytes_cmp) (on (λ p. p.sub) bytes_cmp)
+
+-- the same two parts
+abbrev pub prefix_eq : Prefix → Prefix → Bool
+prefix_eq = eq_by_cmp prefix_cmp
 
 abbrev pub key_cmp : Key → Key → Ordering
 key_cmp = then_cmp (on (λ k. k.prefix) prefix_cmp) (on (λ k. k.key) bytes_cmp)

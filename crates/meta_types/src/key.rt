@@ -68,6 +68,34 @@ impl MetaKey {
         self.key.as_slice()
     }
 
+    /// The same bytes as the byte string that is kept, by which ordered maps find a key under its
+    /// prefix.
+    pub fn own_bytes(&self) -> &ByteString
+        ensures value { result.now ≡ self.now.key }
+        ensures in_range { IsKey self.now }
+    {
+        &self.key
+    }
+
+    /// The full prefix and the key's own bytes, without taking memory.
+    pub fn into_parts(self) -> (FullPrefix, ByteString)
+        ensures prefix { result.0 ≡ self.prefix }
+        ensures key { result.1 ≡ self.key }
+        ensures in_range { IsKey self }
+    {
+        (self.prefix, self.key)
+    }
+
+    /// The key of a full prefix and own bytes whose length is in range. It takes no memory.
+    pub fn under(prefix: FullPrefix, key: ByteString) -> Self
+        requires in_range { IsName 256 key }
+        ensures { result ≡ record { prefix = prefix; key = key } }
+    {
+        // Read for what it tells: the prefix is in range.
+        let _ = prefix.prefix();
+        MetaKey { prefix, key }
+    }
+
     pub fn copy(&self) -> Result<Self, AllocError>
         ensures { IfOk result (λ copy. copy ≡ self.now) }
     {

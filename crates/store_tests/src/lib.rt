@@ -13,6 +13,8 @@ mod examples;
 #[cfg(test)]
 mod images;
 #[cfg(test)]
+mod listing;
+#[cfg(test)]
 mod names;
 #[cfg(test)]
 mod parts;

@@ -5,7 +5,7 @@ use Rattle.std.specs.Prelude.{get_or}
 use Rattle.std.specs.FinMap.{is_sorted}
 use Rattle.meta_types.specs.Order.{key_cmp}
 use Rattle.meta_types.proofs.Comparing.{key_before}
-use Rattle.meta_store.proofs.Places.{rises}
+use Rattle.meta_store.proofs.Tables.{rises}
 use Rattle.meta_store.proofs.laws.keys_rise.Goals as goal
 
 pub returns : goal.returns

@@ -1,14 +1,29 @@
-use Rattle.std.proofs.Common.{◌≡◌, get_or, Some, sym, arith}
-use Rattle.std.specs.FinMap.{find}
-use Rattle.meta_types.specs.Order.{key_cmp}
-use Rattle.meta_store.proofs.Places.{find_at, find_gap}
+use Rattle.std.proofs.Common.{sym, ap, ◌∙◌}
+use Rattle.std.specs.Bool.{passes}
+use Rattle.std.specs.FinMap.{find, is_sorted}
+use Rattle.meta_types.specs.Order.{bytes_cmp, prefix_cmp}
+use Rattle.meta_store.proofs.Holding.{held_if_found}
+use Rattle.meta_store.proofs.Kept.{find_row, rows_absent, rows_found}
 use Rattle.meta_store.proofs.store.Store.object.Goals as goal
 
-pub returns-in-Ok-clause-value : goal.returns-in-Ok-clause-value
-returns-in-Ok-clause-value c =
-    let found : find key_cmp c.args.key.now c.args.self.now ≡ Some (get_or c.args.self.now c.in-Ok.at c.index.result.now).1 =
-    find_at c.args.self.now c.args.key.now c.in-Ok.at c.index.result.now c.in-Ok.ensures.found in
-    grind (arith, found, c.self.view_is, c.index.ensures)
+pub returns-in_err-get-clause-value : goal.returns-in_err-get-clause-value
+returns-in_err-get-clause-value c =
+    let parts = c.self.inside.parts.entries in
+    let k = c.args.key.now in
+    rw (c.from_residual.ensures, ← c.self.view_is) (sym (
+    find_row k parts (passes (is_sorted prefix_cmp parts) c.self.invariant.parts.rising)
+    ∙ ap (find bytes_cmp k.key) (rows_absent k.prefix parts (rw (← c.prefix.ensures.value) c.in_err-get.ensures.value))))
 
-pub returns-in-Err-clause-value : goal.returns-in-Err-clause-value
-returns-in-Err-clause-value c = sym (find_gap _ _ _ c.in-Err.ensures.absent)
+pub returns-clause-value : goal.returns-clause-value
+returns-clause-value c =
+    let parts = c.self.inside.parts.entries in
+    let k = c.args.key.now in
+    rw (← c.self.view_is) (
+    c.object.ensures
+    ∙ ap (λ key. find bytes_cmp key c.in_ok-get.field-0.now) c.own_bytes.ensures.value
+    ∙ ap (find bytes_cmp k.key) (sym (rows_found k.prefix c.in_ok-get.field-0.now parts (rw (← c.prefix.ensures.value) c.in_ok-get.ensures.value)))
+    ∙ sym (find_row k parts (passes (is_sorted prefix_cmp parts) c.self.invariant.parts.rising)))
+
+pub returns-clause-lawful : goal.returns-clause-lawful
+returns-clause-lawful c =
+    held_if_found c.args.key.now c.args.self.now c.object.result (rw (← c.self.view_is) c.self.invariant.parts.table) (returns-clause-value c)

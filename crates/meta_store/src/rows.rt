@@ -1,0 +1,110 @@
+//! The rows under one full prefix.
+
+ghost use Rattle.std.specs.Prelude.{◌≡◌, List, ℕ, [], ◌∷◌, length, map, IfOk, IfSome, OnOk, OnErr, None, is_none};
+ghost use Rattle.std.specs.Option.{option_copied};
+ghost use Rattle.std.specs.FinMap.{find, put};
+ghost use Rattle.meta_types.specs.Name.{Key, IsName};
+ghost use Rattle.meta_types.specs.Order.{bytes_cmp};
+ghost use Rattle.meta_store.specs.Kept.{AreRows};
+
+use dvvset::Entries;
+use meta_types::{ByteString, FullPrefix, MetaKey};
+use std::alloc::{AllocError, Global};
+use std::collections::BTreeMap;
+use std::collections::btree_map::Iter;
+use std::marker::Model;
+
+/// What a store holds under one full prefix: the keys' own bytes in byte order, each with its
+/// object.
+#[derive(Debug, Drop)]
+pub struct Rows {
+    by_key: BTreeMap<ByteString, Entries>,
+}
+
+impl Model for Rows {
+    ghost use Rattle.meta_store.specs.Kept.{AreRows, Rows};
+
+    ghost Value = { Rows };
+
+    ghost view = { λ o. o.by_key.entries };
+
+    ghost invariant = { λ o. AreRows o.by_key.entries };
+}
+
+impl Rows {
+    /// One key with its object.
+    pub(crate) fn of_one(
+        alloc: Global,
+        key: ByteString,
+        object: Entries,
+    ) -> Result<Self, AllocError>
+        requires in_range { IsName 256 key }
+        ensures { IfOk result (λ rows. rows ≡ (key, object) ∷ []) }
+    {
+        let mut by_key = BTreeMap::new(alloc);
+        by_key.insert(key, object)?;
+        Ok(Rows { by_key })
+    }
+
+    /// Holds the object under the key in place of what is held there, and answers whether the key
+    /// is new. Fails only when memory runs out for a new key, and then nothing changes.
+    pub(crate) fn hold(&mut self, key: ByteString, object: Entries) -> Result<bool, AllocError>
+        requires in_range { IsName 256 key }
+        ensures value { OnOk result (self.new ≡ put bytes_cmp key object self.old) }
+        ensures is_new { IfOk result (λ is_new. is_new ≡ is_none (find bytes_cmp key self.old)) }
+        ensures absent { OnErr result (find bytes_cmp key self.old ≡ None) }
+        ensures same { OnErr result (self.new ≡ self.old) }
+    {
+        let before = self.by_key.insert(key, object)?;
+        Ok(before.is_none())
+    }
+
+    /// The object that is held under the key of these bytes.
+    pub fn object(&self, key: &ByteString) -> Option<&Entries>
+        ensures { option_copied result ≡ find bytes_cmp key.now self.now }
+    {
+        self.by_key.get(key)
+    }
+
+    /// How many keys there are, at least one.
+    pub fn len(&self) -> usize
+        ensures { result ≡ length self.now }
+    {
+        self.by_key.len()
+    }
+
+    /// Goes over the keys in byte order, each with its object, without taking memory.
+    pub fn iter(&self) -> Iter<'_, ByteString, Entries>
+        ensures rows { result ≡ self.now }
+        ensures in_range { AreRows self.now }
+    {
+        self.by_key.iter()
+    }
+
+    /// The keys under this full prefix, in order. They are copies.
+    pub(crate) fn keys(
+        &self,
+        alloc: Global,
+        prefix: &FullPrefix,
+    ) -> Result<Vec<MetaKey>, AllocError>
+        ensures { IfOk result (λ keys. keys.items
+            ≡ map (λ row. record { prefix = prefix.now; key = row.0 }) self.now) }
+    {
+        let mut keys = Vec::with_capacity(alloc, self.by_key.len())?;
+        for (key, _) in self.by_key.iter() {
+            keys.push(MetaKey::under(prefix.copy()?, key.copy()?))?;
+        }
+        Ok(keys)
+    }
+
+    /// Fails only when memory runs out.
+    pub(crate) fn copy(&self, alloc: Global) -> Result<Self, AllocError>
+        ensures { IfOk result (λ copy. copy ≡ self.now) }
+    {
+        let mut by_key = BTreeMap::new(alloc);
+        for (key, object) in self.by_key.iter() {
+            by_key.insert(key.copy()?, object.copy()?)?;
+        }
+        Ok(Rows { by_key })
+    }
+}
