@@ -1,9 +1,9 @@
 -- the order of keys
 pub mod Keys
 -- ordered maps in the words of a table
-mod Maps
+pub mod Maps
 -- a table that is kept by full prefix
-mod Kept
+pub mod Kept
 -- a store after an object was held
 mod Holding
 -- a table after an object was put there

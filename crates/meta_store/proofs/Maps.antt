@@ -88,7 +88,7 @@ module _ {K X : Type 0} (R : K → K → Ordering) where
     below_within q (e ∷ es) x rest below = below_within q es x rest (second (is_lt (R q e.0)) (below_all R q (es ++ x ∷ rest)) below)
 
     -- a key after all others is put last
-    put_last : (xs : List (K × X)) (k : K) (v : X) (rest : List (K × X)) → T (is_sorted R (xs ++ (k, v) ∷ rest)) → put R k v xs ++ rest ≡ xs ++ (k, v) ∷ rest
+    pub put_last : (xs : List (K × X)) (k : K) (v : X) (rest : List (K × X)) → T (is_sorted R (xs ++ (k, v) ∷ rest)) → put R k v xs ++ rest ≡ xs ++ (k, v) ∷ rest
     put_last [] k v rest sorted = refl
     put_last (e ∷ es) k v rest sorted =
         let all : List (K × X) = es ++ (k, v) ∷ rest in

@@ -10,7 +10,7 @@ use Rattle.dvvset.specs.Clock.{values_of}
 use Rattle.frame_fields.specs.Size.{IsShort}
 use Rattle.frame_fields.specs.Field.{object, has_value, is_bare}
 use Rattle.frame_fields.proofs.Spellable.{object_fits}
-use Rattle.meta_store.specs.Table.{has_few_values, is_small_enough, most_entries}
+use Rattle.meta_store.specs.Table.{IsHeld, has_few_values, is_small_enough, most_entries, most_merged}
 
 all_short : (es : List Entry) → list_all has_few_values es ≡ true → All IsShort es
 all_short [] h = All-nil IsShort
@@ -39,6 +39,9 @@ small_parts most es small =
 -- it has a spelling
 pub few_values_fit : (es : List Entry) → IsObject es → has_value es ≡ true → length es ≤ most_entries → list_all has_few_values es ≡ true → object.Fits es
 few_values_fit es is shows few values = object_fits es is (omega (arith, few)) (all_short es values) shows
+
+pub held_fits : (es : List Entry) → IsHeld es → object.Fits es
+held_fits es is = let small = small_parts most_merged es is.small in few_values_fit es is.lawful is.shows small.few small.values
 
 -- an object that shows values has an entry that isn't bare
 has_value_by : (e : Entry) (es : List Entry) (vs : List ValueParts) → e.values ≡ vs → (vs ≡ [] → has_value es ≡ true) → has_value (e ∷ es) ≡ true

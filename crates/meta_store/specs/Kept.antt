@@ -3,33 +3,40 @@ use Rattle.std.specs.Prelude.{◌≡◌, ◌≢◌, ℕ, true, List, [], map, Al
 use Rattle.std.specs.List.{flat_map}
 use Rattle.std.specs.Option.{unwrap_or}
 use Rattle.std.specs.FinMap.{find, is_sorted}
-use Rattle.meta_types.specs.Name.{Prefix, IsName}
+use Rattle.meta_types.specs.Name.{Prefix, Key, IsName}
 use Rattle.meta_types.specs.Order.{bytes_cmp, prefix_cmp}
 use Rattle.dvvset.specs.Object.{Entry}
-use Rattle.meta_store.specs.Table.{Table, IsTable}
+use Rattle.meta_store.specs.Table.{IsTable}
 
--- the own bytes of the keys under one full prefix, each with the object held under it
-abbrev pub Rows : Type 0
-Rows = List (List ℕ × List Entry)
+-- the own bytes of the keys under one full prefix, each with what stands under it
+abbrev pub RowsOf : Type 0 → Type 0
+RowsOf X = List (List ℕ × X)
 
 -- full prefixes, each with the rows under it
+abbrev pub PartsOf : Type 0 → Type 0
+PartsOf X = List (Prefix × RowsOf X)
+
+-- a store keeps objects
+abbrev pub Rows : Type 0
+Rows = RowsOf (List Entry)
+
 abbrev pub Parts : Type 0
-Parts = List (Prefix × Rows)
+Parts = PartsOf (List Entry)
 
 -- the rows of one full prefix as rows of a table
-abbrev pub rows_under : Prefix → Rows → Table
+abbrev pub rows_under : {X : Type 0} → Prefix → RowsOf X → List (Key × X)
 rows_under prefix rows = map (λ row. (record { prefix = prefix; key = row.0 }, row.1)) rows
 
 -- the table that is kept so
-abbrev pub table_of : Parts → Table
+abbrev pub table_of : {X : Type 0} → PartsOf X → List (Key × X)
 table_of parts = flat_map (λ part. rows_under part.0 part.1) parts
 
 -- the rows under a full prefix, none where it holds no key
-abbrev pub rows_at : Prefix → Parts → Rows
+abbrev pub rows_at : {X : Type 0} → Prefix → PartsOf X → RowsOf X
 rows_at prefix parts = unwrap_or (find prefix_cmp prefix parts) []
 
 -- the keys' own bytes rise strictly, and each has a length in range
-pub record AreRows (rows : Rows) : Type 0 where
+pub record AreRows {X : Type 0} (rows : RowsOf X) : Type 0 where
   pub rising : is_sorted bytes_cmp rows ≡ true
   pub named : All (λ row. IsName 256 row.0) rows
 

@@ -27,13 +27,13 @@ is_stale table key vector = descends (join (object_at table key)) vector
 
 -- ---- listing
 
--- the keys under a full prefix, in order
-abbrev pub keys_under : Prefix → Table → List Key
-keys_under prefix table = filter (λ key. prefix_eq prefix key.prefix) (map (λ row. row.0) table)
+-- the keys under a full prefix, in order, whatever stands under them
+abbrev pub keys_under : {X : Type 0} → Prefix → List (Key × X) → List Key
+keys_under prefix rows = filter (λ key. prefix_eq prefix key.prefix) (map (λ row. row.0) rows)
 
 -- the full prefixes that hold a key, in order, each once
-abbrev pub prefixes_of : Table → List Prefix
-prefixes_of table = dedup prefix_eq (map (λ row. row.0.prefix) table)
+abbrev pub prefixes_of : {X : Type 0} → List (Key × X) → List Prefix
+prefixes_of rows = dedup prefix_eq (map (λ row. row.0.prefix) rows)
 
 -- ---- limits
 

@@ -15,7 +15,7 @@ use Rattle.meta_frame.specs.declared.message.Frame.{Frame}
 use Rattle.meta_frame.specs.declared.message.Message.TheVariants.{Gossip}
 use Rattle.meta_frame.proofs.Frames.{one_frame}
 use Rattle.meta_store.specs.Table.{IsHeld, most_merged}
-use Rattle.meta_store.proofs.Sizes.{few_values_fit, small_parts}
+use Rattle.meta_store.proofs.Sizes.{held_fits, small_parts}
 use Rattle.past_model.specs.declared.happening.Happening.TheVariants.{Sent}
 use Rattle.world_core.specs.declared.answer.Accepted.{Accepted}
 use Rattle.world_core.specs.declared.answer.Reply.TheVariants.{Done}
@@ -154,9 +154,6 @@ send_steps w n k to o bytes is low there apart holds spelled =
     }
 
 -- ---- the bytes of a sending
-
-pub held_fits : (es : List Entry) → IsHeld es → object.Fits es
-held_fits es is = let small = small_parts most_merged es is.small in few_values_fit es is.lawful is.shows small.few small.values
 
 held_small : (es : List Entry) → IsHeld es → length (object.spell es) ≤ 16000000
 held_small es is = (small_parts most_merged es is.small).short

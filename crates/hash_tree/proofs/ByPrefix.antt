@@ -1,0 +1,228 @@
+-- The parts of a tree by full prefix: what its readers find in them.
+use Rattle.std.proofs.Common.{◌≡◌, ◌≢◌, ℕ, true, false, cond, ◌&&◌, T, List, [], ◌∷◌, ◌++◌, map, All, Some, None, refl, sym, ap, subst, ◌∙◌}
+use Rattle.std.specs.Bool.{passes}
+use Rattle.std.specs.List.{filter, flat_map}
+use Rattle.std.specs.Option.{unwrap_or}
+use Rattle.std.specs.Ordering.{is_eq, is_lt}
+use Rattle.std.specs.declared.cmp.Ordering.TheVariants.{Less, Equal, Greater}
+use Rattle.std.specs.Cmp.{tied_itself}
+use Rattle.std.specs.FinMap.{find, put, is_sorted}
+use Rattle.std.specs.FinMap.Entries.{below_all, by_order, find_tied, is_sorted-put}
+use Rattle.std.specs.BTreeMap.{insert_entry}
+use Rattle.std.proofs.lemmas.List.Elements.{All-cons, All-head, All-tail, All-nil}
+use Rattle.std.proofs.lemmas.List.Folds.{flat_map-map}
+use Rattle.std.proofs.lemmas.List.{map-append}
+use Rattle.sha2.specs.Sha256.{sha256}
+use Rattle.meta_types.specs.Name.{Prefix, Key}
+use Rattle.meta_types.specs.Order.{bytes_cmp, key_cmp, prefix_cmp, prefix_eq}
+use Rattle.meta_types.proofs.Comparing.{same_prefix}
+use Rattle.dvvset.specs.Object.{Entry}
+use Rattle.frame_fields.specs.Field.{prefix}
+use Rattle.frame_fields.specs.declared.prefixes.PrefixDigest.{PrefixDigest}
+use Rattle.meta_store.specs.Table.{IsHeld}
+use Rattle.meta_store.specs.Kept as store
+use Rattle.meta_store.specs.Kept.{PartsOf, RowsOf, rows_at, rows_under, table_of}
+use Rattle.meta_store.proofs.Kept.{all_prefixes, bytes_total, prefix_total, put_part}
+use Rattle.meta_store.proofs.Maps.{All-put, below_rest, filled_up, find_below, first, greater_back, is_less, is_true, put_last, rest_sorted, second}
+use Rattle.hash_tree.specs.Tree.{Digest, OwnRows, Rows, digested, object_digest, own_rows, prefix_root, prefix_roots, tree_root}
+use Rattle.hash_tree.specs.Kept.{AreParts}
+
+abbrev Filled : Prefix × OwnRows → Type 0
+Filled part = part.1 ≢ []
+
+abbrev Parts : Type 0
+Parts = PartsOf Digest
+
+-- ---- the rows of one full prefix
+
+-- rows of another prefix are left out
+left_out : (p q : Prefix) (rows : OwnRows) (rest : Rows) → prefix_eq p q ≡ false → own_rows p (rows_under q rows ++ rest) ≡ own_rows p rest
+left_out p q [] rest apart = refl
+left_out p q (row ∷ rows) rest apart =
+    let others : List (Key × Digest) = rows_under q rows ++ rest in
+    ap (λ b. map (λ r. (r.0.key, r.1)) (cond b ((record { prefix = q; key = row.0 }, row.1) ∷ filter (λ r. prefix_eq p r.0.prefix) others) (filter (λ r. prefix_eq p r.0.prefix) others))) apart
+    ∙ left_out p q rows rest apart
+
+-- those of the prefix are taken
+taken : (p : Prefix) (rows : OwnRows) (rest : Rows) → own_rows p rest ≡ [] → own_rows p (rows_under p rows ++ rest) ≡ rows
+taken p [] rest none = none
+taken p (row ∷ rows) rest none =
+    let others : List (Key × Digest) = rows_under p rows ++ rest in
+    ap (λ o. map (λ r. (r.0.key, r.1)) (cond (is_eq o) ((record { prefix = p; key = row.0 }, row.1) ∷ filter (λ r. prefix_eq p r.0.prefix) others) (filter (λ r. prefix_eq p r.0.prefix) others))) (tied_itself prefix_total p)
+    ∙ ap (λ xs. row ∷ xs) (taken p rows rest none)
+
+none_found : {A : Type 0} (x : A) → Some x ≡ None → ⊥
+none_found x e = cc
+
+no_rows : (p : Prefix) (parts : Parts) → find prefix_cmp p parts ≡ None → own_rows p (table_of parts) ≡ []
+no_rows p [] e = refl
+no_rows p (part ∷ parts) e =
+    elim (prefix_eq p part.0) as (λ b. prefix_eq p part.0 ≡ b → cond b (Some part.1) (find prefix_cmp p parts) ≡ None → own_rows p (rows_under part.0 part.1 ++ table_of parts) ≡ []) [
+      | true ↦ λ is none. absurd (none_found part.1 none)
+      | false ↦ λ is none. left_out p part.0 part.1 (table_of parts) is ∙ no_rows p parts none
+    ] refl e
+
+pub own_part : (p : Prefix) (parts : Parts) → T (is_sorted prefix_cmp parts) → own_rows p (table_of parts) ≡ rows_at p parts
+own_part p [] sorted = refl
+own_part p (part ∷ parts) sorted =
+    let later = own_part p parts (rest_sorted prefix_cmp prefix_total part parts sorted) in
+    elim (prefix_cmp p part.0) as (λ r. prefix_cmp p part.0 ≡ r → own_rows p (rows_under part.0 part.1 ++ table_of parts) ≡ unwrap_or (cond (is_eq r) (Some part.1) (find prefix_cmp p parts)) []) [
+      | Less ↦ λ less. left_out p part.0 part.1 (table_of parts) (ap is_eq less) ∙ later
+      | Equal ↦ λ tied.
+          let none : find prefix_cmp p parts ≡ None =
+          sym (find_tied prefix_cmp prefix_total p part.0 tied parts) ∙ find_below prefix_cmp part.0 parts (below_rest prefix_cmp prefix_total part parts sorted) in
+          ap (λ q. own_rows p (rows_under q part.1 ++ table_of parts)) (sym (same_prefix p part.0 tied)) ∙ taken p part.1 (table_of parts) (no_rows p parts none)
+      | Greater ↦ λ greater. left_out p part.0 part.1 (table_of parts) (ap is_eq greater) ∙ later
+    ] refl
+
+-- ---- roots
+
+abbrev rooted : Rows → Prefix → PrefixDigest
+rooted rows p = record { prefix = p; digest = prefix_root (own_rows p rows) }
+
+abbrev pub part_root : Prefix × OwnRows → PrefixDigest
+part_root part = record { prefix = part.0; digest = prefix_root part.1 }
+
+abbrev pub part_text : Prefix × OwnRows → List ℕ
+part_text part = prefix.spell part.0 ++ prefix_root part.1
+
+-- a part before all of these doesn't count for them
+skipped : (q : Prefix) (rows : OwnRows) (rest : Rows) (parts : Parts) → T (below_all prefix_cmp q parts) → map (rooted (rows_under q rows ++ rest)) (map (λ part. part.0) parts) ≡ map (rooted rest) (map (λ part. part.0) parts)
+skipped q rows rest [] below = refl
+skipped q rows rest (part ∷ parts) below =
+    let less : prefix_cmp q part.0 ≡ Less = is_less (prefix_cmp q part.0) (first (is_lt (prefix_cmp q part.0)) (below_all prefix_cmp q parts) below) in
+    let apart : prefix_eq part.0 q ≡ false = ap is_eq (greater_back prefix_cmp prefix_total q part.0 less) in
+    let later = skipped q rows rest parts (second (is_lt (prefix_cmp q part.0)) (below_all prefix_cmp q parts) below) in
+    λ i. record { prefix = part.0; digest = prefix_root (left_out part.0 q rows rest apart i) } ∷ later i
+
+each_root : (parts : Parts) → T (is_sorted prefix_cmp parts) → map (rooted (table_of parts)) (map (λ part. part.0) parts) ≡ map part_root parts
+each_root [] sorted = refl
+each_root (part ∷ parts) sorted =
+    let here : own_rows part.0 (table_of (part ∷ parts)) ≡ part.1 =
+    own_part part.0 (part ∷ parts) sorted ∙ ap (λ r. unwrap_or (cond (is_eq r) (Some part.1) (find prefix_cmp part.0 parts)) []) (tied_itself prefix_total part.0) in
+    let later = skipped part.0 part.1 (table_of parts) parts (below_rest prefix_cmp prefix_total part parts sorted) ∙ each_root parts (rest_sorted prefix_cmp prefix_total part parts sorted) in
+    λ i. record { prefix = part.0; digest = prefix_root (here i) } ∷ later i
+
+module _ (parts : Parts) (are : AreParts parts) where
+  abbrev sorted : T (is_sorted prefix_cmp parts)
+  sorted = passes (is_sorted prefix_cmp parts) are.rising
+
+  pub roots_of_parts : prefix_roots (table_of parts) ≡ map part_root parts
+  roots_of_parts = ap (map (rooted (table_of parts))) (all_prefixes parts sorted are.filled) ∙ each_root parts sorted
+
+  pub root_of_parts : tree_root (table_of parts) ≡ sha256 (flat_map part_text parts)
+  unfolding tree_root
+  root_of_parts =
+      ap (λ rows. sha256 (flat_map (λ (row : PrefixDigest). prefix.spell row.prefix ++ row.digest) rows)) roots_of_parts
+      ∙ ap sha256 (flat_map-map (λ (row : PrefixDigest). prefix.spell row.prefix ++ row.digest) part_root parts)
+
+-- ---- a row put there
+
+never_empty : (n : List ℕ) (d : Digest) (rows : OwnRows) → put bytes_cmp n d rows ≢ []
+never_empty n d [] e = cc
+never_empty n d (row ∷ rows) e = elim (bytes_cmp n row.0) as (λ c. by_order c ((n, d) ∷ row ∷ rows) ((row.0, d) ∷ rows) (row ∷ put bytes_cmp n d rows) ≡ [] → ⊥) [
+  | Less ↦ λ is. cc
+  | Equal ↦ λ is. cc
+  | Greater ↦ λ is. cc
+] e
+
+module _ (k : Key) (d : Digest) (parts new : Parts) (are : AreParts parts) (e : new ≡ put prefix_cmp k.prefix (put bytes_cmp k.key d (rows_at k.prefix parts)) parts) where
+  pub table_put : table_of new ≡ put key_cmp k d (table_of parts)
+  table_put = ap table_of e ∙ put_part k.prefix k.key d parts (passes (is_sorted prefix_cmp parts) are.rising) are.filled
+
+  pub parts_put : AreParts new
+  parts_put =
+      let rows : OwnRows = put bytes_cmp k.key d (rows_at k.prefix parts) in
+      record {
+        rising = is_true (is_sorted prefix_cmp new) (subst (λ ps. T (is_sorted prefix_cmp ps)) (sym e) (is_sorted-put prefix_cmp prefix_total k.prefix rows parts (passes (is_sorted prefix_cmp parts) are.rising)));
+        filled = subst (All Filled) (sym e) (All-put prefix_cmp Filled k.prefix rows parts are.filled (never_empty k.key d (rows_at k.prefix parts)) (λ part filled. never_empty k.key d (rows_at k.prefix parts)));
+      }
+
+-- ---- the parts of a store
+
+digested_under : (p : Prefix) (rows : RowsOf (List Entry)) → digested (rows_under p rows) ≡ rows_under p (digested rows)
+digested_under p [] = refl
+digested_under p (row ∷ rows) = ap (λ xs. (record { prefix = p; key = row.0 }, object_digest row.1) ∷ xs) (digested_under p rows)
+
+abbrev pub digested_part : Prefix × RowsOf (List Entry) → Prefix × OwnRows
+digested_part part = (part.0, digested part.1)
+
+pub digested_parts : (parts : PartsOf (List Entry)) → table_of (map digested_part parts) ≡ digested (table_of parts)
+digested_parts [] = refl
+digested_parts (part ∷ parts) =
+    ap (λ xs. rows_under part.0 (digested part.1) ++ xs) (digested_parts parts)
+    ∙ ap (λ xs. xs ++ digested (table_of parts)) (sym (digested_under part.0 part.1))
+    ∙ sym (map-append (λ (row : Key × List Entry). (row.0, object_digest row.1)) (rows_under part.0 part.1) (table_of parts))
+
+-- ---- rows of a store that are taken in, in order
+
+below_digested : (k : List ℕ) (rows : RowsOf (List Entry)) → below_all bytes_cmp k (digested rows) ≡ below_all bytes_cmp k rows
+below_digested k [] = refl
+below_digested k (row ∷ rows) = ap (λ b. is_lt (bytes_cmp k row.0) && b) (below_digested k rows)
+
+sorted_digested : (rows : RowsOf (List Entry)) → is_sorted bytes_cmp (digested rows) ≡ is_sorted bytes_cmp rows
+sorted_digested [] = refl
+sorted_digested (row ∷ rows) = λ i. below_digested row.0 rows i && sorted_digested rows i
+
+pub row_taken : (done new : OwnRows) (k : List ℕ) (object : List Entry) (d : Digest) (rest from rows : RowsOf (List Entry)) → T (is_sorted bytes_cmp rows) → done ++ digested from ≡ digested rows → from ≡ (k, object) ∷ rest
+    → d ≡ object_digest object → new ≡ put bytes_cmp k d done → new ++ digested rest ≡ digested rows
+row_taken done new k object d rest from rows sorted so_far is_first is_digest is =
+    let whole : done ++ (k, object_digest object) ∷ digested rest ≡ digested rows = ap (λ xs. done ++ digested xs) (sym is_first) ∙ so_far in
+    let are : T (is_sorted bytes_cmp (done ++ (k, object_digest object) ∷ digested rest)) =
+    subst T (sym (ap (is_sorted bytes_cmp) whole ∙ sorted_digested rows)) sorted in
+    ap (λ xs. xs ++ digested rest) (is ∙ ap (λ x. put bytes_cmp k x done) is_digest)
+    ∙ put_last bytes_cmp bytes_total done k (object_digest object) (digested rest) are
+    ∙ whole
+
+below_parts : (p : Prefix) (parts : PartsOf (List Entry)) → below_all prefix_cmp p (map digested_part parts) ≡ below_all prefix_cmp p parts
+below_parts p [] = refl
+below_parts p (part ∷ parts) = ap (λ b. is_lt (prefix_cmp p part.0) && b) (below_parts p parts)
+
+sorted_parts : (parts : PartsOf (List Entry)) → is_sorted prefix_cmp (map digested_part parts) ≡ is_sorted prefix_cmp parts
+sorted_parts [] = refl
+sorted_parts (part ∷ parts) = λ i. below_parts part.0 parts i && sorted_parts parts i
+
+pub part_taken : (done new : Parts) (p : Prefix) (rows : RowsOf (List Entry)) (tree : OwnRows) (rest from all : PartsOf (List Entry)) → is_sorted prefix_cmp all ≡ true → done ++ map digested_part from ≡ map digested_part all → from ≡ (p, rows) ∷ rest
+    → tree ≡ digested rows → new ≡ insert_entry prefix_cmp done p tree → new ++ map digested_part rest ≡ map digested_part all
+part_taken done new p rows tree rest from all sorted so_far is_first is_tree is =
+    filled_up prefix_cmp prefix_total done new (map digested_part rest) (map digested_part all) p tree
+    (subst T (sym (sorted_parts all)) (passes (is_sorted prefix_cmp all) sorted))
+    (ap (λ t. done ++ (p, t) ∷ map digested_part rest) is_tree ∙ ap (λ xs. done ++ map digested_part xs) (sym is_first) ∙ so_far)
+    is
+
+-- ---- and what was filled so
+
+some_digested : (rows : RowsOf (List Entry)) → rows ≢ [] → digested rows ≢ []
+some_digested [] some e = some refl
+some_digested (row ∷ rows) some e = cc
+
+filled_parts : (parts : PartsOf (List Entry)) → All (λ part. part.1 ≢ []) parts → All Filled (map digested_part parts)
+filled_parts [] all = All-nil Filled
+filled_parts (part ∷ parts) all =
+    All-cons Filled (digested_part part) (map digested_part parts) (some_digested part.1 (All-head (λ (p : Prefix × RowsOf (List Entry)). p.1 ≢ []) part parts all)) (filled_parts parts (All-tail (λ (p : Prefix × RowsOf (List Entry)). p.1 ≢ []) part parts all))
+
+pub are_parts : (all : PartsOf (List Entry)) → store.AreParts all → AreParts (map digested_part all)
+are_parts all are = record { rising = sorted_parts all ∙ are.rising; filled = filled_parts all are.filled }
+
+All-left : {A : Type 0} (P : A → Type 0) (xs ys : List A) → All P (xs ++ ys) → All P xs
+All-left P [] ys all = All-nil P
+All-left P (x ∷ xs) ys all = All-cons P x xs (All-head P x (xs ++ ys) all) (All-left P xs ys (All-tail P x (xs ++ ys) all))
+
+All-right : {A : Type 0} (P : A → Type 0) (xs ys : List A) → All P (xs ++ ys) → All P ys
+All-right P [] ys all = all
+All-right P (x ∷ xs) ys all = All-right P xs ys (All-tail P x (xs ++ ys) all)
+
+held_under : (p : Prefix) (rows : RowsOf (List Entry)) → All (λ (row : Key × List Entry). IsHeld row.1) (rows_under p rows) → All (λ (row : List ℕ × List Entry). IsHeld row.1) rows
+held_under p [] all = All-nil (λ (row : List ℕ × List Entry). IsHeld row.1)
+held_under p (row ∷ rows) all =
+    All-cons (λ (r : List ℕ × List Entry). IsHeld r.1) row rows (All-head (λ (r : Key × List Entry). IsHeld r.1) (record { prefix = p; key = row.0 }, row.1) (rows_under p rows) all)
+    (held_under p rows (All-tail (λ (r : Key × List Entry). IsHeld r.1) (record { prefix = p; key = row.0 }, row.1) (rows_under p rows) all))
+
+abbrev pub HeldPart : Prefix × RowsOf (List Entry) → Type 0
+HeldPart part = All (λ (row : List ℕ × List Entry). IsHeld row.1) part.1
+
+pub held_parts : (parts : PartsOf (List Entry)) → All (λ (row : Key × List Entry). IsHeld row.1) (table_of parts) → All HeldPart parts
+held_parts [] all = All-nil HeldPart
+held_parts (part ∷ parts) all =
+    All-cons HeldPart part parts (held_under part.0 part.1 (All-left (λ (row : Key × List Entry). IsHeld row.1) (rows_under part.0 part.1) (table_of parts) all))
+    (held_parts parts (All-right (λ (row : Key × List Entry). IsHeld row.1) (rows_under part.0 part.1) (table_of parts) all))

@@ -1,0 +1,51 @@
+-- How a tree keeps its rows: by full prefix, and under each by leaf.
+use Rattle.std.specs.Prelude.{◌≡◌, ◌≢◌, ℕ, ◌*◌, take, drop, true, List, [], ◌∷◌, map, All}
+use Rattle.std.specs.List.{concat, flat_map, range_with_len}
+use Rattle.std.specs.Option.{unwrap_or}
+use Rattle.std.specs.Ordering.{nat_cmp}
+use Rattle.std.specs.FinMap.{find, is_sorted, put}
+use Rattle.sha2.specs.Sha256.{sha256}
+use Rattle.meta_types.specs.Order.{bytes_cmp, prefix_cmp}
+use Rattle.meta_store.specs.Kept.{AreRows, PartsOf}
+use Rattle.hash_tree.specs.Tree.{Digest, OwnRows, leaf_of, leaf_digest}
+
+-- leaves by number, each with its rows
+abbrev pub Leaves : Type 0
+Leaves = List (ℕ × OwnRows)
+
+-- rows in the order of their keys
+abbrev pub in_order : OwnRows → OwnRows
+in_order [] = []
+in_order (row ∷ rows) = put bytes_cmp row.0 row.1 (in_order rows)
+
+-- all rows of the leaves
+abbrev pub joined : Leaves → OwnRows
+joined leaves = in_order (flat_map (λ leaf. leaf.1) leaves)
+
+-- the rows of a leaf, none where it isn't kept
+abbrev pub leaf_at : ℕ → Leaves → OwnRows
+leaf_at leaf leaves = unwrap_or (find nat_cmp leaf leaves) []
+
+-- the rows of a leaf, which stand there
+pub record IsLeaf (leaf : ℕ × OwnRows) : Type 0 where
+  pub rows : AreRows leaf.1
+  pub own : All (λ row. leaf_of row.0 ≡ leaf.0) leaf.1
+
+-- leaves, rising
+pub record AreLeaves (leaves : Leaves) : Type 0 where
+  pub rising : is_sorted nat_cmp leaves ≡ true
+  pub each : All IsLeaf leaves
+
+-- the digests of all leaves
+abbrev pub all_leaf_digests : OwnRows → List Digest
+all_leaf_digests rows = map (leaf_digest rows) (range_with_len 0 256)
+
+-- the digests of the inner nodes over leaves of these digests
+abbrev pub inner_over : List Digest → List Digest
+inner_over leaves =
+    map (λ inner. sha256 (concat (take 16 (drop (16 * inner) leaves)))) (range_with_len 0 16)
+
+-- full prefixes, rising, each with a key
+pub record AreParts (parts : PartsOf Digest) : Type 0 where
+  pub rising : is_sorted prefix_cmp parts ≡ true
+  pub filled : All (λ part. part.1 ≢ []) parts

@@ -1,0 +1,26 @@
+//! The tree of digests that stands for a store in an exchange.
+//!
+//! Each full prefix has 256 leaves, in which its keys stand by the first byte of their own digest;
+//! 16 inner nodes over 16 leaves each; and a root over these. The root of the tree goes over the
+//! roots of the prefixes. An update computes one leaf, one inner node, one prefix root and the root
+//! anew.
+//!
+//! ```
+//! let mut tree = Tree::from_store(alloc, &store)?;
+//! tree.update(&key, object_digest(object))?; // after a write under the key
+//! tree.root() // that of `plain_root(alloc, &store)?`
+//! ```
+//!
+//! Read `tree`, then `object`; `parts`, `prefix_tree`, `leaves`, `bucket` and `hashing` are private.
+#![tactic(auto)]
+
+mod bucket;
+mod hashing;
+mod leaves;
+pub mod object;
+mod parts;
+mod prefix_tree;
+pub mod tree;
+
+pub use object::object_digest;
+pub use tree::{Tree, plain_root};

@@ -1,0 +1,170 @@
+//! The tree of one full prefix.
+
+ghost use Rattle.std.specs.Prelude.{◌≡◌, ◌<◌, ◌*◌, [], length, take, drop, All, IfOk, OnOk, OnErr, None};
+ghost use Rattle.std.specs.FinMap.{find, put};
+ghost use Rattle.meta_types.specs.Name.{IsName};
+ghost use Rattle.meta_types.specs.Order.{bytes_cmp};
+ghost use Rattle.meta_store.specs.Table.{IsHeld};
+ghost use Rattle.hash_tree.specs.Tree.{bucket, digested, inner_digests, leaf_digests, prefix_root};
+ghost use Rattle.hash_tree.specs.Kept.{inner_over};
+
+use crate::hashing::{digest_of_all, leaf_of};
+use crate::leaves::{Leaves, empty_digest};
+use crate::object::object_digest;
+use frame_fields::{Digest, KeyDigest};
+use meta_store::Rows;
+use meta_types::ByteString;
+use std::alloc::{AllocError, Global};
+use std::marker::Model;
+
+/// How many inner nodes a full prefix has, and how many leaves stand under each.
+pub(crate) const FAN: usize = 16;
+
+/// The tree of one full prefix: its keys by leaf, and the digests of all leaves, of the inner nodes
+/// and of the root, which are kept.
+#[derive(Debug, Drop)]
+pub(crate) struct PrefixTree {
+    leaves: Leaves,
+    leaf_digests: Vec<Digest>,
+    inner: [Digest; 16],
+    root: Digest,
+}
+
+impl Model for PrefixTree {
+    ghost use Rattle.std.specs.Prelude.{◌≡◌};
+    ghost use Rattle.hash_tree.specs.Tree.{OwnRows, inner_digests, prefix_root};
+    ghost use Rattle.hash_tree.specs.Kept.{all_leaf_digests};
+
+    ghost Value = { OwnRows };
+
+    ghost view = { λ t. t.leaves };
+
+    ghost invariant = { λ t. record {
+      leaf_digests : t.leaf_digests.items ≡ all_leaf_digests t.leaves;
+      inner : t.inner ≡ inner_digests t.leaves;
+      root : t.root ≡ prefix_root t.leaves;
+    } };
+}
+
+impl PrefixTree {
+    pub(crate) fn new(alloc: Global) -> Result<Self, AllocError>
+        ensures { IfOk result (λ tree. tree ≡ []) }
+    {
+        PrefixTree::of_leaves(Leaves::new(alloc))
+    }
+
+    /// The tree of these leaves, whose digests are computed.
+    fn of_leaves(leaves: Leaves) -> Result<Self, AllocError>
+        ensures { IfOk result (λ tree. tree ≡ leaves) }
+    {
+        let leaf_digests = leaves.digests()?;
+        let inner = inner_of(leaf_digests.as_slice());
+        let root = digest_of_all(&inner);
+        Ok(PrefixTree {
+            leaves,
+            leaf_digests,
+            inner,
+            root,
+        })
+    }
+
+    /// The tree of the keys under a full prefix. The leaf of a key is computed once, and so is each
+    /// digest.
+    pub(crate) fn of_rows(alloc: Global, rows: &Rows) -> Result<Self, AllocError>
+        requires held { All (λ row. IsHeld row.1) rows.now }
+        ensures { IfOk result (λ tree. tree ≡ digested rows.now) }
+    {
+        let mut leaves = Leaves::new(alloc);
+        for (key, object) in rows.iter() {
+            leaves.hold(leaf_of(key.as_slice()), key, object_digest(object))?;
+        }
+        PrefixTree::of_leaves(leaves)
+    }
+
+    /// Holds the digest under the key in place of what stands there; one leaf, one inner node and
+    /// the root are computed anew. A key that is there is never refused. Fails only when memory runs
+    /// out for a new key, and then nothing changes.
+    pub(crate) fn hold(&mut self, key: &ByteString, digest: Digest) -> Result<(), AllocError>
+        requires in_range { IsName 256 key.now }
+        ensures value { OnOk result (self.new ≡ put bytes_cmp key.now digest self.old) }
+        ensures absent { OnErr result (find bytes_cmp key.now self.old ≡ None) }
+        ensures same { OnErr result (self.new ≡ self.old) }
+    {
+        let leaf = leaf_of(key.as_slice());
+        self.leaves.hold(leaf, key, digest)?;
+        self.leaf_digests[leaf as usize] = self.leaves.digest_or(leaf, empty_digest());
+        let inner = leaf as usize / FAN;
+        self.inner[inner] = digest_of_all(sixteen(self.leaf_digests.as_slice(), inner));
+        self.root = digest_of_all(&self.inner);
+        Ok(())
+    }
+
+    pub(crate) fn root(&self) -> Digest
+        ensures { result ≡ prefix_root self.now }
+    {
+        self.root
+    }
+
+    /// The digests of the inner nodes.
+    pub(crate) fn inner(&self) -> [Digest; 16]
+        ensures { result ≡ inner_digests self.now }
+    {
+        self.inner
+    }
+
+    /// The digests of the leaves under an inner node.
+    pub(crate) fn leaves(&self, inner: u8) -> [Digest; 16]
+        requires { inner < 16 }
+        ensures { result ≡ leaf_digests self.now inner }
+    {
+        let mut part = self.inner;
+        part.copy_from_slice(sixteen(self.leaf_digests.as_slice(), inner as usize));
+        part
+    }
+
+    /// The keys of a leaf with their digests, in order. They are copies.
+    pub(crate) fn bucket(&self, leaf: u8) -> Result<Vec<KeyDigest>, AllocError>
+        ensures { IfOk result (λ rows. rows.items ≡ bucket self.now leaf) }
+    {
+        self.leaves.bucket(leaf)
+    }
+
+    /// Fails only when memory runs out.
+    pub(crate) fn copy(&self) -> Result<Self, AllocError>
+        ensures { IfOk result (λ copy. copy ≡ self.now) }
+    {
+        Ok(PrefixTree {
+            leaves: self.leaves.copy()?,
+            leaf_digests: copied(&self.leaf_digests)?,
+            inner: self.inner,
+            root: self.root,
+        })
+    }
+}
+
+fn copied(digests: &Vec<Digest>) -> Result<Vec<Digest>, AllocError>
+    ensures { IfOk result (λ copy. copy.items ≡ digests.now.items) }
+{
+    digests.clone()
+}
+
+/// Of the digests of all leaves, those under an inner node.
+fn sixteen(leaf_digests: &[Digest], inner: usize) -> &[Digest]
+    requires all { length leaf_digests.now ≡ 256 }
+    requires place { inner < 16 }
+    ensures { result.now ≡ take 16 (drop (16 * inner) leaf_digests.now) }
+{
+    &leaf_digests[FAN * inner..][..FAN]
+}
+
+/// The digests of the inner nodes over all leaves.
+fn inner_of(leaf_digests: &[Digest]) -> [Digest; 16]
+    requires { length leaf_digests.now ≡ 256 }
+    ensures { result ≡ inner_over leaf_digests.now }
+{
+    let mut inner = [leaf_digests[0]; 16];
+    for place in 0..FAN {
+        inner[place] = digest_of_all(sixteen(leaf_digests, place));
+    }
+    inner
+}

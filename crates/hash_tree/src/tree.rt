@@ -1,0 +1,140 @@
+//! The tree of all full prefixes.
+
+ghost use Rattle.std.specs.Prelude.{◌≡◌, ◌<◌, [], None, IfOk, OnOk, OnErr};
+ghost use Rattle.std.specs.FinMap.{find};
+ghost use Rattle.meta_types.specs.Order.{key_cmp};
+ghost use Rattle.hash_tree.specs.Tree.{bucket, inner_digests, leaf_digests, own_rows, prefix_roots, rows_of, tree_root, with_digest};
+
+use crate::hashing::digest_of_all;
+use crate::leaves::empty_digest;
+use crate::parts::{copy_parts, parts_of, put_part, root_of, roots_of};
+use crate::prefix_tree::PrefixTree;
+use frame_fields::{Digest, KeyDigest, PrefixDigest};
+use meta_store::Store;
+use meta_types::{FullPrefix, MetaKey};
+use std::alloc::{AllocError, Global};
+use std::collections::BTreeMap;
+use std::marker::Model;
+
+/// What stands for a store in an exchange: its keys, each with the digest of its object, under a
+/// tree of digests for each full prefix. A full prefix without keys reads as the empty tree.
+#[derive(Debug, Drop)]
+pub struct Tree {
+    alloc: Global,
+    parts: BTreeMap<FullPrefix, PrefixTree>,
+    root: Digest,
+}
+
+impl Model for Tree {
+    ghost use Rattle.std.specs.Prelude.{◌≡◌};
+    ghost use Rattle.meta_store.specs.Kept.{table_of};
+    ghost use Rattle.hash_tree.specs.Tree.{Rows, tree_root};
+    ghost use Rattle.hash_tree.specs.Kept.{AreParts};
+
+    ghost Value = { Rows };
+
+    ghost view = { λ t. table_of t.parts.entries };
+
+    ghost invariant = { λ t. record {
+      parts : AreParts t.parts.entries;
+      kept : t.root ≡ tree_root (table_of t.parts.entries);
+    } };
+}
+
+impl Tree {
+    /// The tree of what a store holds, computed from all its keys. Fails only when memory runs out.
+    pub fn from_store(alloc: Global, store: &Store) -> Result<Self, AllocError>
+        ensures { IfOk result (λ tree. tree ≡ rows_of store.now) }
+    {
+        let parts = parts_of(alloc, store)?;
+        let root = root_of(&parts);
+        Ok(Tree { alloc, parts, root })
+    }
+
+    /// Takes in that the object under the key has this digest. Fails only when memory runs out for
+    /// a key that the tree doesn't have, and then nothing changes.
+    pub fn update(&mut self, key: &MetaKey, digest: Digest) -> Result<(), AllocError>
+        ensures value { OnOk result (self.new ≡ with_digest key.now digest self.old) }
+        ensures absent { OnErr result (find key_cmp key.now self.old ≡ None) }
+        ensures same { OnErr result (self.new ≡ self.old) }
+    {
+        put_part(self.alloc, &mut self.parts, key, digest)?;
+        self.root = root_of(&self.parts);
+        Ok(())
+    }
+
+    /// The root, which is kept. It takes no memory.
+    pub fn root(&self) -> Digest
+        ensures { result ≡ tree_root self.now }
+    {
+        self.root
+    }
+
+    /// The full prefixes that hold a key, in order, each with its root. They are copies. Fails only
+    /// when memory runs out.
+    pub fn prefix_roots(&self) -> Result<Vec<PrefixDigest>, AllocError>
+        ensures { IfOk result (λ roots. roots.items ≡ prefix_roots self.now) }
+    {
+        roots_of(self.alloc, &self.parts)
+    }
+
+    /// The digests of the sixteen inner nodes of a full prefix. It takes no memory.
+    pub fn inner(&self, prefix: &FullPrefix) -> [Digest; 16]
+        ensures { result ≡ inner_digests (own_rows prefix.now self.now) }
+    {
+        match self.parts.get(prefix) {
+            Some(tree) => tree.inner(),
+            None => [digest_of_all(&empty_leaves()); 16],
+        }
+    }
+
+    /// The digests of the sixteen leaves under inner node `inner` of a full prefix. It takes no
+    /// memory.
+    pub fn leaves(&self, prefix: &FullPrefix, inner: u8) -> [Digest; 16]
+        requires { inner < 16 }
+        ensures { result ≡ leaf_digests (own_rows prefix.now self.now) inner }
+    {
+        match self.parts.get(prefix) {
+            Some(tree) => tree.leaves(inner),
+            None => empty_leaves(),
+        }
+    }
+
+    /// The keys in a leaf of a full prefix by their own bytes, in order, each with the digest of its
+    /// object. They are copies. Fails only when memory runs out.
+    pub fn bucket(&self, prefix: &FullPrefix, leaf: u8) -> Result<Vec<KeyDigest>, AllocError>
+        ensures { IfOk result (λ keys. keys.items ≡ bucket (own_rows prefix.now self.now) leaf) }
+    {
+        match self.parts.get(prefix) {
+            Some(tree) => tree.bucket(leaf),
+            None => Ok(Vec::new(self.alloc)),
+        }
+    }
+
+    /// Fails only when memory runs out.
+    pub fn copy(&self) -> Result<Self, AllocError>
+        ensures { IfOk result (λ copy. copy ≡ self.now) }
+    {
+        Ok(Tree {
+            alloc: self.alloc,
+            parts: copy_parts(self.alloc, &self.parts)?,
+            root: self.root,
+        })
+    }
+}
+
+/// The root of what a store holds, computed from all its keys at once: the leaf of each key, each
+/// leaf, inner node and prefix root once. Fails only when memory runs out.
+pub fn plain_root(alloc: Global, store: &Store) -> Result<Digest, AllocError>
+    ensures { IfOk result (λ digest. digest ≡ tree_root (rows_of store.now)) }
+{
+    let tree = Tree::from_store(alloc, store)?;
+    Ok(tree.root())
+}
+
+/// The digests of sixteen leaves without keys.
+fn empty_leaves() -> [Digest; 16]
+    ensures { result ≡ leaf_digests [] 0 }
+{
+    [empty_digest(); 16]
+}
