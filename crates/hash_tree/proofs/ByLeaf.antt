@@ -20,7 +20,7 @@ use Rattle.meta_store.proofs.Kept.{bytes_total, IsNamed}
 use Rattle.meta_store.proofs.Maps.{All-put, below_rest, find_below, is_true, looked_up, rest_sorted}
 use Rattle.sha2.specs.Sha256.{sha256}
 use Rattle.hash_tree.specs.Tree.{Digest, OwnRows, in_leaf, leaf_digest, leaf_of, text_of}
-use Rattle.hash_tree.specs.Kept.{AreLeaves, IsLeaf, Leaves, in_order, joined, leaf_at}
+use Rattle.hash_tree.specs.Kept.{AreLeaves, IsLeaf, RowsByLeaf, in_order, joined, leaf_at}
 
 pub same_bytes : (xs ys : List ℕ) → bytes_cmp xs ys ≡ Equal → xs ≡ ys
 same_bytes = slice_cmp-IsAntisymmetric nat_cmp-IsAntisymmetric
@@ -28,7 +28,7 @@ same_bytes = slice_cmp-IsAntisymmetric nat_cmp-IsAntisymmetric
 abbrev Stands : ℕ → List ℕ × Digest → Type 0
 Stands n row = leaf_of row.0 ≡ n
 
-abbrev rows_of_all : Leaves → OwnRows
+abbrev rows_of_all : RowsByLeaf → OwnRows
 rows_of_all leaves = flat_map (λ leaf. leaf.1) leaves
 
 pub by_result : {A E P Q C : Type 0} (r : Result A E) → OnOk r P → OnErr r Q → (P → C) → (Q → C) → C
@@ -81,7 +81,7 @@ apart_by m n r is differs e =
     let tied : Equal ≡ r = sym (tied_itself nat_cmp_total m) ∙ ap (nat_cmp m) e ∙ is in
     let clash : true ≡ false = ap is_eq tied ∙ differs in cc
 
-find_leaves_in : (q : List ℕ) (leaves : Leaves) → T (is_sorted nat_cmp leaves) → All IsLeaf leaves → find bytes_cmp q (rows_of_all leaves) ≡ find bytes_cmp q (leaf_at (leaf_of q) leaves)
+find_leaves_in : (q : List ℕ) (leaves : RowsByLeaf) → T (is_sorted nat_cmp leaves) → All IsLeaf leaves → find bytes_cmp q (rows_of_all leaves) ≡ find bytes_cmp q (leaf_at (leaf_of q) leaves)
 find_leaves_in q [] sorted each = refl
 find_leaves_in q (leaf ∷ leaves) sorted each =
     let later = find_leaves_in q leaves (rest_sorted nat_cmp nat_cmp_total leaf leaves sorted) (All-tail IsLeaf leaf leaves each) in
@@ -103,7 +103,7 @@ find_leaves_in q (leaf ∷ leaves) sorted each =
     ] refl
 
 -- what is found stands in the key's own leaf
-pub find_joined : (q : List ℕ) (leaves : Leaves) → AreLeaves leaves → find bytes_cmp q (joined leaves) ≡ find bytes_cmp q (leaf_at (leaf_of q) leaves)
+pub find_joined : (q : List ℕ) (leaves : RowsByLeaf) → AreLeaves leaves → find bytes_cmp q (joined leaves) ≡ find bytes_cmp q (leaf_at (leaf_of q) leaves)
 find_joined q leaves are =
     find_in_order q (rows_of_all leaves) ∙ find_leaves_in q leaves (passes (is_sorted nat_cmp leaves) are.rising) are.each
 
@@ -115,7 +115,7 @@ no_leaf n = record {
   own = All-nil (Stands n);
 }
 
-pub is_leaf_at : (n : ℕ) (leaves : Leaves) → All IsLeaf leaves → IsLeaf (n, leaf_at n leaves)
+pub is_leaf_at : (n : ℕ) (leaves : RowsByLeaf) → All IsLeaf leaves → IsLeaf (n, leaf_at n leaves)
 is_leaf_at n [] each = no_leaf n
 is_leaf_at n (leaf ∷ leaves) each =
     let later = is_leaf_at n leaves (All-tail IsLeaf leaf leaves each) in
@@ -128,13 +128,13 @@ is_leaf_at n (leaf ∷ leaves) each =
 itself : (n : ℕ) → (n == n) ≡ true
 itself n = eq-eqb n n refl
 
-cases_of_leaf : (q : List ℕ) (n : ℕ) (leaves : Leaves) (b : Bool) → (n == leaf_of q) ≡ b → All (Stands n) (leaf_at n leaves) → cond b (find bytes_cmp q (leaf_at (leaf_of q) leaves)) None ≡ find bytes_cmp q (leaf_at n leaves)
+cases_of_leaf : (q : List ℕ) (n : ℕ) (leaves : RowsByLeaf) (b : Bool) → (n == leaf_of q) ≡ b → All (Stands n) (leaf_at n leaves) → cond b (find bytes_cmp q (leaf_at (leaf_of q) leaves)) None ≡ find bytes_cmp q (leaf_at n leaves)
 cases_of_leaf q n leaves true e own = ap (λ m. find bytes_cmp q (leaf_at m leaves)) (sym (eqb-true n (leaf_of q) e))
 cases_of_leaf q n leaves false e own =
     sym (none_elsewhere q n (leaf_at n leaves) (λ same. let clash : true ≡ false = sym (itself n) ∙ ap (λ m. n == m) (sym same) ∙ e in cc) own)
 
 -- a leaf keeps the keys that stand there
-pub in_leaf_joined : (n : ℕ) (leaves : Leaves) → AreLeaves leaves → in_leaf n (joined leaves) ≡ leaf_at n leaves
+pub in_leaf_joined : (n : ℕ) (leaves : RowsByLeaf) → AreLeaves leaves → in_leaf n (joined leaves) ≡ leaf_at n leaves
 in_leaf_joined n leaves are =
     let at : IsLeaf (n, leaf_at n leaves) = is_leaf_at n leaves are.each in
     let test : List ℕ → Bool = λ k. n == leaf_of k in
@@ -145,13 +145,13 @@ in_leaf_joined n leaves are =
     ∙ ap (λ f. cond (test q) f None) (find_joined q leaves are)
     ∙ cases_of_leaf q n leaves (test q) refl at.own)
 
-pub leaf_found : (n : ℕ) (rows : OwnRows) (leaves : Leaves) → Some rows ≡ lookup (is_at (nat_cmp n)) leaves → leaf_at n leaves ≡ rows
+pub leaf_found : (n : ℕ) (rows : OwnRows) (leaves : RowsByLeaf) → Some rows ≡ lookup (is_at (nat_cmp n)) leaves → leaf_at n leaves ≡ rows
 leaf_found n rows leaves e = ap (λ x. unwrap_or x []) (sym (looked_up nat_cmp n leaves) ∙ sym e)
 
-pub leaf_absent : (n : ℕ) (leaves : Leaves) → None ≡ lookup (is_at (nat_cmp n)) leaves → leaf_at n leaves ≡ []
+pub leaf_absent : (n : ℕ) (leaves : RowsByLeaf) → None ≡ lookup (is_at (nat_cmp n)) leaves → leaf_at n leaves ≡ []
 leaf_absent n leaves e = ap (λ x. unwrap_or x []) (sym (looked_up nat_cmp n leaves) ∙ sym e)
 
-module _ (n : ℕ) (leaves : Leaves) (are : AreLeaves leaves) where
+module _ (n : ℕ) (leaves : RowsByLeaf) (are : AreLeaves leaves) where
   -- what the toolchain's map finds
   pub rows_found : (rows : OwnRows) → Some rows ≡ lookup (is_at (nat_cmp n)) leaves → in_leaf n (joined leaves) ≡ rows
   rows_found rows e = in_leaf_joined n leaves are ∙ leaf_found n rows leaves e
@@ -175,11 +175,11 @@ rows_put k d rows are named = record {
   named = All-put bytes_cmp IsNamed k d rows are.named named (λ row is. is);
 }
 
-module _ (k : List ℕ) (d : Digest) (leaves : Leaves) (are : AreLeaves leaves) (named : IsName 256 k) where
+module _ (k : List ℕ) (d : Digest) (leaves : RowsByLeaf) (are : AreLeaves leaves) (named : IsName 256 k) where
   abbrev new_leaf : OwnRows
   new_leaf = put bytes_cmp k d (leaf_at (leaf_of k) leaves)
 
-  abbrev new_leaves : Leaves
+  abbrev new_leaves : RowsByLeaf
   new_leaves = put nat_cmp (leaf_of k) new_leaf leaves
 
   is_new_leaf : IsLeaf (leaf_of k, new_leaf)
@@ -191,7 +191,7 @@ module _ (k : List ℕ) (d : Digest) (leaves : Leaves) (are : AreLeaves leaves) 
         own = All-put bytes_cmp (Stands n) k d (leaf_at n leaves) old.own refl (λ row is. is);
       }
 
-  each_put : (rows : OwnRows) → IsLeaf (leaf_of k, rows) → (ls : Leaves) → All IsLeaf ls → All IsLeaf (put nat_cmp (leaf_of k) rows ls)
+  each_put : (rows : OwnRows) → IsLeaf (leaf_of k, rows) → (ls : RowsByLeaf) → All IsLeaf ls → All IsLeaf (put nat_cmp (leaf_of k) rows ls)
   each_put rows is [] each = All-cons IsLeaf (leaf_of k, rows) [] is (All-nil IsLeaf)
   each_put rows is (leaf ∷ ls) each =
       elim (nat_cmp (leaf_of k) leaf.0) as (λ r. nat_cmp (leaf_of k) leaf.0 ≡ r → All IsLeaf (by_order r ((leaf_of k, rows) ∷ leaf ∷ ls) ((leaf.0, rows) ∷ ls) (leaf ∷ put nat_cmp (leaf_of k) rows ls))) [
@@ -232,7 +232,7 @@ module _ (k : List ℕ) (d : Digest) (leaves : Leaves) (are : AreLeaves leaves) 
       ∙ ap (cond (is_eq (bytes_cmp q k)) (Some d)) (sym (find_joined q leaves are))
       ∙ sym (find-put bytes_cmp bytes_total q k d (joined leaves)))
 
-  module _ (leaf : ℕ) (new : Leaves) (at : leaf ≡ leaf_of k) (is : new ≡ put nat_cmp leaf (put bytes_cmp k d (leaf_at leaf leaves)) leaves) where
+  module _ (leaf : ℕ) (new : RowsByLeaf) (at : leaf ≡ leaf_of k) (is : new ≡ put nat_cmp leaf (put bytes_cmp k d (leaf_at leaf leaves)) leaves) where
     are_new : new ≡ new_leaves
     are_new = is ∙ ap (λ n. put nat_cmp n (put bytes_cmp k d (leaf_at n leaves)) leaves) at
 

@@ -24,8 +24,8 @@ use Rattle.meta_store.specs.Kept as store
 use Rattle.meta_store.specs.Kept.{PartsOf, RowsOf, rows_at, rows_under, table_of}
 use Rattle.meta_store.proofs.Kept.{all_prefixes, bytes_total, prefix_total, put_part}
 use Rattle.meta_store.proofs.Maps.{All-put, below_rest, filled_up, find_below, first, greater_back, is_less, is_true, put_last, rest_sorted, second}
-use Rattle.hash_tree.specs.Tree.{Digest, OwnRows, Rows, digested, object_digest, own_rows, prefix_root, prefix_roots, tree_root}
-use Rattle.hash_tree.specs.Kept.{AreParts}
+use Rattle.hash_tree.specs.Tree.{Digest, OwnRows, DigestRows, digested, object_digest, own_rows, prefix_root, prefix_roots, tree_root}
+use Rattle.hash_tree.specs.Kept.{AreTreeParts}
 
 abbrev Filled : Prefix × OwnRows → Type 0
 Filled part = part.1 ≢ []
@@ -36,7 +36,7 @@ Parts = PartsOf Digest
 -- ---- the rows of one full prefix
 
 -- rows of another prefix are left out
-left_out : (p q : Prefix) (rows : OwnRows) (rest : Rows) → prefix_eq p q ≡ false → own_rows p (rows_under q rows ++ rest) ≡ own_rows p rest
+left_out : (p q : Prefix) (rows : OwnRows) (rest : DigestRows) → prefix_eq p q ≡ false → own_rows p (rows_under q rows ++ rest) ≡ own_rows p rest
 left_out p q [] rest apart = refl
 left_out p q (row ∷ rows) rest apart =
     let others : List (Key × Digest) = rows_under q rows ++ rest in
@@ -44,7 +44,7 @@ left_out p q (row ∷ rows) rest apart =
     ∙ left_out p q rows rest apart
 
 -- those of the prefix are taken
-taken : (p : Prefix) (rows : OwnRows) (rest : Rows) → own_rows p rest ≡ [] → own_rows p (rows_under p rows ++ rest) ≡ rows
+taken : (p : Prefix) (rows : OwnRows) (rest : DigestRows) → own_rows p rest ≡ [] → own_rows p (rows_under p rows ++ rest) ≡ rows
 taken p [] rest none = none
 taken p (row ∷ rows) rest none =
     let others : List (Key × Digest) = rows_under p rows ++ rest in
@@ -77,7 +77,7 @@ own_part p (part ∷ parts) sorted =
 
 -- ---- roots
 
-abbrev rooted : Rows → Prefix → PrefixDigest
+abbrev rooted : DigestRows → Prefix → PrefixDigest
 rooted rows p = record { prefix = p; digest = prefix_root (own_rows p rows) }
 
 abbrev pub part_root : Prefix × OwnRows → PrefixDigest
@@ -87,7 +87,7 @@ abbrev pub part_text : Prefix × OwnRows → List ℕ
 part_text part = prefix.spell part.0 ++ prefix_root part.1
 
 -- a part before all of these doesn't count for them
-skipped : (q : Prefix) (rows : OwnRows) (rest : Rows) (parts : Parts) → T (below_all prefix_cmp q parts) → map (rooted (rows_under q rows ++ rest)) (map (λ part. part.0) parts) ≡ map (rooted rest) (map (λ part. part.0) parts)
+skipped : (q : Prefix) (rows : OwnRows) (rest : DigestRows) (parts : Parts) → T (below_all prefix_cmp q parts) → map (rooted (rows_under q rows ++ rest)) (map (λ part. part.0) parts) ≡ map (rooted rest) (map (λ part. part.0) parts)
 skipped q rows rest [] below = refl
 skipped q rows rest (part ∷ parts) below =
     let less : prefix_cmp q part.0 ≡ Less = is_less (prefix_cmp q part.0) (first (is_lt (prefix_cmp q part.0)) (below_all prefix_cmp q parts) below) in
@@ -103,7 +103,7 @@ each_root (part ∷ parts) sorted =
     let later = skipped part.0 part.1 (table_of parts) parts (below_rest prefix_cmp prefix_total part parts sorted) ∙ each_root parts (rest_sorted prefix_cmp prefix_total part parts sorted) in
     λ i. record { prefix = part.0; digest = prefix_root (here i) } ∷ later i
 
-module _ (parts : Parts) (are : AreParts parts) where
+module _ (parts : Parts) (are : AreTreeParts parts) where
   abbrev sorted : T (is_sorted prefix_cmp parts)
   sorted = passes (is_sorted prefix_cmp parts) are.rising
 
@@ -126,11 +126,11 @@ never_empty n d (row ∷ rows) e = elim (bytes_cmp n row.0) as (λ c. by_order c
   | Greater ↦ λ is. cc
 ] e
 
-module _ (k : Key) (d : Digest) (parts new : Parts) (are : AreParts parts) (e : new ≡ put prefix_cmp k.prefix (put bytes_cmp k.key d (rows_at k.prefix parts)) parts) where
+module _ (k : Key) (d : Digest) (parts new : Parts) (are : AreTreeParts parts) (e : new ≡ put prefix_cmp k.prefix (put bytes_cmp k.key d (rows_at k.prefix parts)) parts) where
   pub table_put : table_of new ≡ put key_cmp k d (table_of parts)
   table_put = ap table_of e ∙ put_part k.prefix k.key d parts (passes (is_sorted prefix_cmp parts) are.rising) are.filled
 
-  pub parts_put : AreParts new
+  pub parts_put : AreTreeParts new
   parts_put =
       let rows : OwnRows = put bytes_cmp k.key d (rows_at k.prefix parts) in
       record {
@@ -139,6 +139,16 @@ module _ (k : Key) (d : Digest) (parts new : Parts) (are : AreParts parts) (e : 
       }
 
 -- ---- the parts of a store
+
+pub digested_put : (k : Key) (o : List Entry) (table : List (Key × List Entry)) → digested (put key_cmp k o table) ≡ put key_cmp k (object_digest o) (digested table)
+digested_put k o [] = refl
+digested_put k o (row ∷ rows) =
+    elim (key_cmp k row.0) as (λ r. digested (by_order r ((k, o) ∷ row ∷ rows) ((row.0, o) ∷ rows) (row ∷ put key_cmp k o rows))
+    ≡ by_order r ((k, object_digest o) ∷ (row.0, object_digest row.1) ∷ digested rows) ((row.0, object_digest o) ∷ digested rows) ((row.0, object_digest row.1) ∷ put key_cmp k (object_digest o) (digested rows))) [
+      | Less ↦ refl
+      | Equal ↦ refl
+      | Greater ↦ ap (λ xs. (row.0, object_digest row.1) ∷ xs) (digested_put k o rows)
+    ]
 
 digested_under : (p : Prefix) (rows : RowsOf (List Entry)) → digested (rows_under p rows) ≡ rows_under p (digested rows)
 digested_under p [] = refl
@@ -201,7 +211,7 @@ filled_parts [] all = All-nil Filled
 filled_parts (part ∷ parts) all =
     All-cons Filled (digested_part part) (map digested_part parts) (some_digested part.1 (All-head (λ (p : Prefix × RowsOf (List Entry)). p.1 ≢ []) part parts all)) (filled_parts parts (All-tail (λ (p : Prefix × RowsOf (List Entry)). p.1 ≢ []) part parts all))
 
-pub are_parts : (all : PartsOf (List Entry)) → store.AreParts all → AreParts (map digested_part all)
+pub are_parts : (all : PartsOf (List Entry)) → store.AreParts all → AreTreeParts (map digested_part all)
 are_parts all are = record { rising = sorted_parts all ∙ are.rising; filled = filled_parts all are.filled }
 
 All-left : {A : Type 0} (P : A → Type 0) (xs ys : List A) → All P (xs ++ ys) → All P xs

@@ -6,3 +6,11 @@ mod Changing
 mod ByPrefix
 -- steps of the loops that hash
 mod Steps
+-- digests are bytes
+mod Bytes
+-- what equal texts say of their parts
+mod Texts
+-- what is found in the rows of a tree
+mod Lookups
+-- equal digests mean equal parts, or a collision
+mod Collisions

@@ -9,9 +9,9 @@ use Rattle.meta_types.specs.Order.{bytes_cmp, prefix_cmp}
 use Rattle.meta_store.specs.Kept.{AreRows, PartsOf}
 use Rattle.hash_tree.specs.Tree.{Digest, OwnRows, leaf_of, leaf_digest}
 
--- leaves by number, each with its rows
-abbrev pub Leaves : Type 0
-Leaves = List (ℕ × OwnRows)
+-- numbers of leaves, each with the rows of the leaf
+abbrev pub RowsByLeaf : Type 0
+RowsByLeaf = List (ℕ × OwnRows)
 
 -- rows in the order of their keys
 abbrev pub in_order : OwnRows → OwnRows
@@ -19,11 +19,11 @@ in_order [] = []
 in_order (row ∷ rows) = put bytes_cmp row.0 row.1 (in_order rows)
 
 -- all rows of the leaves
-abbrev pub joined : Leaves → OwnRows
+abbrev pub joined : RowsByLeaf → OwnRows
 joined leaves = in_order (flat_map (λ leaf. leaf.1) leaves)
 
 -- the rows of a leaf, none where it isn't kept
-abbrev pub leaf_at : ℕ → Leaves → OwnRows
+abbrev pub leaf_at : ℕ → RowsByLeaf → OwnRows
 leaf_at leaf leaves = unwrap_or (find nat_cmp leaf leaves) []
 
 -- the rows of a leaf, which stand there
@@ -32,7 +32,7 @@ pub record IsLeaf (leaf : ℕ × OwnRows) : Type 0 where
   pub own : All (λ row. leaf_of row.0 ≡ leaf.0) leaf.1
 
 -- leaves, rising
-pub record AreLeaves (leaves : Leaves) : Type 0 where
+pub record AreLeaves (leaves : RowsByLeaf) : Type 0 where
   pub rising : is_sorted nat_cmp leaves ≡ true
   pub each : All IsLeaf leaves
 
@@ -46,6 +46,6 @@ inner_over leaves =
     map (λ inner. sha256 (concat (take 16 (drop (16 * inner) leaves)))) (range_with_len 0 16)
 
 -- full prefixes, rising, each with a key
-pub record AreParts (parts : PartsOf Digest) : Type 0 where
+pub record AreTreeParts (parts : PartsOf Digest) : Type 0 where
   pub rising : is_sorted prefix_cmp parts ≡ true
   pub filled : All (λ part. part.1 ≢ []) parts

@@ -18,9 +18,9 @@ use Rattle.meta_store.specs.Kept.{RowsOf}
 abbrev pub Digest : Type 0
 Digest = List ℕ
 
--- keys, rising, each with the digest of its object
-abbrev pub Rows : Type 0
-Rows = List (Key × Digest)
+-- keys, each with the digest of its object; those of a table rise
+abbrev pub DigestRows : Type 0
+DigestRows = List (Key × Digest)
 
 -- the digest of an object: that of its field of a frame
 unfoldable pub object_digest : List Entry → Digest
@@ -31,32 +31,32 @@ abbrev pub digested : {K : Type 0} → List (K × List Entry) → List (K × Dig
 digested rows = map (λ row. (row.0, object_digest row.1)) rows
 
 -- what a tree knows of a table
-abbrev pub rows_of : Table → Rows
+abbrev pub rows_of : Table → DigestRows
 rows_of table = digested table
 
 -- the rows with this digest under the key, and all else as before
-abbrev pub with_digest : Key → Digest → Rows → Rows
+abbrev pub with_digest : Key → Digest → DigestRows → DigestRows
 with_digest key digest rows = put key_cmp key digest rows
 
 -- ---- under one full prefix
 
--- keys by their own bytes, rising, each with the digest of its object
+-- keys by their own bytes, each with the digest of its object
 abbrev pub OwnRows : Type 0
 OwnRows = RowsOf Digest
 
 -- the rows of a full prefix, none where it holds no key
-abbrev pub own_rows : Prefix → Rows → OwnRows
+abbrev pub own_rows : Prefix → DigestRows → OwnRows
 own_rows p rows =
     map (λ row. (row.0.key, row.1)) (filter (λ row. prefix_eq p row.0.prefix) rows)
 
--- the leaf in which a key stands: the first byte of the digest of its own bytes
+-- the leaf in which a key stands: the first byte of SHA-256 of its own bytes
 abbrev pub leaf_of : List ℕ → ℕ
 leaf_of key = slice_index (sha256 key) 0
 
 abbrev pub in_leaf : ℕ → OwnRows → OwnRows
 in_leaf leaf rows = filter (λ row. leaf == leaf_of row.0) rows
 
--- a leaf's keys, each with its digest: what XBUCKET carries
+-- a leaf's keys, each with the digest of its object: what XBUCKET carries
 abbrev pub bucket : OwnRows → ℕ → List KeyDigest
 bucket rows leaf = map (λ row. record { key = row.0; digest = row.1 }) (in_leaf leaf rows)
 
@@ -84,9 +84,13 @@ prefix_root rows = sha256 (concat (inner_digests rows))
 -- ---- over all full prefixes
 
 -- those that hold a key, in order, each with its root: what XPREFIXES carries
-abbrev pub prefix_roots : Rows → List PrefixDigest
+abbrev pub prefix_roots : DigestRows → List PrefixDigest
 prefix_roots rows =
     map (λ p. record { prefix = p; digest = prefix_root (own_rows p rows) }) (prefixes_of rows)
 
-unfoldable pub tree_root : Rows → Digest
-tree_root rows = sha256 (flat_map (λ row. prefix.spell row.prefix ++ row.digest) (prefix_roots rows))
+-- full prefixes with their roots, as bytes
+abbrev pub roots_text : List PrefixDigest → List ℕ
+roots_text roots = flat_map (λ row. prefix.spell row.prefix ++ row.digest) roots
+
+unfoldable pub tree_root : DigestRows → Digest
+tree_root rows = sha256 (roots_text (prefix_roots rows))

@@ -68,8 +68,18 @@ impl Leaves {
         put_leaf(self.alloc, &mut self.by_number, leaf, key, digest)
     }
 
-    /// The digest of a leaf, where that of one without keys is `empty`.
-    pub(crate) fn digest_or(&self, leaf: u8, empty: Digest) -> Digest
+    /// The digest of a leaf.
+    pub(crate) fn digest(&self, leaf: u8) -> Digest
+        ensures { result ≡ leaf_digest self.now leaf }
+    {
+        match self.by_number.get(&leaf) {
+            Some(bucket) => bucket.digest(),
+            None => empty_digest(),
+        }
+    }
+
+    /// The same, where the digest of a leaf without keys is known: `empty`.
+    fn digest_or(&self, leaf: u8, empty: Digest) -> Digest
         requires { empty ≡ sha256 [] }
         ensures { result ≡ leaf_digest self.now leaf }
     {

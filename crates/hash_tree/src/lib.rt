@@ -1,9 +1,9 @@
 //! The tree of digests that stands for a store in an exchange.
 //!
-//! Each full prefix has 256 leaves, in which its keys stand by the first byte of their own digest;
-//! 16 inner nodes over 16 leaves each; and a root over these. The root of the tree goes over the
-//! roots of the prefixes. An update computes one leaf, one inner node, one prefix root and the root
-//! anew.
+//! Each full prefix has 256 leaves, in which its keys stand by the first byte of SHA-256 of their
+//! own bytes; 16 inner nodes over 16 leaves each; and a root over these. The root of the tree goes
+//! over the roots of the full prefixes. An update computes one leaf, one inner node, one prefix root
+//! and the root anew, and for the first key of a full prefix the digests of an empty one.
 //!
 //! ```
 //! let mut tree = Tree::from_store(alloc, &store)?;
@@ -11,11 +11,13 @@
 //! tree.root() // that of `plain_root(alloc, &store)?`
 //! ```
 //!
-//! Read `tree`, then `object`; `parts`, `prefix_tree`, `leaves`, `bucket` and `hashing` are private.
+//! Read `tree`, `object`, then `laws`; `parts`, `prefix_tree`, `leaves`, `bucket` and `hashing` are
+//! private.
 #![tactic(auto)]
 
 mod bucket;
 mod hashing;
+pub mod laws;
 mod leaves;
 pub mod object;
 mod parts;

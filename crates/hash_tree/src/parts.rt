@@ -8,7 +8,7 @@ ghost use Rattle.meta_types.specs.Order.{bytes_cmp, prefix_cmp};
 ghost use Rattle.frame_fields.specs.Field.{prefix};
 ghost use Rattle.meta_store.specs.Kept.{rows_at, table_of};
 ghost use Rattle.hash_tree.specs.Tree.{prefix_root, rows_of};
-ghost use Rattle.hash_tree.specs.Kept.{AreParts};
+ghost use Rattle.hash_tree.specs.Kept.{AreTreeParts};
 
 use crate::hashing::add_prefix;
 use crate::prefix_tree::PrefixTree;
@@ -49,7 +49,7 @@ pub(crate) fn parts_of(
     alloc: Global,
     store: &Store,
 ) -> Result<BTreeMap<FullPrefix, PrefixTree>, AllocError>
-    ensures parts { IfOk result (λ parts. AreParts parts.entries) }
+    ensures parts { IfOk result (λ parts. AreTreeParts parts.entries) }
     ensures rows { IfOk result (λ parts. table_of parts.entries ≡ rows_of store.now) }
 {
     let mut parts = BTreeMap::new(alloc);

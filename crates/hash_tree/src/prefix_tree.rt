@@ -1,6 +1,7 @@
 //! The tree of one full prefix.
 
-ghost use Rattle.std.specs.Prelude.{◌≡◌, ◌<◌, ◌*◌, [], length, take, drop, All, IfOk, OnOk, OnErr, None};
+ghost use Rattle.std.specs.Prelude.{◌≡◌, ◌<◌, ◌*◌, [], length, take, drop, All};
+ghost use Rattle.std.specs.Prelude.{IfOk, OnOk, OnErr, None};
 ghost use Rattle.std.specs.FinMap.{find, put};
 ghost use Rattle.meta_types.specs.Name.{IsName};
 ghost use Rattle.meta_types.specs.Order.{bytes_cmp};
@@ -9,7 +10,7 @@ ghost use Rattle.hash_tree.specs.Tree.{bucket, digested, inner_digests, leaf_dig
 ghost use Rattle.hash_tree.specs.Kept.{inner_over};
 
 use crate::hashing::{digest_of_all, leaf_of};
-use crate::leaves::{Leaves, empty_digest};
+use crate::leaves::Leaves;
 use crate::object::object_digest;
 use frame_fields::{Digest, KeyDigest};
 use meta_store::Rows;
@@ -82,8 +83,8 @@ impl PrefixTree {
     }
 
     /// Holds the digest under the key in place of what stands there; one leaf, one inner node and
-    /// the root are computed anew. A key that is there is never refused. Fails only when memory runs
-    /// out for a new key, and then nothing changes.
+    /// the root are computed anew. A key that is there is never refused. Fails only when memory
+    /// runs out for a new key, and then nothing changes.
     pub(crate) fn hold(&mut self, key: &ByteString, digest: Digest) -> Result<(), AllocError>
         requires in_range { IsName 256 key.now }
         ensures value { OnOk result (self.new ≡ put bytes_cmp key.now digest self.old) }
@@ -92,7 +93,7 @@ impl PrefixTree {
     {
         let leaf = leaf_of(key.as_slice());
         self.leaves.hold(leaf, key, digest)?;
-        self.leaf_digests[leaf as usize] = self.leaves.digest_or(leaf, empty_digest());
+        self.leaf_digests[leaf as usize] = self.leaves.digest(leaf);
         let inner = leaf as usize / FAN;
         self.inner[inner] = digest_of_all(sixteen(self.leaf_digests.as_slice(), inner));
         self.root = digest_of_all(&self.inner);

@@ -3,7 +3,8 @@
 ghost use Rattle.std.specs.Prelude.{◌≡◌, ◌<◌, [], None, IfOk, OnOk, OnErr};
 ghost use Rattle.std.specs.FinMap.{find};
 ghost use Rattle.meta_types.specs.Order.{key_cmp};
-ghost use Rattle.hash_tree.specs.Tree.{bucket, inner_digests, leaf_digests, own_rows, prefix_roots, rows_of, tree_root, with_digest};
+ghost use Rattle.hash_tree.specs.Tree.{prefix_roots, rows_of, tree_root, with_digest};
+ghost use Rattle.hash_tree.specs.Tree.{bucket, inner_digests, leaf_digests, own_rows};
 
 use crate::hashing::digest_of_all;
 use crate::leaves::empty_digest;
@@ -28,15 +29,15 @@ pub struct Tree {
 impl Model for Tree {
     ghost use Rattle.std.specs.Prelude.{◌≡◌};
     ghost use Rattle.meta_store.specs.Kept.{table_of};
-    ghost use Rattle.hash_tree.specs.Tree.{Rows, tree_root};
-    ghost use Rattle.hash_tree.specs.Kept.{AreParts};
+    ghost use Rattle.hash_tree.specs.Tree.{DigestRows, tree_root};
+    ghost use Rattle.hash_tree.specs.Kept.{AreTreeParts};
 
-    ghost Value = { Rows };
+    ghost Value = { DigestRows };
 
     ghost view = { λ t. table_of t.parts.entries };
 
     ghost invariant = { λ t. record {
-      parts : AreParts t.parts.entries;
+      parts : AreTreeParts t.parts.entries;
       kept : t.root ≡ tree_root (table_of t.parts.entries);
     } };
 }
@@ -88,8 +89,8 @@ impl Tree {
         }
     }
 
-    /// The digests of the sixteen leaves under inner node `inner` of a full prefix. It takes no
-    /// memory.
+    /// The digests of the sixteen leaves under inner node `inner`, below 16, of a full prefix. It
+    /// takes no memory.
     pub fn leaves(&self, prefix: &FullPrefix, inner: u8) -> [Digest; 16]
         requires { inner < 16 }
         ensures { result ≡ leaf_digests (own_rows prefix.now self.now) inner }
@@ -100,8 +101,8 @@ impl Tree {
         }
     }
 
-    /// The keys in a leaf of a full prefix by their own bytes, in order, each with the digest of its
-    /// object. They are copies. Fails only when memory runs out.
+    /// The keys in a leaf of a full prefix by their own bytes, in order, each with the digest of
+    /// its object. They are copies. Fails only when memory runs out.
     pub fn bucket(&self, prefix: &FullPrefix, leaf: u8) -> Result<Vec<KeyDigest>, AllocError>
         ensures { IfOk result (λ keys. keys.items ≡ bucket (own_rows prefix.now self.now) leaf) }
     {

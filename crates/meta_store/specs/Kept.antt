@@ -1,4 +1,5 @@
--- How a store keeps its table: the full prefixes in order, and under each its keys by their own bytes.
+-- How a store keeps its table: the full prefixes in order, and under each its keys by their own
+-- bytes.
 use Rattle.std.specs.Prelude.{◌≡◌, ◌≢◌, ℕ, true, List, [], map, All}
 use Rattle.std.specs.List.{flat_map}
 use Rattle.std.specs.Option.{unwrap_or}
@@ -27,7 +28,7 @@ Parts = PartsOf (List Entry)
 abbrev pub rows_under : {X : Type 0} → Prefix → RowsOf X → List (Key × X)
 rows_under prefix rows = map (λ row. (record { prefix = prefix; key = row.0 }, row.1)) rows
 
--- the table that is kept so
+-- all rows that are kept so: of a store, its table
 abbrev pub table_of : {X : Type 0} → PartsOf X → List (Key × X)
 table_of parts = flat_map (λ part. rows_under part.0 part.1) parts
 

@@ -1,6 +1,6 @@
--- What must be believed of a store, in the order in which to read it. names, values, the first
--- refusal that applies, clocks, the length of an object in a frame, and the past, which the
--- contracts of this crate speak of too
+-- What must be believed of a store, in the order in which to read it. The contracts of this crate
+-- speak of names, values, the first refusal that applies, clocks, the length of an object in a
+-- frame, and the past too.
 pub use Rattle.meta_types.specs.Name
 pub use Rattle.meta_types.specs.Value
 pub use Rattle.meta_types.specs.Order

@@ -66,7 +66,7 @@ impl Rows {
         self.by_key.get(key)
     }
 
-    /// How many keys there are, at least one.
+    /// How many keys there are.
     pub fn len(&self) -> usize
         ensures { result ≡ length self.now }
     {

@@ -24,9 +24,9 @@ use std::marker::Model;
 /// The most keys of a store.
 pub const MAX_KEYS: usize = 8_192;
 
-/// What one node holds: a map from key to object, by full prefix and then by the keys' own bytes, so
-/// that a full prefix is kept once. Each object held shows a value; a key without an object is read
-/// as one with the absent object.
+/// What one node holds: a map from key to object, by full prefix and then by the keys' own bytes,
+/// so that a full prefix is kept once. Each object held shows a value; a key without an object is
+/// read as one with the absent object.
 #[derive(Debug, Drop)]
 pub struct Store {
     alloc: Global,
@@ -177,8 +177,8 @@ impl Store {
         Ok(prefixes)
     }
 
-    /// Goes over the full prefixes in order, each with its keys and their objects: all that is held,
-    /// without taking memory.
+    /// Goes over the full prefixes in order, each with its keys and their objects: all that is
+    /// held, without taking memory.
     pub fn iter(&self) -> Iter<'_, FullPrefix, Rows>
         ensures rows { table_of result ≡ self.now }
         ensures parts { AreParts result }

@@ -14,8 +14,8 @@ const EMPTY: &str = "e3b0c44298fc1c149afbf4c8996fb92427ae41e4649b934ca495991b785
 /// The digest of an inner node over such leaves.
 const EMPTY_INNER: &str = "4e08d3e5182692706e7b518147ddf4e4ba2084a38f06239db6f7229eae0118db";
 
-/// Five keys under two full prefixes. The first, the second and the fourth stand in leaf 24, and the
-/// last in leaf 130.
+/// Five keys under two full prefixes. The first, the second and the fourth stand in leaf 24, and
+/// the last in leaf 130.
 const FIVE: [Letters; 5] = [*b"abj", *b"abY", *b"cdk", *b"abd", *b"abk"];
 
 /// The keys written, and the root of their table.

@@ -3,7 +3,7 @@ use Rattle.std.proofs.lemmas.List.{append-nil}
 use Rattle.std.proofs.lemmas.List.Elements.{All-head, All-tail}
 use Rattle.meta_store.specs.Kept.{table_of}
 use Rattle.hash_tree.specs.Tree.{digested}
-use Rattle.hash_tree.specs.Kept.{AreParts}
+use Rattle.hash_tree.specs.Kept.{AreTreeParts}
 use Rattle.hash_tree.proofs.ByPrefix.{HeldPart, are_parts, digested_part, digested_parts, held_parts, part_taken}
 use Rattle.hash_tree.proofs.parts.parts_of.Goals as goal
 
@@ -46,7 +46,7 @@ loop-prefix-preserved c =
 pub returns-clause-parts : goal.returns-clause-parts
 returns-clause-parts c =
     let i = c.loop-prefix.invariant in
-    subst AreParts (sym (sym (append-nil c.loop-prefix.parts.entries) ∙ ap (λ xs. c.loop-prefix.parts.entries ++ map digested_part xs) (sym c.in-None.ensures.steps.0) ∙ i.1.0)) (are_parts i.0 i.1.1.1.0)
+    subst AreTreeParts (sym (sym (append-nil c.loop-prefix.parts.entries) ∙ ap (λ xs. c.loop-prefix.parts.entries ++ map digested_part xs) (sym c.in-None.ensures.steps.0) ∙ i.1.0)) (are_parts i.0 i.1.1.1.0)
 
 pub returns-clause-rows : goal.returns-clause-rows
 returns-clause-rows c =
