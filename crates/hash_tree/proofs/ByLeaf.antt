@@ -1,5 +1,5 @@
 -- The leaves of a full prefix: what is found in them, and what a row put there makes of them.
-use Rattle.std.proofs.Common.{◌≡◌, ℕ, Bool, true, false, cond, T, List, [], ◌∷◌, ◌++◌, All, Option, Some, None, Result, Ok, Err, OnOk, OnErr, refl, sym, ap, subst, ◌∙◌, ◌==◌}
+use Rattle.std.proofs.Common.{◌≡◌, ℕ, Bool, true, false, cond, T, List, [], ◌∷◌, ◌++◌, map, All, Option, Some, None, Result, Ok, Err, OnOk, OnErr, refl, sym, ap, subst, ◌∙◌, ◌==◌}
 use Rattle.std.specs.Bool.{passes}
 use Rattle.std.specs.List.{flat_map}
 use Rattle.std.specs.Option.{unwrap_or}
@@ -19,7 +19,10 @@ use Rattle.meta_store.specs.Kept.{AreRows}
 use Rattle.meta_store.proofs.Kept.{bytes_total, IsNamed}
 use Rattle.meta_store.proofs.Maps.{All-put, below_rest, find_below, is_true, looked_up, rest_sorted}
 use Rattle.sha2.specs.Sha256.{sha256}
-use Rattle.hash_tree.specs.Tree.{Digest, OwnRows, in_leaf, leaf_digest, leaf_of, text_of}
+use Rattle.frame_fields.specs.Field.{key_row_parts}
+use Rattle.frame_fields.specs.declared.keys.KeyDigest.{KeyDigest}
+use Rattle.hash_tree.specs.Rising.{do_keys_rise}
+use Rattle.hash_tree.specs.Tree.{Digest, OwnRows, bucket, in_leaf, leaf_digest, leaf_of, text_of}
 use Rattle.hash_tree.specs.Kept.{AreLeaves, IsLeaf, RowsByLeaf, in_order, joined, leaf_at}
 
 pub same_bytes : (xs ys : List ℕ) → bytes_cmp xs ys ≡ Equal → xs ≡ ys
@@ -144,6 +147,21 @@ in_leaf_joined n leaves are =
     (λ q. find-where_key bytes_cmp test q (λ x tied. ap test (sym (same_bytes q x tied))) (joined leaves)
     ∙ ap (λ f. cond (test q) f None) (find_joined q leaves are)
     ∙ cases_of_leaf q n leaves (test q) refl at.own)
+
+abbrev listed_row : List ℕ × Digest → KeyDigest
+listed_row row = record { key = row.0; digest = row.1 }
+
+listed_again : (rows : OwnRows) → map key_row_parts (map listed_row rows) ≡ rows
+listed_again [] = refl
+listed_again (row ∷ rows) = ap (λ xs. row ∷ xs) (listed_again rows)
+
+-- the keys of a leaf rise as they are told
+pub leaf_rises : (n : ℕ) (leaves : RowsByLeaf) (told : List KeyDigest) → told ≡ bucket (joined leaves) n → do_keys_rise told ≡ true
+leaf_rises n leaves told is =
+    let rows : OwnRows = in_leaf n (joined leaves) in
+    is_true (do_keys_rise told)
+    (subst (λ xs. T (is_sorted bytes_cmp xs)) (sym (ap (map key_row_parts) is ∙ listed_again rows))
+    (is_sorted-where_key bytes_cmp (λ k. n == leaf_of k) (joined leaves) (sorted_in_order (rows_of_all leaves))))
 
 pub leaf_found : (n : ℕ) (rows : OwnRows) (leaves : RowsByLeaf) → Some rows ≡ lookup (is_at (nat_cmp n)) leaves → leaf_at n leaves ≡ rows
 leaf_found n rows leaves e = ap (λ x. unwrap_or x []) (sym (looked_up nat_cmp n leaves) ∙ sym e)

@@ -17,7 +17,7 @@ use Rattle.meta_types.specs.Name.{Prefix, Key}
 use Rattle.meta_types.specs.Order.{bytes_cmp, key_cmp, prefix_cmp, prefix_eq}
 use Rattle.meta_types.proofs.Comparing.{same_prefix}
 use Rattle.dvvset.specs.Object.{Entry}
-use Rattle.frame_fields.specs.Field.{prefix}
+use Rattle.frame_fields.specs.Field.{prefix, prefix_row_parts}
 use Rattle.frame_fields.specs.declared.prefixes.PrefixDigest.{PrefixDigest}
 use Rattle.meta_store.specs.Table.{IsHeld}
 use Rattle.meta_store.specs.Kept as store
@@ -26,6 +26,7 @@ use Rattle.meta_store.proofs.Kept.{all_prefixes, bytes_total, prefix_total, put_
 use Rattle.meta_store.proofs.Maps.{All-put, below_rest, filled_up, find_below, first, greater_back, is_less, is_true, put_last, rest_sorted, second}
 use Rattle.hash_tree.specs.Tree.{Digest, OwnRows, DigestRows, digested, object_digest, own_rows, prefix_root, prefix_roots, tree_root}
 use Rattle.hash_tree.specs.Kept.{AreTreeParts}
+use Rattle.hash_tree.specs.Rising.{do_prefixes_rise}
 
 abbrev Filled : Prefix × OwnRows → Type 0
 Filled part = part.1 ≢ []
@@ -103,12 +104,23 @@ each_root (part ∷ parts) sorted =
     let later = skipped part.0 part.1 (table_of parts) parts (below_rest prefix_cmp prefix_total part parts sorted) ∙ each_root parts (rest_sorted prefix_cmp prefix_total part parts sorted) in
     λ i. record { prefix = part.0; digest = prefix_root (here i) } ∷ later i
 
+below_roots : (p : Prefix) (parts : Parts) → below_all prefix_cmp p (map prefix_row_parts (map part_root parts)) ≡ below_all prefix_cmp p parts
+below_roots p [] = refl
+below_roots p (part ∷ parts) = ap (λ b. is_lt (prefix_cmp p part.0) && b) (below_roots p parts)
+
+sorted_roots : (parts : Parts) → do_prefixes_rise (map part_root parts) ≡ is_sorted prefix_cmp parts
+sorted_roots [] = refl
+sorted_roots (part ∷ parts) = λ i. below_roots part.0 parts i && sorted_roots parts i
+
 module _ (parts : Parts) (are : AreTreeParts parts) where
   abbrev sorted : T (is_sorted prefix_cmp parts)
   sorted = passes (is_sorted prefix_cmp parts) are.rising
 
   pub roots_of_parts : prefix_roots (table_of parts) ≡ map part_root parts
   roots_of_parts = ap (map (rooted (table_of parts))) (all_prefixes parts sorted are.filled) ∙ each_root parts sorted
+
+  pub roots_rise : do_prefixes_rise (map part_root parts) ≡ true
+  roots_rise = sorted_roots parts ∙ are.rising
 
   pub root_of_parts : tree_root (table_of parts) ≡ sha256 (flat_map part_text parts)
   unfolding tree_root

@@ -9,8 +9,8 @@ mod Steps
 -- digests are bytes
 mod Bytes
 -- what equal texts say of their parts
-mod Texts
+pub mod Texts
 -- what is found in the rows of a tree
-mod Lookups
+pub mod Lookups
 -- equal digests mean equal parts, or a collision
-mod Collisions
+pub mod Collisions

@@ -31,14 +31,14 @@ pub data IsHashed (table : Table) : List ℕ → Type 0 where
   of_root : IsHashed table (roots_text (prefix_roots (rows_of table)))
 
 -- a byte string that is hashed for one of two tables
-abbrev pub IsHashedOfBoth : Table → Table → List ℕ → Type 0
-IsHashedOfBoth here there bytes = IsHashed here bytes ⊎ IsHashed there bytes
+abbrev pub IsHashedOfEither : Table → Table → List ℕ → Type 0
+IsHashedOfEither here there bytes = IsHashed here bytes ⊎ IsHashed there bytes
 
 -- two unequal byte strings of those that are hashed for two tables have one digest
 pub record Collides (here there : Table) : Type 0 where
   pub one : List ℕ
   pub other : List ℕ
-  pub one_is_hashed : IsHashedOfBoth here there one
-  pub other_is_hashed : IsHashedOfBoth here there other
+  pub one_is_hashed : IsHashedOfEither here there one
+  pub other_is_hashed : IsHashedOfEither here there other
   pub unequal : one ≢ other
   pub one_digest : sha256 one ≡ sha256 other

@@ -11,6 +11,8 @@ pub use Rattle.meta_store.specs.Table
 pub use Rattle.meta_store.specs.Kept as Parts
 -- each digest of a tree, from all rows at once
 pub mod Tree
+-- the order of what a tree tells
+pub mod Rising
 -- which byte strings are hashed for two tables, and two of them that collide
 pub mod Hashed
 -- how a tree keeps its rows

@@ -15,8 +15,8 @@ pub fn an_update_follows_a_change_of_the_table()
         ≡ with_digest key (object_digest object) (rows_of table) }
 {}
 
-/// Tables whose trees have equal roots are equal, unless two unequal byte strings that are hashed for
-/// them have one digest.
+/// Tables whose trees have equal roots are equal, unless two unequal byte strings that are hashed
+/// for them, or for an empty full prefix, have one digest.
 pub fn equal_roots_mean_equal_tables()
     ensures { (here there : Table) → IsTable here → IsTable there
         → tree_root (rows_of here) ≡ tree_root (rows_of there)

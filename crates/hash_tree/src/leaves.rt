@@ -8,6 +8,7 @@ ghost use Rattle.meta_types.specs.Order.{bytes_cmp};
 ghost use Rattle.meta_store.specs.Kept.{AreRows};
 ghost use Rattle.sha2.specs.Sha256.{sha256};
 ghost use Rattle.hash_tree.specs.Tree.{bucket, leaf_digest, leaf_of};
+ghost use Rattle.hash_tree.specs.Rising.{do_keys_rise};
 ghost use Rattle.hash_tree.specs.Kept.{all_leaf_digests, leaf_at};
 
 use crate::bucket::Bucket;
@@ -103,7 +104,8 @@ impl Leaves {
 
     /// A leaf's keys with their digests, in order; none where it has none. They are copies.
     pub(crate) fn bucket(&self, leaf: u8) -> Result<Vec<KeyDigest>, AllocError>
-        ensures { IfOk result (λ rows. rows.items ≡ bucket self.now leaf) }
+        ensures value { IfOk result (λ rows. rows.items ≡ bucket self.now leaf) }
+        ensures rising { IfOk result (λ rows. do_keys_rise rows.items ≡ true) }
     {
         match self.by_number.get(&leaf) {
             Some(bucket) => bucket.rows(self.alloc),

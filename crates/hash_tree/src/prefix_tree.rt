@@ -1,12 +1,13 @@
 //! The tree of one full prefix.
 
-ghost use Rattle.std.specs.Prelude.{◌≡◌, ◌<◌, ◌*◌, [], length, take, drop, All};
+ghost use Rattle.std.specs.Prelude.{true, ◌≡◌, ◌<◌, ◌*◌, [], length, take, drop, All};
 ghost use Rattle.std.specs.Prelude.{IfOk, OnOk, OnErr, None};
 ghost use Rattle.std.specs.FinMap.{find, put};
 ghost use Rattle.meta_types.specs.Name.{IsName};
 ghost use Rattle.meta_types.specs.Order.{bytes_cmp};
 ghost use Rattle.meta_store.specs.Table.{IsHeld};
 ghost use Rattle.hash_tree.specs.Tree.{bucket, digested, inner_digests, leaf_digests, prefix_root};
+ghost use Rattle.hash_tree.specs.Rising.{do_keys_rise};
 ghost use Rattle.hash_tree.specs.Kept.{inner_over};
 
 use crate::hashing::{digest_of_all, leaf_of};
@@ -125,7 +126,8 @@ impl PrefixTree {
 
     /// The keys of a leaf with their digests, in order. They are copies.
     pub(crate) fn bucket(&self, leaf: u8) -> Result<Vec<KeyDigest>, AllocError>
-        ensures { IfOk result (λ rows. rows.items ≡ bucket self.now leaf) }
+        ensures value { IfOk result (λ rows. rows.items ≡ bucket self.now leaf) }
+        ensures rising { IfOk result (λ rows. do_keys_rise rows.items ≡ true) }
     {
         self.leaves.bucket(leaf)
     }

@@ -1,10 +1,11 @@
 //! The tree of all full prefixes.
 
-ghost use Rattle.std.specs.Prelude.{◌≡◌, ◌<◌, [], None, IfOk, OnOk, OnErr};
+ghost use Rattle.std.specs.Prelude.{◌≡◌, ◌<◌, [], None, true, IfOk, OnOk, OnErr};
 ghost use Rattle.std.specs.FinMap.{find};
 ghost use Rattle.meta_types.specs.Order.{key_cmp};
 ghost use Rattle.hash_tree.specs.Tree.{prefix_roots, rows_of, tree_root, with_digest};
 ghost use Rattle.hash_tree.specs.Tree.{bucket, inner_digests, leaf_digests, own_rows};
+ghost use Rattle.hash_tree.specs.Rising.{do_keys_rise, do_prefixes_rise};
 
 use crate::hashing::digest_of_all;
 use crate::leaves::empty_digest;
@@ -74,7 +75,8 @@ impl Tree {
     /// The full prefixes that hold a key, in order, each with its root. They are copies. Fails only
     /// when memory runs out.
     pub fn prefix_roots(&self) -> Result<Vec<PrefixDigest>, AllocError>
-        ensures { IfOk result (λ roots. roots.items ≡ prefix_roots self.now) }
+        ensures value { IfOk result (λ roots. roots.items ≡ prefix_roots self.now) }
+        ensures rising { IfOk result (λ roots. do_prefixes_rise roots.items ≡ true) }
     {
         roots_of(self.alloc, &self.parts)
     }
@@ -104,7 +106,9 @@ impl Tree {
     /// The keys in a leaf of a full prefix by their own bytes, in order, each with the digest of
     /// its object. They are copies. Fails only when memory runs out.
     pub fn bucket(&self, prefix: &FullPrefix, leaf: u8) -> Result<Vec<KeyDigest>, AllocError>
-        ensures { IfOk result (λ keys. keys.items ≡ bucket (own_rows prefix.now self.now) leaf) }
+        ensures value { IfOk result
+            (λ keys. keys.items ≡ bucket (own_rows prefix.now self.now) leaf) }
+        ensures rising { IfOk result (λ keys. do_keys_rise keys.items ≡ true) }
     {
         match self.parts.get(prefix) {
             Some(tree) => tree.bucket(leaf),

@@ -34,7 +34,7 @@ Example:
 prints
   PRUNE from 1 to 0 number 5
 
-A refusal prints as its number and name, as `error 10 Short`; `error 15 BadBody at 35` says where in
+A refusal prints as its number and name, as `error 10 Short`; `error 15 BadBody at 39` says where in
 the frame the field at fault begins. No line number is printed: line N of the output is for line N.
 
 Exit status: 0 each line was a frame, 1 a line was refused or the input is longer than

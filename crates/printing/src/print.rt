@@ -39,7 +39,7 @@ pub fn print_value(out: &mut Vec<u8>, value: &Value) -> Result<(), AllocError>
     out.extend_from_slice(text.as_slice())
 }
 
-/// Adds a context, as `0:2,1:1`, or `-` for the one that has read nothing.
+/// Adds a context, as `0.1:2,1.1:1`, or `-` for the one that has read nothing.
 pub fn print_vector(out: &mut Vec<u8>, vector: &Vector) -> Result<(), AllocError>
     ensures ok { OnOk result (out.new.items ≡ out.old.items ++ vector_text vector.now) }
     ensures err { OnErr result (out.new.items ≡ out.old.items) }
@@ -49,7 +49,7 @@ pub fn print_vector(out: &mut Vec<u8>, vector: &Vector) -> Result<(), AllocError
     out.extend_from_slice(text.as_slice())
 }
 
-/// Adds an object: its context, and the values that it shows, as `ctx 0:2 values y,x`. It takes
+/// Adds an object: its context, and the values that it shows, as `ctx 0.1:2 values y,x`. It takes
 /// memory for the context too.
 pub fn print_object(out: &mut Vec<u8>, object: &Entries) -> Result<(), AllocError>
     ensures ok { OnOk result (out.new.items ≡ out.old.items ++ object_text object.now) }
@@ -61,7 +61,7 @@ pub fn print_object(out: &mut Vec<u8>, object: &Entries) -> Result<(), AllocErro
 }
 
 /// Adds a frame: the name of its kind, sender, addressee and number, and the fields of its message,
-/// as `GOSSIP from 0 to 1 number 1 round 0 key a/b/k ctx 0:1 values x`.
+/// as `GOSSIP from 0 to 1 number 1 round 0 key a/b/k ctx 0.1:1 values x`.
 pub fn print_frame(out: &mut Vec<u8>, frame: &Frame) -> Result<(), AllocError>
     ensures ok { OnOk result (out.new.items ≡ out.old.items ++ frame_text frame.now) }
     ensures err { OnErr result (out.new.items ≡ out.old.items) }
@@ -72,7 +72,7 @@ pub fn print_frame(out: &mut Vec<u8>, frame: &Frame) -> Result<(), AllocError>
 }
 
 /// Adds a refusal of bytes: its number and name, and for 15 where the field at fault begins, as
-/// `error 15 BadBody at 35`.
+/// `error 15 BadBody at 39`.
 pub fn print_frame_fault(out: &mut Vec<u8>, fault: &FrameFault) -> Result<(), AllocError>
     ensures ok { OnOk result (out.new.items ≡ out.old.items ++ frame_fault_text fault.now) }
     ensures err { OnErr result (out.new.items ≡ out.old.items) }

@@ -5,7 +5,7 @@
 mod measure;
 mod node;
 
-use measure::{median_rate, print_rate};
+use measure::{median_pace, print_pace};
 use node::{Node, Work};
 use std::io;
 
@@ -28,8 +28,8 @@ fn main(rt: HostRuntime) -> io::Result<()> {
             Work::Fill,
             Work::WholeRoot,
         ] {
-            let rate = median_rate(&rt, &mut node, work)?;
-            print_rate(&rt, work, count, prefixes, rate)?;
+            let pace = median_pace(&rt, &mut node, work)?;
+            print_pace(&rt, work, count, prefixes, pace)?;
         }
     }
     Ok(())

@@ -31,16 +31,34 @@ fn calls_of(rt: &HostRuntime, node: &mut Node, work: Work) -> io::Result<u32> {
     Ok(calls)
 }
 
-/// Calls in a second: the median of the samples.
-pub fn median_rate(rt: &HostRuntime, node: &mut Node, work: Work) -> io::Result<u64> {
+/// How many nanoseconds so many calls took: the median of the samples.
+#[derive(Clone, Copy)]
+pub struct Pace {
+    calls: u32,
+    nanos: u128,
+}
+
+pub fn median_pace(rt: &HostRuntime, node: &mut Node, work: Work) -> io::Result<Pace> {
     let calls = calls_of(rt, node, work)?;
     let mut samples = Vec::with_capacity(rt.alloc(), SAMPLES)?;
     for _sample in 0..SAMPLES {
         samples.push(taken(rt, node, work, calls)?)?;
     }
     samples.sort()?;
-    let middle = samples.get(SAMPLES / 2).copied().unwrap_or(1).max(1);
-    Ok((u128::from(calls) * 1_000_000_000 / middle) as u64)
+    let nanos = samples.get(SAMPLES / 2).copied().unwrap_or(1);
+    Ok(Pace { calls, nanos })
+}
+
+impl Pace {
+    /// How often in a second it is done, where each call does it so many times.
+    fn rate(self, times: u32) -> u128 {
+        u128::from(self.calls) * u128::from(times) * 1_000_000_000 / self.nanos.max(1)
+    }
+
+    /// Hundredths of a millisecond that a call takes.
+    fn hundredths(self) -> u128 {
+        self.nanos / (u128::from(self.calls.max(1)) * 10_000)
+    }
 }
 
 impl Work {
@@ -57,18 +75,31 @@ impl Work {
 }
 
 /// Prints the line of a measure: writes or reads in a second, or the milliseconds of a root.
-pub fn print_rate(
+pub fn print_pace(
     rt: &HostRuntime,
     work: Work,
     count: u32,
     prefixes: u32,
-    rate: u64,
+    pace: Pace,
 ) -> io::Result<()> {
     let name = work.name();
-    let (value, unit) = match work {
-        Work::Fill => (rate.saturating_mul(u64::from(count)), "ops/s"),
-        Work::WholeRoot => (1_000 / rate.max(1), "ms"),
-        Work::PutWithTree | Work::Put | Work::Look => (rate, "ops/s"),
+    let times = match work {
+        Work::Fill => count,
+        Work::WholeRoot => return print_time(rt, name, count, prefixes, pace),
+        Work::PutWithTree | Work::Put | Work::Look => 1,
     };
-    println!(rt; "{name}_{count}_keys_{prefixes}_prefix {value} {unit}")
+    let rate = pace.rate(times);
+    println!(rt; "{name}_{count}_keys_{prefixes}_prefix {rate} ops/s")
+}
+
+fn print_time(
+    rt: &HostRuntime,
+    name: &str,
+    count: u32,
+    prefixes: u32,
+    pace: Pace,
+) -> io::Result<()> {
+    let hundredths = pace.hundredths();
+    let (whole, rest) = (hundredths / 100, hundredths % 100);
+    println!(rt; "{name}_{count}_keys_{prefixes}_prefix {whole}.{rest:02} ms")
 }

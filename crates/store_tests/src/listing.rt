@@ -143,7 +143,7 @@ fn copy_len(rt: &impl Abort, store: &Store) -> usize {
 }
 
 // Holds whichever single allocation is refused: a call that was refused memory succeeds when it is
-// made again.
+// made again. Allocates at most 60 times.
 #[test]
 fn listing_succeeds_again_under_refused_memory(rt: HostRuntime) {
     let store = filled(&rt, rt.alloc(), &[*b"abk", *b"abl", *b"bak"]);

@@ -291,6 +291,34 @@ fn an_object_has_at_most_65535_entries(rt: HostRuntime) {
     assert_eq!(rt; number(take(&rt, alloc, &mut store, &[(1, 1, b"x")])), 27);
 }
 
+#[test]
+fn a_preview_changes_nothing(rt: HostRuntime) {
+    let alloc = rt.alloc();
+    let store = Store::new(alloc);
+    let (key, value) = (key(&rt, alloc, SHORT, b'k'), value(&rt, alloc, SHORT, b'x'));
+    let preview = store
+        .preview_put(actor(&rt, 0), &key, value, None)
+        .expect(&rt, "a preview");
+    assert!(rt; preview == object(&rt, alloc, SHORT, &[(0, 1, b"x")]));
+    assert!(rt; shows(&rt, alloc, &store, b"", &[]));
+}
+
+#[test]
+fn calls_succeed_on_an_object_of_many_writers(rt: HostRuntime) {
+    let alloc = rt.alloc();
+    let mut store = Store::new(alloc);
+    let key = key(&rt, alloc, SHORT, b'k');
+    let many = lives(&rt, alloc, 40_000);
+    assert_eq!(rt;
+        number(store.merge(key.copy().expect(&rt, "memory"), many)),
+        0
+    );
+    assert!(rt; is_read(&store, &key, 40_000));
+    assert_eq!(rt; number(put(&rt, alloc, &mut store, 1, b'x', None)), 0);
+    assert!(rt; is_read(&store, &key, 40_001));
+    assert!(rt; is_copied(&look(&rt, &store, &key)));
+}
+
 /// Writes under the key of that number.
 fn put_under(rt: &impl Abort, alloc: Global, store: &mut Store, number: usize) {
     let sizes = Sizes {
@@ -315,6 +343,10 @@ fn a_store_holds_8192_keys(rt: HostRuntime) {
     assert_eq!(rt; number(put(&rt, alloc, &mut store, 0, b'x', None)), 25);
     assert_eq!(rt; number(take(&rt, alloc, &mut store, &[(0, 1, b"x")])), 25);
     put_under(&rt, alloc, &mut store, 0);
+    let key = key(&rt, alloc, SHORT, b'k');
+    assert_eq!(rt; store.list(key.prefix()).expect(&rt, "memory").len(), 8_192);
+    assert_eq!(rt; store.prefixes().expect(&rt, "memory").len(), 1);
+    assert_eq!(rt; store.copy().expect(&rt, "memory").len(), 8_192);
 }
 
 fn is_taken(rt: &impl Abort, alloc: Global, store: &mut Store) -> bool {

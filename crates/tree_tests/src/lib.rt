@@ -8,6 +8,10 @@
 #[cfg(test)]
 mod changes;
 #[cfg(test)]
+mod large;
+#[cfg(test)]
 mod parts;
+#[cfg(test)]
+mod refused_memory;
 #[cfg(test)]
 mod rows;

@@ -1,0 +1,99 @@
+-- What each message of an exchange is answered, from what is held at that time: an exchange has no
+-- session. One definition for each row of the table, in its order. The rule is our own.
+use Rattle.std.specs.Prelude.{ℕ, ◌+◌, ◌*◌, List, [], ◌∷◌, ◌++◌, map, if◌then◌else◌, Option, Some, None}
+use Rattle.std.specs.List.{flat_map}
+use Rattle.std.specs.FinMap.{find}
+use Rattle.meta_types.specs.Name.{Prefix, Key}
+use Rattle.meta_types.specs.Order.{bytes_cmp, key_cmp, prefix_cmp}
+use Rattle.dvvset.specs.Object.{Entry}
+use Rattle.frame_fields.specs.Field.{key_row_parts, prefix_row_parts}
+use Rattle.frame_fields.specs.declared.keys.KeyDigest.{KeyDigest}
+use Rattle.frame_fields.specs.declared.prefixes.PrefixDigest.{PrefixDigest}
+use Rattle.meta_frame.specs.declared.message.Message.{Message}
+use Rattle.meta_frame.specs.declared.message.Message.TheVariants.{XRoot, XPrefixes, XInner, XLeaves, XBucket, XObject, XWant}
+use Rattle.meta_store.specs.Table.{Table}
+use Rattle.hash_tree.specs.Tree.{Digest, bucket, inner_digests, leaf_digests, prefix_roots, rows_of, tree_root}
+use Rattle.hash_tree.specs.Hashed.{rows_below}
+use Rattle.exchange.specs.Sides.{differing_keys, differing_places, same_digest}
+
+-- what begins an exchange
+abbrev pub root_message : Table → Message
+root_message table = XRoot (tree_root (rows_of table))
+
+-- ---- XROOT: all own full prefixes with their roots, if the roots differ
+
+abbrev pub answer_root : Table → Digest → List Message
+answer_root table theirs =
+    if same_digest theirs (tree_root (rows_of table))
+    then []
+    else XPrefixes (prefix_roots (rows_of table)) ∷ []
+
+-- ---- XPREFIXES: for each full prefix of either side in order that differs or stands on one side,
+-- XINNER with the own digests
+
+abbrev pub inner_message : Table → Prefix → Message
+inner_message table p = XInner p (inner_digests (rows_below p table))
+
+abbrev pub answer_prefixes : Table → List PrefixDigest → List Message
+answer_prefixes table theirs =
+    map (inner_message table) (differing_keys prefix_cmp (map prefix_row_parts theirs)
+    (map prefix_row_parts (prefix_roots (rows_of table))))
+
+-- ---- XINNER: for each inner node in order that differs, XLEAVES with the own digests
+
+abbrev pub leaves_message : Table → Prefix → ℕ → Message
+leaves_message table p inner = XLeaves p inner (leaf_digests (rows_below p table) inner)
+
+abbrev pub answer_inner : Table → Prefix → List Digest → List Message
+answer_inner table p theirs =
+    map (leaves_message table p) (differing_places theirs (inner_digests (rows_below p table)))
+
+-- ---- XLEAVES: for each leaf in order that differs, XBUCKET with the own keys; there may be none
+
+abbrev pub bucket_message : Table → Prefix → ℕ → Message
+bucket_message table p leaf = XBucket p leaf (bucket (rows_below p table) leaf)
+
+abbrev pub answer_leaves : Table → Prefix → ℕ → List Digest → List Message
+answer_leaves table p inner theirs =
+    map (λ place. bucket_message table p (16 * inner + place))
+    (differing_places theirs (leaf_digests (rows_below p table) inner))
+
+-- ---- XBUCKET: for each key of either side in order that differs or stands on one side, XOBJECT if
+-- it is held, then XWANT if the other side listed it
+
+abbrev pub object_message : Key → Option (List Entry) → List Message
+object_message key None = []
+object_message key (Some object) = XObject key object ∷ []
+
+abbrev pub object_if_held : Table → Key → List Message
+object_if_held table key = object_message key (find key_cmp key table)
+
+abbrev pub want_message : Key → Option Digest → List Message
+want_message key None = []
+want_message key (Some digest) = XWant key ∷ []
+
+abbrev pub answer_key : Table → Prefix → List KeyDigest → List ℕ → List Message
+answer_key table p theirs own =
+    object_if_held table (record { prefix = p; key = own })
+    ++ want_message (record { prefix = p; key = own }) (find bytes_cmp own (map key_row_parts theirs))
+
+abbrev pub answer_bucket : Table → Prefix → ℕ → List KeyDigest → List Message
+answer_bucket table p leaf theirs =
+    flat_map (answer_key table p theirs) (differing_keys bytes_cmp (map key_row_parts theirs)
+    (map key_row_parts (bucket (rows_below p table) leaf)))
+
+-- ---- XWANT: XOBJECT if it is held
+
+abbrev pub answer_want : Table → Key → List Message
+answer_want table key = object_if_held table key
+
+-- ---- all messages; XOBJECT, and what belongs to no exchange, has no answer
+
+abbrev pub answer : Table → Message → List Message
+answer table (XRoot root) = answer_root table root
+answer table (XPrefixes theirs) = answer_prefixes table theirs
+answer table (XInner p theirs) = answer_inner table p theirs
+answer table (XLeaves p inner theirs) = answer_leaves table p inner theirs
+answer table (XBucket p leaf theirs) = answer_bucket table p leaf theirs
+answer table (XWant key) = answer_want table key
+answer table _ = []

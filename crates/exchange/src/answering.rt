@@ -1,0 +1,198 @@
+//! What each message is answered: one function for each row of the table.
+
+ghost use Rattle.std.specs.Prelude.{◌≡◌, ◌<◌, IfOk, slice_get};
+ghost use Rattle.frame_fields.specs.Field.{digests};
+ghost use Rattle.meta_frame.specs.declared.message.Message.TheVariants.{XRoot};
+ghost use Rattle.hash_tree.specs.Tree.{bucket, prefix_roots, rows_of, tree_root};
+ghost use Rattle.hash_tree.specs.Hashed.{rows_below};
+ghost use Rattle.exchange.specs.Sides.{differ};
+ghost use Rattle.exchange.specs.Answers.{answer_inner, answer_leaves, answer_root, object_if_held};
+ghost use Rattle.exchange.specs.Answers.{bucket_message, inner_message, leaves_message};
+
+use frame_fields::{Digest, Digests, KeyDigests, PrefixDigests};
+use hash_tree::Tree;
+use meta_frame::Message;
+use meta_store::Store;
+use meta_types::{FullPrefix, MetaKey};
+use std::alloc::{AllocError, Global};
+
+/// What begins an exchange: the root of what is held here. It takes no memory.
+pub fn start(tree: &Tree) -> Message
+    ensures { result ≡ XRoot (tree_root tree.now) }
+{
+    Message::XRoot { root: tree.root() }
+}
+
+/// All full prefixes with their roots, if the roots differ.
+fn answer_root(
+    alloc: Global,
+    store: &Store,
+    tree: &Tree,
+    theirs: Digest,
+) -> Result<Vec<Message>, AllocError>
+    requires { tree.now ≡ rows_of store.now }
+    ensures { IfOk result (λ answers. answers.items ≡ answer_root store.now theirs) }
+{
+    let mut answers = Vec::new(alloc);
+    if theirs != tree.root() {
+        let prefixes = own_prefixes(store, tree)?;
+        answers.push(Message::XPrefixes { prefixes })?;
+    }
+    Ok(answers)
+}
+
+/// For each inner node that differs, in order, the digests of its leaves.
+fn answer_inner(
+    alloc: Global,
+    store: &Store,
+    tree: &Tree,
+    prefix: &FullPrefix,
+    theirs: &[Digest],
+) -> Result<Vec<Message>, AllocError>
+    requires { tree.now ≡ rows_of store.now }
+    ensures { IfOk result
+        (λ answers. answers.items ≡ answer_inner store.now prefix.now theirs.now) }
+{
+    let own = tree.inner(prefix);
+    let mut answers = Vec::new(alloc);
+    for inner in 0..16_usize {
+        if differ_at(theirs, own.as_slice(), inner) {
+            answers.push(leaves_message(alloc, store, tree, prefix, inner as u8)?)?;
+        }
+    }
+    Ok(answers)
+}
+
+/// For each leaf that differs, in order, its keys with their digests.
+fn answer_leaves(
+    alloc: Global,
+    store: &Store,
+    tree: &Tree,
+    prefix: &FullPrefix,
+    inner: u8,
+    theirs: &[Digest],
+) -> Result<Vec<Message>, AllocError>
+    requires tree { tree.now ≡ rows_of store.now }
+    requires place { inner < 16 }
+    ensures { IfOk result
+        (λ answers. answers.items ≡ answer_leaves store.now prefix.now inner theirs.now) }
+{
+    let own = tree.leaves(prefix, inner);
+    let mut answers = Vec::new(alloc);
+    for place in 0..16_usize {
+        if differ_at(theirs, own.as_slice(), place) {
+            let leaf = 16 * inner + place as u8;
+            answers.push(bucket_message(store, tree, prefix, leaf)?)?;
+        }
+    }
+    Ok(answers)
+}
+
+/// The object under the key, if it is held.
+fn object_if_held(alloc: Global, store: &Store, key: &MetaKey) -> Result<Vec<Message>, AllocError>
+    ensures { IfOk result (λ answers. answers.items ≡ object_if_held store.now key.now) }
+{
+    let mut answers = Vec::new(alloc);
+    if let Some(object) = store.object(key) {
+        answers.push(Message::XObject {
+            key: key.copy()?,
+            object: object.copy()?,
+        })?;
+    }
+    Ok(answers)
+}
+
+/// The digests of the inner nodes of a full prefix.
+fn inner_message(
+    alloc: Global,
+    store: &Store,
+    tree: &Tree,
+    prefix: &FullPrefix,
+) -> Result<Message, AllocError>
+    requires { tree.now ≡ rows_of store.now }
+    ensures { IfOk result (λ message. message ≡ inner_message store.now prefix.now) }
+{
+    let digests = listed(alloc, tree.inner(prefix).as_slice())?;
+    Ok(Message::XInner {
+        prefix: prefix.copy()?,
+        digests,
+    })
+}
+
+/// The digests of the leaves under an inner node of a full prefix.
+fn leaves_message(
+    alloc: Global,
+    store: &Store,
+    tree: &Tree,
+    prefix: &FullPrefix,
+    inner: u8,
+) -> Result<Message, AllocError>
+    requires tree { tree.now ≡ rows_of store.now }
+    requires place { inner < 16 }
+    ensures { IfOk result (λ message. message ≡ leaves_message store.now prefix.now inner) }
+{
+    let digests = listed(alloc, tree.leaves(prefix, inner).as_slice())?;
+    Ok(Message::XLeaves {
+        prefix: prefix.copy()?,
+        inner,
+        digests,
+    })
+}
+
+/// The keys of a leaf of a full prefix with their digests.
+fn bucket_message(
+    store: &Store,
+    tree: &Tree,
+    prefix: &FullPrefix,
+    leaf: u8,
+) -> Result<Message, AllocError>
+    requires { tree.now ≡ rows_of store.now }
+    ensures { IfOk result (λ message. message ≡ bucket_message store.now prefix.now leaf) }
+{
+    let keys = own_keys(store, tree, prefix, leaf)?;
+    Ok(Message::XBucket {
+        prefix: prefix.copy()?,
+        leaf,
+        keys,
+    })
+}
+
+/// The full prefixes that hold a key, in order, with their roots.
+fn own_prefixes(store: &Store, tree: &Tree) -> Result<PrefixDigests, AllocError>
+    requires { tree.now ≡ rows_of store.now }
+    ensures { IfOk result (λ prefixes. prefixes ≡ prefix_roots (rows_of store.now)) }
+{
+    let _few = store.len();
+    Ok(PrefixDigests::new(tree.prefix_roots()?))
+}
+
+/// The keys of a leaf, in order, with their digests.
+fn own_keys(
+    store: &Store,
+    tree: &Tree,
+    prefix: &FullPrefix,
+    leaf: u8,
+) -> Result<KeyDigests, AllocError>
+    requires { tree.now ≡ rows_of store.now }
+    ensures { IfOk result (λ keys. keys ≡ bucket (rows_below prefix.now store.now) leaf) }
+{
+    let _few = store.len();
+    Ok(KeyDigests::new(tree.bucket(prefix, leaf)?))
+}
+
+/// Sixteen digests as a field of a frame.
+fn listed(alloc: Global, parts: &[Digest]) -> Result<Digests, AllocError>
+    requires { digests.Fits parts.now }
+    ensures { IfOk result (λ digests. digests ≡ parts.now) }
+{
+    let mut list = Vec::with_capacity(alloc, parts.len())?;
+    list.extend_from_slice(parts)?;
+    Ok(Digests::new(list))
+}
+
+/// Returns whether the digests at a place differ.
+fn differ_at(theirs: &[Digest], own: &[Digest], place: usize) -> bool
+    ensures { result ≡ differ (slice_get theirs.now place) (slice_get own.now place) }
+{
+    theirs.get(place) != own.get(place)
+}
