@@ -75,7 +75,8 @@ want_message key (Some digest) = XWant key ∷ []
 abbrev pub answer_key : Table → Prefix → List KeyDigest → List ℕ → List Message
 answer_key table p theirs own =
     object_if_held table (record { prefix = p; key = own })
-    ++ want_message (record { prefix = p; key = own }) (find bytes_cmp own (map key_row_parts theirs))
+    ++ want_message (record { prefix = p; key = own })
+    (find bytes_cmp own (map key_row_parts theirs))
 
 abbrev pub answer_bucket : Table → Prefix → ℕ → List KeyDigest → List Message
 answer_bucket table p leaf theirs =
