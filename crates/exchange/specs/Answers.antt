@@ -16,10 +16,6 @@ use Rattle.hash_tree.specs.Tree.{Digest, bucket, inner_digests, leaf_digests, pr
 use Rattle.hash_tree.specs.Hashed.{rows_below}
 use Rattle.exchange.specs.Sides.{differing_keys, differing_places, same_digest}
 
--- what begins an exchange
-abbrev pub root_message : Table → Message
-root_message table = XRoot (tree_root (rows_of table))
-
 -- ---- XROOT: all own full prefixes with their roots, if the roots differ
 
 abbrev pub answer_root : Table → Digest → List Message

@@ -73,7 +73,7 @@ fn answer_leaves(
     theirs: &[Digest],
 ) -> Result<Vec<Message>, AllocError>
     requires tree { tree.now ≡ rows_of store.now }
-    requires place { inner < 16 }
+    requires inner { inner < 16 }
     ensures { IfOk result
         (λ answers. answers.items ≡ answer_leaves store.now prefix.now inner theirs.now) }
 {
@@ -128,7 +128,7 @@ fn leaves_message(
     inner: u8,
 ) -> Result<Message, AllocError>
     requires tree { tree.now ≡ rows_of store.now }
-    requires place { inner < 16 }
+    requires inner { inner < 16 }
     ensures { IfOk result (λ message. message ≡ leaves_message store.now prefix.now inner) }
 {
     let digests = listed(alloc, tree.leaves(prefix, inner).as_slice())?;
