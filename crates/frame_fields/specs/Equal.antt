@@ -1,10 +1,11 @@
 -- The comparisons of lists of fields: equal exactly where all parts are.
-use Rattle.std.specs.Prelude.{◌≡◌, ℕ, nat_eq, Bool, ◌&&◌, List}
+use Rattle.std.specs.Prelude.{◌≡◌, ℕ, nat_eq, Bool, List}
 use Rattle.std.specs.Ordering.{on, eq_of_both}
 use Rattle.std.specs.Bool.{Decides}
-use Rattle.std.specs.Cmp.{IsEquivalence, decided, first_so, second_so}
+use Rattle.std.specs.Cmp.{IsEquivalence, decided}
 use Rattle.std.specs.Cmp.Lexicographic.{pointwise, pointwise_decides, bytes_decides}
 use Rattle.meta_types.specs.Name.{Prefix}
+use Rattle.meta_types.specs.Ties.{both_decide}
 use Rattle.frame_fields.specs.declared.prefixes.PrefixDigest.{PrefixDigest}
 use Rattle.frame_fields.specs.declared.keys.KeyDigest.{KeyDigest}
 
@@ -42,22 +43,18 @@ pub digests_equivalence : IsEquivalence digests_eq
 digests_equivalence = decided digests_eq digests_eq-Decides
 
 prefix_eq-Decides : (p q : Prefix) → Decides (prefix_eq p q) (p ≡ q)
-prefix_eq-Decides p q = (
-  (λ h.
-      let firsts : p.prefix ≡ q.prefix = (bytes_decides p.prefix q.prefix).0 (first_so (pointwise nat_eq p.prefix q.prefix) (pointwise nat_eq p.sub q.sub) h) in
-      let subs : p.sub ≡ q.sub = (bytes_decides p.sub q.sub).0 (second_so (pointwise nat_eq p.prefix q.prefix) (pointwise nat_eq p.sub q.sub) h) in
-      λ i. record { prefix = firsts i; sub = subs i }),
-  (λ e i. (bytes_decides p.prefix q.prefix).1 (λ j. (e j).prefix) i && (bytes_decides p.sub q.sub).1 (λ j. (e j).sub) i),
-)
+prefix_eq-Decides p q = both_decide
+    (pointwise nat_eq p.prefix q.prefix) (pointwise nat_eq p.sub q.sub)
+    (bytes_decides p.prefix q.prefix) (bytes_decides p.sub q.sub)
+    (λ firsts subs i. record { prefix = firsts i; sub = subs i })
+    (λ same i. (same i).prefix) (λ same i. (same i).sub)
 
 prefix_row_eq-Decides : (r s : PrefixDigest) → Decides (prefix_row_eq r s) (r ≡ s)
-prefix_row_eq-Decides r s = (
-  (λ h.
-      let prefixes : r.prefix ≡ s.prefix = (prefix_eq-Decides r.prefix s.prefix).0 (first_so (prefix_eq r.prefix s.prefix) (pointwise nat_eq r.digest s.digest) h) in
-      let digests : r.digest ≡ s.digest = (bytes_decides r.digest s.digest).0 (second_so (prefix_eq r.prefix s.prefix) (pointwise nat_eq r.digest s.digest) h) in
-      λ i. record { prefix = prefixes i; digest = digests i }),
-  (λ e i. (prefix_eq-Decides r.prefix s.prefix).1 (λ j. (e j).prefix) i && (bytes_decides r.digest s.digest).1 (λ j. (e j).digest) i),
-)
+prefix_row_eq-Decides r s = both_decide
+    (prefix_eq r.prefix s.prefix) (pointwise nat_eq r.digest s.digest)
+    (prefix_eq-Decides r.prefix s.prefix) (bytes_decides r.digest s.digest)
+    (λ prefixes digests i. record { prefix = prefixes i; digest = digests i })
+    (λ same i. (same i).prefix) (λ same i. (same i).digest)
 
 pub prefixes_eq-Decides : (rs ss : List PrefixDigest) → Decides (prefixes_eq rs ss) (rs ≡ ss)
 prefixes_eq-Decides = pointwise_decides prefix_row_eq-Decides
@@ -66,13 +63,11 @@ pub prefixes_equivalence : IsEquivalence prefixes_eq
 prefixes_equivalence = decided prefixes_eq prefixes_eq-Decides
 
 key_row_eq-Decides : (r s : KeyDigest) → Decides (key_row_eq r s) (r ≡ s)
-key_row_eq-Decides r s = (
-  (λ h.
-      let keys : r.key ≡ s.key = (bytes_decides r.key s.key).0 (first_so (pointwise nat_eq r.key s.key) (pointwise nat_eq r.digest s.digest) h) in
-      let digests : r.digest ≡ s.digest = (bytes_decides r.digest s.digest).0 (second_so (pointwise nat_eq r.key s.key) (pointwise nat_eq r.digest s.digest) h) in
-      λ i. record { key = keys i; digest = digests i }),
-  (λ e i. (bytes_decides r.key s.key).1 (λ j. (e j).key) i && (bytes_decides r.digest s.digest).1 (λ j. (e j).digest) i),
-)
+key_row_eq-Decides r s = both_decide
+    (pointwise nat_eq r.key s.key) (pointwise nat_eq r.digest s.digest)
+    (bytes_decides r.key s.key) (bytes_decides r.digest s.digest)
+    (λ keys digests i. record { key = keys i; digest = digests i })
+    (λ same i. (same i).key) (λ same i. (same i).digest)
 
 pub keys_eq-Decides : (rs ss : List KeyDigest) → Decides (keys_eq rs ss) (rs ≡ ss)
 keys_eq-Decides = pointwise_decides key_row_eq-Decides

@@ -267,7 +267,8 @@ fn writer_from(node: u16, incarnation: u32) -> Actor
 #[tactic(auto, unfolding(crate::specs::Reader::counter_reader))]
 fn read_counter(low: u64, bytes: &[u8]) -> Result<(u16, u32, u64, &[u8]), FieldFault>
     requires { low ≤ MOST_WRITERS }
-    ensures value { Gives (λ x. (record { id = writer_number x.0 x.1; count = x.2 }, x.3.now)) result
+    ensures value { Gives
+        (λ x. (record { id = writer_number x.0 x.1; count = x.2 }, x.3.now)) result
         (counter_reader low bytes.now) }
     ensures range { IfOk result (λ x. IsNode x.0) }
 {

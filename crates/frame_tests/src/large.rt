@@ -1,5 +1,5 @@
-//! Frames at their limits: names of 64, 64 and 256 bytes, 65,535 writers, 65,535 values, 8,192 rows,
-//! and 16,777,216 bytes.
+//! Frames at their limits: names of 64, 64 and 256 bytes, 65,535 writers, 65,535 values, 8,192
+//! rows, and 16,777,216 bytes.
 
 use crate::kept::{is_body_kept, is_body_written};
 use dvvset::Entries;
@@ -98,8 +98,8 @@ const MOST: Rows = (1, &[Piece::Bytes(1, b"\0\x01\0\x0fxxxxxxxxxxxx\xff\xff")]);
 
 const TOMBSTONES: Rows = (65_535, &[Piece::Bytes(1, b"\0xxxxxxxx")]);
 
-// The lives of node 0 of the numbers from 0 to 65,534: each with a counter of eight letters, and with
-// a tombstone.
+// The lives of node 0 of the numbers from 0 to 65,534: each with a counter of eight letters, and
+// with a tombstone.
 const MOST_LIVES: Rows = (1, &[Piece::Bytes(1, b"\xff\xff")]);
 
 const LIVES: Rows = (

@@ -9,7 +9,7 @@ pub mod Name
 pub mod Value
 -- byte order, and the order of prefixes and keys
 pub mod Order
--- a lemma, which stands here since impls cite it: two values tie exactly where they are equal
+-- lemmas, which stand here since impls cite them: two values tie exactly where they are equal
 pub mod Ties
 -- how a call fails
 pub mod Failing

@@ -33,7 +33,8 @@ impl Model for Actor {
 
     ghost invariant = { λ a. a.incarnation < 2 ^ 32 };
 
-    ghost inverse = { λ w. record { node = node_of_writer w; incarnation = incarnation_of_writer w } };
+    ghost inverse = { λ w.
+        record { node = node_of_writer w; incarnation = incarnation_of_writer w } };
 }
 
 impl Actor {

@@ -100,7 +100,8 @@ impl PartialOrd for ByteString {
 
     ghost partial_cmp = { as_partial_cmp bytes_cmp };
 
-    ghost laws = { partial_order_from_own_ties (Prim.search (comparing, rules)) (Prim.search (comparing, rules)) };
+    ghost laws = { partial_order_from_own_ties
+        (Prim.search (comparing, rules)) (Prim.search (comparing, rules)) };
 
     fn partial_cmp(&self, other: &ByteString) -> Option<Ordering> {
         Some(self.cmp(other))

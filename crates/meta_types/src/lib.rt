@@ -9,8 +9,8 @@
 //! let red = Value::new(0, Some(b"red".to_vec(alloc)?))?;
 //! ```
 //!
-//! Read `node`, `actor`, `prefix`, `key`, `value`, then `fault`; `bytes` is the string that names are made
-//! of, and `laws` says that comparisons are what they seem.
+//! Read `node`, `actor`, `prefix`, `key`, `value`, then `fault`; `bytes` is the string that names
+//! are made of, and `laws` says that comparisons are what they seem.
 #![tactic(auto)]
 
 pub mod actor;

@@ -120,7 +120,8 @@ impl PartialOrd for FullPrefix {
 
     ghost partial_cmp = { as_partial_cmp prefix_cmp };
 
-    ghost laws = { partial_order_from_own_ties (Prim.search (comparing, rules)) (Prim.search (comparing, rules)) };
+    ghost laws = { partial_order_from_own_ties
+        (Prim.search (comparing, rules)) (Prim.search (comparing, rules)) };
 
     fn partial_cmp(&self, other: &FullPrefix) -> Option<Ordering> {
         Some(self.cmp(other))

@@ -124,7 +124,8 @@ impl PartialOrd for Value {
 
     ghost partial_cmp = { as_partial_cmp value_cmp };
 
-    ghost laws = { partial_order_from_own_ties (Prim.search (comparing, rules) depth 9) value_ties };
+    ghost laws = { partial_order_from_own_ties
+        (Prim.search (comparing, rules) depth 9) value_ties };
 
     fn partial_cmp(&self, other: &Value) -> Option<Ordering> {
         Some(self.cmp(other))

@@ -18,7 +18,8 @@ Fits before (Looked n k) = Unit {0}
 Fits before (Sent n k) = Unit {0}
 Fits before (Got n i) = (m : ℕ) × ((k : Key) × (slice_get before i ≡ Some (Sent m k)))
 Fits before (Kept n k) = Unit {0}
-Fits before (Restarted n j) = (j ≤ (past before).last n) × ((past before).restarts n < most_restarts)
+Fits before (Restarted n j) =
+    (j ≤ (past before).last n) × ((past before).restarts n < most_restarts)
 
 -- a well-formed history: each happening fits those before it
 pub record IsHistory (hs : List Happening) : Type 0 where

@@ -9,7 +9,7 @@ use Rattle.dvvset.specs.Object.{RisesFrom}
 use Rattle.past_model.specs.declared.happening.Happening.{Happening}
 use Rattle.past_model.specs.declared.happening.Happening.TheVariants.{Wrote, Looked, Sent, Got, Kept, Restarted}
 use Rattle.past_model.specs.Sets.{Places, Knowledge, key_eq}
-use Rattle.past_model.specs.Past.{Past, Write, In, past, read_of, writer_of}
+use Rattle.past_model.specs.Past.{Past, Write, In, past, next_write, writer_of}
 use Rattle.past_model.specs.History.{IsHistory}
 
 -- the node that it happened to
@@ -62,7 +62,7 @@ is_sending (Some (Restarted n j)) = false
 
 -- the write that a happening makes, if it is one
 abbrev pub writes_of_happening : Past → Happening → List Write
-writes_of_happening s (Wrote n k v r) = (record { place = s.next; writer = writer_of s n; key = k; value = v; read = read_of s k r }) ∷ []
+writes_of_happening s (Wrote n k v r) = next_write s n k v r ∷ []
 writes_of_happening s (Looked n k) = []
 writes_of_happening s (Sent n k) = []
 writes_of_happening s (Got n i) = []

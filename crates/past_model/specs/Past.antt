@@ -76,11 +76,16 @@ with_next_image n k s =
       standing = set_at s.standing n image;
     }
 
+-- the write that the node makes next: the next place is its own
+abbrev pub next_write : Past → ℕ → Key → ValueParts → Option ℕ → Write
+next_write s n k v r =
+    record { place = s.next; writer = writer_of s n; key = k; value = v; read = read_of s k r }
+
 -- the write stands in the list, and its node knows it and what it had read
 abbrev pub with_write_known : ℕ → Key → ValueParts → Option ℕ → Past → Past
 with_write_known n k v r s =
     record (with_known n k (union (s.known n k) (union (read_of s k r) (singleton s.next))) s) {
-      writes = (record { place = s.next; writer = writer_of s n; key = k; value = v; read = read_of s k r }) ∷ s.writes;
+      writes = next_write s n k v r ∷ s.writes;
     }
 
 -- the node knows what the image has, its images start from that, and its next life begins
@@ -95,8 +100,10 @@ with_image_restored n j s =
 -- what a happening changes, but for the next place
 abbrev pub happens_at : Past → Happening → Past
 happens_at s (Wrote n k v r) = with_next_image n k (with_write_known n k v r s)
-happens_at s (Looked n k) = record s { seen = set_at s.seen s.next (with_set knows_nothing k (s.known n k)) }
-happens_at s (Sent n k) = record s { load = set_at s.load s.next (with_set knows_nothing k (s.known n k)) }
+happens_at s (Looked n k) =
+    record s { seen = set_at s.seen s.next (with_set knows_nothing k (s.known n k)) }
+happens_at s (Sent n k) =
+    record s { load = set_at s.load s.next (with_set knows_nothing k (s.known n k)) }
 happens_at s (Got n i) = record s { known = set_at s.known n (union_by_key (s.known n) (s.load i)) }
 happens_at s (Kept n k) = with_next_image n k s
 happens_at s (Restarted n j) = with_image_restored n j s

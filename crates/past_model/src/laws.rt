@@ -138,8 +138,8 @@ pub fn no_two_writes_share_a_counter()
         → counter_of before n k v r ≡ counter_of earlier m k u q → before ≡ earlier }
 {}
 
-/// No incarnation number is used twice by a node: at two places of a history a node, and only it, is
-/// the same writer exactly where it did not restart between them.
+/// No incarnation number is used twice by a node: at two places of a history a node, and only it,
+/// is the same writer exactly where it did not restart between them.
 pub fn no_incarnation_is_used_twice()
     ensures { (before between after : List H) → IsHistory (before ++ between ++ after)
         → (n m : ℕ)

@@ -62,7 +62,8 @@ pub record BeginsLife (hs : List Happening) (h : Happening) (n : ℕ) : Type 0 w
 pub record AfterWrite (hs : List Happening) (n : ℕ) (k : Key) (v : ValueParts)
     (r : Option ℕ) : Type 0 where
   pub holds : Gains (held_object hs) (held_object (hs ++ Wrote n k v r ∷ [])) n k
-      (update (join (object_of_read hs k r)) (held_object hs n k) (writer hs n) v) (held_object hs n)
+      (update (join (object_of_read hs k r)) (held_object hs n k) (writer hs n) v)
+      (held_object hs n)
   pub seen : Stays (seen_object hs) (seen_object (hs ++ Wrote n k v r ∷ []))
   pub sent : Stays (sent_object hs) (sent_object (hs ++ Wrote n k v r ∷ []))
   pub image : MakesImage hs (Wrote n k v r) n k

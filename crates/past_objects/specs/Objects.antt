@@ -95,8 +95,10 @@ with_image_restored n j o =
 -- what a happening changes, but for the next place
 abbrev pub happens_at : Objects → Happening → Objects
 happens_at o (Wrote n k v r) = with_next_image n k (holds_write n k v r o)
-happens_at o (Looked n k) = record o { seen = set_at o.seen o.next (with_held holds_nothing k (o.held n k)) }
-happens_at o (Sent n k) = record o { load = set_at o.load o.next (with_held holds_nothing k (o.held n k)) }
+happens_at o (Looked n k) =
+    record o { seen = set_at o.seen o.next (with_held holds_nothing k (o.held n k)) }
+happens_at o (Sent n k) =
+    record o { load = set_at o.load o.next (with_held holds_nothing k (o.held n k)) }
 happens_at o (Got n i) = record o { held = set_at o.held n (sync_by_key (o.held n) (o.load i)) }
 happens_at o (Kept n k) = with_next_image n k o
 happens_at o (Restarted n j) = with_image_restored n j o

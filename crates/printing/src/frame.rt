@@ -26,7 +26,8 @@ macro_rules! printed_kinds {
             XRoot { " root " root: digest }
             XPrefixes { " prefixes " prefixes: prefixes }
             XInner { " prefix " prefix: prefix, " digests " digests: digests }
-            XLeaves { " prefix " prefix: prefix, " inner " inner: number, " digests " digests: digests }
+            XLeaves { " prefix " prefix: prefix, " inner " inner: number,
+                " digests " digests: digests }
             XBucket { " prefix " prefix: prefix, " leaf " leaf: number, " keys " keys: keys }
             XObject { " key " key: key, " " object: object }
             XWant { " key " key: key }
