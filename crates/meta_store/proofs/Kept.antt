@@ -25,19 +25,19 @@ prefix_total = then_total (on_total (λ p. p.prefix) nat_list_cmp_total) (on_tot
 pub bytes_total : IsTotalOrder bytes_cmp
 bytes_total = nat_list_cmp_total
 
-abbrev key_of : Prefix → List ℕ → Key
+abbrev pub key_of : Prefix → List ℕ → Key
 key_of prefix key = record { prefix = prefix; key = key }
 
 filled_not : {A : Type 0} {P : Type 0} (xs : List A) → xs ≢ [] → xs ≡ [] → P
 filled_not xs filled e = absurd (filled e)
 
 -- unequal prefixes decide
-then_apart : (a b : Ordering) → is_eq a ≡ false → is_eq (ordering_then a b) ≡ false
+pub then_apart : (a b : Ordering) → is_eq a ≡ false → is_eq (ordering_then a b) ≡ false
 then_apart Less b e = refl
 then_apart Equal b e = cc
 then_apart Greater b e = refl
 
-not_some : {A : Type 0} (x : A) → Some x ≡ None → ⊥
+pub not_some : {A : Type 0} (x : A) → Some x ≡ None → ⊥
 not_some x e = cc
 
 module _ {X : Type 0} where
@@ -114,7 +114,7 @@ module _ {X : Type 0} where
   less_first : (p q : Prefix) (rows : RowsOf X) (parts : PartsOf X) → T (below_all prefix_cmp p ((q, rows) ∷ parts)) → prefix_cmp p q ≡ Less
   less_first p q rows parts below = is_less (prefix_cmp p q) (first (is_lt (prefix_cmp p q)) (below_all prefix_cmp p parts) below)
 
-  not_after : (p : Prefix) (part : Prefix × RowsOf X) (parts : PartsOf X) → T (below_all prefix_cmp p (part ∷ parts)) → find prefix_cmp p parts ≡ None
+  pub not_after : (p : Prefix) (part : Prefix × RowsOf X) (parts : PartsOf X) → T (below_all prefix_cmp p (part ∷ parts)) → find prefix_cmp p parts ≡ None
   not_after p part parts below = find_below prefix_cmp p parts (second (is_lt (prefix_cmp p part.0)) (below_all prefix_cmp p parts) below)
 
   module _ (p : Prefix) (n : List ℕ) (o : X) where

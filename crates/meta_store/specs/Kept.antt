@@ -1,11 +1,12 @@
 -- How a store keeps its table: the full prefixes in order, and under each its keys by their own
 -- bytes.
-use Rattle.std.specs.Prelude.{◌≡◌, ◌≢◌, ℕ, true, List, [], map, All}
-use Rattle.std.specs.List.{flat_map}
+use Rattle.std.specs.Prelude.{◌≡◌, ◌≢◌, ℕ, true, not, List, [], ◌∷◌, map, All}
+use Rattle.std.specs.List.{filter, flat_map}
 use Rattle.std.specs.Option.{unwrap_or}
-use Rattle.std.specs.FinMap.{find, is_sorted}
+use Rattle.std.specs.Ordering.{is_eq}
+use Rattle.std.specs.FinMap.{find, put, is_sorted}
 use Rattle.meta_types.specs.Name.{Prefix, Key, IsName}
-use Rattle.meta_types.specs.Order.{bytes_cmp, prefix_cmp}
+use Rattle.meta_types.specs.Order.{bytes_cmp, prefix_cmp, prefix_eq}
 use Rattle.dvvset.specs.Object.{Entry}
 use Rattle.meta_store.specs.Table.{IsTable}
 
@@ -35,6 +36,15 @@ table_of parts = flat_map (λ part. rows_under part.0 part.1) parts
 -- the rows under a full prefix, none where it holds no key
 abbrev pub rows_at : {X : Type 0} → Prefix → PartsOf X → RowsOf X
 rows_at prefix parts = unwrap_or (find prefix_cmp prefix parts) []
+
+-- the rows without that of the key
+abbrev pub without_row : {X : Type 0} → List ℕ → RowsOf X → RowsOf X
+without_row key rows = filter (λ row. not (is_eq (bytes_cmp key row.0))) rows
+
+-- these rows under the full prefix in place of those there; without rows it holds no key, and goes
+abbrev pub with_rows : {X : Type 0} → Prefix → RowsOf X → PartsOf X → PartsOf X
+with_rows prefix [] parts = filter (λ part. not (prefix_eq prefix part.0)) parts
+with_rows prefix (row ∷ rows) parts = put prefix_cmp prefix (row ∷ rows) parts
 
 -- the keys' own bytes rise strictly, and each has a length in range
 pub record AreRows {X : Type 0} (rows : RowsOf X) : Type 0 where

@@ -44,8 +44,10 @@ refusal_of_put table id key value context = first_that_applies (
     (is_of_another_key key context, WrongKey)
     ∷ (is_full_for table key, StoreFull)
     ∷ (is_spent table id key context, CounterSpent)
-    ∷ (not (is_small_enough most_written (object_after_put table id key value context)),
-        ObjectTooLarge)
+    ∷ (
+      not (is_small_enough most_written (object_after_put table id key value context)),
+      ObjectTooLarge,
+    )
     ∷ [])
 
 -- ---- a merge

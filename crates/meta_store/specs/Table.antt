@@ -1,7 +1,8 @@
 -- A table: what one node holds. The rule is our own.
-use Rattle.std.specs.Prelude.{◌≡◌, ℕ, ◌≤◌, nat_le, Bool, true, ◌&&◌, List, [], length, map, All}
+use Rattle.std.specs.Prelude.{◌≡◌, ℕ, ◌≤◌, nat_le, Bool, true, not, ◌&&◌, List, [], length, map, All}
 use Rattle.std.specs.List.{dedup, filter, list_all}
 use Rattle.std.specs.Option.{unwrap_or}
+use Rattle.std.specs.Ordering.{is_eq}
 use Rattle.std.specs.FinMap.{find, put, is_sorted}
 use Rattle.meta_types.specs.Name.{Prefix, Key, IsKey}
 use Rattle.meta_types.specs.Order.{key_cmp, prefix_eq}
@@ -20,6 +21,10 @@ object_at table key = unwrap_or (find key_cmp key table) []
 -- the table with this object under the key, and all else as before
 abbrev pub with_object : Key → List Entry → Table → Table
 with_object key object table = put key_cmp key object table
+
+-- the table without the key and its object
+abbrev pub without_object : Key → Table → Table
+without_object key table = filter (λ row. not (is_eq (key_cmp key row.0))) table
 
 -- the vector of what is held has read all that the other has read
 abbrev pub is_stale : Table → Key → List Counter → Bool

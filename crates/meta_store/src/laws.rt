@@ -1,11 +1,12 @@
 //! Laws of tables and of faults. The contract of a function is the law; its body does nothing, or
 //! compares.
 
-ghost use Rattle.std.specs.Prelude.{◌≡◌, ◌↔◌, ℕ, ◌<◌, List, length, get_or, IsTrue};
+ghost use Rattle.std.specs.Prelude.{◌≡◌, ◌↔◌, ℕ, ◌<◌, List, None, length, get_or, IsTrue};
+ghost use Rattle.std.specs.FinMap.{find};
 ghost use Rattle.meta_types.specs.Name.{Key, IsKey};
-ghost use Rattle.meta_types.specs.Order.{KeyBefore};
+ghost use Rattle.meta_types.specs.Order.{KeyBefore, key_cmp};
 ghost use Rattle.dvvset.specs.Object.{Entry};
-ghost use Rattle.meta_store.specs.Table.{IsTable, Table, object_at};
+ghost use Rattle.meta_store.specs.Table.{IsTable, Table, object_at, with_object, without_object};
 
 use crate::fault::StoreFault;
 
@@ -20,6 +21,13 @@ pub fn look_ups_determine_a_table()
 pub fn keys_rise()
     ensures { (table : Table) → IsTable table → (i j : ℕ) (d : Key × List Entry) → i < j
         → j < length table → KeyBefore (get_or table i d).0 (get_or table j d).0 }
+{}
+
+/// What is held under a new key and forgotten again leaves the table as it was.
+pub fn forgetting_takes_back_what_was_held()
+    ensures { (table : Table) (key : Key) (object : List Entry) → IsTable table
+        → find key_cmp key table ≡ None
+        → without_object key (with_object key object table) ≡ table }
 {}
 
 /// Faults are equal exactly where they are the same.

@@ -1,10 +1,10 @@
 //! The map by full prefix in which a store keeps its table.
 
-ghost use Rattle.std.specs.Prelude.{◌≡◌, None, is_none, IfOk, OnOk, OnErr, true};
+ghost use Rattle.std.specs.Prelude.{◌≡◌, None, is_none, is_some, IfOk, OnOk, OnErr, true};
 ghost use Rattle.std.specs.FinMap.{find, is_sorted, put};
 ghost use Rattle.meta_types.specs.Name.{IsName};
 ghost use Rattle.meta_types.specs.Order.{bytes_cmp, prefix_cmp};
-ghost use Rattle.meta_store.specs.Kept.{rows_at};
+ghost use Rattle.meta_store.specs.Kept.{rows_at, with_rows, without_row};
 
 use crate::rows::Rows;
 use dvvset::Entries;
@@ -38,6 +38,30 @@ pub(crate) fn put_part(
     let rows = Rows::of_one(alloc, key, object)?;
     parts.insert(prefix, rows)?;
     Ok(true)
+}
+
+/// Takes the key and its object out, and the full prefix with its last key; answers whether the key
+/// was held. It takes no memory.
+pub(crate) fn remove_part(
+    parts: &mut BTreeMap<FullPrefix, Rows>,
+    prefix: &FullPrefix,
+    key: &ByteString,
+) -> bool
+    requires rising { is_sorted prefix_cmp parts.old.entries ≡ true }
+    ensures value { parts.new.entries
+        ≡ with_rows prefix.now (without_row key.now (rows_at prefix.now parts.old.entries))
+        parts.old.entries }
+    ensures was_held { result
+        ≡ is_some (find bytes_cmp key.now (rows_at prefix.now parts.old.entries)) }
+{
+    let Some(rows) = parts.get_mut(prefix) else {
+        return false;
+    };
+    let was_held = rows.forget(key);
+    if rows.len() == 0 {
+        parts.remove(prefix);
+    }
+    was_held
 }
 
 /// Fails only when memory runs out.

@@ -1,11 +1,11 @@
 //! The rows under one full prefix.
 
-ghost use Rattle.std.specs.Prelude.{◌≡◌, List, ℕ, [], ◌∷◌, length, map, IfOk, IfSome, OnOk, OnErr, None, is_none};
+ghost use Rattle.std.specs.Prelude.{◌≡◌, List, ℕ, [], ◌∷◌, length, map, IfOk, IfSome, OnOk, OnErr, None, is_none, is_some};
 ghost use Rattle.std.specs.Option.{option_copied};
 ghost use Rattle.std.specs.FinMap.{find, put};
 ghost use Rattle.meta_types.specs.Name.{Key, IsName};
 ghost use Rattle.meta_types.specs.Order.{bytes_cmp};
-ghost use Rattle.meta_store.specs.Kept.{AreRows};
+ghost use Rattle.meta_store.specs.Kept.{AreRows, without_row};
 
 use dvvset::Entries;
 use meta_types::{ByteString, FullPrefix, MetaKey};
@@ -57,6 +57,14 @@ impl Rows {
     {
         let before = self.by_key.insert(key, object)?;
         Ok(before.is_none())
+    }
+
+    /// Takes the key and its object out, and answers whether it was held. It takes no memory.
+    pub(crate) fn forget(&mut self, key: &ByteString) -> bool
+        ensures value { self.new ≡ without_row key.now self.old }
+        ensures was_held { result ≡ is_some (find bytes_cmp key.now self.old) }
+    {
+        self.by_key.remove(key).is_some()
     }
 
     /// The object that is held under the key of these bytes.

@@ -4,13 +4,13 @@ ghost use Rattle.std.specs.FinMap.{find, is_sorted};
 ghost use Rattle.meta_types.specs.Name.{Key};
 ghost use Rattle.meta_types.specs.Order.{key_cmp, prefix_cmp};
 ghost use Rattle.dvvset.specs.Clock.{join, values_of};
-ghost use Rattle.meta_store.specs.Table.{IsHeld, IsTable, is_stale, keys_under, object_at, prefixes_of, with_object};
+ghost use Rattle.meta_store.specs.Table.{IsHeld, IsTable, is_stale, keys_under, object_at, prefixes_of, with_object, without_object};
 ghost use Rattle.meta_store.specs.Kept.{AreParts, table_of};
 ghost use Rattle.meta_store.specs.Context.{reading_at};
 ghost use Rattle.meta_store.specs.Step.{is_full_for};
 
 use crate::context::Context;
-use crate::parts::{copy_parts, put_part};
+use crate::parts::{copy_parts, put_part, remove_part};
 use crate::rows::Rows;
 use crate::source::Source;
 use crate::stale::{has_read, knows};
@@ -152,6 +152,16 @@ impl Store {
             self.len += 1;
         }
         Ok(())
+    }
+
+    /// Takes the key and its object out again, as where what belongs to it could not be kept
+    /// elsewhere; nothing changes where the key isn't held. It takes no memory.
+    pub fn forget(&mut self, key: &MetaKey)
+        ensures { self.new ≡ without_object key.now self.old }
+    {
+        if remove_part(&mut self.parts, key.prefix(), key.own_bytes()) {
+            self.len -= 1;
+        }
     }
 
     /// The keys under the full prefix, in order; none where it holds none. They are copies. Fails
