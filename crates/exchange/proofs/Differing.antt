@@ -1,5 +1,5 @@
 -- The keys of two rising lists that differ, from their heads.
-use Rattle.std.proofs.Common.{◌≡◌, Bool, true, false, cond, not, ◌&&◌, T, List, [], ◌∷◌, map, Some, None, refl, sym, ap, subst, ◌∙◌}
+use Rattle.std.proofs.Common.{◌≡◌, Bool, true, false, cond, not, ◌&&◌, T, List, [], ◌∷◌, map, Option, Some, None, refl, sym, ap, subst, ◌∙◌}
 use Rattle.std.specs.List.{filter}
 use Rattle.std.specs.Ordering.{is_eq, is_lt}
 use Rattle.std.specs.declared.cmp.Ordering.{Ordering}
@@ -9,7 +9,7 @@ use Rattle.std.specs.FinMap.{find, put}
 use Rattle.std.specs.FinMap.Entries.{below_all, by_order}
 use Rattle.meta_store.proofs.Maps.{find_below, first, greater_back, is_less, second}
 use Rattle.hash_tree.specs.Tree.{Digest}
-use Rattle.exchange.specs.Sides.{differ, differing_keys, of_either, same_digest}
+use Rattle.exchange.specs.Sides.{differ, differing, differing_keys, of_either, same_digest, then_rest}
 
 both : (a b : Bool) → T a → T b → T (a && b)
 both true b h g = g
@@ -100,3 +100,43 @@ module _ {K : Type 0} (R : K → K → Ordering) (o : IsTotalOrder R) where
       ap (λ r. of_either R theirs (by_order r ((k, d) ∷ (k, e) ∷ own) ((k, d) ∷ own) ((k, e) ∷ put R k d own))) (tied_itself o k) ∙ kept_first k d theirs own below in
       ap (λ es. filter (test ((k, d) ∷ theirs) ((k, e) ∷ own)) (map (λ row. row.0) es)) joined
       ∙ (λ i. cond (here i) (k ∷ rest i) (rest i))
+
+  -- ---- with their digest of each key
+
+  abbrev with_theirs : Rows → K → K × Option Digest
+  with_theirs theirs z = (z, find R z theirs)
+
+  told_behind : (k : K) (d : Digest) (theirs : Rows) (p : K → Bool) (rows : Rows) → T (below_all R k rows)
+      → map (with_theirs ((k, d) ∷ theirs)) (filter p (map (λ row. row.0) rows)) ≡ map (with_theirs theirs) (filter p (map (λ row. row.0) rows))
+  told_behind k d theirs p [] below = refl
+  told_behind k d theirs p (row ∷ rows) below =
+      let less : R k row.0 ≡ Less = is_less (R k row.0) (first (is_lt (R k row.0)) (below_all R k rows) below) in
+      let rest = told_behind k d theirs p rows (second (is_lt (R k row.0)) (below_all R k rows) below) in
+      let keys : List K = filter p (map (λ row. row.0) rows) in
+      elim (p row.0) as (λ b. map (with_theirs ((k, d) ∷ theirs)) (cond b (row.0 ∷ keys) keys) ≡ map (with_theirs theirs) (cond b (row.0 ∷ keys) keys)) [
+        | true ↦ λ i. (row.0, passed row.0 k d theirs less i) ∷ rest i
+        | false ↦ rest
+      ]
+
+  pub theirs_told : (k : K) (d : Digest) (theirs own : Rows) → T (below_all R k theirs) → T (below_all R k own) → put R k d own ≡ (k, d) ∷ own
+      → differing R ((k, d) ∷ theirs) own ≡ (k, Some d) ∷ differing R theirs own
+  theirs_told k d theirs own below others is =
+      ap (map (with_theirs ((k, d) ∷ theirs))) (theirs_first k d theirs own below others is)
+      ∙ (λ i. (k, found_first k d theirs i) ∷ told_behind k d theirs (test theirs own) (of_either R theirs own) (below_either k theirs own below others) i)
+
+  pub own_told : (k : K) (d : Digest) (theirs own : Rows) → T (below_all R k theirs) → T (below_all R k own)
+      → differing R theirs ((k, d) ∷ own) ≡ (k, None) ∷ differing R theirs own
+  own_told k d theirs own below others =
+      ap (map (with_theirs theirs)) (own_first k d theirs own below others)
+      ∙ (λ i. (k, find_below R k theirs below i) ∷ differing R theirs own)
+
+  pub both_told : (k : K) (d e : Digest) (theirs own : Rows) → T (below_all R k theirs) → T (below_all R k own)
+      → differing R ((k, d) ∷ theirs) ((k, e) ∷ own) ≡ then_rest k (Some d) (not (same_digest d e)) (differing R theirs own)
+  both_told k d e theirs own below others =
+      let keys : List K = differing_keys R theirs own in
+      let rest = told_behind k d theirs (test theirs own) (of_either R theirs own) (below_either k theirs own below others) in
+      ap (map (with_theirs ((k, d) ∷ theirs))) (both_first k d e theirs own below others)
+      ∙ elim (not (same_digest d e)) as (λ b. map (with_theirs ((k, d) ∷ theirs)) (cond b (k ∷ keys) keys) ≡ then_rest k (Some d) b (differing R theirs own)) [
+        | true ↦ λ i. (k, found_first k d theirs i) ∷ rest i
+        | false ↦ rest
+      ]

@@ -1,9 +1,10 @@
 -- Steps of the loops over sixteen places.
-use Rattle.std.proofs.Common.{◌≡◌, ℕ, ◌+◌, Bool, true, false, cond, List, [], ◌∷◌, ◌++◌, map, sym, ap, ◌∙◌, refl, arith}
+use Rattle.std.proofs.Common.{◌≡◌, ℕ, ◌+◌, ◌<◌, ◌≤◌, nat_le, Bool, true, false, cond, List, [], ◌∷◌, ◌++◌, map, sym, ap, ◌∙◌, refl, arith}
 use Rattle.std.specs.List.{filter, range_with_len}
 use Rattle.std.proofs.lemmas.List.{append-nil, map-append}
 use Rattle.std.proofs.lemmas.List.Elements.{filter-append}
 use Rattle.std.proofs.lemmas.List.FromFn.{map-range_with_len_more}
+use Rattle.std.proofs.lemmas.Bool.Decides.{nat_tests}
 
 map_itself : (xs : List ℕ) → map (λ x. x) xs ≡ xs
 map_itself [] = refl
@@ -31,3 +32,11 @@ module _ {A : Type 0} (f : ℕ → A) (p : ℕ → Bool) (n : ℕ) (done : List 
   pub place_skipped : p n ≡ false → done ≡ map f (filter p (range_with_len 0 (n + 1)))
   place_skipped is =
       so_far ∙ sym (next ∙ ap (λ b. map f (filter p (range_with_len 0 n)) ++ map f (cond b (n ∷ []) [])) is ∙ append-nil (map f (filter p (range_with_len 0 n))))
+
+-- ---- the inner nodes that there are
+
+pub of_sixteen : {A : Type 0} (xs ys : List A) (n : ℕ) → n < 16 → cond (nat_le 16 n) xs ys ≡ ys
+of_sixteen xs ys n less = ap (λ b. cond b xs ys) (let is : nat_le 16 n ≡ false = grind (arith, nat_tests) in is)
+
+pub not_of_sixteen : {A : Type 0} (xs ys : List A) (n : ℕ) → 16 ≤ n → cond (nat_le 16 n) xs ys ≡ xs
+not_of_sixteen xs ys n least = ap (λ b. cond b xs ys) (let is : nat_le 16 n ≡ true = grind (arith, nat_tests) in is)

@@ -1,6 +1,6 @@
 -- What each message of an exchange is answered, from what is held at that time: an exchange has no
 -- session. One definition for each row of the table, in its order. The rule is our own.
-use Rattle.std.specs.Prelude.{ℕ, ◌+◌, ◌*◌, List, [], ◌∷◌, ◌++◌, map, if◌then◌else◌, Option, Some, None}
+use Rattle.std.specs.Prelude.{ℕ, ◌+◌, ◌*◌, nat_le, List, [], ◌∷◌, ◌++◌, map, if◌then◌else◌, Option, Some, None}
 use Rattle.std.specs.List.{flat_map}
 use Rattle.std.specs.FinMap.{find}
 use Rattle.meta_types.specs.Name.{Prefix, Key}
@@ -49,9 +49,12 @@ answer_inner table p theirs =
 abbrev pub bucket_message : Table → Prefix → ℕ → Message
 bucket_message table p leaf = XBucket p leaf (bucket (rows_below p table) leaf)
 
+-- there are sixteen inner nodes: no frame carries the leaves of another one
 abbrev pub answer_leaves : Table → Prefix → ℕ → List Digest → List Message
 answer_leaves table p inner theirs =
-    map (λ place. bucket_message table p (16 * inner + place))
+    if nat_le 16 inner
+    then []
+    else map (λ place. bucket_message table p (16 * inner + place))
     (differing_places theirs (leaf_digests (rows_below p table) inner))
 
 -- ---- XBUCKET: for each key of either side in order that differs or stands on one side, XOBJECT if
@@ -68,29 +71,27 @@ abbrev pub want_message : Key → Option Digest → List Message
 want_message key None = []
 want_message key (Some digest) = XWant key ∷ []
 
-abbrev pub answer_key : Table → Prefix → List KeyDigest → List ℕ → List Message
-answer_key table p theirs own =
-    object_if_held table (record { prefix = p; key = own })
-    ++ want_message (record { prefix = p; key = own })
-    (find bytes_cmp own (map key_row_parts theirs))
+abbrev pub want_if_listed : List KeyDigest → Key → List Message
+want_if_listed theirs key =
+    want_message key (find bytes_cmp key.key (map key_row_parts theirs))
+
+abbrev pub answer_key : Table → List KeyDigest → Key → List Message
+answer_key table theirs key = object_if_held table key ++ want_if_listed theirs key
 
 abbrev pub answer_bucket : Table → Prefix → ℕ → List KeyDigest → List Message
 answer_bucket table p leaf theirs =
-    flat_map (answer_key table p theirs) (differing_keys bytes_cmp (map key_row_parts theirs)
+    flat_map (λ own_bytes. answer_key table theirs (record { prefix = p; key = own_bytes }))
+    (differing_keys bytes_cmp (map key_row_parts theirs)
     (map key_row_parts (bucket (rows_below p table) leaf)))
 
--- ---- XWANT: XOBJECT if it is held
+-- ---- all messages: XWANT is answered by XOBJECT if it is held; XOBJECT, and what belongs to no
+-- exchange, has no answer
 
-abbrev pub answer_want : Table → Key → List Message
-answer_want table key = object_if_held table key
-
--- ---- all messages; XOBJECT, and what belongs to no exchange, has no answer
-
-abbrev pub answer : Table → Message → List Message
+unfoldable pub answer : Table → Message → List Message
 answer table (XRoot root) = answer_root table root
 answer table (XPrefixes theirs) = answer_prefixes table theirs
 answer table (XInner p theirs) = answer_inner table p theirs
 answer table (XLeaves p inner theirs) = answer_leaves table p inner theirs
 answer table (XBucket p leaf theirs) = answer_bucket table p leaf theirs
-answer table (XWant key) = answer_want table key
+answer table (XWant key) = object_if_held table key
 answer table _ = []

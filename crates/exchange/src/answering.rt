@@ -1,19 +1,22 @@
 //! What each message is answered: one function for each row of the table.
 
-ghost use Rattle.std.specs.Prelude.{◌≡◌, ◌<◌, IfOk, slice_get};
+ghost use Rattle.std.specs.Prelude.{◌≡◌, ◌<◌, ◌∷◌, ◌++◌, cond, [], IfOk, OnOk};
+ghost use Rattle.meta_types.specs.Name.{IsName, Key};
 ghost use Rattle.frame_fields.specs.Field.{digests};
 ghost use Rattle.meta_frame.specs.declared.message.Message.TheVariants.{XRoot};
 ghost use Rattle.hash_tree.specs.Tree.{bucket, prefix_roots, rows_of, tree_root};
 ghost use Rattle.hash_tree.specs.Hashed.{rows_below};
-ghost use Rattle.exchange.specs.Sides.{differ};
-ghost use Rattle.exchange.specs.Answers.{answer_inner, answer_leaves, answer_root, object_if_held};
+ghost use Rattle.exchange.specs.Answers.{answer, answer_bucket, answer_inner, answer_leaves};
+ghost use Rattle.exchange.specs.Answers.{answer_prefixes, answer_root, object_if_held};
 ghost use Rattle.exchange.specs.Answers.{bucket_message, inner_message, leaves_message};
+ghost use Rattle.exchange.specs.Answers.{want_message};
 
-use frame_fields::{Digest, Digests, KeyDigests, PrefixDigests};
+use crate::sides::{Next, differ_at, next_key, next_prefix};
+use frame_fields::{Digest, Digests, KeyDigest, KeyDigests, PrefixDigest, PrefixDigests};
 use hash_tree::Tree;
 use meta_frame::Message;
 use meta_store::Store;
-use meta_types::{FullPrefix, MetaKey};
+use meta_types::{ByteString, FullPrefix, MetaKey};
 use std::alloc::{AllocError, Global};
 
 /// What begins an exchange: the root of what is held here. It takes no memory.
@@ -21,6 +24,38 @@ pub fn start(tree: &Tree) -> Message
     ensures { result ≡ XRoot (tree_root tree.now) }
 {
     Message::XRoot { root: tree.root() }
+}
+
+/// What a message is answered from what is held, in order: each answer goes to the sender. The tree
+/// is that of the store. XOBJECT, whose object is to be merged, and messages of no exchange have no
+/// answer. Fails only when memory runs out.
+#[tactic(auto, unfolding(crate::specs::Answers::answer))]
+pub fn answer(
+    alloc: Global,
+    store: &Store,
+    tree: &Tree,
+    message: &Message,
+) -> Result<Vec<Message>, AllocError>
+    requires { tree.now ≡ rows_of store.now }
+    ensures { IfOk result (λ answers. answers.items ≡ answer store.now message.now) }
+{
+    match message {
+        Message::XRoot { root } => answer_root(alloc, store, tree, *root),
+        Message::XPrefixes { prefixes } => answer_prefixes(alloc, store, tree, prefixes),
+        Message::XInner { prefix, digests } => {
+            answer_inner(alloc, store, tree, prefix, digests.as_slice())
+        }
+        Message::XLeaves {
+            prefix,
+            inner,
+            digests,
+        } => answer_leaves(alloc, store, tree, prefix, *inner, digests.as_slice()),
+        Message::XBucket { prefix, leaf, keys } => {
+            answer_bucket(alloc, store, tree, prefix, *leaf, keys)
+        }
+        Message::XWant { key } => object_if_held(alloc, store, key),
+        _ => Ok(Vec::new(alloc)),
+    }
 }
 
 /// All full prefixes with their roots, if the roots differ.
@@ -39,6 +74,48 @@ fn answer_root(
         answers.push(Message::XPrefixes { prefixes })?;
     }
     Ok(answers)
+}
+
+/// For each full prefix of either side that differs or stands on one side, in order, the digests of
+/// its inner nodes.
+fn answer_prefixes(
+    alloc: Global,
+    store: &Store,
+    tree: &Tree,
+    theirs: &PrefixDigests,
+) -> Result<Vec<Message>, AllocError>
+    requires { tree.now ≡ rows_of store.now }
+    ensures { IfOk result (λ answers. answers.items ≡ answer_prefixes store.now theirs.now) }
+{
+    let own = own_prefixes(store, tree)?;
+    let mut their_rest = theirs.as_slice();
+    let mut own_rest = own.as_slice();
+    let mut answers = Vec::new(alloc);
+    while let Some(next) = next_prefix(their_rest, own_rest) {
+        answer_prefix(alloc, &mut answers, store, tree, &next)?;
+        their_rest = next.theirs;
+        own_rest = next.own;
+    }
+    Ok(answers)
+}
+
+/// Appends what a full prefix that differs is answered: the digests of its inner nodes.
+fn answer_prefix(
+    alloc: Global,
+    answers: &mut Vec<Message>,
+    store: &Store,
+    tree: &Tree,
+    next: &Next<'_, FullPrefix, PrefixDigest>,
+) -> Result<(), AllocError>
+    requires { tree.now ≡ rows_of store.now }
+    ensures { OnOk result (answers.new.items ≡ answers.old.items
+        ++ cond next.now.differs (inner_message store.now next.now.key.now ∷ []) []) }
+{
+    if !next.differs {
+        return Ok(());
+    }
+    answers.push(inner_message(alloc, store, tree, next.key)?)?;
+    Ok(())
 }
 
 /// For each inner node that differs, in order, the digests of its leaves.
@@ -72,13 +149,15 @@ fn answer_leaves(
     inner: u8,
     theirs: &[Digest],
 ) -> Result<Vec<Message>, AllocError>
-    requires tree { tree.now ≡ rows_of store.now }
-    requires inner { inner < 16 }
+    requires { tree.now ≡ rows_of store.now }
     ensures { IfOk result
         (λ answers. answers.items ≡ answer_leaves store.now prefix.now inner theirs.now) }
 {
-    let own = tree.leaves(prefix, inner);
     let mut answers = Vec::new(alloc);
+    if inner >= 16 {
+        return Ok(answers);
+    }
+    let own = tree.leaves(prefix, inner);
     for place in 0..16_usize {
         if differ_at(theirs, own.as_slice(), place) {
             let leaf = 16 * inner + place as u8;
@@ -86,6 +165,59 @@ fn answer_leaves(
         }
     }
     Ok(answers)
+}
+
+/// For each key of the leaf, of either side, that differs or stands on one side, in order, its
+/// object if it is held, and a want of it if the other side lists it.
+fn answer_bucket(
+    alloc: Global,
+    store: &Store,
+    tree: &Tree,
+    prefix: &FullPrefix,
+    leaf: u8,
+    theirs: &KeyDigests,
+) -> Result<Vec<Message>, AllocError>
+    requires { tree.now ≡ rows_of store.now }
+    ensures { IfOk result
+        (λ answers. answers.items ≡ answer_bucket store.now prefix.now leaf theirs.now) }
+{
+    let own = own_keys(store, tree, prefix, leaf)?;
+    let mut their_rest = theirs.as_slice();
+    let mut own_rest = own.as_slice();
+    let mut answers = Vec::new(alloc);
+    while let Some(next) = next_key(their_rest, own_rest) {
+        answer_key(alloc, &mut answers, store, prefix, &next)?;
+        their_rest = next.theirs;
+        own_rest = next.own;
+    }
+    Ok(answers)
+}
+
+/// Appends what a key that differs is answered: its object if it is held, and a want of it if the
+/// other side lists it.
+fn answer_key(
+    alloc: Global,
+    answers: &mut Vec<Message>,
+    store: &Store,
+    prefix: &FullPrefix,
+    next: &Next<'_, ByteString, KeyDigest>,
+) -> Result<(), AllocError>
+    requires { IsName 256 next.now.key.now }
+    ensures { let key : Key = record { prefix = prefix.now; key = next.now.key.now } in
+        OnOk result (answers.new.items ≡ answers.old.items ++ cond next.now.differs
+        (object_if_held store.now key ++ want_message key next.now.digest) []) }
+{
+    if !next.differs {
+        return Ok(());
+    }
+    let key = MetaKey::under(prefix.copy()?, next.key.copy()?);
+    let mut objects = object_if_held(alloc, store, &key)?;
+    answers.append(&mut objects)?;
+    if next.digest.is_none() {
+        return Ok(());
+    }
+    answers.push(Message::XWant { key })?;
+    Ok(())
 }
 
 /// The object under the key, if it is held.
@@ -188,11 +320,4 @@ fn listed(alloc: Global, parts: &[Digest]) -> Result<Digests, AllocError>
     let mut list = Vec::with_capacity(alloc, parts.len())?;
     list.extend_from_slice(parts)?;
     Ok(Digests::new(list))
-}
-
-/// Returns whether the digests at a place differ.
-fn differ_at(theirs: &[Digest], own: &[Digest], place: usize) -> bool
-    ensures { result ≡ differ (slice_get theirs.now place) (slice_get own.now place) }
-{
-    theirs.get(place) != own.get(place)
 }

@@ -9,12 +9,13 @@ use Rattle.std.specs.declared.cmp.Ordering.TheVariants.{Less, Equal, Greater}
 use Rattle.std.specs.Cmp.{nat_cmp_total, tied_itself}
 use Rattle.std.specs.BTreeMap.{is_at}
 use Rattle.std.specs.Map.{lookup}
-use Rattle.std.specs.FinMap.{find, put, is_sorted, nat_cmp-IsAntisymmetric, slice_cmp-IsAntisymmetric}
+use Rattle.std.specs.FinMap.{find, put, is_sorted, nat_cmp-IsAntisymmetric}
 use Rattle.std.specs.FinMap.Entries.{by_order, find_tied, find-put, find-where_key, is_sorted-put, is_sorted-where_key, same_entries}
 use Rattle.std.proofs.lemmas.Bool.{eq-eqb, eqb-true}
 use Rattle.std.proofs.lemmas.List.Elements.{All-cons, All-head, All-tail, All-nil}
 use Rattle.meta_types.specs.Name.{IsName}
 use Rattle.meta_types.specs.Order.{bytes_cmp}
+use Rattle.meta_types.proofs.Comparing.{same_bytes}
 use Rattle.meta_store.specs.Kept.{AreRows}
 use Rattle.meta_store.proofs.Kept.{bytes_total, IsNamed}
 use Rattle.meta_store.proofs.Maps.{All-put, below_rest, find_below, is_true, looked_up, rest_sorted}
@@ -24,9 +25,6 @@ use Rattle.frame_fields.specs.declared.keys.KeyDigest.{KeyDigest}
 use Rattle.hash_tree.specs.Rising.{do_keys_rise}
 use Rattle.hash_tree.specs.Tree.{Digest, OwnRows, bucket, in_leaf, leaf_digest, leaf_of, text_of}
 use Rattle.hash_tree.specs.Kept.{AreLeaves, IsLeaf, RowsByLeaf, in_order, joined, leaf_at}
-
-pub same_bytes : (xs ys : List ℕ) → bytes_cmp xs ys ≡ Equal → xs ≡ ys
-same_bytes = slice_cmp-IsAntisymmetric nat_cmp-IsAntisymmetric
 
 abbrev Stands : ℕ → List ℕ × Digest → Type 0
 Stands n row = leaf_of row.0 ≡ n
@@ -148,10 +146,11 @@ in_leaf_joined n leaves are =
     ∙ ap (λ f. cond (test q) f None) (find_joined q leaves are)
     ∙ cases_of_leaf q n leaves (test q) refl at.own)
 
-abbrev listed_row : List ℕ × Digest → KeyDigest
+abbrev pub listed_row : List ℕ × Digest → KeyDigest
 listed_row row = record { key = row.0; digest = row.1 }
 
-listed_again : (rows : OwnRows) → map key_row_parts (map listed_row rows) ≡ rows
+-- the rows of a bucket, as it lists them
+pub listed_again : (rows : OwnRows) → map key_row_parts (map listed_row rows) ≡ rows
 listed_again [] = refl
 listed_again (row ∷ rows) = ap (λ xs. row ∷ xs) (listed_again rows)
 

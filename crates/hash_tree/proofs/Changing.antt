@@ -12,7 +12,7 @@ use Rattle.sha2.specs.Sha256.{sha256}
 use Rattle.meta_types.specs.Order.{bytes_cmp}
 use Rattle.hash_tree.specs.Tree.{Digest, OwnRows, in_leaf, inner_digest, inner_digests, leaf_digest, leaf_digests, leaf_of, prefix_root, text_of}
 use Rattle.hash_tree.specs.Kept.{all_leaf_digests, inner_over}
-use Rattle.hash_tree.proofs.ByLeaf.{same_bytes}
+use Rattle.meta_types.proofs.Comparing.{same_bytes}
 
 module _ (k : List ℕ) (d : Digest) where
   -- a leaf in which the key doesn't stand keeps its rows

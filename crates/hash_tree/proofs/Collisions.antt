@@ -25,7 +25,7 @@ use Rattle.meta_store.proofs.Sizes.{held_fits}
 use Rattle.meta_store.proofs.Tables.{found_row, same_table}
 use Rattle.hash_tree.specs.Tree.{Digest, DigestRows, OwnRows, in_leaf, inner_digest, inner_digests, leaf_digest, leaf_digests, leaf_of, object_digest, own_rows, prefix_root, prefix_roots, roots_text, rows_of, text_of, tree_root}
 use Rattle.hash_tree.specs.Hashed.{Collides, IsHashedOfEither, of_inner, of_leaf, of_object, of_prefix, of_root}
-use Rattle.hash_tree.proofs.ByLeaf.{same_bytes}
+use Rattle.meta_types.proofs.Comparing.{same_bytes}
 use Rattle.hash_tree.proofs.Bytes.{one_of_256}
 use Rattle.hash_tree.proofs.Lookups.{All-dedup, by_leaf, every_key, find_digested, find_own, holds_a_key, no_own_rows, root_found}
 use Rattle.hash_tree.proofs.Texts.{IsOwnRow, IsRootRow, form_apart, parts_same, roots_by_text, rows_by_text}

@@ -1,5 +1,5 @@
 -- the leaves of a full prefix
-mod ByLeaf
+pub mod ByLeaf
 -- the digests that a changed key changes
 mod Changing
 -- the parts of a tree, and its readers
@@ -7,7 +7,7 @@ mod ByPrefix
 -- steps of the loops that hash
 mod Steps
 -- digests are bytes
-mod Bytes
+pub mod Bytes
 -- what equal texts say of their parts
 pub mod Texts
 -- what is found in the rows of a tree

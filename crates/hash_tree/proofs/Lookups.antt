@@ -16,7 +16,7 @@ use Rattle.frame_fields.specs.Field.{prefix_row_parts}
 use Rattle.meta_store.specs.Table.{Table, prefixes_of}
 use Rattle.meta_store.proofs.Keys.{same_key}
 use Rattle.hash_tree.specs.Tree.{Digest, DigestRows, OwnRows, digested, in_leaf, leaf_of, object_digest, own_rows, prefix_root, prefix_roots}
-use Rattle.hash_tree.proofs.ByLeaf.{same_bytes}
+use Rattle.meta_types.proofs.Comparing.{same_bytes}
 
 pub find_digested : (k : Key) (table : Table) → find key_cmp k (digested table) ≡ option_map object_digest (find key_cmp k table)
 find_digested k [] = refl

@@ -1,0 +1,122 @@
+-- A whole exchange of two sides, and what it owes. The rule is our own.
+use Rattle.std.specs.Prelude.{◌≡◌, ℕ, List, [], ◌∷◌, ◌++◌, take, ◌⊎◌, Option, None}
+use Rattle.std.specs.List.{flat_map}
+use Rattle.std.specs.Option.{option_or}
+use Rattle.meta_types.specs.Name.{Key}
+use Rattle.dvvset.specs.Object.{Entry}
+use Rattle.past_model.specs.declared.happening.Happening.{Happening}
+use Rattle.past_model.specs.Sets.{IsSubset, Knowledge, Places, union_by_key}
+use Rattle.past_model.specs.Past.{writes}
+use Rattle.past_model.specs.History.{IsHistory}
+use Rattle.past_model.specs.Shown.{IsObjectOf}
+use Rattle.meta_frame.specs.declared.message.Message.{Message}
+use Rattle.meta_frame.specs.declared.message.Message.TheVariants.{XObject, XRoot}
+use Rattle.meta_store.specs.Table.{Table, object_at}
+use Rattle.meta_store.specs.Step.{refusal_of_merge, table_after_merge}
+use Rattle.meta_store.specs.declared.fault.StoreFault.{StoreFault}
+use Rattle.hash_tree.specs.Tree.{rows_of, tree_root}
+use Rattle.hash_tree.specs.Hashed.{Collides}
+use Rattle.exchange.specs.Answers.{answer}
+
+-- ---- XOBJECT is merged; no other message changes what is held
+
+unfoldable pub table_after : Table → Message → Table
+table_after table (XObject key object) = table_after_merge table key object
+table_after table _ = table
+
+unfoldable pub refusal_of : Table → Message → Option StoreFault
+refusal_of table (XObject key object) = refusal_of_merge table key object
+refusal_of table _ = None
+
+-- ---- messages that are taken in turn, each answered from what is held once it was taken
+
+abbrev pub table_after_all : Table → List Message → Table
+table_after_all table [] = table
+table_after_all table (message ∷ messages) =
+    table_after_all (table_after table message) messages
+
+abbrev pub answers_in_turn : Table → List Message → List Message
+answers_in_turn table [] = []
+answers_in_turn table (message ∷ messages) =
+    answer (table_after table message) message
+    ++ answers_in_turn (table_after table message) messages
+
+-- what was held once the first of the messages were taken, as many as that may be
+abbrev pub TookFront : Table → List Message → Table → Type 0
+TookFront old messages new = (n : ℕ) × (new ≡ table_after_all old (take n messages))
+
+-- the first of the messages that is refused
+abbrev pub refusal_of_all : Table → List Message → Option StoreFault
+refusal_of_all table [] = None
+refusal_of_all table (message ∷ messages) =
+    option_or (refusal_of table message) (refusal_of_all (table_after table message) messages)
+
+-- ---- seven rounds: in each, one side takes all that the other answered in the round before. It
+-- begins with the root of here
+
+abbrev pub answers_to : Table → List Message → List Message
+answers_to table messages = flat_map (answer table) messages
+
+-- the first five rounds bring digests, by which nothing changes; what there answers in the fifth
+unfoldable pub offers : Table → Table → List Message
+offers here there =
+    answers_to there (answers_to here (answers_to there (answers_to here
+    (answer there (XRoot (tree_root (rows_of here)))))))
+
+-- in the sixth, here takes objects and wants
+unfoldable pub here_after : Table → Table → Table
+here_after here there = table_after_all here (offers here there)
+
+unfoldable pub wanted : Table → Table → List Message
+wanted here there = answers_in_turn here (offers here there)
+
+-- in the seventh, there takes objects
+unfoldable pub there_after : Table → Table → Table
+there_after here there = table_after_all there (wanted here there)
+
+unfoldable pub refusal_of_exchange : Table → Table → Option StoreFault
+refusal_of_exchange here there =
+    option_or (refusal_of_all here (offers here there)) (refusal_of_all there (wanted here there))
+
+-- ---- what both sides then know
+
+-- the table holds, under each key, the object of the writes that are known there
+pub record Holds (hs : List Happening) (known : Knowledge) (table : Table) : Type 0 where
+  pub each : (key : Key) → IsObjectOf (writes hs) key (known key) (object_at table key)
+
+-- the object of a set of writes that has at least these, and at most those
+pub record IsBetween (hs : List Happening) (key : Key) (least most : Places)
+    (object : List Entry) : Type 0 where
+  pub set : Places
+  pub object_of : IsObjectOf (writes hs) key set object
+  pub at_least : IsSubset least set
+  pub at_most : IsSubset set most
+
+pub record HoldsBetween (hs : List Happening) (least most : Knowledge)
+    (table : Table) : Type 0 where
+  pub each : (key : Key) → IsBetween hs key (least key) (most key) (object_at table key)
+
+-- of what arose in one history, what both sides held before and hold now
+pub record Reconciled (hs : List Happening) (known others : Knowledge)
+    (here there : Table) : Type 0 where
+  pub here_holds : Holds hs (union_by_key known others) here
+  pub there_holds : Holds hs (union_by_key known others) there
+
+-- both sides hold the union, or two unequal byte strings that are hashed for them have one digest
+abbrev pub GiveUnion : Table → Table → Table → Table → Type 0
+GiveUnion here there here_end there_end =
+    (hs : List Happening) → IsHistory hs → (known others : Knowledge)
+    → Holds hs known here → Holds hs others there
+    → Reconciled hs known others here_end there_end ⊎ Collides here there
+
+-- each side knows at least what it knew, and at most the union
+pub record AreBetween (hs : List Happening) (known others : Knowledge)
+    (here there : Table) : Type 0 where
+  pub here_holds : HoldsBetween hs known (union_by_key known others) here
+  pub there_holds : HoldsBetween hs others (union_by_key known others) there
+
+abbrev pub GiveNoMore : Table → Table → Table → Table → Type 0
+GiveNoMore here there here_end there_end =
+    (hs : List Happening) → IsHistory hs → (known others : Knowledge)
+    → Holds hs known here → Holds hs others there
+    → AreBetween hs known others here_end there_end
