@@ -3,7 +3,7 @@ pub mod ByLeaf
 -- the digests that a changed key changes
 mod Changing
 -- the parts of a tree, and its readers
-mod ByPrefix
+pub mod ByPrefix
 -- steps of the loops that hash
 mod Steps
 -- digests are bytes

@@ -7,7 +7,7 @@ pub mod Kept
 -- a store after an object was held
 mod Holding
 -- a store after a key was forgotten
-mod Forgetting
+pub mod Forgetting
 -- a table after an object was put there
 pub mod Tables
 -- objects within a length
