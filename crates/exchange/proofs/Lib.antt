@@ -20,3 +20,9 @@ mod Finding
 mod Merging
 -- what both sides hold at the end
 mod Whole
+-- steps of the loops that take messages
+mod Taking
+-- a store and its tree after a merge
+mod Keeping
+-- what a whole exchange leaves on both sides, round by round
+mod Ending

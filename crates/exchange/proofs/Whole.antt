@@ -183,6 +183,7 @@ module _ (hs : List Happening) (history : IsHistory hs) (known others : Knowledg
 
 -- at the end both hold the union, or two unequal byte strings collide
 pub union_whole : (here there : Table) → IsTable here → IsTable there → GiveUnion here there (here_after here there) (there_after here there)
+unfolding GiveUnion
 union_whole here there table other =
     λ hs history known others ours theirs. every_ended hs history known others here there ours theirs (sent here there table other) (asked here there table other)
 
@@ -190,6 +191,7 @@ union_whole here there table other =
 pub no_more : (here there : Table) (n m : ℕ)
     → GiveNoMore here there (table_after_all here (take n (offers here there)))
     (table_after_all there (take m (wanted here there)))
+unfolding GiveNoMore
 no_more here there n m = λ hs history known others ours theirs. record {
   here_holds = record { each = λ k. here_is_between here there hs history k (known k) (others k) (ours.each k) (theirs.each k) n };
   there_holds = record { each = λ k. there_is_between here there hs history k (known k) (others k) (ours.each k) (theirs.each k) m };

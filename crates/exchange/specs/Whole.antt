@@ -103,7 +103,7 @@ pub record Reconciled (hs : List Happening) (known others : Knowledge)
   pub there_holds : Holds hs (union_by_key known others) there
 
 -- both sides hold the union, or two unequal byte strings that are hashed for them have one digest
-abbrev pub GiveUnion : Table → Table → Table → Table → Type 0
+unfoldable pub GiveUnion : Table → Table → Table → Table → Type 0
 GiveUnion here there here_end there_end =
     (hs : List Happening) → IsHistory hs → (known others : Knowledge)
     → Holds hs known here → Holds hs others there
@@ -115,7 +115,7 @@ pub record AreBetween (hs : List Happening) (known others : Knowledge)
   pub here_holds : HoldsBetween hs known (union_by_key known others) here
   pub there_holds : HoldsBetween hs others (union_by_key known others) there
 
-abbrev pub GiveNoMore : Table → Table → Table → Table → Type 0
+unfoldable pub GiveNoMore : Table → Table → Table → Table → Type 0
 GiveNoMore here there here_end there_end =
     (hs : List Happening) → IsHistory hs → (known others : Knowledge)
     → Holds hs known here → Holds hs others there

@@ -1,0 +1,260 @@
+//! A whole exchange of two stores.
+
+ghost use Rattle.std.specs.Prelude.{◌≡◌, ℕ, List, None, Some, IfOk, OnOk, OnErr};
+ghost use Rattle.std.specs.FinMap.{find};
+ghost use Rattle.meta_types.specs.Failing.{FailsBy};
+ghost use Rattle.meta_types.specs.Order.{key_cmp};
+ghost use Rattle.dvvset.specs.Object.{Entry};
+ghost use Rattle.meta_store.specs.Step.{answer_of_merge, refusal_of_merge};
+ghost use Rattle.meta_store.specs.Step.{table_after_merge};
+ghost use Rattle.meta_store.specs.declared.fault.StoreFault.TheVariants.{Memory};
+ghost use Rattle.meta_frame.specs.declared.message.Message.TheVariants.{XRoot};
+ghost use Rattle.hash_tree.specs.Tree.{object_digest, rows_of, tree_root};
+ghost use Rattle.exchange.specs.Answers.{answer};
+ghost use Rattle.exchange.specs.Whole.{GiveNoMore, GiveUnion, answers_in_turn, answers_to};
+ghost use Rattle.exchange.specs.Whole.{here_after, offers, refusal_of, refusal_of_all};
+ghost use Rattle.exchange.specs.Whole.{TookFront, refusal_of_exchange, table_after};
+ghost use Rattle.exchange.specs.Whole.{table_after_all, there_after, wanted};
+
+use crate::answering::{answer, start};
+use dvvset::Entries;
+use frame_fields::Digest;
+use hash_tree::{Tree, object_digest};
+use meta_frame::Message;
+use meta_store::{Merged, Store, StoreFault};
+use meta_types::MetaKey;
+use std::alloc::{AllocError, Global};
+
+/// Takes messages in turn, and answers each from what is held once it was taken. After a refusal
+/// those before it are taken.
+fn take_all(
+    alloc: Global,
+    store: &mut Store,
+    tree: &mut Tree,
+    messages: &[Message],
+) -> Result<Vec<Message>, StoreFault>
+    requires { tree.old ≡ rows_of store.old }
+    ensures tree { tree.new ≡ rows_of store.new }
+    ensures value { OnOk result (store.new ≡ table_after_all store.old messages.now) }
+    ensures answers { IfOk result
+        (λ answers. answers.items ≡ answers_in_turn store.old messages.now) }
+    ensures front { TookFront store.old messages.now store.new }
+    ensures no_refusal { OnOk result (refusal_of_all store.old messages.now ≡ None) }
+    ensures fault { FailsBy Memory (refusal_of_all store.old messages.now) result }
+{
+    let mut answers = Vec::new(alloc);
+    for message in messages {
+        take(store, tree, message)?;
+        let mut own = answer(alloc, store, tree, message)?;
+        answers.append(&mut own)?;
+    }
+    Ok(answers)
+}
+
+/// What messages that bring no object are answered.
+fn answer_all(
+    alloc: Global,
+    store: &Store,
+    tree: &Tree,
+    messages: &[Message],
+) -> Result<Vec<Message>, AllocError>
+    requires { tree.now ≡ rows_of store.now }
+    ensures { IfOk result (λ answers. answers.items ≡ answers_to store.now messages.now) }
+{
+    let mut answers = Vec::new(alloc);
+    for message in messages {
+        let mut own = answer(alloc, store, tree, message)?;
+        answers.append(&mut own)?;
+    }
+    Ok(answers)
+}
+
+/// Takes a message: merges the object that it brings, if it is an XOBJECT.
+#[tactic(auto, unfolding(crate::specs::Whole::table_after, crate::specs::Whole::refusal_of))]
+fn take(store: &mut Store, tree: &mut Tree, message: &Message) -> Result<(), StoreFault>
+    requires { tree.old ≡ rows_of store.old }
+    ensures tree { tree.new ≡ rows_of store.new }
+    ensures value { OnOk result (store.new ≡ table_after store.old message.now) }
+    ensures same { OnErr result (store.new ≡ store.old) }
+    ensures no_refusal { OnOk result (refusal_of store.old message.now ≡ None) }
+    ensures fault { FailsBy Memory (refusal_of store.old message.now) result }
+{
+    match message {
+        Message::XObject { key, object } => merge(store, tree, key, object),
+        _ => Ok(()),
+    }
+}
+
+/// Merges an object into the store, and takes what then is held into the tree. Where memory is
+/// refused for a key that is new to the tree, the store forgets it again.
+fn merge(
+    store: &mut Store,
+    tree: &mut Tree,
+    key: &MetaKey,
+    object: &Entries,
+) -> Result<(), StoreFault>
+    requires { tree.old ≡ rows_of store.old }
+    ensures tree { tree.new ≡ rows_of store.new }
+    ensures value { OnOk result (store.new ≡ table_after_merge store.old key.now object.now) }
+    ensures same { OnErr result (store.new ≡ store.old) }
+    ensures no_refusal { OnOk result (refusal_of_merge store.old key.now object.now ≡ None) }
+    ensures fault { FailsBy Memory (refusal_of_merge store.old key.now object.now) result }
+{
+    match merge_copy(store, key, object) {
+        Err(fault) => Err(fault),
+        Ok(Merged::Stale) => Ok(()),
+        Ok(Merged::Fresh) => match tree.update(key, digest_under(store, key)) {
+            Ok(()) => Ok(()),
+            Err(error) => {
+                store.forget(key);
+                Err(error.into())
+            }
+        },
+    }
+}
+
+/// Merges a copy of the object into the store.
+fn merge_copy(store: &mut Store, key: &MetaKey, object: &Entries) -> Result<Merged, StoreFault>
+    ensures value { OnOk result (store.new ≡ table_after_merge store.old key.now object.now) }
+    ensures answer { IfOk result
+        (λ answer. answer ≡ answer_of_merge store.old key.now object.now) }
+    ensures same { OnErr result (store.new ≡ store.old) }
+    ensures no_refusal { OnOk result (refusal_of_merge store.old key.now object.now ≡ None) }
+    ensures fault { FailsBy Memory (refusal_of_merge store.old key.now object.now) result }
+{
+    let key = key.copy()?;
+    let object = object.copy()?;
+    store.merge(key, object)
+}
+
+/// The digest of the object that is held under the key.
+fn digest_under(store: &Store, key: &MetaKey) -> Digest
+    requires { (object : List Entry) × (find key_cmp key.now store.now ≡ Some object) }
+    ensures { (object : List Entry) → find key_cmp key.now store.now ≡ Some object
+        → result ≡ object_digest object }
+{
+    match store.object(key) {
+        Some(object) => object_digest(object),
+        None => unreachable!(),
+    }
+}
+
+/// What the root of here is answered there.
+fn answer_start(
+    alloc: Global,
+    here_tree: &Tree,
+    there: &Store,
+    there_tree: &Tree,
+) -> Result<Vec<Message>, AllocError>
+    requires { there_tree.now ≡ rows_of there.now }
+    ensures { IfOk result
+        (λ answers. answers.items ≡ answer there.now (XRoot (tree_root here_tree.now))) }
+{
+    let root = start(here_tree);
+    answer(alloc, there, there_tree, &root)
+}
+
+/// What a round of messages that bring no object is answered. It is dropped.
+fn answer_round(
+    alloc: Global,
+    store: &Store,
+    tree: &Tree,
+    messages: Vec<Message>,
+) -> Result<Vec<Message>, AllocError>
+    requires { tree.now ≡ rows_of store.now }
+    ensures { IfOk result (λ answers. answers.items ≡ answers_to store.now messages.items) }
+{
+    answer_all(alloc, store, tree, messages.as_slice())
+}
+
+/// What there offers and wants, after five rounds of digests, by which nothing changes.
+fn offered(
+    alloc: Global,
+    here: &Store,
+    here_tree: &Tree,
+    there: &Store,
+    there_tree: &Tree,
+) -> Result<Vec<Message>, AllocError>
+    requires here_tree { here_tree.now ≡ rows_of here.now }
+    requires there_tree { there_tree.now ≡ rows_of there.now }
+    ensures { IfOk result (λ offered. offered.items ≡ offers here.now there.now) }
+{
+    let prefixes = answer_start(alloc, here_tree, there, there_tree)?;
+    let inner = answer_round(alloc, here, here_tree, prefixes)?;
+    let leaves = answer_round(alloc, there, there_tree, inner)?;
+    let buckets = answer_round(alloc, here, here_tree, leaves)?;
+    answer_round(alloc, there, there_tree, buckets)
+}
+
+/// Takes a round of messages in turn, as `take_all` does. It is dropped.
+fn take_round(
+    alloc: Global,
+    store: &mut Store,
+    tree: &mut Tree,
+    messages: Vec<Message>,
+) -> Result<Vec<Message>, StoreFault>
+    requires { tree.old ≡ rows_of store.old }
+    ensures tree { tree.new ≡ rows_of store.new }
+    ensures value { OnOk result (store.new ≡ table_after_all store.old messages.items) }
+    ensures answers { IfOk result
+        (λ answers. answers.items ≡ answers_in_turn store.old messages.items) }
+    ensures front { TookFront store.old messages.items store.new }
+    ensures no_refusal { OnOk result (refusal_of_all store.old messages.items ≡ None) }
+    ensures fault { FailsBy Memory (refusal_of_all store.old messages.items) result }
+{
+    take_all(alloc, store, tree, messages.as_slice())
+}
+
+/// Takes the last round of messages, to which there is no answer.
+fn take_last(
+    alloc: Global,
+    store: &mut Store,
+    tree: &mut Tree,
+    messages: Vec<Message>,
+) -> Result<(), StoreFault>
+    requires { tree.old ≡ rows_of store.old }
+    ensures tree { tree.new ≡ rows_of store.new }
+    ensures value { OnOk result (store.new ≡ table_after_all store.old messages.items) }
+    ensures front { TookFront store.old messages.items store.new }
+    ensures no_refusal { OnOk result (refusal_of_all store.old messages.items ≡ None) }
+    ensures fault { FailsBy Memory (refusal_of_all store.old messages.items) result }
+{
+    match take_round(alloc, store, tree, messages) {
+        Err(fault) => Err(fault),
+        Ok(answers) => {
+            drop(answers);
+            Ok(())
+        }
+    }
+}
+
+/// A whole exchange of two stores, each with its tree, which here begins. After it both hold the
+/// union of what they held. It is refused with the refusal of the first merge that is refused: 21
+/// `BadEntries`, as only forged objects give, 25 `StoreFull` or 27 `ObjectTooLarge`; 99 `Memory` may
+/// stand in place of any answer. What was merged before a refusal stays merged.
+pub fn reconcile(
+    alloc: Global,
+    here: &mut Store,
+    here_tree: &mut Tree,
+    there: &mut Store,
+    there_tree: &mut Tree,
+) -> Result<(), StoreFault>
+    requires here_tree { here_tree.old ≡ rows_of here.old }
+    requires there_tree { there_tree.old ≡ rows_of there.old }
+    ensures here_tree { here_tree.new ≡ rows_of here.new }
+    ensures there_tree { there_tree.new ≡ rows_of there.new }
+    ensures union { OnOk result (GiveUnion here.old there.old here.new there.new) }
+    ensures no_more { GiveNoMore here.old there.old here.new there.new }
+    ensures here { OnOk result (here.new ≡ here_after here.old there.old) }
+    ensures there { OnOk result (there.new ≡ there_after here.old there.old) }
+    ensures no_refusal { OnOk result (refusal_of_exchange here.old there.old ≡ None) }
+    ensures fault { FailsBy Memory (refusal_of_exchange here.old there.old) result }
+{
+    // Read for what they tell: each is a table.
+    let _ = (here.len(), there.len());
+    let offered = offered(alloc, here, here_tree, there, there_tree)?;
+    match take_round(alloc, here, here_tree, offered) {
+        Err(fault) => Err(fault),
+        Ok(wanted) => take_last(alloc, there, there_tree, wanted),
+    }
+}
