@@ -5,7 +5,7 @@ use Rattle.std.specs.Option.{option_or}
 use Rattle.meta_frame.specs.declared.message.Message.{Message}
 use Rattle.meta_store.specs.Table.{IsTable, Table}
 use Rattle.meta_store.specs.declared.fault.StoreFault.{StoreFault}
-use Rattle.exchange.specs.Whole.{GiveNoMore, GiveUnion, TookFront, answers_in_turn, here_after, offers, refusal_of_all, refusal_of_exchange, table_after_all, there_after, wanted}
+use Rattle.exchange.specs.Whole.{StayBetween, EndInUnion, TookFront, answers_in_turn, here_after, offers, refusal_of_all, refusal_of_exchange, table_after_all, there_after, wanted}
 use Rattle.exchange.proofs.Whole.{no_more, union_whole}
 
 module _ (here there : Table) (offered : List Message) (are : offered ≡ offers here there) where
@@ -48,15 +48,15 @@ module _ (here there : Table) (offered : List Message) (are : offered ≡ offers
         ap (λ r. option_or r (refusal_of_all there (wanted here there))) (sym (ap (refusal_of_all here) are) ∙ none)
         ∙ sym (ap (refusal_of_all there) (wanted_are ms told)) ∙ none_there
 
-pub no_more_than : (here there here_end there_end : Table) → TookFront here (offers here there) here_end → TookFront there (wanted here there) there_end → GiveNoMore here there here_end there_end
+pub no_more_than : (here there here_end there_end : Table) → TookFront here (offers here there) here_end → TookFront there (wanted here there) there_end → StayBetween here there here_end there_end
 no_more_than here there here_end there_end front back =
-    subst (λ h. GiveNoMore here there h there_end) (sym front.1)
-    (subst (λ t. GiveNoMore here there (table_after_all here (take front.0 (offers here there))) t) (sym back.1) (no_more here there front.0 back.0))
+    subst (λ h. StayBetween here there h there_end) (sym front.1)
+    (subst (λ t. StayBetween here there (table_after_all here (take front.0 (offers here there))) t) (sym back.1) (no_more here there front.0 back.0))
 
-pub union_of : (here there here_end there_end : Table) → IsTable here → IsTable there → here_end ≡ here_after here there → there_end ≡ there_after here there → GiveUnion here there here_end there_end
+pub union_of : (here there here_end there_end : Table) → IsTable here → IsTable there → here_end ≡ here_after here there → there_end ≡ there_after here there → EndInUnion here there here_end there_end
 union_of here there here_end there_end table other h t =
-    subst (λ x. GiveUnion here there x there_end) (sym h)
-    (subst (λ x. GiveUnion here there (here_after here there) x) (sym t) (union_whole here there table other))
+    subst (λ x. EndInUnion here there x there_end) (sym h)
+    (subst (λ x. EndInUnion here there (here_after here there) x) (sym t) (union_whole here there table other))
 
 pub if_err_more : {A E : Type 0} {P Q : E → Type 0} (r : Result A E) → ((e : E) → P e → Q e) → IfErr r P → IfErr r Q
 if_err_more (Ok x) f p = tt

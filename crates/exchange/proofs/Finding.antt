@@ -29,7 +29,7 @@ use Rattle.hash_tree.proofs.Bytes.{one_of_256}
 use Rattle.hash_tree.proofs.Lookups.{by_leaf, find_digested, find_own}
 use Rattle.hash_tree.proofs.Collisions.{SameAt, key_by_inner, key_by_leaf, key_by_root, key_by_roots, object_same}
 use Rattle.exchange.specs.Sides.{differ, differing_keys, differing_places, of_either, same_digest}
-use Rattle.exchange.specs.Answers.{answer, answer_key, bucket_message, inner_message, leaves_message, object_if_held, object_message, want_if_listed, want_message}
+use Rattle.exchange.specs.Answers.{answer, answer_key, bucket_message, inner_message, leaves_message, object_if_held, object_messages, want_if_listed, want_messages}
 use Rattle.exchange.specs.Whole.{answers_to, offers}
 use Rattle.exchange.proofs.Members.{In, in_back, in_filter, in_flat_map, in_front, in_map, in_range}
 
@@ -229,7 +229,7 @@ module _ (here there : Table) (table : IsTable here) (other : IsTable there) whe
   sent k object e =
       found k (XObject k object)
       (in_front (XObject k object) (object_if_held there k) (want_if_listed (told_keys k) k)
-      (subst (λ held. In (XObject k object) (object_message k held)) (sym e) (inl refl)))
+      (subst (λ held. In (XObject k object) (object_messages k held)) (sym e) (inl refl)))
 
   -- ours is asked for, or the tables are alike at its key
   pub asked : (k : Key) (object : List Entry) → find key_cmp k here ≡ Some object → Alike here there k ⊎ In (XWant k) (offers here there)
@@ -237,4 +237,4 @@ module _ (here there : Table) (table : IsTable here) (other : IsTable there) whe
       let told : listed here k ≡ Some (object_digest object) = found_listed here k ∙ find_digested k here ∙ ap (option_map object_digest) e in
       found k (XWant k)
       (in_back (XWant k) (object_if_held there k) (want_if_listed (told_keys k) k)
-      (subst (λ digest. In (XWant k) (want_message k digest)) (sym told) (inl refl)))
+      (subst (λ digest. In (XWant k) (want_messages k digest)) (sym told) (inl refl)))

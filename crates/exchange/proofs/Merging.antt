@@ -29,7 +29,7 @@ use Rattle.meta_store.proofs.Tables.{object_at-here, object_at-elsewhere}
 use Rattle.hash_tree.specs.Tree.{Digest, bucket, inner_digests, leaf_digests, prefix_roots, rows_of, tree_root}
 use Rattle.hash_tree.specs.Hashed.{rows_below}
 use Rattle.exchange.specs.Sides.{differing_keys, differing_places, same_digest}
-use Rattle.exchange.specs.Answers.{answer, answer_key, bucket_message, inner_message, leaves_message, object_if_held, object_message, want_if_listed, want_message}
+use Rattle.exchange.specs.Answers.{answer, answer_key, bucket_message, inner_message, leaves_message, object_if_held, object_messages, want_if_listed, want_messages}
 use Rattle.exchange.specs.Whole.{answers_in_turn, table_after, table_after_all}
 use Rattle.exchange.proofs.Members.{In}
 use Rattle.exchange.proofs.Taken.{Each, Each-append, Each-map, Each-flat_map, Each-weaker, in_front, in_back}
@@ -152,12 +152,12 @@ IsHonest t _ = Unit {0}
 
 honest_object : (t : Table) (k : Key) → Each (IsHonest t) (object_if_held t k)
 honest_object t k =
-    elim (find key_cmp k t) as (λ f. find key_cmp k t ≡ f → Each (IsHonest t) (object_message k f)) [
+    elim (find key_cmp k t) as (λ f. find key_cmp k t ≡ f → Each (IsHonest t) (object_messages k f)) [
       | None ↦ λ e. tt
       | Some o ↦ λ e. (e, tt)
     ] refl
 
-honest_want : (t : Table) (k : Key) (d : Option Digest) → Each (IsHonest t) (want_message k d)
+honest_want : (t : Table) (k : Key) (d : Option Digest) → Each (IsHonest t) (want_messages k d)
 honest_want t k None = tt
 honest_want t k (Some d) = (tt, tt)
 
@@ -207,7 +207,7 @@ turns_carry k x u Q absorbs (m ∷ ms) t c h =
 want_answered : (k : Key) (t : Table) (m : Message) (o : List Entry) → m ≡ XWant k → find key_cmp k t ≡ Some o → In (XObject k o) (answer t m)
 unfolding answer
 want_answered k t m o is e =
-    let at_want : In (XObject k o) (answer t (XWant k)) = subst (λ f. In (XObject k o) (object_message k f)) (sym e) (inl refl) in
+    let at_want : In (XObject k o) (answer t (XWant k)) = subst (λ f. In (XObject k o) (object_messages k f)) (sym e) (inl refl) in
     subst (λ n. In (XObject k o) (answer t n)) (sym is) at_want
 
 -- a want is answered by an object, once something is held

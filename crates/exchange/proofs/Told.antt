@@ -21,7 +21,7 @@ use Rattle.meta_frame.specs.declared.message.Message.TheVariants.{XWant}
 use Rattle.meta_store.specs.Table.{Table}
 use Rattle.hash_tree.specs.Tree.{Digest, bucket, prefix_roots, rows_of}
 use Rattle.hash_tree.specs.Hashed.{rows_below}
-use Rattle.exchange.specs.Answers.{answer_bucket, answer_prefixes, inner_message, object_if_held, want_message}
+use Rattle.exchange.specs.Answers.{answer_bucket, answer_prefixes, inner_message, object_if_held, want_messages}
 use Rattle.exchange.specs.Sides.{AreNamed, differing, differing_keys, then_rest}
 
 -- ---- lists that fit a frame rise
@@ -102,7 +102,7 @@ module _ (table : Table) where
     key_of own_bytes = record { prefix = p; key = own_bytes }
 
     abbrev pub tell_key : List ℕ × Option Digest → List Message
-    tell_key row = object_if_held table (record { prefix = p; key = row.0 }) ++ want_message (record { prefix = p; key = row.0 }) row.1
+    tell_key row = object_if_held table (record { prefix = p; key = row.0 }) ++ want_messages (record { prefix = p; key = row.0 }) row.1
 
     pub keys_begun : (leaf : ℕ) (theirs own their_rest own_rest : List KeyDigest) (done : List Message) → done ≡ [] → their_rest ≡ theirs → own_rest ≡ own → own ≡ bucket (rows_below p table) leaf
         → done ++ flat_map tell_key (differing bytes_cmp (map key_row_parts their_rest) (map key_row_parts own_rest)) ≡ answer_bucket table p leaf theirs
@@ -118,22 +118,22 @@ ended R parts g done total theirs own t o so_far =
 
 -- ---- one key
 
-wants : (key : Key) (x : Option Digest) → is_none x ≡ false → want_message key x ≡ XWant key ∷ []
+wants : (key : Key) (x : Option Digest) → is_none x ≡ false → want_messages key x ≡ XWant key ∷ []
 wants key None e = cc
 wants key (Some d) e = refl
 
-wants_not : (key : Key) (x : Option Digest) → is_none x ≡ true → want_message key x ≡ []
+wants_not : (key : Key) (x : Option Digest) → is_none x ≡ true → want_messages key x ≡ []
 wants_not key None e = refl
 wants_not key (Some d) e = cc
 
 pub appended_both : (old mid new objects : List Message) (key : Key) (x : Option Digest) (b : Bool) → b ≡ true → is_none x ≡ false → mid ≡ old ++ objects → new ≡ mid ++ XWant key ∷ []
-    → new ≡ old ++ cond b (objects ++ want_message key x) []
+    → new ≡ old ++ cond b (objects ++ want_messages key x) []
 appended_both old mid new objects key x b differs is made pushed =
     pushed ∙ ap (λ xs. xs ++ XWant key ∷ []) made ∙ append_assoc old objects (XWant key ∷ [])
     ∙ (λ i. old ++ cond (sym differs i) (objects ++ sym (wants key x is) i) [])
 
 pub appended_one : (old new objects : List Message) (key : Key) (x : Option Digest) (b : Bool) → b ≡ true → is_none x ≡ true → new ≡ old ++ objects
-    → new ≡ old ++ cond b (objects ++ want_message key x) []
+    → new ≡ old ++ cond b (objects ++ want_messages key x) []
 appended_one old new objects key x b differs is made =
     made ∙ ap (λ xs. old ++ xs) (sym (append-nil objects))
     ∙ (λ i. old ++ cond (sym differs i) (objects ++ sym (wants_not key x is) i) [])

@@ -19,7 +19,7 @@ use Rattle.hash_tree.specs.Tree.{rows_of, tree_root}
 use Rattle.hash_tree.specs.Hashed.{Collides}
 use Rattle.hash_tree.proofs.Lookups.{every_key}
 use Rattle.exchange.specs.Answers.{answer}
-use Rattle.exchange.specs.Whole.{GiveNoMore, GiveUnion, Holds, IsBetween, Reconciled, answers_in_turn, answers_to, here_after, offers, table_after_all, there_after, wanted}
+use Rattle.exchange.specs.Whole.{StayBetween, EndInUnion, Holds, IsBetween, Reconciled, answers_in_turn, answers_to, here_after, offers, table_after_all, there_after, wanted}
 use Rattle.exchange.proofs.Finding.{Alike, asked, sent}
 use Rattle.exchange.proofs.Members.{In}
 use Rattle.exchange.proofs.Taken.{Each, Each-flat_map, Each-take}
@@ -182,16 +182,16 @@ module _ (hs : List Happening) (history : IsHistory hs) (known others : Knowledg
       (λ k. neither_held here there hs history k (known k) (others k) (ours.each k) (theirs.each k)))
 
 -- at the end both hold the union, or two unequal byte strings collide
-pub union_whole : (here there : Table) → IsTable here → IsTable there → GiveUnion here there (here_after here there) (there_after here there)
-unfolding GiveUnion
+pub union_whole : (here there : Table) → IsTable here → IsTable there → EndInUnion here there (here_after here there) (there_after here there)
+unfolding EndInUnion
 union_whole here there table other =
     λ hs history known others ours theirs. every_ended hs history known others here there ours theirs (sent here there table other) (asked here there table other)
 
 -- however much was taken, each side knows at least what it knew, and at most the union
 pub no_more : (here there : Table) (n m : ℕ)
-    → GiveNoMore here there (table_after_all here (take n (offers here there)))
+    → StayBetween here there (table_after_all here (take n (offers here there)))
     (table_after_all there (take m (wanted here there)))
-unfolding GiveNoMore
+unfolding StayBetween
 no_more here there n m = λ hs history known others ours theirs. record {
   here_holds = record { each = λ k. here_is_between here there hs history k (known k) (others k) (ours.each k) (theirs.each k) n };
   there_holds = record { each = λ k. there_is_between here there hs history k (known k) (others k) (ours.each k) (theirs.each k) m };

@@ -49,7 +49,8 @@ answer_inner table p theirs =
 abbrev pub bucket_message : Table → Prefix → ℕ → Message
 bucket_message table p leaf = XBucket p leaf (bucket (rows_below p table) leaf)
 
--- there are sixteen inner nodes: no frame carries the leaves of another one
+-- there are sixteen inner nodes, and no frame carries the leaves of another one: under another
+-- number no leaf stands, so none differs
 abbrev pub answer_leaves : Table → Prefix → ℕ → List Digest → List Message
 answer_leaves table p inner theirs =
     if nat_le 16 inner
@@ -60,27 +61,27 @@ answer_leaves table p inner theirs =
 -- ---- XBUCKET: for each key of either side in order that differs or stands on one side, XOBJECT if
 -- it is held, then XWANT if the other side listed it
 
-abbrev pub object_message : Key → Option (List Entry) → List Message
-object_message key None = []
-object_message key (Some object) = XObject key object ∷ []
+abbrev pub object_messages : Key → Option (List Entry) → List Message
+object_messages key None = []
+object_messages key (Some object) = XObject key object ∷ []
 
 abbrev pub object_if_held : Table → Key → List Message
-object_if_held table key = object_message key (find key_cmp key table)
+object_if_held table key = object_messages key (find key_cmp key table)
 
-abbrev pub want_message : Key → Option Digest → List Message
-want_message key None = []
-want_message key (Some digest) = XWant key ∷ []
+abbrev pub want_messages : Key → Option Digest → List Message
+want_messages key None = []
+want_messages key (Some digest) = XWant key ∷ []
 
 abbrev pub want_if_listed : List KeyDigest → Key → List Message
 want_if_listed theirs key =
-    want_message key (find bytes_cmp key.key (map key_row_parts theirs))
+    want_messages key (find bytes_cmp key.key (map key_row_parts theirs))
 
 abbrev pub answer_key : Table → List KeyDigest → Key → List Message
 answer_key table theirs key = object_if_held table key ++ want_if_listed theirs key
 
 abbrev pub answer_bucket : Table → Prefix → ℕ → List KeyDigest → List Message
 answer_bucket table p leaf theirs =
-    flat_map (λ own_bytes. answer_key table theirs (record { prefix = p; key = own_bytes }))
+    flat_map (λ bytes. answer_key table theirs (record { prefix = p; key = bytes }))
     (differing_keys bytes_cmp (map key_row_parts theirs)
     (map key_row_parts (bucket (rows_below p table) leaf)))
 
@@ -94,4 +95,5 @@ answer table (XInner p theirs) = answer_inner table p theirs
 answer table (XLeaves p inner theirs) = answer_leaves table p inner theirs
 answer table (XBucket p leaf theirs) = answer_bucket table p leaf theirs
 answer table (XWant key) = object_if_held table key
+answer table (XObject key object) = []
 answer table _ = []

@@ -21,7 +21,8 @@ abbrev pub differing_places : List Digest → List Digest → List ℕ
 differing_places theirs own =
     filter (λ place. differ (slice_get theirs place) (slice_get own place)) (range_with_len 0 16)
 
--- the keys of both sides in order, each with their digest where they have it, and else with the own
+-- the keys of both sides in order, each with their digest where they have it, and else with the own;
+-- only the keys are read
 abbrev pub of_either : {K : Type 0} → (K → K → Ordering) → List (K × Digest) → List (K × Digest)
     → List (K × Digest)
 of_either cmp [] own = own
@@ -34,12 +35,12 @@ differing_keys cmp theirs own =
     filter (λ key. differ (find cmp key theirs) (find cmp key own))
     (map (λ entry. entry.0) (of_either cmp theirs own))
 
--- these keys, each with their digest of it, where they list it
+-- ---- what private contracts speak of
+
+-- the keys that differ, each with their digest of it, where they list it
 abbrev pub differing : {K : Type 0} → (K → K → Ordering) → List (K × Digest)
     → List (K × Digest) → List (K × Option Digest)
 differing cmp theirs own = map (λ key. (key, find cmp key theirs)) (differing_keys cmp theirs own)
-
--- ---- what private contracts speak of
 
 -- what differs where a key stands first: it, with their digest, if its digests differ, and then the
 -- rest

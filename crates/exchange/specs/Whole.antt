@@ -45,14 +45,14 @@ answers_in_turn table (message ∷ messages) =
 abbrev pub TookFront : Table → List Message → Table → Type 0
 TookFront old messages new = (n : ℕ) × (new ≡ table_after_all old (take n messages))
 
--- the first of the messages that is refused
+-- the refusal of the first message that is refused
 abbrev pub refusal_of_all : Table → List Message → Option StoreFault
 refusal_of_all table [] = None
 refusal_of_all table (message ∷ messages) =
     option_or (refusal_of table message) (refusal_of_all (table_after table message) messages)
 
--- ---- seven rounds: in each, one side takes all that the other answered in the round before. It
--- begins with the root of here
+-- ---- seven rounds: in each, one side takes all that the other answered in the round before. An
+-- exchange begins with the root of here
 
 abbrev pub answers_to : Table → List Message → List Message
 answers_to table messages = flat_map (answer table) messages
@@ -96,27 +96,30 @@ pub record HoldsBetween (hs : List Happening) (least most : Knowledge)
     (table : Table) : Type 0 where
   pub each : (key : Key) → IsBetween hs key (least key) (most key) (object_at table key)
 
--- of what arose in one history, what both sides held before and hold now
-pub record Reconciled (hs : List Happening) (known others : Knowledge)
-    (here there : Table) : Type 0 where
-  pub here_holds : Holds hs (union_by_key known others) here
-  pub there_holds : Holds hs (union_by_key known others) there
+-- both sides hold, under each key, the object of what either knew
+pub record Reconciled (hs : List Happening) (known_here known_there : Knowledge)
+    (here_end there_end : Table) : Type 0 where
+  pub here_holds : Holds hs (union_by_key known_here known_there) here_end
+  pub there_holds : Holds hs (union_by_key known_here known_there) there_end
 
--- both sides hold the union, or two unequal byte strings that are hashed for them have one digest
-unfoldable pub GiveUnion : Table → Table → Table → Table → Type 0
-GiveUnion here there here_end there_end =
-    (hs : List Happening) → IsHistory hs → (known others : Knowledge)
-    → Holds hs known here → Holds hs others there
-    → Reconciled hs known others here_end there_end ⊎ Collides here there
+-- where all that both held arose in one history, both end with the union, or two unequal byte
+-- strings that are hashed for what they held have one digest
+unfoldable pub EndInUnion : Table → Table → Table → Table → Type 0
+EndInUnion here there here_end there_end =
+    (hs : List Happening) → IsHistory hs → (known_here known_there : Knowledge)
+    → Holds hs known_here here → Holds hs known_there there
+    → Reconciled hs known_here known_there here_end there_end ⊎ Collides here there
 
--- each side knows at least what it knew, and at most the union
-pub record AreBetween (hs : List Happening) (known others : Knowledge)
-    (here there : Table) : Type 0 where
-  pub here_holds : HoldsBetween hs known (union_by_key known others) here
-  pub there_holds : HoldsBetween hs others (union_by_key known others) there
+-- under every key
+pub record AreBetween (hs : List Happening) (known_here known_there : Knowledge)
+    (here_end there_end : Table) : Type 0 where
+  pub here_holds : HoldsBetween hs known_here (union_by_key known_here known_there) here_end
+  pub there_holds : HoldsBetween hs known_there (union_by_key known_here known_there) there_end
 
-unfoldable pub GiveNoMore : Table → Table → Table → Table → Type 0
-GiveNoMore here there here_end there_end =
-    (hs : List Happening) → IsHistory hs → (known others : Knowledge)
-    → Holds hs known here → Holds hs others there
-    → AreBetween hs known others here_end there_end
+-- where all that both held arose in one history, each side ends with at least what it knew, and at
+-- most the union
+unfoldable pub StayBetween : Table → Table → Table → Table → Type 0
+StayBetween here there here_end there_end =
+    (hs : List Happening) → IsHistory hs → (known_here known_there : Knowledge)
+    → Holds hs known_here here → Holds hs known_there there
+    → AreBetween hs known_here known_there here_end there_end

@@ -9,7 +9,7 @@ ghost use Rattle.hash_tree.specs.Hashed.{rows_below};
 ghost use Rattle.exchange.specs.Answers.{answer, answer_bucket, answer_inner, answer_leaves};
 ghost use Rattle.exchange.specs.Answers.{answer_prefixes, answer_root, object_if_held};
 ghost use Rattle.exchange.specs.Answers.{bucket_message, inner_message, leaves_message};
-ghost use Rattle.exchange.specs.Answers.{want_message};
+ghost use Rattle.exchange.specs.Answers.{want_messages};
 
 use crate::sides::{Next, differ_at, next_key, next_prefix};
 use frame_fields::{Digest, Digests, KeyDigest, KeyDigests, PrefixDigest, PrefixDigests};
@@ -27,8 +27,9 @@ pub fn start(tree: &Tree) -> Message
 }
 
 /// What a message is answered from what is held, in order: each answer goes to the sender. The tree
-/// is that of the store. XOBJECT, whose object is to be merged, and messages of no exchange have no
-/// answer. Fails only when memory runs out.
+/// must be that of the store. XOBJECT, whose object is to be merged, and messages of no exchange
+/// have no answer; nor have leaves of an inner node from 16 on, which no frame carries. Fails only
+/// when memory runs out.
 #[tactic(auto, unfolding(crate::specs::Answers::answer))]
 pub fn answer(
     alloc: Global,
@@ -205,7 +206,7 @@ fn answer_key(
     requires { IsName 256 next.now.key.now }
     ensures { let key : Key = record { prefix = prefix.now; key = next.now.key.now } in
         OnOk result (answers.new.items ≡ answers.old.items ++ cond next.now.differs
-        (object_if_held store.now key ++ want_message key next.now.digest) []) }
+        (object_if_held store.now key ++ want_messages key next.now.digest) []) }
 {
     if !next.differs {
         return Ok(());

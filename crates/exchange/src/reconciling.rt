@@ -11,7 +11,7 @@ ghost use Rattle.meta_store.specs.declared.fault.StoreFault.TheVariants.{Memory}
 ghost use Rattle.meta_frame.specs.declared.message.Message.TheVariants.{XRoot};
 ghost use Rattle.hash_tree.specs.Tree.{object_digest, rows_of, tree_root};
 ghost use Rattle.exchange.specs.Answers.{answer};
-ghost use Rattle.exchange.specs.Whole.{GiveNoMore, GiveUnion, answers_in_turn, answers_to};
+ghost use Rattle.exchange.specs.Whole.{StayBetween, EndInUnion, answers_in_turn, answers_to};
 ghost use Rattle.exchange.specs.Whole.{here_after, offers, refusal_of, refusal_of_all};
 ghost use Rattle.exchange.specs.Whole.{TookFront, refusal_of_exchange, table_after};
 ghost use Rattle.exchange.specs.Whole.{table_after_all, there_after, wanted};
@@ -228,10 +228,14 @@ fn take_last(
     }
 }
 
-/// A whole exchange of two stores, each with its tree, which here begins. After it both hold the
-/// union of what they held. It is refused with the refusal of the first merge that is refused: 21
-/// `BadEntries`, as only forged objects give, 25 `StoreFull` or 27 `ObjectTooLarge`; 99 `Memory` may
-/// stand in place of any answer. What was merged before a refusal stays merged.
+/// A whole exchange of two stores, which here begins. Each tree must be that of its store, and is so
+/// afterwards, after a refusal too. Where all objects arose in one history, both then hold the union
+/// of what they held, or two unequal byte strings that are hashed for what they held have one
+/// digest.
+///
+/// It is refused as the first merge that is refused: 21 `BadEntries`, as only forged objects give,
+/// 25 `StoreFull`, 27 `ObjectTooLarge`; or with 99 `Memory` at any moment. What was merged before a
+/// refusal stays merged.
 pub fn reconcile(
     alloc: Global,
     here: &mut Store,
@@ -243,8 +247,10 @@ pub fn reconcile(
     requires there_tree { there_tree.old ≡ rows_of there.old }
     ensures here_tree { here_tree.new ≡ rows_of here.new }
     ensures there_tree { there_tree.new ≡ rows_of there.new }
-    ensures union { OnOk result (GiveUnion here.old there.old here.new there.new) }
-    ensures no_more { GiveNoMore here.old there.old here.new there.new }
+    ensures union { OnOk result (EndInUnion here.old there.old here.new there.new) }
+    ensures between { StayBetween here.old there.old here.new there.new }
+    ensures front_here { TookFront here.old (offers here.old there.old) here.new }
+    ensures front_there { TookFront there.old (wanted here.old there.old) there.new }
     ensures here { OnOk result (here.new ≡ here_after here.old there.old) }
     ensures there { OnOk result (there.new ≡ there_after here.old there.old) }
     ensures no_refusal { OnOk result (refusal_of_exchange here.old there.old ≡ None) }

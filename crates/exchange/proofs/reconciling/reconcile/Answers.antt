@@ -4,12 +4,12 @@ use Rattle.meta_store.proofs.Maps.{on_ok_more}
 use Rattle.exchange.proofs.Ending.{front_is, front_there, here_is, if_err_more, no_more_than, none_refused, refused_first, refused_second, there_is, union_of}
 use Rattle.exchange.proofs.reconciling.reconcile.Goals as goal
 
-pub returns-in_err-offered-clause-no_more : goal.returns-in_err-offered-clause-no_more
-returns-in_err-offered-clause-no_more c =
+pub returns-in_err-offered-clause-between : goal.returns-in_err-offered-clause-between
+returns-in_err-offered-clause-between c =
     no_more_than c.args.here.now c.args.there.now c.args.here.now c.args.there.now (0, refl) (0, refl)
 
-pub returns-in-Err-clause-no_more : goal.returns-in-Err-clause-no_more
-returns-in-Err-clause-no_more c =
+pub returns-in-Err-clause-between : goal.returns-in-Err-clause-between
+returns-in-Err-clause-between c =
     no_more_than c.args.here.now c.args.there.now c.take_round.new.store c.args.there.now
     (front_is c.args.here.now c.args.there.now c.in_ok-offered.offered.items c.in_ok-offered.ensures c.take_round.new.store c.in-Err.ensures.front) (0, refl)
 
@@ -24,8 +24,8 @@ returns-in-Ok-clause-union c =
     (there_is c.args.here.now c.args.there.now c.in_ok-offered.offered.items c.in_ok-offered.ensures c.in-Ok.wanted.items c.in-Ok.ensures.answers c.take_last.new.store e))
     c.take_last.ensures.value
 
-pub returns-in-Ok-clause-no_more : goal.returns-in-Ok-clause-no_more
-returns-in-Ok-clause-no_more c =
+pub returns-in-Ok-clause-between : goal.returns-in-Ok-clause-between
+returns-in-Ok-clause-between c =
     no_more_than c.args.here.now c.args.there.now c.take_round.new.store c.take_last.new.store
     (front_is c.args.here.now c.args.there.now c.in_ok-offered.offered.items c.in_ok-offered.ensures c.take_round.new.store c.in-Ok.ensures.front)
     (front_there c.args.here.now c.args.there.now c.in_ok-offered.offered.items c.in_ok-offered.ensures c.in-Ok.wanted.items c.in-Ok.ensures.answers c.take_last.new.store c.take_last.ensures.front)
@@ -45,3 +45,21 @@ returns-in-Ok-clause-no_refusal c =
 pub returns-in-Ok-clause-fault : goal.returns-in-Ok-clause-fault
 returns-in-Ok-clause-fault c =
     if_err_more c.take_last.result (λ f e. refused_second c.args.here.now c.args.there.now c.in_ok-offered.offered.items c.in_ok-offered.ensures c.in-Ok.wanted.items c.in-Ok.ensures.answers f Memory c.in-Ok.ensures.no_refusal e) c.take_last.ensures.fault
+
+pub returns-in_err-offered-clause-front_here : goal.returns-in_err-offered-clause-front_here
+returns-in_err-offered-clause-front_here c = (0, refl)
+
+pub returns-in_err-offered-clause-front_there : goal.returns-in_err-offered-clause-front_there
+returns-in_err-offered-clause-front_there c = (0, refl)
+
+pub returns-in-Err-clause-front_here : goal.returns-in-Err-clause-front_here
+returns-in-Err-clause-front_here c = front_is c.args.here.now c.args.there.now c.in_ok-offered.offered.items c.in_ok-offered.ensures c.take_round.new.store c.in-Err.ensures.front
+
+pub returns-in-Err-clause-front_there : goal.returns-in-Err-clause-front_there
+returns-in-Err-clause-front_there c = (0, refl)
+
+pub returns-in-Ok-clause-front_here : goal.returns-in-Ok-clause-front_here
+returns-in-Ok-clause-front_here c = front_is c.args.here.now c.args.there.now c.in_ok-offered.offered.items c.in_ok-offered.ensures c.take_round.new.store c.in-Ok.ensures.front
+
+pub returns-in-Ok-clause-front_there : goal.returns-in-Ok-clause-front_there
+returns-in-Ok-clause-front_there c = front_there c.args.here.now c.args.there.now c.in_ok-offered.offered.items c.in_ok-offered.ensures c.in-Ok.wanted.items c.in-Ok.ensures.answers c.take_last.new.store c.take_last.ensures.front
