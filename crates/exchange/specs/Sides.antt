@@ -21,8 +21,8 @@ abbrev pub differing_places : List Digest → List Digest → List ℕ
 differing_places theirs own =
     filter (λ place. differ (slice_get theirs place) (slice_get own place)) (range_with_len 0 16)
 
--- the keys of both sides in order, each with their digest where they have it, and else with the own;
--- only the keys are read
+-- the keys of both sides in order, each with their digest where they have it, and else with the
+-- own; only the keys are read
 abbrev pub of_either : {K : Type 0} → (K → K → Ordering) → List (K × Digest) → List (K × Digest)
     → List (K × Digest)
 of_either cmp [] own = own

@@ -228,9 +228,9 @@ fn take_last(
     }
 }
 
-/// A whole exchange of two stores, which here begins. Each tree must be that of its store, and is so
-/// afterwards, after a refusal too. Where all objects arose in one history, both then hold the union
-/// of what they held, or two unequal byte strings that are hashed for what they held have one
+/// A whole exchange of two stores, which here begins. Each tree must be that of its store, and is
+/// so afterwards, after a refusal too. Where all objects arose in one history, both then hold the
+/// union of what they held, or two unequal byte strings that are hashed for what they held have one
 /// digest.
 ///
 /// It is refused as the first merge that is refused: 21 `BadEntries`, as only forged objects give,

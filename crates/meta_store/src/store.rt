@@ -154,9 +154,9 @@ impl Store {
         Ok(())
     }
 
-    /// Takes the key and its object out again; nothing changes where the key isn't held. It takes no
-    /// memory. It is for taking back a merge or a `hold` under a new key, where what belongs to it
-    /// elsewhere could not be kept. It is no deletion, which is a write of a tombstone: what is
+    /// Takes the key and its object out again; nothing changes where the key isn't held. It takes
+    /// no memory. It is for taking back a merge or a `hold` under a new key, where what belongs to
+    /// it elsewhere could not be kept. It is no deletion, which is a write of a tombstone: what is
     /// forgotten isn't known any more, so a node would count its own writes under the key anew.
     pub fn forget(&mut self, key: &MetaKey)
         ensures { self.new ≡ without_object key.now self.old }
