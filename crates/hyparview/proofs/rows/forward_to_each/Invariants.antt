@@ -1,0 +1,7 @@
+use Rattle.std.proofs.Common.{◌≡◌, ◌++◌, drop, map}
+use Rattle.meta_frame.specs.declared.message.Message.TheVariants.{ForwardJoin}
+use Rattle.hyparview.specs.declared.event.ViewOut.TheVariants.{Send}
+use Rattle.hyparview.proofs.rows.forward_to_each.Given as goal
+
+abbrev pub invariant-loop-peer : goal.invariant-loop-peer
+invariant-loop-peer l = l.out.items ++ map (λ to. Send to (ForwardJoin l.node 4)) (drop l.peer-index l.to) ≡ l.initial.out.items ++ map (λ to. Send to (ForwardJoin l.node 4)) l.to

@@ -1,0 +1,457 @@
+//! The table of the views: one function for each row, named for its message.
+
+ghost use Rattle.std.specs.Prelude.{◌≡◌, ◌<◌, ◌≤◌, ◌++◌, length, map, IfOk, OnOk};
+ghost use Rattle.frame_fields.specs.Field.{nodes};
+ghost use Rattle.meta_frame.specs.declared.message.Message.TheVariants.{Bye, ForwardJoin};
+ghost use Rattle.peer_lists.specs.Lists.{pick};
+ghost use Rattle.hyparview.specs.declared.event.ViewOut.TheVariants.{Send};
+ghost use Rattle.hyparview.specs.Rows.{member_to_replace, priority_of};
+
+use crate::draft::{Draft, MAX_ACTIVE, MAX_PASSIVE};
+use crate::event::{ViewEvent, ViewOut};
+use frame_fields::Nodes;
+use meta_frame::{Message, NeighborAnswer, Priority};
+use meta_types::NodeId;
+use peer_lists::{choose, has, pick, without_all};
+use std::alloc::{AllocError, Global};
+
+/// How far a join walks.
+const ACTIVE_WALK: u8 = 4;
+
+/// How much is left of its walk where a node keeps the one that joined in reserve.
+const PASSIVE_WALK: u8 = 2;
+
+/// How far a shuffle walks.
+const SHUFFLE_WALK: u8 = 3;
+
+/// How many members of the active view a shuffle offers.
+const OFFERED_ACTIVE: usize = 2;
+
+/// How many members of the passive view a shuffle offers.
+const OFFERED_PASSIVE: usize = 3;
+
+impl Draft {
+    ghost use Rattle.hyparview.specs.Rows.{announce, ask, ask_another, end_walk, join_through};
+    ghost use Rattle.hyparview.specs.Rows.{keep_midway, leave, make_room_from, offer_to};
+    ghost use Rattle.hyparview.specs.Rows.{on_disconnect, on_forward_join, on_join, on_message};
+    ghost use Rattle.hyparview.specs.Rows.{on_neighbor_high, on_neighbor_low, on_no, on_yes};
+    ghost use Rattle.hyparview.specs.Rows.{on_peer_down, on_shuffle, on_shuffle_reply, row};
+    ghost use Rattle.hyparview.specs.Rows.{shuffle, take_in, take_one};
+
+    /// An event with its word: a row of the table.
+    pub(crate) fn row(&mut self, word: u64, event: &ViewEvent) -> Result<(), AllocError>
+        ensures { OnOk result (self.new ≡ row word event.now self.old) }
+    {
+        match event {
+            ViewEvent::JoinThrough { contact } => self.join_through(word, *contact),
+            ViewEvent::Taken { from, message } => self.on_message(word, *from, message),
+            ViewEvent::PeerDown { peer } => self.on_peer_down(word, *peer),
+            ViewEvent::ShuffleDue => self.shuffle(word),
+            ViewEvent::Leave => self.leave(),
+        }
+    }
+
+    /// A message that came.
+    fn on_message(&mut self, word: u64, from: NodeId, message: &Message) -> Result<(), AllocError>
+        ensures { OnOk result (self.new ≡ on_message word from message.now self.old) }
+    {
+        match message {
+            Message::Join => self.on_join(word, from),
+            Message::ForwardJoin { node, ttl } => self.on_forward_join(word, from, *node, *ttl),
+            Message::Disconnect => self.on_disconnect(word, from),
+            Message::Neighbor { priority } => match priority {
+                Priority::High => self.on_neighbor_high(word, from),
+                Priority::Low => self.on_neighbor_low(word, from),
+            },
+            Message::NeighborReply { answer } => match answer {
+                NeighborAnswer::Yes => self.on_yes(word, from),
+                NeighborAnswer::No => self.on_no(word, from),
+            },
+            Message::Shuffle { origin, ttl, nodes } => {
+                self.on_shuffle(word, from, *origin, *ttl, nodes)
+            }
+            Message::ShuffleReply { nodes } => self.on_shuffle_reply(word, nodes),
+            Message::Bye => self.on_peer_down(word, from),
+            _ => Ok(()),
+        }
+    }
+
+    /// The node joins through a contact.
+    #[tactic(auto, unfolding(crate::specs::Rows::join_through))]
+    fn join_through(&mut self, word: u64, contact: NodeId) -> Result<(), AllocError>
+        ensures { OnOk result (self.new ≡ join_through word contact self.old) }
+    {
+        self.add_active(word, contact)?;
+        self.send(contact, Message::Join)?;
+        Ok(())
+    }
+
+    /// JOIN.
+    #[tactic(auto, unfolding(crate::specs::Rows::on_join))]
+    fn on_join(&mut self, word: u64, from: NodeId) -> Result<(), AllocError>
+        ensures { OnOk result (self.new ≡ on_join word from self.old) }
+    {
+        self.add_active(word, from)?;
+        self.announce(from)?;
+        Ok(())
+    }
+
+    fn announce(&mut self, node: NodeId) -> Result<(), AllocError>
+        ensures { OnOk result (self.new ≡ announce node self.old) }
+    {
+        let others = without_all(self.alloc, self.active.as_slice(), &[node])?;
+        forward_to_each(&mut self.out, &others, node)?;
+        Ok(())
+    }
+
+    /// FORWARDJOIN.
+    #[tactic(auto, unfolding(crate::specs::Rows::on_forward_join))]
+    fn on_forward_join(
+        &mut self,
+        word: u64,
+        from: NodeId,
+        node: NodeId,
+        ttl: u8,
+    ) -> Result<(), AllocError>
+        ensures { OnOk result (self.new ≡ on_forward_join word from node ttl self.old) }
+    {
+        if node == self.node {
+            return Ok(());
+        }
+        let others = without_all(self.alloc, self.active.as_slice(), &[from, node])?;
+        if ttl == 0 || self.active.len() <= 1 || others.is_empty() {
+            self.end_walk(word, node)?;
+            return Ok(());
+        }
+        self.keep_midway(word, node, ttl)?;
+        let next = choose(word, &others);
+        self.send(next, Message::ForwardJoin { node, ttl: ttl - 1 })?;
+        Ok(())
+    }
+
+    #[tactic(auto, unfolding(crate::specs::Rows::end_walk))]
+    fn end_walk(&mut self, word: u64, node: NodeId) -> Result<(), AllocError>
+        ensures { OnOk result (self.new ≡ end_walk word node self.old) }
+    {
+        if node == self.node || self.active.contains(&node) {
+            return Ok(());
+        }
+        self.add_active(word, node)?;
+        let priority = Priority::High;
+        self.send(node, Message::Neighbor { priority })?;
+        Ok(())
+    }
+
+    #[tactic(auto, unfolding(crate::specs::Rows::keep_midway))]
+    fn keep_midway(&mut self, word: u64, node: NodeId, ttl: u8) -> Result<(), AllocError>
+        ensures { OnOk result (self.new ≡ keep_midway word node ttl self.old) }
+    {
+        if ttl == PASSIVE_WALK {
+            self.add_passive(word, node)?;
+        }
+        Ok(())
+    }
+
+    /// DISCONNECT.
+    #[tactic(auto, unfolding(crate::specs::Rows::on_disconnect))]
+    fn on_disconnect(&mut self, word: u64, from: NodeId) -> Result<(), AllocError>
+        ensures { OnOk result (self.new ≡ on_disconnect word from self.old) }
+    {
+        if self.active.contains(&from) {
+            self.leave_active(from)?;
+            self.add_passive(word, from)?;
+        }
+        Ok(())
+    }
+
+    /// NEIGHBOR high.
+    #[tactic(auto, unfolding(crate::specs::Rows::on_neighbor_high))]
+    fn on_neighbor_high(&mut self, word: u64, from: NodeId) -> Result<(), AllocError>
+        ensures { OnOk result (self.new ≡ on_neighbor_high word from self.old) }
+    {
+        self.add_active(word, from)?;
+        let answer = NeighborAnswer::Yes;
+        self.send(from, Message::NeighborReply { answer })
+    }
+
+    /// NEIGHBOR low.
+    #[tactic(auto, unfolding(crate::specs::Rows::on_neighbor_low))]
+    fn on_neighbor_low(&mut self, word: u64, from: NodeId) -> Result<(), AllocError>
+        ensures { OnOk result (self.new ≡ on_neighbor_low word from self.old) }
+    {
+        if self.active.contains(&from) || self.active.len() < MAX_ACTIVE {
+            self.on_neighbor_high(word, from)
+        } else {
+            let answer = NeighborAnswer::No;
+            self.send(from, Message::NeighborReply { answer })
+        }
+    }
+
+    /// NEIGHBORREPLY yes.
+    #[tactic(auto, unfolding(crate::specs::Rows::on_yes))]
+    fn on_yes(&mut self, word: u64, from: NodeId) -> Result<(), AllocError>
+        ensures { OnOk result (self.new ≡ on_yes word from self.old) }
+    {
+        self.add_active(word, from)?;
+        self.asked.clear();
+        Ok(())
+    }
+
+    /// NEIGHBORREPLY no.
+    #[tactic(auto, unfolding(crate::specs::Rows::on_no))]
+    fn on_no(&mut self, word: u64, from: NodeId) -> Result<(), AllocError>
+        ensures { OnOk result (self.new ≡ on_no word from self.old) }
+    {
+        self.ask_another(word, from)
+    }
+
+    /// A peer is down, or says BYE.
+    #[tactic(auto, unfolding(crate::specs::Rows::on_peer_down))]
+    fn on_peer_down(&mut self, word: u64, peer: NodeId) -> Result<(), AllocError>
+        ensures { OnOk result (self.new ≡ on_peer_down word peer self.old) }
+    {
+        if self.active.contains(&peer) {
+            self.leave_active(peer)?;
+            self.asked.clear();
+            self.ask(word)?;
+        } else {
+            self.passive.shift_remove(&peer);
+            self.ask_another(word, peer)?;
+        }
+        Ok(())
+    }
+
+    /// Asks another one for a place, if this node was asked.
+    fn ask_another(&mut self, word: u64, from: NodeId) -> Result<(), AllocError>
+        ensures { OnOk result (self.new ≡ ask_another word from self.old) }
+    {
+        if self.asked.contains(&from) {
+            self.ask(word)?;
+        }
+        Ok(())
+    }
+
+    /// Ask: a member of the passive view that wasn't asked yet is asked for a place.
+    #[tactic(auto, unfolding(crate::specs::Rows::ask))]
+    fn ask(&mut self, word: u64) -> Result<(), AllocError>
+        ensures { OnOk result (self.new ≡ ask word self.old) }
+    {
+        let unasked = without_all(self.alloc, self.passive.as_slice(), self.asked.as_slice())?;
+        if unasked.is_empty() || self.active.len() >= MAX_ACTIVE {
+            self.asked.clear();
+            return Ok(());
+        }
+        let peer = choose(word, &unasked);
+        let priority = self.priority();
+        self.asked.insert(peer)?;
+        self.send(peer, Message::Neighbor { priority })?;
+        Ok(())
+    }
+
+    fn priority(&self) -> Priority
+        ensures { result ≡ priority_of self.now.active }
+    {
+        if self.active.is_empty() {
+            Priority::High
+        } else {
+            Priority::Low
+        }
+    }
+
+    /// A shuffle is due.
+    #[tactic(auto, unfolding(crate::specs::Rows::shuffle))]
+    fn shuffle(&mut self, word: u64) -> Result<(), AllocError>
+        ensures { OnOk result (self.new ≡ shuffle word self.old) }
+    {
+        if self.active.is_empty() {
+            return Ok(());
+        }
+        let to = choose(word, self.active.as_slice());
+        let nodes = self.offer_to(word, to)?;
+        self.sent = nodes.copy()?;
+        self.send(
+            to,
+            Message::Shuffle {
+                origin: self.node,
+                ttl: SHUFFLE_WALK,
+                nodes,
+            },
+        )?;
+        Ok(())
+    }
+
+    /// What a shuffle offers to a neighbour.
+    fn offer_to(&self, word: u64, to: NodeId) -> Result<Nodes, AllocError>
+        ensures { IfOk result (λ offer. offer ≡ offer_to word to self.now) }
+    {
+        let others = without_all(self.alloc, self.active.as_slice(), &[to])?;
+        let mut offer = pick(self.alloc, word, OFFERED_ACTIVE, &others)?;
+        let passive = pick(self.alloc, word, OFFERED_PASSIVE, self.passive.as_slice())?;
+        offer.extend_from_slice(&passive)?;
+        Ok(nodes_of(offer))
+    }
+
+    /// SHUFFLE.
+    #[tactic(auto, unfolding(crate::specs::Rows::on_shuffle))]
+    fn on_shuffle(
+        &mut self,
+        word: u64,
+        from: NodeId,
+        origin: NodeId,
+        ttl: u8,
+        nodes: &Nodes,
+    ) -> Result<(), AllocError>
+        ensures { OnOk result (self.new ≡ on_shuffle word from origin ttl nodes.now self.old) }
+    {
+        if origin == self.node {
+            return Ok(());
+        }
+        let others = without_all(self.alloc, self.active.as_slice(), &[from, origin])?;
+        if ttl >= 2 && self.active.len() > 1 && !others.is_empty() {
+            let next = choose(word, &others);
+            let nodes = nodes.copy()?;
+            self.send(
+                next,
+                Message::Shuffle {
+                    origin,
+                    ttl: ttl - 1,
+                    nodes,
+                },
+            )?;
+            return Ok(());
+        }
+        let reply = pick_nodes(self.alloc, word, nodes, self.passive.as_slice())?;
+        self.send(
+            origin,
+            Message::ShuffleReply {
+                nodes: reply.copy()?,
+            },
+        )?;
+        self.take_one(word, reply.as_slice(), origin)?;
+        self.take_in(word, reply.as_slice(), nodes.as_slice())?;
+        Ok(())
+    }
+
+    /// SHUFFLEREPLY.
+    #[tactic(auto, unfolding(crate::specs::Rows::on_shuffle_reply))]
+    fn on_shuffle_reply(&mut self, word: u64, nodes: &Nodes) -> Result<(), AllocError>
+        ensures { OnOk result (self.new ≡ on_shuffle_reply word nodes.now self.old) }
+    {
+        let sent = self.sent.copy()?;
+        self.take_in(word, sent.as_slice(), nodes.as_slice())?;
+        self.sent = nodes_of(Vec::new(self.alloc));
+        Ok(())
+    }
+
+    /// TakeIn: the nodes that a shuffle brought, for those that were given away.
+    fn take_in(&mut self, word: u64, given: &[NodeId], nodes: &[NodeId]) -> Result<(), AllocError>
+        ensures { OnOk result (self.new ≡ take_in word given.now nodes.now self.old) }
+    {
+        for node in nodes {
+            self.take_one(word, given, *node)?;
+        }
+        Ok(())
+    }
+
+    #[tactic(auto, unfolding(crate::specs::Rows::take_one))]
+    fn take_one(&mut self, word: u64, given: &[NodeId], node: NodeId) -> Result<(), AllocError>
+        ensures { OnOk result (self.new ≡ take_one word given.now node self.old) }
+    {
+        if node == self.node || self.active.contains(&node) || self.passive.contains(&node) {
+            return Ok(());
+        }
+        self.make_room_from(word, given);
+        self.passive.insert(node)?;
+        Ok(())
+    }
+
+    fn make_room_from(&mut self, word: u64, given: &[NodeId])
+        ensures { self.new ≡ make_room_from word given.now self.old }
+    {
+        if self.passive.len() >= MAX_PASSIVE {
+            let leaving = member_to_replace(word, given, self.passive.as_slice());
+            self.passive.shift_remove(&leaving);
+        }
+    }
+
+    /// The node leaves the cluster.
+    #[tactic(auto, unfolding(crate::specs::Rows::leave))]
+    fn leave(&mut self) -> Result<(), AllocError>
+        ensures { OnOk result (self.new ≡ leave self.old) }
+    {
+        say_bye(&mut self.out, self.active.as_slice())?;
+        self.all_leave_active()?;
+        self.passive.clear();
+        self.asked.clear();
+        self.sent = nodes_of(Vec::new(self.alloc));
+        Ok(())
+    }
+}
+
+/// Tells each of these nodes of one that joined.
+fn forward_to_each(out: &mut Vec<ViewOut>, to: &[NodeId], node: NodeId) -> Result<(), AllocError>
+    ensures { OnOk result
+        (out.new.items ≡ out.old.items ++ map (λ to. Send to (ForwardJoin node 4)) to.now) }
+{
+    for peer in to {
+        let ttl = ACTIVE_WALK;
+        out.push(ViewOut::Send(*peer, Message::ForwardJoin { node, ttl }))?;
+    }
+    Ok(())
+}
+
+fn say_bye(out: &mut Vec<ViewOut>, to: &[NodeId]) -> Result<(), AllocError>
+    ensures { OnOk result (out.new.items ≡ out.old.items ++ map (λ to. Send to Bye) to.now) }
+{
+    for peer in to {
+        out.push(ViewOut::Send(*peer, Message::Bye))?;
+    }
+    Ok(())
+}
+
+/// Whom a full passive view loses for a node that a shuffle brought.
+#[tactic(auto, unfolding(crate::specs::Rows::member_to_replace))]
+fn member_to_replace(word: u64, given: &[NodeId], passive: &[NodeId]) -> NodeId
+    requires { 0 < length passive.now }
+    ensures { result ≡ member_to_replace word given.now passive.now }
+{
+    for node in given {
+        if has(passive, *node) {
+            return *node;
+        }
+    }
+    choose(word, passive)
+}
+
+/// As many members as a shuffle brought, from the random place on.
+fn pick_nodes(
+    alloc: Global,
+    word: u64,
+    brought: &Nodes,
+    members: &[NodeId],
+) -> Result<Nodes, AllocError>
+    ensures { IfOk result (λ picked. picked ≡ pick word (length brought.now) members.now) }
+{
+    let picked = pick(alloc, word, brought.as_slice().len(), members)?;
+    Ok(nodes_of(picked))
+}
+
+/// The list of a message.
+fn nodes_of(numbers: Vec<NodeId>) -> Nodes
+    requires { length numbers.items ≤ 16 }
+    ensures { result ≡ numbers.items }
+{
+    tell_ranges(numbers.as_slice());
+    Nodes::new(numbers)
+}
+
+/// Does nothing. Each node keeps the range of its number by itself; it is read here so that the
+/// contract can say it of all of them.
+fn tell_ranges(numbers: &[NodeId])
+    requires { length numbers.now ≤ 16 }
+    ensures { nodes.Fits numbers.now }
+{
+    for node in numbers {
+        let _ = node.number();
+    }
+}

@@ -1,0 +1,288 @@
+ghost use Rattle.std.specs.Prelude.{◌≡◌, [], IfOk, OnOk, OnErr, true, false};
+ghost use Rattle.plumtree.specs.Broadcast.{Broadcasts, Changes, Down, IsCall, TakesGossip};
+ghost use Rattle.plumtree.specs.Broadcast.{TakesGraft, TakesIHave, TakesPrune, Tick, Up};
+
+use crate::entry::{Announcement, Announcer, CastOut, Missing};
+use crate::links::{become_eager, become_lazy};
+use crate::missing::{
+    announced, announcements, copy_missing, copy_queue, forget, gossips, leave_known, leave_queue,
+    note,
+};
+use crate::tick::Draft;
+use dvvset::Vector;
+use indexmap::IndexSet;
+use meta_frame::Message;
+use meta_types::{MetaKey, NodeId};
+use peer_lists::without_all;
+use std::alloc::{AllocError, Global};
+use std::marker::Model;
+
+/// The broadcast of a node: its eager and its lazy peers, what it will announce at the next tick,
+/// and what it waits for. A peer stands in one of the two lists, once.
+///
+/// Each call but `down` and `on_change` fails only when memory runs out, and then all is as before.
+/// A round counts how often an object was passed on, and stays at 65,535.
+#[derive(Drop)]
+pub struct Cast {
+    alloc: Global,
+    eager: IndexSet<NodeId>,
+    lazy: IndexSet<NodeId>,
+    queue: Vec<Announcement>,
+    missing: Vec<Missing>,
+}
+
+impl Model for Cast {
+    ghost use Rattle.plumtree.specs.Broadcast.{Broadcast};
+    ghost use Rattle.plumtree.specs.Lawful.{AreLinks};
+
+    ghost Value = { Broadcast };
+
+    ghost view = { λ c. record {
+      eager = c.eager.keys;
+      lazy = c.lazy.keys;
+      queue = c.queue.items;
+      missing = c.missing.items;
+    } };
+
+    ghost invariant = { λ c. AreLinks c.eager.keys c.lazy.keys };
+}
+
+impl Cast {
+    ghost use Rattle.plumtree.specs.Broadcast.{IsStaleCall, draft_of, empty};
+    ghost use Rattle.plumtree.specs.Rows.{forget_missing, send_announcements};
+    ghost use Rattle.plumtree.specs.Lawful.{AreLinks};
+
+    /// The broadcast of a node without peers. It takes no memory.
+    pub fn new(alloc: Global) -> Self
+        ensures { result ≡ empty }
+    {
+        Cast {
+            alloc,
+            eager: IndexSet::new(alloc),
+            lazy: IndexSet::new(alloc),
+            queue: Vec::new(alloc),
+            missing: Vec::new(alloc),
+        }
+    }
+
+    /// The peers that get objects at once, in their order.
+    pub fn eager(&self) -> &[NodeId]
+        ensures value { result.now ≡ self.now.eager }
+        ensures lawful { AreLinks self.now.eager self.now.lazy }
+    {
+        self.eager.as_slice()
+    }
+
+    /// The peers that get announcements, in their order.
+    pub fn lazy(&self) -> &[NodeId]
+        ensures value { result.now ≡ self.now.lazy }
+        ensures lawful { AreLinks self.now.eager self.now.lazy }
+    {
+        self.lazy.as_slice()
+    }
+
+    /// A node became a peer: an eager one.
+    #[tactic(auto, unfolding(crate::specs::Rows::up))]
+    pub fn up(&mut self, node: NodeId) -> Result<(), AllocError>
+        ensures row { OnOk result (IsCall (Up node) self.old self.new []) }
+        ensures unchanged { OnErr result (self.new ≡ self.old) }
+    {
+        if !self.eager.contains(&node) && !self.lazy.contains(&node) {
+            self.eager.insert(node)?;
+        }
+        Ok(())
+    }
+
+    /// A node is a peer no more.
+    #[tactic(auto, unfolding(crate::specs::Rows::down))]
+    pub fn down(&mut self, node: NodeId)
+        ensures { IsCall (Down node) self.old self.new [] }
+    {
+        self.eager.shift_remove(&node);
+        self.lazy.shift_remove(&node);
+        leave_queue(&mut self.queue, node);
+        forget(&mut self.missing, node);
+    }
+
+    /// The node wrote under the key, and its context of the key is now this vector.
+    #[tactic(auto, unfolding(crate::specs::Rows::on_broadcast))]
+    pub fn on_broadcast(
+        &mut self,
+        key: &MetaKey,
+        vector: &Vector,
+    ) -> Result<Vec<CastOut>, AllocError>
+        ensures row { IfOk result
+            (λ out. IsCall (Broadcasts key.now vector.now) self.old self.new out.items) }
+        ensures unchanged { OnErr result (self.new ≡ self.old) }
+    {
+        let out = gossips(self.alloc, self.eager.as_slice(), 0, key)?;
+        let mut queue = announcements(self.alloc, self.lazy.as_slice(), 0, key, vector)?;
+        self.queue.append(&mut queue)?;
+        Ok(out)
+    }
+
+    /// GOSSIP, whose object was merged: it was fresh or not, and the node's context of the key is
+    /// now `own_vector`.
+    pub fn on_gossip(
+        &mut self,
+        from: NodeId,
+        round: u16,
+        key: &MetaKey,
+        own_vector: &Vector,
+        fresh: bool,
+    ) -> Result<Vec<CastOut>, AllocError>
+        ensures row { IfOk result (λ out. IsCall
+            (TakesGossip from round key.now own_vector.now fresh) self.old self.new out.items) }
+        ensures unchanged { OnErr result (self.new ≡ self.old) }
+    {
+        if fresh {
+            self.on_fresh(from, round, key, own_vector)
+        } else {
+            self.on_stale(from)
+        }
+    }
+
+    #[tactic(auto, unfolding(crate::specs::Rows::on_fresh))]
+    fn on_fresh(
+        &mut self,
+        from: NodeId,
+        round: u16,
+        key: &MetaKey,
+        own_vector: &Vector,
+    ) -> Result<Vec<CastOut>, AllocError>
+        ensures row { IfOk result (λ out. IsCall
+            (TakesGossip from round key.now own_vector.now true) self.old self.new out.items) }
+        ensures unchanged { OnErr result (self.new ≡ self.old) }
+    {
+        let round = round.saturating_add(1);
+        let eager = without_all(self.alloc, self.eager.as_slice(), &[from])?;
+        let out = gossips(self.alloc, &eager, round, key)?;
+        let lazy = without_all(self.alloc, self.lazy.as_slice(), &[from])?;
+        let mut queue = announcements(self.alloc, &lazy, round, key, own_vector)?;
+        self.eager.reserve(1)?;
+        self.queue.append(&mut queue)?;
+        become_eager(from, &mut self.eager, &mut self.lazy);
+        Ok(out)
+    }
+
+    #[tactic(auto, unfolding(crate::specs::Rows::on_stale))]
+    fn on_stale(&mut self, from: NodeId) -> Result<Vec<CastOut>, AllocError>
+        ensures row { IfOk result (λ out. IsStaleCall from self.old self.new out.items) }
+        ensures unchanged { OnErr result (self.new ≡ self.old) }
+    {
+        let mut out = Vec::new(self.alloc);
+        out.push(CastOut::Send(from, Message::Prune))?;
+        self.lazy.reserve(1)?;
+        become_lazy(from, &mut self.eager, &mut self.lazy);
+        Ok(out)
+    }
+
+    /// PRUNE.
+    #[tactic(auto, unfolding(crate::specs::Rows::on_prune))]
+    pub fn on_prune(&mut self, from: NodeId) -> Result<Vec<CastOut>, AllocError>
+        ensures row { IfOk result
+            (λ out. IsCall (TakesPrune from) self.old self.new out.items) }
+        ensures unchanged { OnErr result (self.new ≡ self.old) }
+    {
+        self.lazy.reserve(1)?;
+        become_lazy(from, &mut self.eager, &mut self.lazy);
+        Ok(Vec::new(self.alloc))
+    }
+
+    /// IHAVE. `stale` says whether the node's context of the key descends the vector.
+    #[tactic(auto, unfolding(crate::specs::Rows::on_ihave))]
+    pub fn on_ihave(
+        &mut self,
+        from: NodeId,
+        round: u16,
+        key: &MetaKey,
+        vector: &Vector,
+        stale: bool,
+    ) -> Result<Vec<CastOut>, AllocError>
+        ensures row { IfOk result (λ out. IsCall
+            (TakesIHave from round key.now vector.now stale) self.old self.new out.items) }
+        ensures unchanged { OnErr result (self.new ≡ self.old) }
+    {
+        if !stale {
+            let announcer = Announcer { peer: from, round };
+            note(self.alloc, &mut self.missing, announcer, key, vector)?;
+        }
+        Ok(Vec::new(self.alloc))
+    }
+
+    /// GRAFT. `held` says whether the node's context of the key descends the vector that was asked
+    /// for.
+    #[tactic(auto, unfolding(crate::specs::Rows::on_graft))]
+    pub fn on_graft(
+        &mut self,
+        from: NodeId,
+        round: u16,
+        key: &MetaKey,
+        held: bool,
+    ) -> Result<Vec<CastOut>, AllocError>
+        ensures row { IfOk result (λ out. IsCall
+            (TakesGraft from round key.now held) self.old self.new out.items) }
+        ensures unchanged { OnErr result (self.new ≡ self.old) }
+    {
+        let out = if held {
+            gossips(self.alloc, &[from], round, key)?
+        } else {
+            Vec::new(self.alloc)
+        };
+        self.eager.reserve(1)?;
+        become_eager(from, &mut self.eager, &mut self.lazy);
+        Ok(out)
+    }
+
+    /// The object under the key changed, by a write or a fresh merge, and the node's context of the
+    /// key is now this vector: what it descends isn't waited for any more. Comes before what the
+    /// same change sends.
+    #[tactic(auto, unfolding(crate::specs::Rows::on_change))]
+    pub fn on_change(&mut self, key: &MetaKey, vector: &Vector)
+        ensures { IsCall (Changes key.now vector.now) self.old self.new [] }
+    {
+        leave_known(&mut self.missing, key, vector);
+    }
+
+    /// A tick: announcements go out, and what is overdue is asked for.
+    #[tactic(auto, unfolding(crate::specs::Rows::on_tick))]
+    pub fn on_tick(&mut self) -> Result<Vec<CastOut>, AllocError>
+        ensures row { IfOk result (λ out. IsCall Tick self.old self.new out.items) }
+        ensures unchanged { OnErr result (self.new ≡ self.old) }
+    {
+        let mut draft = self.begin_tick()?;
+        draft.tick_each(self.missing.as_slice())?;
+        self.eager = draft.eager;
+        self.lazy = draft.lazy;
+        self.missing = draft.missing;
+        self.queue.clear();
+        Ok(draft.out)
+    }
+
+    /// A tick begins: announcements go out, and no object is missing yet.
+    fn begin_tick(&self) -> Result<Draft, AllocError>
+        ensures { IfOk result
+            (λ draft. draft ≡ forget_missing (send_announcements (draft_of self.now))) }
+    {
+        Ok(Draft {
+            alloc: self.alloc,
+            eager: self.eager.clone()?,
+            lazy: self.lazy.clone()?,
+            missing: Vec::new(self.alloc),
+            out: announced(self.alloc, self.queue.as_slice())?,
+        })
+    }
+
+    /// Fails only when memory runs out.
+    pub fn copy(&self) -> Result<Self, AllocError>
+        ensures { IfOk result (λ copy. copy ≡ self.now) }
+    {
+        Ok(Cast {
+            alloc: self.alloc,
+            eager: self.eager.clone()?,
+            lazy: self.lazy.clone()?,
+            queue: copy_queue(self.alloc, self.queue.as_slice())?,
+            missing: copy_missing(self.alloc, self.missing.as_slice())?,
+        })
+    }
+}

@@ -1,0 +1,56 @@
+use dvvset::Vector;
+use meta_frame::Message;
+use meta_types::{MetaKey, NodeId};
+use std::marker::Model;
+
+/// What a call of the broadcast gives for.
+#[derive(Debug, Drop, PartialEq, Eq)]
+pub enum CastOut {
+    /// The object that is held under this key is to be sent to this node, in a GOSSIP of this
+    /// round.
+    Gossip {
+        to: NodeId,
+        round: u16,
+        key: MetaKey,
+    },
+    /// This message is to be sent to this node.
+    Send(NodeId, Message),
+}
+
+/// An announcement that waits for the next tick.
+#[derive(Debug, Drop)]
+pub struct Announcement {
+    pub peer: NodeId,
+    pub round: u16,
+    pub key: MetaKey,
+    pub vector: Vector,
+}
+
+/// Who announced an object, and the round that came with it.
+#[derive(Clone, Copy, Debug)]
+pub struct Announcer {
+    pub peer: NodeId,
+    pub round: u16,
+}
+
+/// An object that was announced and isn't here.
+#[derive(Debug, Drop)]
+pub(crate) struct Missing {
+    pub(crate) key: MetaKey,
+    pub(crate) vector: Vector,
+    pub(crate) announcers: Vec<Announcer>,
+    pub(crate) ticks: u8,
+}
+
+impl Model for Missing {
+    ghost use Rattle.plumtree.specs.Missing.{MissingObject};
+
+    ghost Value = { MissingObject };
+
+    ghost view = { λ m. record {
+      key = m.key;
+      vector = m.vector;
+      announcers = m.announcers.items;
+      ticks = m.ticks;
+    } };
+}

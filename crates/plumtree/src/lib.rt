@@ -1,0 +1,33 @@
+//! Plumtree: whom a node sends an object, and whom only its announcement.
+//!
+//! Objects go at once to the eager peers. Lazy ones hear at the next tick that there is one
+//! (IHAVE), and ask for it (GRAFT) if it hasn't come by another way some ticks later. A link over
+//! which an object came that was known already becomes lazy (PRUNE), so that the eager links become
+//! a tree; one over which an object had to be asked for becomes eager again.
+//!
+//! Each call is one row of a table. [`Cast`] holds no objects: whoever does says whether one was
+//! fresh, and adds it to the [`CastOut::Gossip`] that a call gives for.
+//!
+//! ```
+//! let mut cast = Cast::new(alloc);
+//! cast.up(peer)?;
+//! for out in cast.on_broadcast(&key, &vector)? {
+//!     match out {
+//!         CastOut::Gossip { to, round, key } => send_object(to, round, key)?,
+//!         CastOut::Send(to, message) => send(to, message)?,
+//!     }
+//! }
+//! ```
+//!
+//! Read `entry`, `cast`, then `links`, `missing` and `tick`.
+#![tactic(auto)]
+
+pub mod cast;
+pub mod entry;
+pub mod laws;
+mod links;
+mod missing;
+mod tick;
+
+pub use cast::Cast;
+pub use entry::CastOut;

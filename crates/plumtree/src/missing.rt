@@ -1,0 +1,251 @@
+//! The objects that a node waits for, and the announcements that wait for a tick.
+
+ghost use Rattle.std.specs.Prelude.{◌≡◌, ◌<◌, length, map, IfOk, IfSome, OnOk, OnErr};
+ghost use Rattle.std.specs.List.{filter, position};
+ghost use Rattle.plumtree.specs.declared.entry.CastOut.TheVariants.{Gossip};
+ghost use Rattle.plumtree.specs.Draft.{announcement};
+ghost use Rattle.plumtree.specs.Rows.{forgotten, is_announced_by, is_not_by, is_not_to, is_of};
+ghost use Rattle.plumtree.specs.Rows.{first_announced, is_still_missing, noted, sent};
+ghost use Rattle.plumtree.specs.Rows.{with_announcer};
+
+use crate::entry::{Announcement, Announcer, CastOut, Missing};
+use dvvset::{Vector, descends};
+use meta_frame::Message;
+use meta_types::{MetaKey, NodeId};
+use std::alloc::{AllocError, Global};
+
+/// How many ticks an announced object has until it is asked for.
+const PATIENCE: u8 = 2;
+
+impl Missing {
+    /// An object that is announced for the first time.
+    fn announced_by(
+        alloc: Global,
+        announcer: Announcer,
+        key: &MetaKey,
+        vector: &Vector,
+    ) -> Result<Self, AllocError>
+        ensures { IfOk result (λ new.
+            new ≡ first_announced announcer.peer announcer.round key.now vector.now) }
+    {
+        let key = key.copy()?;
+        let vector = vector.copy()?;
+        let mut announcers = Vec::new(alloc);
+        announcers.push(announcer)?;
+        Ok(Missing {
+            key,
+            vector,
+            announcers,
+            ticks: PATIENCE,
+        })
+    }
+
+    /// The same object with other announcers and ticks.
+    pub(crate) fn with(
+        &self,
+        alloc: Global,
+        announcers: &[Announcer],
+        ticks: u8,
+    ) -> Result<Self, AllocError>
+        ensures { IfOk result (λ new.
+            new ≡ record self.now { announcers = announcers.now; ticks = ticks }) }
+    {
+        let key = self.key.copy()?;
+        let vector = self.vector.copy()?;
+        let mut left = Vec::new(alloc);
+        left.extend_from_slice(announcers)?;
+        Ok(Missing {
+            key,
+            vector,
+            announcers: left,
+            ticks,
+        })
+    }
+
+    fn is_of(&self, key: &MetaKey, vector: &Vector) -> bool
+        ensures { result ≡ is_of key.now vector.now self.now }
+    {
+        self.key == *key && self.vector == *vector
+    }
+
+    /// Returns whether a node whose context of the key is this vector still lacks the object.
+    fn is_still_missing(&self, key: &MetaKey, vector: &Vector) -> bool
+        ensures { result ≡ is_still_missing key.now vector.now self.now }
+    {
+        !(self.key == *key && descends(vector, &self.vector))
+    }
+
+    /// One more announcer, unless it announced the object before.
+    fn add_announcer(&mut self, announcer: Announcer) -> Result<(), AllocError>
+        ensures ok { OnOk result
+            (self.new ≡ with_announcer announcer.peer announcer.round self.old) }
+        ensures unchanged { OnErr result (self.new ≡ self.old) }
+    {
+        if !is_announced_by(self.announcers.as_slice(), announcer.peer) {
+            self.announcers.push(announcer)?;
+        }
+        Ok(())
+    }
+
+    fn forget(&mut self, node: NodeId)
+        ensures { self.new ≡ forgotten node self.old }
+    {
+        leave_announcers(&mut self.announcers, node);
+    }
+}
+
+fn is_announced_by(announcers: &[Announcer], node: NodeId) -> bool
+    ensures { result ≡ is_announced_by node announcers.now }
+{
+    announcers.iter().any(|announcer| node == announcer.peer)
+}
+
+fn place_of(missing: &[Missing], key: &MetaKey, vector: &Vector) -> Option<usize>
+    ensures value { result ≡ position (is_of key.now vector.now) missing.now }
+    ensures within { IfSome result (λ place. place < length missing.now) }
+{
+    missing.iter().position(|object| object.is_of(key, vector))
+}
+
+/// An announcement came of an object that isn't here.
+pub(crate) fn note(
+    alloc: Global,
+    missing: &mut Vec<Missing>,
+    announcer: Announcer,
+    key: &MetaKey,
+    vector: &Vector,
+) -> Result<(), AllocError>
+    ensures ok { OnOk result (missing.new.items
+        ≡ noted announcer.peer announcer.round key.now vector.now missing.old.items) }
+    ensures unchanged { OnErr result (missing.new.items ≡ missing.old.items) }
+{
+    match place_of(missing.as_slice(), key, vector) {
+        Some(place) => missing[place].add_announcer(announcer),
+        None => {
+            let new = Missing::announced_by(alloc, announcer, key, vector)?;
+            missing.push(new)?;
+            Ok(())
+        }
+    }
+}
+
+/// Forgets who announced an object, where it was this node.
+pub(crate) fn forget(missing: &mut Vec<Missing>, node: NodeId)
+    ensures { missing.new.items ≡ map (forgotten node) missing.old.items }
+{
+    for place in 0..missing.len() {
+        missing[place].forget(node);
+    }
+}
+
+fn leave_announcers(announcers: &mut Vec<Announcer>, node: NodeId)
+    ensures { announcers.new.items ≡ filter (is_not_by node) announcers.old.items }
+{
+    announcers.retain(|announcer| node != announcer.peer);
+}
+
+/// The objects under the key leave that this vector descends.
+pub(crate) fn leave_known(missing: &mut Vec<Missing>, key: &MetaKey, vector: &Vector)
+    ensures { missing.new.items
+        ≡ filter (is_still_missing key.now vector.now) missing.old.items }
+{
+    missing.retain(|object| object.is_still_missing(key, vector));
+}
+
+/// The announcements to this node leave.
+pub(crate) fn leave_queue(queue: &mut Vec<Announcement>, node: NodeId)
+    ensures { queue.new.items ≡ filter (is_not_to node) queue.old.items }
+{
+    queue.retain(|announcement| node != announcement.peer);
+}
+
+/// The object under the key goes to each of these.
+pub(crate) fn gossips(
+    alloc: Global,
+    peers: &[NodeId],
+    round: u16,
+    key: &MetaKey,
+) -> Result<Vec<CastOut>, AllocError>
+    ensures { IfOk result
+        (λ out. out.items ≡ map (λ to. Gossip to round key.now) peers.now) }
+{
+    let mut out = Vec::new(alloc);
+    for peer in peers {
+        let key = key.copy()?;
+        out.push(CastOut::Gossip {
+            to: *peer,
+            round,
+            key,
+        })?;
+    }
+    Ok(out)
+}
+
+/// It is announced to each of these at the next tick.
+pub(crate) fn announcements(
+    alloc: Global,
+    peers: &[NodeId],
+    round: u16,
+    key: &MetaKey,
+    vector: &Vector,
+) -> Result<Vec<Announcement>, AllocError>
+    ensures { IfOk result
+        (λ queue. queue.items ≡ map (announcement round key.now vector.now) peers.now) }
+{
+    let mut queue = Vec::new(alloc);
+    for peer in peers {
+        let key = key.copy()?;
+        let vector = vector.copy()?;
+        queue.push(Announcement {
+            peer: *peer,
+            round,
+            key,
+            vector,
+        })?;
+    }
+    Ok(queue)
+}
+
+/// The announcements that wait, as messages.
+pub(crate) fn announced(alloc: Global, queue: &[Announcement]) -> Result<Vec<CastOut>, AllocError>
+    ensures { IfOk result (λ out. out.items ≡ map sent queue.now) }
+{
+    let mut out = Vec::new(alloc);
+    for announcement in queue {
+        let key = announcement.key.copy()?;
+        let vector = announcement.vector.copy()?;
+        let round = announcement.round;
+        out.push(CastOut::Send(announcement.peer, Message::IHave { round, key, vector }))?;
+    }
+    Ok(out)
+}
+
+pub(crate) fn copy_missing(alloc: Global, missing: &[Missing]) -> Result<Vec<Missing>, AllocError>
+    ensures { IfOk result (λ copy. copy.items ≡ missing.now) }
+{
+    let mut copy = Vec::new(alloc);
+    for object in missing {
+        copy.push(object.with(alloc, object.announcers.as_slice(), object.ticks)?)?;
+    }
+    Ok(copy)
+}
+
+pub(crate) fn copy_queue(
+    alloc: Global,
+    queue: &[Announcement],
+) -> Result<Vec<Announcement>, AllocError>
+    ensures { IfOk result (λ copy. copy.items ≡ queue.now) }
+{
+    let mut copy = Vec::new(alloc);
+    for announcement in queue {
+        let key = announcement.key.copy()?;
+        let vector = announcement.vector.copy()?;
+        copy.push(Announcement {
+            peer: announcement.peer,
+            round: announcement.round,
+            key,
+            vector,
+        })?;
+    }
+    Ok(copy)
+}
