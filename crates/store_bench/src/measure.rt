@@ -1,6 +1,7 @@
 //! How often a call is made in a second.
 
 use crate::node::{Node, Work};
+use crate::sides::{Sent, Sides};
 use std::io;
 use std::time::Instant;
 
@@ -9,6 +10,9 @@ const LEAST: u128 = 25_000_000;
 
 /// How many samples there are, of which the middle one counts.
 const SAMPLES: usize = 11;
+
+/// How often an exchange is run, of which the middle time counts.
+const EXCHANGES: usize = 9;
 
 /// How many nanoseconds so many calls take.
 fn taken(rt: &HostRuntime, node: &mut Node, work: Work, calls: u32) -> io::Result<u128> {
@@ -102,4 +106,23 @@ fn print_time(
     let hundredths = pace.hundredths();
     let (whole, rest) = (hundredths / 100, hundredths % 100);
     println!(rt; "{name}_{count}_keys_{prefixes}_prefix {whole}.{rest:02} ms")
+}
+
+/// How many nanoseconds an exchange takes: the median of the runs.
+pub fn median_time(rt: &HostRuntime, sides: &Sides) -> io::Result<u128> {
+    let mut times = Vec::with_capacity(rt.alloc(), EXCHANGES)?;
+    for _run in 0..EXCHANGES {
+        times.push(sides.taken(rt)?)?;
+    }
+    times.sort()?;
+    Ok(times.get(EXCHANGES / 2).copied().unwrap_or(1))
+}
+
+/// Prints the lines of an exchange: its milliseconds, and what it sends.
+pub fn print_exchange(rt: &HostRuntime, changes: u32, nanos: u128, sent: Sent) -> io::Result<()> {
+    let (whole, rest) = (nanos / 1_000_000, nanos % 1_000_000 / 100);
+    let (frames, bytes) = (sent.frames, sent.bytes);
+    println!(rt; "reconcile_8192_diff_{changes}_time {whole}.{rest:04} ms")?;
+    println!(rt; "reconcile_8192_diff_{changes}_frames {frames} frames")?;
+    println!(rt; "reconcile_8192_diff_{changes}_bytes {bytes} bytes")
 }

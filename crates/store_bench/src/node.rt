@@ -36,7 +36,8 @@ pub struct Node {
     dice: u64,
 }
 
-fn refused<E: Drop>(_refusal: E) -> io::Error {
+/// The error that stands for any refusal: a bench has no use for its name.
+pub fn refused<E: Drop>(_refusal: E) -> io::Error {
     io::Error::from(io::ErrorKind::Other)
 }
 
@@ -52,7 +53,7 @@ fn key(alloc: Global, number: u32, prefixes: u32) -> io::Result<MetaKey> {
 }
 
 /// Writes the value under the key, over what is held there.
-fn put_over(store: &mut Store, actor: Actor, key: &MetaKey, value: &Value) -> io::Result<()> {
+pub fn put_over(store: &mut Store, actor: Actor, key: &MetaKey, value: &Value) -> io::Result<()> {
     let (_values, context) = store.look(key, Source { actor, step: 1 })?;
     store
         .put(actor, key.copy()?, value.copy()?, Some(&context))
@@ -69,7 +70,7 @@ fn follow(tree: &mut Tree, store: &Store, key: &MetaKey) -> io::Result<()> {
 }
 
 /// The keys of these numbers.
-fn keys(alloc: Global, count: u32, prefixes: u32) -> io::Result<Vec<MetaKey>> {
+pub fn keys(alloc: Global, count: u32, prefixes: u32) -> io::Result<Vec<MetaKey>> {
     let mut keys = Vec::with_capacity(alloc, count as usize)?;
     for number in 0..count {
         keys.push(key(alloc, number, prefixes)?)?;
@@ -78,7 +79,7 @@ fn keys(alloc: Global, count: u32, prefixes: u32) -> io::Result<Vec<MetaKey>> {
 }
 
 /// A value of 100 bytes.
-fn value(alloc: Global) -> io::Result<Value> {
+pub fn value(alloc: Global) -> io::Result<Value> {
     let body = vec![in alloc; b'a'; BODY]?;
     Value::new(0, Some(body)).map_err(refused)
 }
@@ -162,7 +163,7 @@ impl Node {
 }
 
 /// A store with the value under each of the keys, and its tree.
-fn filled(
+pub fn filled(
     alloc: Global,
     actor: Actor,
     keys: &[MetaKey],
