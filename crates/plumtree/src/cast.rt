@@ -48,7 +48,8 @@ impl Model for Cast {
 }
 
 impl Cast {
-    ghost use Rattle.plumtree.specs.Broadcast.{IsStaleCall, draft_of, empty};
+    ghost use Rattle.plumtree.specs.Broadcast.{IsStaleCall, broadcast_of, draft_of, empty};
+    ghost use Rattle.plumtree.specs.Draft.{becomes_lazy};
     ghost use Rattle.plumtree.specs.Rows.{forget_missing, send_announcements};
     ghost use Rattle.plumtree.specs.Lawful.{AreLinks};
 
@@ -172,8 +173,7 @@ impl Cast {
     {
         let mut out = Vec::new(self.alloc);
         out.push(CastOut::Send(from, Message::Prune))?;
-        self.lazy.reserve(1)?;
-        become_lazy(from, &mut self.eager, &mut self.lazy);
+        self.make_lazy(from)?;
         Ok(out)
     }
 
@@ -184,9 +184,18 @@ impl Cast {
             (λ out. IsCall (TakesPrune from) self.old self.new out.items) }
         ensures unchanged { OnErr result (self.new ≡ self.old) }
     {
-        self.lazy.reserve(1)?;
-        become_lazy(from, &mut self.eager, &mut self.lazy);
+        self.make_lazy(from)?;
         Ok(Vec::new(self.alloc))
+    }
+
+    fn make_lazy(&mut self, node: NodeId) -> Result<(), AllocError>
+        ensures lazy { OnOk result
+            (self.new ≡ broadcast_of (becomes_lazy node (draft_of self.old))) }
+        ensures unchanged { OnErr result (self.new ≡ self.old) }
+    {
+        self.lazy.reserve(1)?;
+        become_lazy(node, &mut self.eager, &mut self.lazy);
+        Ok(())
     }
 
     /// IHAVE. `stale` says whether the node's context of the key descends the vector.
