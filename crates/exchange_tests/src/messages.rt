@@ -38,8 +38,8 @@ fn add_kinds(rt: &impl Abort, kinds: &mut Vec<&'static str>, messages: &[Message
     }
 }
 
-/// The kinds of all messages of an exchange, in order, which here begins. The sides take turns: each
-/// takes all that the other answered.
+/// The kinds of all messages of an exchange, in order, which here begins. The sides take turns:
+/// each takes all that the other answered.
 fn kinds(rt: &impl Abort, alloc: Global, here: &mut Side, there: &mut Side) -> Vec<&'static str> {
     let mut kinds = Vec::new(alloc);
     let mut round = vec![in alloc; start(&here.tree)].expect(rt, "memory");

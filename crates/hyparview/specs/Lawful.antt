@@ -1,4 +1,4 @@
--- What holds of the views after every list of events, and of what a step gives for.
+-- What holds of the views after every list of events, and of what a step gives out.
 use Rattle.std.specs.Prelude.{ℕ, ◌≡◌, ◌≢◌, ◌≤◌, true, false, List, [], ◌∷◌, ◌++◌, length, nat_eq, All}
 use Rattle.std.specs.List.{IsDistinct}
 use Rattle.meta_frame.specs.declared.message.Message.{Message}

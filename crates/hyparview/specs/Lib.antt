@@ -7,5 +7,5 @@ pub mod Draft
 pub mod Rows
 -- the views of a node, and one step of them
 pub mod Views
--- what always holds of them, and of what a step gives for
+-- what always holds of them, and of what a step gives out
 pub mod Lawful

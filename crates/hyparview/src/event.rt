@@ -19,7 +19,7 @@ pub enum ViewEvent {
     Leave,
 }
 
-/// What a step of the views gives for.
+/// What a step of the views gives out.
 #[derive(Debug, Drop, PartialEq, Eq)]
 pub enum ViewOut {
     /// This message is to be sent to this node.

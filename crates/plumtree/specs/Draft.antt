@@ -1,4 +1,4 @@
--- The broadcast in the midst of a call, with what the call has asked for so far, and the small
+-- The broadcast in the midst of a call, with what the call has given out so far, and the small
 -- steps that the rows of the table are made of.
 use Rattle.std.specs.Prelude.{ℕ, List, [], ◌∷◌, ◌++◌, map, if◌then◌else◌}
 use Rattle.meta_types.specs.Name.{Key}
@@ -11,7 +11,7 @@ use Rattle.peer_lists.specs.Lists.{has, without, put_last}
 use Rattle.plumtree.specs.Missing.{MissingObject}
 
 -- eager and lazy peers, the announcements that wait for the next tick, the objects that the node
--- waits for, and what the call has asked for
+-- waits for, and what the call has given out
 pub record Draft : Type 0 where
   pub eager : List ℕ
   pub lazy : List ℕ
@@ -24,7 +24,7 @@ infixl 5 ◌▷◌
 abbrev pub ◌▷◌ : Draft → (Draft → Draft) → Draft
 t ▷ f = f t
 
--- ---- what is asked for goes last
+-- ---- what is given out goes last
 
 abbrev pub send : ℕ → Message → Draft → Draft
 send to message t = record t { out = t.out ++ Send to message ∷ [] }

@@ -1,4 +1,4 @@
--- What holds of the broadcast after every list of calls, and of what a call gives for.
+-- What holds of the broadcast after every list of calls, and of what a call gives out.
 use Rattle.std.specs.Prelude.{ℕ, ◌≡◌, ◌≢◌, ◌<◌, ◌^◌, Bool, true, false, not, ◌||◌, ◌&&◌, List, [], ◌∷◌, nat_eq, All}
 use Rattle.std.specs.List.{IsDistinct}
 use Rattle.meta_frame.specs.declared.message.Message.TheVariants.{IHave, Graft}
@@ -81,7 +81,7 @@ MayCome node (TakesGraft from round key held) = from ≢ node
 MayCome node (Changes key vector) = Unit {0}
 MayCome node Tick = Unit {0}
 
--- what such a call gives for may be sent, and so may what it leaves
+-- what such a call gives out may be sent, and so may what it leaves
 pub record Sends (node : ℕ) (b : Broadcast) (call : CastCall) : Type 0 where
   pub out : All (MayBeSent node) (row call (draft_of b)).out
   pub left : NamesOthers node (after_call b call)

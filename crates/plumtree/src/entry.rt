@@ -3,7 +3,7 @@ use meta_frame::Message;
 use meta_types::{MetaKey, NodeId};
 use std::marker::Model;
 
-/// What a call of the broadcast gives for.
+/// What a call of the broadcast gives out.
 #[derive(Debug, Drop, PartialEq, Eq)]
 pub enum CastOut {
     /// The object that is held under this key is to be sent to this node, in a GOSSIP of this

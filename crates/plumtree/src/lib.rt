@@ -6,7 +6,7 @@
 //! a tree; one over which an object had to be asked for becomes eager again.
 //!
 //! Each call is one row of a table. [`Cast`] holds no objects: whoever does says whether one was
-//! fresh, and adds it to the [`CastOut::Gossip`] that a call gives for.
+//! fresh, and adds it to the [`CastOut::Gossip`] that a call gives out.
 //!
 //! ```
 //! let mut cast = Cast::new(alloc);
