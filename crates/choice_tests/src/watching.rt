@@ -1,0 +1,77 @@
+//! What a watch holds, and which capacities it may have.
+
+use dvvset::{Counter, Vector};
+use meta_types::{Actor, FullPrefix, MetaKey, NodeId};
+use std::alloc::Global;
+use std::process::Abort;
+use subscriptions::{Change, Watch, WatchFault};
+
+fn prefix(rt: &impl Abort, alloc: Global, sub: &str) -> FullPrefix {
+    let first = b"a".to_vec(alloc).expect(rt, "memory");
+    let sub = sub.as_bytes().to_vec(alloc).expect(rt, "memory");
+    FullPrefix::new(first, sub).expect(rt, "a prefix")
+}
+
+/// The first write of node 0 under a key.
+fn change(rt: &impl Abort, alloc: Global, sub: &str, key: &str) -> Change {
+    let key = key.as_bytes().to_vec(alloc).expect(rt, "memory");
+    let key = MetaKey::new(prefix(rt, alloc, sub), key).expect(rt, "a key");
+    let writer = Actor::new(NodeId::new(0).expect(rt, "a node"), 1);
+    let counters = vec![in alloc; Counter::new(writer, 1)].expect(rt, "memory");
+    let vector = Vector::from_parts(counters).expect(rt, "a vector");
+    Change { key, vector }
+}
+
+/// A watch of a/b with room for two, to which these changes came, each by its sub-prefix and key.
+fn watch(rt: &impl Abort, alloc: Global, changes: &[(&str, &str)]) -> Watch {
+    let mut watch = Watch::new(alloc, prefix(rt, alloc, "b"), 2).expect(rt, "a watch");
+    for (sub, key) in changes {
+        watch.note(change(rt, alloc, sub, key));
+    }
+    watch
+}
+
+/// The watch has missed so many changes, and hands out changes of these keys, in this order.
+fn hands_out(rt: &impl Abort, watch: &mut Watch, missed: u64, keys: &[&str]) {
+    assert_eq!(rt; watch.missed(), missed);
+    let changes = watch.take().expect(rt, "memory");
+    assert_eq!(rt; changes.len(), keys.len());
+    for (change, key) in changes.iter().zip(keys) {
+        assert_eq!(rt; change.key.key(), key.as_bytes());
+    }
+}
+
+#[test]
+fn the_oldest_change_is_missed_where_there_is_no_room(rt: HostRuntime) {
+    let alloc = rt.alloc();
+    let mut watch = watch(
+        &rt,
+        alloc,
+        &[("b", "k"), ("b", "l"), ("c", "x"), ("b", "m")],
+    );
+    let mut copy = watch.copy().expect(&rt, "memory");
+    hands_out(&rt, &mut watch, 1, &["l", "m"]);
+    hands_out(&rt, &mut watch, 0, &[]);
+    hands_out(&rt, &mut copy, 1, &["l", "m"]);
+}
+
+#[test]
+fn a_watch_has_room_for_1_to_1024_changes(rt: HostRuntime) {
+    let alloc = rt.alloc();
+    for (capacity, is_taken) in [(0, false), (1, true), (1024, true), (1025, false)] {
+        let watch = Watch::new(alloc, prefix(&rt, alloc, "b"), capacity);
+        assert_eq!(rt; watch.is_ok(), is_taken);
+    }
+    let refused = Watch::new(alloc, prefix(&rt, alloc, "b"), 0);
+    assert!(rt; matches!(refused, Err(WatchFault::BadWatch)));
+}
+
+/// Allocates at most 60 times.
+#[test]
+fn a_take_is_made_again_under_refused_memory(rt: HostRuntime) {
+    let alloc = rt.alloc();
+    let mut watch = watch(&rt, alloc, &[("b", "k"), ("b", "l"), ("b", "m")]);
+    if watch.take().is_err() {
+        hands_out(&rt, &mut watch, 1, &["l", "m"]);
+    }
+}

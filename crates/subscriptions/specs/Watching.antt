@@ -1,0 +1,50 @@
+-- A watch, which holds the last changes under a full prefix. The rule is our own.
+use Rattle.std.specs.Prelude.{ℕ, ◌+◌, ◌-◌, ◌^◌, ◌<◌, ◌≤◌, Bool, List, [], ◌∷◌, ◌++◌, length, drop, min, nat_eq, if◌then◌else◌}
+use Rattle.meta_types.specs.Name.{Prefix, Key}
+use Rattle.meta_types.specs.Order.{prefix_eq}
+use Rattle.subscriptions.specs.declared.change.Change.{Change}
+
+-- whose changes are heard of, how many are held at most, those that are held, oldest first, and how
+-- many left without having been taken
+pub record Watching : Type 0 where
+  pub prefix : Prefix
+  pub capacity : ℕ
+  pub changes : List Change
+  pub missed : ℕ
+
+-- how many changes there may be room for
+abbrev pub IsCapacity : ℕ → Type 0
+IsCapacity capacity = (1 ≤ capacity) × (capacity ≤ 1024)
+
+-- a new watch
+abbrev pub empty : Prefix → ℕ → Watching
+empty prefix capacity = record { prefix = prefix; capacity = capacity; changes = []; missed = 0 }
+
+abbrev pub hears : Watching → Key → Bool
+hears w key = prefix_eq w.prefix key.prefix
+
+abbrev pub is_full : Watching → Bool
+is_full w = nat_eq (length w.changes) w.capacity
+
+-- the oldest leaves, and is counted as far as 64 bits count
+abbrev pub without_oldest : Watching → Watching
+without_oldest w = record w { changes = drop 1 w.changes; missed = min (w.missed + 1) (2 ^ 64 - 1) }
+
+-- where there is no room the oldest makes some
+abbrev pub with_room : Watching → Watching
+with_room w = if is_full w then without_oldest w else w
+
+abbrev pub HasRoom : Watching → Type 0
+HasRoom w = length w.changes < w.capacity
+
+-- the change comes last
+abbrev pub with_last : Change → Watching → Watching
+with_last change w = record w { changes = w.changes ++ change ∷ [] }
+
+-- a change of another prefix does nothing
+abbrev pub noted : Change → Watching → Watching
+noted change w = if hears w change.key then with_last change (with_room w) else w
+
+-- all that was held is handed out
+abbrev pub taken : Watching → Watching
+taken w = record w { changes = []; missed = 0 }
