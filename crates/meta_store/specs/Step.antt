@@ -56,6 +56,11 @@ refusal_of_put table id key value context = first_that_applies (
 abbrev pub merge_of : Table → Key → List Entry → List Entry
 merge_of table key came = sync (object_at table key) came
 
+-- what a merge holds anew, unless what came is stale
+abbrev pub merged_if_fresh : Table → Key → List Entry → Option (List Entry)
+merged_if_fresh table key came =
+    if is_stale table key (join came) then None else Some (merge_of table key came)
+
 -- what stands under the key after a merge; what came is stale where its vector is, and then nothing
 -- changes
 abbrev pub object_after_merge : Table → Key → List Entry → List Entry

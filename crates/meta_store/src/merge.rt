@@ -1,6 +1,6 @@
 //! Merges.
 
-ghost use Rattle.std.specs.Prelude.{◌≡◌, ◌≢◌, ◌⊎◌, if◌then◌else◌, true, false, List, Ok, Some, None, IfOk, IfErr, OnOk, OnErr};
+ghost use Rattle.std.specs.Prelude.{◌≡◌, ◌≢◌, ◌⊎◌, if◌then◌else◌, true, false, List, Ok, Some, None, IfOk, IfSome, OnOk, OnErr};
 ghost use Rattle.meta_types.specs.Failing.{FailsBy};
 ghost use Rattle.meta_types.specs.Name.{Key};
 ghost use Rattle.dvvset.specs.Clock.{join};
@@ -10,7 +10,7 @@ ghost use Rattle.past_model.specs.Past.{writes};
 ghost use Rattle.past_model.specs.History.{IsHistory};
 ghost use Rattle.past_model.specs.Shown.{IsObjectOf};
 ghost use Rattle.meta_store.specs.Table.{IsHeld, is_stale, object_at};
-ghost use Rattle.meta_store.specs.Step.{table_after_merge, answer_of_merge, merge_of, object_after_merge, refusal_of_merge};
+ghost use Rattle.meta_store.specs.Step.{table_after_merge, answer_of_merge, merge_of, merged_if_fresh, object_after_merge, refusal_of_merge};
 ghost use Rattle.meta_store.specs.declared.fault.StoreFault.TheVariants.{Memory};
 ghost use Rattle.meta_store.specs.declared.merge.Merged.TheVariants.{Stale};
 
@@ -67,6 +67,26 @@ impl Store {
         let merged = self.merged(&key, &object)?;
         self.hold(key, merged)?;
         Ok(Merged::Fresh)
+    }
+
+    /// The object that `merge` would hold, by the same rules and with the same refusals, or none
+    /// where what came is stale; that takes no memory and is never refused. Nothing changes.
+    pub fn preview_merge(
+        &self,
+        key: &MetaKey,
+        came: &Entries,
+    ) -> Result<Option<Entries>, StoreFault>
+        ensures stale { is_stale self.now key.now (join came.now) ≡ true → result ≡ Ok None }
+        ensures value { IfOk result
+            (λ merged. merged ≡ merged_if_fresh self.now key.now came.now) }
+        ensures held { IfOk result (λ merged. IfSome merged IsHeld) }
+        ensures no_refusal { OnOk result (refusal_of_merge self.now key.now came.now ≡ None) }
+        ensures fault { FailsBy Memory (refusal_of_merge self.now key.now came.now) result }
+    {
+        if self.knows(key, came) {
+            return Ok(None);
+        }
+        Ok(Some(self.merged(key, came)?))
     }
 
     /// The merge of what is held under the key and what came, which isn't stale.
