@@ -4,5 +4,5 @@ pub mod Mapped
 pub mod Peers
 -- each call keeps each peer in one list, and changes who is one as stated
 pub mod Standing
--- what is sent goes to others, and has a spelling
+-- what is given out goes to others, and each message has a spelling
 pub mod Sending

@@ -3,7 +3,7 @@ use Rattle.std.proofs.Common.{◌≡◌, ℕ, true, false, cond, List, nat_eq, �
 use Rattle.std.proofs.lemmas.Bool.{eqb-true, cases_Bool}
 use Rattle.peer_lists.specs.Lists.{has, without, put_last}
 use Rattle.peer_lists.proofs.Members.{has-without, without-lacks, has-put_last, IsDistinct-put_last, IsDistinct-without, has-without_same}
-use Rattle.plumtree.specs.Draft.{gained, left_in}
+use Rattle.plumtree.specs.Draft.{gained}
 use Rattle.plumtree.specs.Lawful.{AreLinks}
 
 AreLinks-moved : (x : ℕ) (E Z : List ℕ) → AreLinks E Z → AreLinks (put_last x E) (without x Z)
@@ -17,6 +17,14 @@ AreLinks-moved x E Z h =
           (cases_Bool (nat_eq y x));
     }
 
+AreLinks-left : (x : ℕ) (E Z : List ℕ) → AreLinks E Z → AreLinks E (without x Z)
+AreLinks-left x E Z h =
+    record {
+      eager_once = h.eager_once;
+      lazy_once = IsDistinct-without x Z h.lazy_once;
+      disjoint = λ y e. without-lacks x y Z (h.disjoint y e);
+    }
+
 AreLinks-swap : (E Z : List ℕ) → AreLinks E Z → AreLinks Z E
 AreLinks-swap E Z h =
     record {
@@ -25,15 +33,15 @@ AreLinks-swap E Z h =
       disjoint = λ y e. ⊎_elim (λ there. absurd (true≢false (sym e ∙ h.disjoint y there))) (λ (lacks : has E y ≡ false). lacks) (cases_Bool (has E y));
     }
 
-pub AreLinks-eager : (x : ℕ) (E Z : List ℕ) → AreLinks E Z → AreLinks (gained x Z E) (left_in x Z)
+pub AreLinks-eager : (x : ℕ) (E Z : List ℕ) → AreLinks E Z → AreLinks (gained x Z E) (without x Z)
 AreLinks-eager x E Z h =
-    elim (has Z x) as (λ b. AreLinks (cond b (put_last x E) E) (cond b (without x Z) Z)) [
+    elim (has Z x) as (λ b. AreLinks (cond b (put_last x E) E) (without x Z)) [
       | true ↦ AreLinks-moved x E Z h
-      | false ↦ h
+      | false ↦ AreLinks-left x E Z h
     ]
 
-pub AreLinks-lazy : (x : ℕ) (E Z : List ℕ) → AreLinks E Z → AreLinks (left_in x E) (gained x E Z)
-AreLinks-lazy x E Z h = AreLinks-swap (gained x E Z) (left_in x E) (AreLinks-eager x Z E (AreLinks-swap E Z h))
+pub AreLinks-lazy : (x : ℕ) (E Z : List ℕ) → AreLinks E Z → AreLinks (without x E) (gained x E Z)
+AreLinks-lazy x E Z h = AreLinks-swap (gained x E Z) (without x E) (AreLinks-eager x Z E (AreLinks-swap E Z h))
 
 pub AreLinks-without : (x : ℕ) (E Z : List ℕ) → AreLinks E Z → AreLinks (without x E) (without x Z)
 AreLinks-without x E Z h =
@@ -55,11 +63,11 @@ AreLinks-up x E Z absent h =
     }
 
 -- the same of lists that are given by equations, as the code has them
-pub links_eager : (x : ℕ) (E Z F Y : List ℕ) → F ≡ gained x Z E → Y ≡ left_in x Z → AreLinks E Z → AreLinks F Y
+pub links_eager : (x : ℕ) (E Z F Y : List ℕ) → F ≡ gained x Z E → Y ≡ without x Z → AreLinks E Z → AreLinks F Y
 links_eager x E Z F Y f y h = subst (λ (l : List ℕ). AreLinks l Y) (sym f) (subst (λ (l : List ℕ). AreLinks (gained x Z E) l) (sym y) (AreLinks-eager x E Z h))
 
-pub links_lazy : (x : ℕ) (E Z F Y : List ℕ) → F ≡ left_in x E → Y ≡ gained x E Z → AreLinks E Z → AreLinks F Y
-links_lazy x E Z F Y f y h = subst (λ (l : List ℕ). AreLinks l Y) (sym f) (subst (λ (l : List ℕ). AreLinks (left_in x E) l) (sym y) (AreLinks-lazy x E Z h))
+pub links_lazy : (x : ℕ) (E Z F Y : List ℕ) → F ≡ without x E → Y ≡ gained x E Z → AreLinks E Z → AreLinks F Y
+links_lazy x E Z F Y f y h = subst (λ (l : List ℕ). AreLinks l Y) (sym f) (subst (λ (l : List ℕ). AreLinks (without x E) l) (sym y) (AreLinks-lazy x E Z h))
 
 pub links_without : (x : ℕ) (E Z F Y : List ℕ) → F ≡ without x E → Y ≡ without x Z → AreLinks E Z → AreLinks F Y
 links_without x E Z F Y f y h = subst (λ (l : List ℕ). AreLinks l Y) (sym f) (subst (λ (l : List ℕ). AreLinks (without x E) l) (sym y) (AreLinks-without x E Z h))

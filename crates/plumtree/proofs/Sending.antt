@@ -1,4 +1,4 @@
--- What a call gives out goes to others, and has a spelling.
+-- What a call gives out goes to others, and each message of it has a spelling.
 use Rattle.std.proofs.Common.{◌≡◌, ◌≢◌, ℕ, zero, suc, ◌+◌, ◌-◌, ◌<◌, ◌^◌, min, Bool, true, false, cond, ◌||◌, List, [], ◌∷◌, ◌++◌, map, nat_eq, nat_lt, slice_index_or, All, ⊎_elim, refl, sym, ap, ◌∙◌, true≢false, arith, Option, Some, None}
 use Rattle.std.specs.List.{position}
 use Rattle.std.proofs.lemmas.Bool.{eqb-true, cases_Bool, cond_both}
@@ -8,15 +8,15 @@ use Rattle.dvvset.specs.Object.{Counter}
 use Rattle.meta_frame.specs.Frame.{IsMessage}
 use Rattle.meta_frame.specs.declared.message.Message.{Message}
 use Rattle.meta_frame.specs.declared.message.Message.TheVariants.{IHave, Graft, Prune}
-use Rattle.peer_lists.specs.Lists.{has, without, without_all, put_last}
+use Rattle.peer_lists.specs.Lists.{has, without_all, put_last}
 use Rattle.peer_lists.proofs.Members.{has-put_last, without-lacks, members≢, not_in_without_all}
 use Rattle.plumtree.specs.declared.entry.Announcer.{Announcer}
 use Rattle.plumtree.specs.declared.entry.CastOut.TheVariants.{Gossip, Send}
 use Rattle.plumtree.specs.Missing.{MissingObject}
-use Rattle.plumtree.specs.Draft.{Draft, announcement, announce_to, becomes_eager, becomes_lazy, gained, gossip_to, left_in, send}
-use Rattle.plumtree.specs.Rows.{up, down, on_broadcast, on_fresh, on_stale, on_prune, on_ihave, on_graft, on_change, on_tick, announcer, ask_first, first_announced, forget_missing, forgotten, is_announced_by, is_not_by, is_not_to, is_of, is_still_missing, keep, next_round, noted, noted_at, send_announcements, sent, tick_each, tick_one, with_announcer}
-use Rattle.plumtree.specs.Broadcast.{CastCall, Up, Down, Broadcasts, TakesGossip, TakesPrune, TakesIHave, TakesGraft, Changes, Tick, draft_of, row}
-use Rattle.plumtree.specs.Lawful.{MayBeSent, MayBeAsked, MayCome, SendsToOthers}
+use Rattle.plumtree.specs.Draft.{Draft, announcement_to, announce_to, becomes_eager, becomes_lazy, gained, gossip_to, send}
+use Rattle.plumtree.specs.Rows.{up, down, on_broadcast, on_fresh, on_stale, on_prune, on_ihave, on_graft, on_change, on_tick, announcer, ask_first, first_announced, is_announced_by, is_not_by, is_not_to, is_of, is_still_missing, keep, next_round, none_missing, noted, noted_at, ihave_of, send_announcements, tick_each, tick_one, with_announcer, without_announcer}
+use Rattle.plumtree.specs.Broadcast.{Broadcast, CastCall, Up, Down, Broadcasts, TakesGossip, TakesPrune, TakesIHave, TakesGraft, Changes, Tick, draft_of, empty, row}
+use Rattle.plumtree.specs.Lawful.{MayBeSent, MayBeAsked, MayCome, NamesOthers, SendsToOthers, TellsOthers}
 
 -- the element of a list, or what stands for it, has what all have
 index_all : {X : Type 0} (P : X → Type 0) (xs : List X) (i : ℕ) (d : X) → All P xs → P d → P (slice_index_or xs i d)
@@ -38,9 +38,6 @@ module _ (node : ℕ) where
       has-put_last x node to differs ∙ h)
       (λ _. h)
 
-  left_lacks : (x : ℕ) (from : List ℕ) → has from node ≡ false → has (left_in x from) node ≡ false
-  left_lacks x from h = cond_both (has from x) (without x from) from (λ l. has l node ≡ false) (λ _. without-lacks x node from h) (λ _. h)
-
   others : (from : ℕ) (xs : List ℕ) → has xs node ≡ false → All (λ x. x ≢ node) (without_all (from ∷ []) xs)
   others from xs h = members≢ node (without_all (from ∷ []) xs) (not_in_without_all node (from ∷ []) xs h)
 
@@ -49,14 +46,14 @@ module _ (node : ℕ) where
   record Fine (t : Draft) : Type 0 where
     eager : has t.eager node ≡ false
     lazy : has t.lazy node ≡ false
-    queue : All (λ a. MayBeSent node (sent a)) t.queue
+    queue : All (λ a. MayBeSent node (ihave_of a)) t.queue
     missing : All (MayBeAsked node) t.missing
     out : All (MayBeSent node) t.out
 
   Fine-becomes_eager : (x : ℕ) (t : Draft) → Fine t → Fine (becomes_eager x t)
   Fine-becomes_eager x t h = record {
     eager = gained_lacks x t.lazy t.eager h.lazy h.eager;
-    lazy = left_lacks x t.lazy h.lazy;
+    lazy = without-lacks x node t.lazy h.lazy;
     queue = h.queue;
     missing = h.missing;
     out = h.out;
@@ -64,7 +61,7 @@ module _ (node : ℕ) where
 
   Fine-becomes_lazy : (x : ℕ) (t : Draft) → Fine t → Fine (becomes_lazy x t)
   Fine-becomes_lazy x t h = record {
-    eager = left_lacks x t.eager h.eager;
+    eager = without-lacks x node t.eager h.eager;
     lazy = gained_lacks x t.eager t.lazy h.eager h.lazy;
     queue = h.queue;
     missing = h.missing;
@@ -95,9 +92,9 @@ module _ (node : ℕ) where
     eager = h.eager;
     lazy = h.lazy;
     queue =
-        All-append (λ a. MayBeSent node (sent a)) t.queue (map (announcement round key vector) peers) h.queue
-        (All-map (λ a. MayBeSent node (sent a)) (announcement round key vector) peers
-        (All-weaker (λ x. x ≢ node) (λ x. MayBeSent node (sent (announcement round key vector x))) (λ x apart. (apart, spelled)) peers other));
+        All-append (λ a. MayBeSent node (ihave_of a)) t.queue (map (announcement_to round key vector) peers) h.queue
+        (All-map (λ a. MayBeSent node (ihave_of a)) (announcement_to round key vector) peers
+        (All-weaker (λ x. x ≢ node) (λ x. MayBeSent node (ihave_of (announcement_to round key vector x))) (λ x apart. (apart, spelled)) peers other));
     missing = h.missing;
     out = h.out;
   }
@@ -178,10 +175,10 @@ module _ (node : ℕ) where
   Fine-down x t h = record {
     eager = without-lacks x node t.eager h.eager;
     lazy = without-lacks x node t.lazy h.lazy;
-    queue = All-filter (is_not_to x) (λ a. MayBeSent node (sent a)) t.queue h.queue;
+    queue = All-filter (is_not_to x) (λ a. MayBeSent node (ihave_of a)) t.queue h.queue;
     missing =
-        All-map (MayBeAsked node) (forgotten x) t.missing
-        (All-weaker (MayBeAsked node) (λ m. MayBeAsked node (forgotten x m)) (λ m may. (may.0, All-filter (is_not_by x) Announces m.announcers may.1)) t.missing h.missing);
+        All-map (MayBeAsked node) (without_announcer x) t.missing
+        (All-weaker (MayBeAsked node) (λ m. MayBeAsked node (without_announcer x m)) (λ m may. (may.0, All-filter (is_not_by x) Announces m.announcers may.1)) t.missing h.missing);
     out = h.out;
   }
 
@@ -218,13 +215,13 @@ module _ (node : ℕ) where
   Fine-on_tick : (t : Draft) → Fine t → Fine (on_tick t)
   unfolding on_tick
   Fine-on_tick t h =
-      Fine-tick_each t.missing (forget_missing (send_announcements t)) h.missing
+      Fine-tick_each t.missing (none_missing (send_announcements t)) h.missing
       (record {
         eager = h.eager;
         lazy = h.lazy;
-        queue = All-nil (λ a. MayBeSent node (sent a));
+        queue = All-nil (λ a. MayBeSent node (ihave_of a));
         missing = All-nil (MayBeAsked node);
-        out = All-append (MayBeSent node) t.out (map sent t.queue) h.out (All-map (MayBeSent node) sent t.queue h.queue);
+        out = All-append (MayBeSent node) t.out (map ihave_of t.queue) h.out (All-map (MayBeSent node) ihave_of t.queue h.queue);
       })
 
   Fine-call : (call : CastCall) (t : Draft) → MayCome node call → Fine t → Fine (row call t)
@@ -247,8 +244,16 @@ module _ (node : ℕ) where
   }
   Fine-call Tick t may h = Fine-on_tick t h
 
-pub sends_to_others : SendsToOthers
-sends_to_others node b call names may =
+empty_names : (node : ℕ) → NamesOthers node empty
+empty_names node = record {
+  eager = refl;
+  lazy = refl;
+  queue = All-nil (λ a. MayBeSent node (ihave_of a));
+  missing = All-nil (MayBeAsked node);
+}
+
+call_tells : (node : ℕ) (b : Broadcast) (call : CastCall) → NamesOthers node b → MayCome node call → TellsOthers node b call
+call_tells node b call names may =
     let start : Fine node (draft_of b) = record {
       eager = names.eager;
       lazy = names.lazy;
@@ -259,5 +264,8 @@ sends_to_others node b call names may =
     let end = Fine-call node call (draft_of b) may start in
     record {
       out = end.out;
-      left = record { eager = end.eager; lazy = end.lazy; queue = end.queue; missing = end.missing };
+      broadcast = record { eager = end.eager; lazy = end.lazy; queue = end.queue; missing = end.missing };
     }
+
+pub sends_to_others : SendsToOthers
+sends_to_others = record { begins = empty_names; goes_on = call_tells }

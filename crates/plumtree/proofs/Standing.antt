@@ -4,22 +4,30 @@ use Rattle.std.proofs.lemmas.Bool.{eqb-true, cases_Bool, or_parts, cond_both}
 use Rattle.std.proofs.Math.Bool.{or-false, and-true, and-false, or_comm}
 use Rattle.std.specs.List.{IsDistinct}
 use Rattle.peer_lists.specs.Lists.{has, without, put_last}
-use Rattle.peer_lists.proofs.Members.{has-self, has-put_last, has-put_last_same, has-without_other, has-without_same, or_right}
+use Rattle.peer_lists.proofs.Members.{has-self, has-put_last, has-put_last_same, has-without_other, has-without_same, or_right, without-lacks}
 use Rattle.plumtree.specs.declared.entry.Announcer.{Announcer}
 use Rattle.plumtree.specs.Missing.{MissingObject}
-use Rattle.plumtree.specs.Draft.{Draft, gained, left_in, becomes_eager, becomes_lazy}
-use Rattle.plumtree.specs.Rows.{up, down, on_broadcast, on_fresh, on_stale, on_prune, on_ihave, on_graft, on_change, on_tick, ask_first, tick_each, tick_one, forget_missing, send_announcements}
+use Rattle.plumtree.specs.Draft.{Draft, gained, becomes_eager, becomes_lazy}
+use Rattle.plumtree.specs.Rows.{up, down, on_broadcast, on_fresh, on_stale, on_prune, on_ihave, on_graft, on_change, on_tick, ask_first, tick_each, tick_one, none_missing, send_announcements}
 use Rattle.plumtree.specs.Broadcast.{Broadcast, CastCall, Up, Down, Broadcasts, TakesGossip, TakesPrune, TakesIHave, TakesGraft, Changes, Tick, draft_of, empty}
-use Rattle.plumtree.specs.Lawful.{AreLinks, after, after_call, StayLinks, PeersComeAndGo, is_peer, is_peer_after}
+use Rattle.plumtree.specs.Lawful.{AreLinks, HasLinks, broadcast_after, after_call, StayLinks, PeersComeAndGo, is_peer, is_peer_after}
 use Rattle.plumtree.proofs.Peers.{AreLinks-eager, AreLinks-lazy, AreLinks-up, AreLinks-without}
 
 -- whether y is in one of two lists
 abbrev among : List ℕ → List ℕ → ℕ → Bool
 among E Z y = has E y || has Z y
 
-among-eager : (x y : ℕ) (E Z : List ℕ) → AreLinks E Z → among (gained x Z E) (left_in x Z) y ≡ among E Z y
+has-without_absent : (x y : ℕ) (xs : List ℕ) → has xs x ≡ false → has (without x xs) y ≡ has xs y
+has-without_absent x y xs absent =
+    ⊎_elim
+    (λ same.
+    subst (λ (n : ℕ). has (without x xs) n ≡ has xs n) (sym (eqb-true y x same)) (without-lacks x x xs absent ∙ sym absent))
+    (λ differs. has-without_other x y xs differs)
+    (cases_Bool (nat_eq y x))
+
+among-eager : (x y : ℕ) (E Z : List ℕ) → AreLinks E Z → among (gained x Z E) (without x Z) y ≡ among E Z y
 among-eager x y E Z h =
-    (elim (has Z x) as (λ b. has Z x ≡ b → (has (cond b (put_last x E) E) y || has (cond b (without x Z) Z) y) ≡ among E Z y) [
+    (elim (has Z x) as (λ b. has Z x ≡ b → (has (cond b (put_last x E) E) y || has (without x Z) y) ≡ among E Z y) [
       | true ↦ λ there.
           ⊎_elim
           (λ same.
@@ -27,7 +35,7 @@ among-eager x y E Z h =
           (ap (λ b. b || has (without x Z) x) (has-put_last_same x E) ∙ sym (or_right (has E x) (has Z x) there)))
           (λ differs. λ i. has-put_last x y E differs i || has-without_other x y Z differs i)
           (cases_Bool (nat_eq y x))
-      | false ↦ λ _. refl
+      | false ↦ λ absent. ap (λ b. has E y || b) (has-without_absent x y Z absent)
     ]) refl
 
 swapped : (E Z : List ℕ) → AreLinks E Z → AreLinks Z E
@@ -38,9 +46,9 @@ swapped E Z h =
       disjoint = λ y e. ⊎_elim (λ there. absurd (true≢false (sym e ∙ h.disjoint y there))) (λ (lacks : has E y ≡ false). lacks) (cases_Bool (has E y));
     }
 
-among-lazy : (x y : ℕ) (E Z : List ℕ) → AreLinks E Z → among (left_in x E) (gained x E Z) y ≡ among E Z y
+among-lazy : (x y : ℕ) (E Z : List ℕ) → AreLinks E Z → among (without x E) (gained x E Z) y ≡ among E Z y
 among-lazy x y E Z h =
-    or_comm (has (left_in x E) y) (has (gained x E Z) y) ∙ among-eager x y Z E (swapped E Z h) ∙ or_comm (has Z y) (has E y)
+    or_comm (has (without x E) y) (has (gained x E Z) y) ∙ among-eager x y Z E (swapped E Z h) ∙ or_comm (has Z y) (has E y)
 
 among-without : (x y : ℕ) (E Z : List ℕ) → AreLinks E Z → among (without x E) (without x Z) y ≡ (among E Z y && not (nat_eq y x))
 among-without x y E Z h =
@@ -107,7 +115,7 @@ module _ (peers : ℕ → Bool) where
 
 -- ---- one call
 
-links-call : (call : CastCall) (b : Broadcast) → AreLinks b.eager b.lazy → AreLinks (after_call b call).eager (after_call b call).lazy
+links-call : (call : CastCall) (b : Broadcast) → HasLinks b → HasLinks (after_call b call)
 unfolding up down on_broadcast on_fresh on_stale on_prune on_ihave on_graft on_change on_tick
 links-call (Up x) b h =
     cond_both (has b.eager x || has b.lazy x) (draft_of b) _ (λ (t : Draft). AreLinks t.eager t.lazy) (λ _. h)
@@ -122,10 +130,10 @@ links-call (TakesIHave from round key vector stale) b h =
 links-call (TakesGraft from round key held) b h = AreLinks-eager from b.eager b.lazy h
 links-call (Changes key vector) b h = h
 links-call Tick b h =
-    (Kept-tick_each (among b.eager b.lazy) b.missing (forget_missing (send_announcements (draft_of b)))
+    (Kept-tick_each (among b.eager b.lazy) b.missing (none_missing (send_announcements (draft_of b)))
     (record { links = h; same = λ _. refl })).links
 
-peers-call : (call : CastCall) (b : Broadcast) (y : ℕ) → AreLinks b.eager b.lazy → is_peer y (after_call b call) ≡ is_peer_after call y (is_peer y b)
+peers-call : (call : CastCall) (b : Broadcast) (y : ℕ) → HasLinks b → is_peer y (after_call b call) ≡ is_peer_after call y (is_peer y b)
 unfolding up down on_broadcast on_fresh on_stale on_prune on_ihave on_graft on_change on_tick
 peers-call (Up x) b y h =
     cond_both (has b.eager x || has b.lazy x) (draft_of b) _ (λ (t : Draft). among t.eager t.lazy y ≡ (among b.eager b.lazy y || nat_eq y x))
@@ -141,21 +149,24 @@ peers-call (TakesIHave from round key vector stale) b y h =
 peers-call (TakesGraft from round key held) b y h = among-eager from y b.eager b.lazy h
 peers-call (Changes key vector) b y h = refl
 peers-call Tick b y h =
-    (Kept-tick_each (among b.eager b.lazy) b.missing (forget_missing (send_announcements (draft_of b)))
+    (Kept-tick_each (among b.eager b.lazy) b.missing (none_missing (send_announcements (draft_of b)))
     (record { links = h; same = λ _. refl })).same y
 
 -- ---- any list of calls
 
-links-after : (calls : List CastCall) (b : Broadcast) → AreLinks b.eager b.lazy → AreLinks (after b calls).eager (after b calls).lazy
+links-after : (calls : List CastCall) (b : Broadcast) → HasLinks b → HasLinks (broadcast_after b calls)
 links-after [] b h = h
 links-after (call ∷ calls) b h = links-after calls (after_call b call) (links-call call b h)
 
-links-empty : AreLinks [] []
+links-empty : HasLinks empty
 unfolding IsDistinct
 links-empty = record { eager_once = tt; lazy_once = tt; disjoint = λ x e. refl }
 
 pub stay_links : StayLinks
-stay_links calls = links-after calls empty links-empty
+stay_links = record {
+  each_call = λ b call h. links-call call b h;
+  every_list = λ calls. links-after calls empty links-empty;
+}
 
 pub peers_come_and_go : PeersComeAndGo
-peers_come_and_go calls call x = peers-call call (after empty calls) x (stay_links calls)
+peers_come_and_go b call x h = peers-call call b x h

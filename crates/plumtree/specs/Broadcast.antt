@@ -6,7 +6,7 @@ use Rattle.plumtree.specs.declared.entry.Announcement.{Announcement}
 use Rattle.plumtree.specs.declared.entry.CastOut.{CastOut}
 use Rattle.plumtree.specs.Missing.{MissingObject}
 use Rattle.plumtree.specs.Draft.{Draft}
-use Rattle.plumtree.specs.Rows.{up, down, on_broadcast, on_gossip, on_stale, on_prune, on_ihave, on_graft, on_change, on_tick}
+use Rattle.plumtree.specs.Rows.{up, down, on_broadcast, on_gossip, on_prune, on_ihave, on_graft, on_change, on_tick}
 
 -- eager and lazy peers, the announcements that wait for the next tick, and the objects that the
 -- node waits for
@@ -33,7 +33,7 @@ draft_of b = record {
 abbrev pub broadcast_of : Draft → Broadcast
 broadcast_of t = record { eager = t.eager; lazy = t.lazy; queue = t.queue; missing = t.missing }
 
--- the calls, one for each row of the table
+-- the calls, one for each row of the table, but one for both rows of GOSSIP
 pub data CastCall : Type 0 where
   Up : ℕ → CastCall
   Down : ℕ → CastCall
@@ -58,10 +58,5 @@ row Tick = on_tick
 
 -- a call takes the old broadcast to the new one, and gives this out
 pub record IsCall (call : CastCall) (old new : Broadcast) (out : List CastOut) : Type 0 where
-  pub left : new ≡ broadcast_of (row call (draft_of old))
+  pub broadcast : new ≡ broadcast_of (row call (draft_of old))
   pub gives : out ≡ (row call (draft_of old)).out
-
--- the same of a stale object, whatever its round, key and vector are
-abbrev pub IsStaleCall : ℕ → Broadcast → Broadcast → List CastOut → Type 0
-IsStaleCall from old new out =
-    (new ≡ broadcast_of (on_stale from (draft_of old))) × (out ≡ (on_stale from (draft_of old)).out)

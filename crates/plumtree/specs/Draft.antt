@@ -33,25 +33,22 @@ send to message t = record t { out = t.out ++ Send to message ∷ [] }
 abbrev pub gossip_to : List ℕ → ℕ → Key → Draft → Draft
 gossip_to peers round key t = record t { out = t.out ++ map (λ to. Gossip to round key) peers }
 
-abbrev pub announcement : ℕ → Key → List Counter → ℕ → Announcement
-announcement round key vector peer =
+abbrev pub announcement_to : ℕ → Key → List Counter → ℕ → Announcement
+announcement_to round key vector peer =
     record { peer = peer; round = round; key = key; vector = vector }
 
 -- it is announced to each of these at the next tick
 abbrev pub announce_to : List ℕ → ℕ → Key → List Counter → Draft → Draft
 announce_to peers round key vector t =
-    record t { queue = t.queue ++ map (announcement round key vector) peers }
+    record t { queue = t.queue ++ map (announcement_to round key vector) peers }
 
--- ---- a peer that is in the one list goes last in the other; one that isn't stays where it is
+-- ---- a peer that is in the one list goes last in the other; any other node changes nothing
 
 abbrev pub gained : ℕ → List ℕ → List ℕ → List ℕ
 gained x from to = if has from x then put_last x to else to
 
-abbrev pub left_in : ℕ → List ℕ → List ℕ
-left_in x from = if has from x then without x from else from
-
 abbrev pub becomes_eager : ℕ → Draft → Draft
-becomes_eager x t = record t { eager = gained x t.lazy t.eager; lazy = left_in x t.lazy }
+becomes_eager x t = record t { eager = gained x t.lazy t.eager; lazy = without x t.lazy }
 
 abbrev pub becomes_lazy : ℕ → Draft → Draft
-becomes_lazy x t = record t { eager = left_in x t.eager; lazy = gained x t.eager t.lazy }
+becomes_lazy x t = record t { eager = without x t.eager; lazy = gained x t.eager t.lazy }

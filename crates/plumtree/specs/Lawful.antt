@@ -1,4 +1,4 @@
--- What holds of the broadcast after every list of calls, and of what a call gives out.
+-- What each call keeps of the broadcast, and what holds of what it gives out.
 use Rattle.std.specs.Prelude.{ℕ, ◌≡◌, ◌≢◌, ◌<◌, ◌^◌, Bool, true, false, not, ◌||◌, ◌&&◌, List, [], ◌∷◌, nat_eq, All}
 use Rattle.std.specs.List.{IsDistinct}
 use Rattle.meta_frame.specs.declared.message.Message.TheVariants.{IHave, Graft}
@@ -7,7 +7,7 @@ use Rattle.plumtree.specs.declared.entry.CastOut.{CastOut}
 use Rattle.plumtree.specs.declared.entry.CastOut.TheVariants.{Gossip, Send}
 use Rattle.peer_lists.specs.Lists.{has}
 use Rattle.plumtree.specs.Missing.{MissingObject}
-use Rattle.plumtree.specs.Rows.{sent}
+use Rattle.plumtree.specs.Rows.{ihave_of}
 use Rattle.plumtree.specs.Broadcast.{Broadcast, CastCall, Up, Down, Broadcasts, TakesGossip, TakesPrune, TakesIHave, TakesGraft, Changes, Tick, draft_of, empty, broadcast_of, row}
 
 -- each peer stands once, and in one of the two lists
@@ -16,17 +16,22 @@ pub record AreLinks (eager lazy : List ℕ) : Type 0 where
   pub lazy_once : IsDistinct nat_eq lazy
   pub disjoint : (x : ℕ) → has eager x ≡ true → has lazy x ≡ false
 
+-- each peer of the broadcast stands so
+abbrev pub HasLinks : Broadcast → Type 0
+HasLinks b = AreLinks b.eager b.lazy
+
 -- the broadcast after a call, and after these calls in turn
 abbrev pub after_call : Broadcast → CastCall → Broadcast
 after_call b call = broadcast_of (row call (draft_of b))
 
-abbrev pub after : Broadcast → List CastCall → Broadcast
-after b [] = b
-after b (call ∷ calls) = after (after_call b call) calls
+abbrev pub broadcast_after : Broadcast → List CastCall → Broadcast
+broadcast_after b [] = b
+broadcast_after b (call ∷ calls) = broadcast_after (after_call b call) calls
 
--- whatever calls are made, each peer stands once, and in one of the two lists
-abbrev pub StayLinks : Type 0
-StayLinks = (calls : List CastCall) → AreLinks (after empty calls).eager (after empty calls).lazy
+-- where each peer stands so, each does after every call; and so each does whatever calls are made
+pub record StayLinks : Type 0 where
+  pub each_call : (b : Broadcast) (call : CastCall) → HasLinks b → HasLinks (after_call b call)
+  pub every_list : (calls : List CastCall) → HasLinks (broadcast_after empty calls)
 
 -- ---- who is a peer
 
@@ -39,12 +44,12 @@ is_peer_after (Up node) x was = was || nat_eq x node
 is_peer_after (Down node) x was = was && not (nat_eq x node)
 is_peer_after _ x was = was
 
--- `up` adds its node to the peers, `down` takes it out, and no other call changes who is a peer
+-- `up` adds its node to the peers, `down` takes it out, and no other call changes who is a peer: of
+-- each broadcast whose peers stand once, and so after every list of calls
 abbrev pub PeersComeAndGo : Type 0
 PeersComeAndGo =
-    (calls : List CastCall) (call : CastCall) (x : ℕ)
-    → is_peer x (after_call (after empty calls) call)
-    ≡ is_peer_after call x (is_peer x (after empty calls))
+    (b : Broadcast) (call : CastCall) (x : ℕ) → HasLinks b
+    → is_peer x (after_call b call) ≡ is_peer_after call x (is_peer x b)
 
 -- ---- what may be sent
 
@@ -64,10 +69,11 @@ MayBeAsked node m =
 pub record NamesOthers (node : ℕ) (b : Broadcast) : Type 0 where
   pub eager : has b.eager node ≡ false
   pub lazy : has b.lazy node ≡ false
-  pub queue : All (λ a. MayBeSent node (sent a)) b.queue
+  pub queue : All (λ a. MayBeSent node (ihave_of a)) b.queue
   pub missing : All (MayBeAsked node) b.missing
 
--- a call that another node made, whose key and vector have a spelling
+-- a call whose new peer, or the sender that it may lead to a message to, is another node; and what
+-- it may announce or wait for, a frame can spell
 abbrev pub MayCome : ℕ → CastCall → Type 0
 MayCome node (Up peer) = peer ≢ node
 MayCome node (Down peer) = Unit {0}
@@ -81,13 +87,15 @@ MayCome node (TakesGraft from round key held) = from ≢ node
 MayCome node (Changes key vector) = Unit {0}
 MayCome node Tick = Unit {0}
 
--- what such a call gives out may be sent, and so may what it leaves
-pub record Sends (node : ℕ) (b : Broadcast) (call : CastCall) : Type 0 where
+-- what a call gives out may be sent, and what it leaves names others again
+pub record TellsOthers (node : ℕ) (b : Broadcast) (call : CastCall) : Type 0 where
   pub out : All (MayBeSent node) (row call (draft_of b)).out
-  pub left : NamesOthers node (after_call b call)
+  pub broadcast : NamesOthers node (after_call b call)
 
--- nothing goes to the node itself, and each message has a spelling
-abbrev pub SendsToOthers : Type 0
-SendsToOthers =
-    (node : ℕ) (b : Broadcast) (call : CastCall)
-    → NamesOthers node b → MayCome node call → Sends node b call
+-- a new broadcast names no node, and where a broadcast names others, such a call tells others:
+-- nothing goes to the node itself, and each IHAVE, GRAFT and PRUNE has a spelling
+pub record SendsToOthers : Type 0 where
+  pub begins : (node : ℕ) → NamesOthers node empty
+  pub goes_on :
+      (node : ℕ) (b : Broadcast) (call : CastCall)
+      → NamesOthers node b → MayCome node call → TellsOthers node b call

@@ -1,5 +1,5 @@
 -- The table of the broadcast: what each call does, one definition for each row, in the table's
--- order. The rules are those of Plumtree, with announcements that wait for a tick.
+-- order. The idea and the names of messages are Plumtree's, the rules are our own.
 use Rattle.std.specs.Prelude.{ℕ, ◌+◌, ◌-◌, Bool, true, false, not, ◌||◌, ◌&&◌, List, [], ◌∷◌, ◌++◌, map, min, Option, Some, None, slice_set, slice_index_or, nat_eq, nat_lt, if◌then◌else◌}
 use Rattle.std.specs.Cmp.Lexicographic.{pointwise}
 use Rattle.std.specs.List.{list_any, filter, position}
@@ -23,7 +23,8 @@ unfoldable pub up : ℕ → Draft → Draft
 up x t =
     if has t.eager x || has t.lazy x then t else (record t { eager = put_last x t.eager })
 
--- ---- a node is a peer no more: what it was to be told, and what it announced, leaves with it
+-- ---- a node is a peer no more: announcements to it leave the queue, and it leaves the announcers
+-- of each missing object, which stays missing
 
 abbrev pub is_not_to : ℕ → Announcement → Bool
 is_not_to x a = not (nat_eq x a.peer)
@@ -31,8 +32,8 @@ is_not_to x a = not (nat_eq x a.peer)
 abbrev pub is_not_by : ℕ → Announcer → Bool
 is_not_by x a = not (nat_eq x a.peer)
 
-abbrev pub forgotten : ℕ → MissingObject → MissingObject
-forgotten x m = record m { announcers = filter (is_not_by x) m.announcers }
+abbrev pub without_announcer : ℕ → MissingObject → MissingObject
+without_announcer x m = record m { announcers = filter (is_not_by x) m.announcers }
 
 unfoldable pub down : ℕ → Draft → Draft
 down x t =
@@ -40,7 +41,7 @@ down x t =
       eager = without x t.eager;
       lazy = without x t.lazy;
       queue = filter (is_not_to x) t.queue;
-      missing = map (forgotten x) t.missing;
+      missing = map (without_announcer x) t.missing;
     }
 
 -- ---- a write of the node
@@ -48,7 +49,8 @@ down x t =
 unfoldable pub on_broadcast : Key → List Counter → Draft → Draft
 on_broadcast key vector t = t ▷ gossip_to t.eager 0 key ▷ announce_to t.lazy 0 key vector
 
--- ---- GOSSIP: a fresh object is passed on to all but its sender, a stale one to nobody
+-- ---- GOSSIP: a fresh object is passed on to all but its sender, a stale one to nobody; a fresh
+-- one's sender becomes eager, a stale one's lazy, and is sent PRUNE
 
 -- a round stays at the greatest number of its field
 abbrev pub next_round : ℕ → ℕ
@@ -67,18 +69,19 @@ abbrev pub on_gossip : ℕ → ℕ → Key → List Counter → Bool → Draft �
 on_gossip from round key vector true = on_fresh from round key vector
 on_gossip from round key vector false = on_stale from
 
--- ---- PRUNE
+-- ---- PRUNE: its sender becomes lazy
 
 unfoldable pub on_prune : ℕ → Draft → Draft
 on_prune from t = becomes_lazy from t
 
 -- ---- IHAVE: an object that isn't here is waited for
 
+abbrev pub is_same_key : Key → Key → Bool
+is_same_key a b = prefix_eq a.prefix b.prefix && pointwise nat_eq a.key b.key
+
 -- of the same key and the same vector
 abbrev pub is_of : Key → List Counter → MissingObject → Bool
-is_of key vector m =
-    (prefix_eq m.key.prefix key.prefix && pointwise nat_eq m.key.key key.key)
-    && counters_eq m.vector vector
+is_of key vector m = is_same_key m.key key && counters_eq m.vector vector
 
 abbrev pub is_announced_by : ℕ → List Announcer → Bool
 is_announced_by x announcers = list_any (λ a. nat_eq x a.peer) announcers
@@ -116,7 +119,8 @@ unfoldable pub on_ihave : ℕ → ℕ → Key → List Counter → Bool → Draf
 on_ihave from round key vector stale t =
     if stale then t else (record t { missing = noted from round key vector t.missing })
 
--- ---- GRAFT
+-- ---- GRAFT: its sender becomes eager, and is sent the object, in the round that it asked for, if
+-- it is held
 
 unfoldable pub on_graft : ℕ → ℕ → Key → Bool → Draft → Draft
 on_graft from round key held t =
@@ -126,43 +130,50 @@ on_graft from round key held t =
 
 abbrev pub is_still_missing : Key → List Counter → MissingObject → Bool
 is_still_missing key vector m =
-    not ((prefix_eq m.key.prefix key.prefix && pointwise nat_eq m.key.key key.key)
-    && descends vector m.vector)
+    not (is_same_key m.key key && descends vector m.vector)
 
 unfoldable pub on_change : Key → List Counter → Draft → Draft
 on_change key vector t =
     record t { missing = filter (is_still_missing key vector) t.missing }
 
 -- ---- a tick: first all announcements that wait go out, then each missing object in order loses a
--- tick; at 0 the first that announced it is asked for it, and without one it is forgotten
+-- tick; at 0 the first that announced it is asked for it: it leaves the announcers and becomes
+-- eager, and the object waits one tick for the next; without one the object is forgotten
 
-abbrev pub sent : Announcement → CastOut
-sent a = Send a.peer (IHave a.round a.key a.vector)
+-- an announcement goes out as IHAVE
+abbrev pub ihave_of : Announcement → CastOut
+ihave_of a = Send a.peer (IHave a.round a.key a.vector)
 
+-- all that wait go out, in order, and the queue becomes empty
 abbrev pub send_announcements : Draft → Draft
-send_announcements t = record t { queue = []; out = t.out ++ map sent t.queue }
+send_announcements t = record t { queue = []; out = t.out ++ map ihave_of t.queue }
 
+-- the list is made anew, in order
+abbrev pub none_missing : Draft → Draft
+none_missing t = record t { missing = [] }
+
+-- the object stays missing, and goes last in the new list
 abbrev pub keep : MissingObject → Draft → Draft
 keep m t = record t { missing = t.missing ++ m ∷ [] }
 
+-- the first of these announcers is asked, and the object is kept; without one it isn't
 abbrev pub ask_first : MissingObject → List Announcer → Draft → Draft
 ask_first m [] t = t
 ask_first m (a ∷ others) t =
     t ▷ becomes_eager a.peer ▷ send a.peer (Graft a.round m.key m.vector)
     ▷ keep (record m { announcers = others; ticks = 1 })
 
+-- a missing object loses a tick, and is asked for where that was the last
 unfoldable pub tick_one : MissingObject → Draft → Draft
 tick_one m t =
     if nat_lt 1 m.ticks
     then keep (record m { ticks = m.ticks - 1 }) t
     else ask_first m m.announcers t
 
+-- each of these in order
 abbrev pub tick_each : List MissingObject → Draft → Draft
 tick_each [] t = t
 tick_each (m ∷ ms) t = tick_each ms (tick_one m t)
 
-abbrev pub forget_missing : Draft → Draft
-forget_missing t = record t { missing = [] }
-
 unfoldable pub on_tick : Draft → Draft
-on_tick t = t ▷ send_announcements ▷ forget_missing ▷ tick_each t.missing
+on_tick t = t ▷ send_announcements ▷ none_missing ▷ tick_each t.missing

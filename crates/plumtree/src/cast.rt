@@ -2,11 +2,11 @@ ghost use Rattle.std.specs.Prelude.{◌≡◌, [], IfOk, OnOk, OnErr, true, fals
 ghost use Rattle.plumtree.specs.Broadcast.{Broadcasts, Changes, Down, IsCall, TakesGossip};
 ghost use Rattle.plumtree.specs.Broadcast.{TakesGraft, TakesIHave, TakesPrune, Tick, Up};
 
-use crate::entry::{Announcement, Announcer, CastOut, Missing};
+use crate::entry::{Announcement, Announcer, CastOut, MissingObject};
 use crate::links::{become_eager, become_lazy};
 use crate::missing::{
-    announced, announcements, copy_missing, copy_queue, forget, gossips, leave_known, leave_queue,
-    note,
+    announced, announcements, copy_missing, copy_queue, gossips, leave_known, leave_queue,
+    lose_announcer, note,
 };
 use crate::tick::Draft;
 use dvvset::Vector;
@@ -20,7 +20,9 @@ use std::marker::Model;
 /// The broadcast of a node: its eager and its lazy peers, what it will announce at the next tick,
 /// and what it waits for. A peer stands in one of the two lists, once.
 ///
-/// Each call but `down` and `on_change` fails only when memory runs out, and then all is as before.
+/// `down` and `on_change` take no memory and never fail. Each other call that changes something
+/// fails only when memory runs out, and then all is as before.
+///
 /// A round counts how often an object was passed on, and stays at 65,535.
 #[derive(Drop)]
 pub struct Cast {
@@ -28,7 +30,7 @@ pub struct Cast {
     eager: IndexSet<NodeId>,
     lazy: IndexSet<NodeId>,
     queue: Vec<Announcement>,
-    missing: Vec<Missing>,
+    missing: Vec<MissingObject>,
 }
 
 impl Model for Cast {
@@ -48,9 +50,9 @@ impl Model for Cast {
 }
 
 impl Cast {
-    ghost use Rattle.plumtree.specs.Broadcast.{IsStaleCall, broadcast_of, draft_of, empty};
+    ghost use Rattle.plumtree.specs.Broadcast.{broadcast_of, draft_of, empty};
     ghost use Rattle.plumtree.specs.Draft.{becomes_lazy};
-    ghost use Rattle.plumtree.specs.Rows.{forget_missing, send_announcements};
+    ghost use Rattle.plumtree.specs.Rows.{none_missing, on_stale, send_announcements};
     ghost use Rattle.plumtree.specs.Lawful.{AreLinks};
 
     /// The broadcast of a node without peers. It takes no memory.
@@ -102,7 +104,7 @@ impl Cast {
         self.eager.shift_remove(&node);
         self.lazy.shift_remove(&node);
         leave_queue(&mut self.queue, node);
-        forget(&mut self.missing, node);
+        lose_announcer(&mut self.missing, node);
     }
 
     /// The node wrote under the key, and its context of the key is now this vector.
@@ -168,7 +170,8 @@ impl Cast {
 
     #[tactic(auto, unfolding(crate::specs::Rows::on_stale))]
     fn on_stale(&mut self, from: NodeId) -> Result<Vec<CastOut>, AllocError>
-        ensures row { IfOk result (λ out. IsStaleCall from self.old self.new out.items) }
+        ensures row { let t = on_stale from (draft_of self.old) in IfOk result
+            (λ out. (self.new ≡ broadcast_of t) × (out.items ≡ t.out)) }
         ensures unchanged { OnErr result (self.new ≡ self.old) }
     {
         let mut out = Vec::new(self.alloc);
@@ -271,7 +274,7 @@ impl Cast {
     /// A tick begins: announcements go out, and no object is missing yet.
     fn begin_tick(&self) -> Result<Draft, AllocError>
         ensures { IfOk result
-            (λ draft. draft ≡ forget_missing (send_announcements (draft_of self.now))) }
+            (λ draft. draft ≡ none_missing (send_announcements (draft_of self.now))) }
     {
         Ok(Draft {
             alloc: self.alloc,

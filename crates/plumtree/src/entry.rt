@@ -35,17 +35,17 @@ pub struct Announcer {
 
 /// An object that was announced and isn't here.
 #[derive(Debug, Drop)]
-pub(crate) struct Missing {
+pub(crate) struct MissingObject {
     pub(crate) key: MetaKey,
     pub(crate) vector: Vector,
     pub(crate) announcers: Vec<Announcer>,
     pub(crate) ticks: u8,
 }
 
-impl Model for Missing {
-    ghost use Rattle.plumtree.specs.Missing.{MissingObject};
+impl Model for MissingObject {
+    ghost use Rattle.plumtree.specs.Missing.{MissingObject as Parts};
 
-    ghost Value = { MissingObject };
+    ghost Value = { Parts };
 
     ghost view = { λ m. record {
       key = m.key;

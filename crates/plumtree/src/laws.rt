@@ -1,16 +1,20 @@
 ghost use Rattle.plumtree.specs.Lawful.{PeersComeAndGo, SendsToOthers, StayLinks};
 
-/// Whatever calls are made, each peer stands once, and is either eager or lazy.
+/// Where each peer stands once, and is either eager or lazy, it does and is so after each call; and
+/// so it is whatever calls are made.
 pub fn peers_are_eager_or_lazy()
     ensures { StayLinks }
 {}
 
-/// `up` adds its node to the peers, `down` takes it out, and no other call changes who is a peer.
+/// `up` adds its node to the peers, `down` takes it out, and no other call changes who is a peer, in
+/// any broadcast where each peer stands once, and is either eager or lazy.
 pub fn peers_come_up_and_go_down()
     ensures { PeersComeAndGo }
 {}
 
-/// Where what comes is from other nodes and has a spelling, so has what goes, and to other nodes.
+/// A new broadcast names no node. Where a call names other nodes, and what it may announce or wait
+/// for can be spelled, all that it gives out goes to other nodes, and each IHAVE, GRAFT and PRUNE
+/// can be spelled; and so it goes on, from any broadcast that names other nodes alone.
 pub fn what_is_sent_goes_to_others()
     ensures { SendsToOthers }
 {}

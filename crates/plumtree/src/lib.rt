@@ -2,8 +2,8 @@
 //!
 //! Objects go at once to the eager peers. Lazy ones hear at the next tick that there is one
 //! (IHAVE), and ask for it (GRAFT) if it hasn't come by another way some ticks later. A link over
-//! which an object came that was known already becomes lazy (PRUNE), so that the eager links become
-//! a tree; one over which an object had to be asked for becomes eager again.
+//! which an object came that was known already becomes lazy (PRUNE), which is meant to make a tree
+//! of the eager links; one over which an object had to be asked for becomes eager again.
 //!
 //! Each call is one row of a table. [`Cast`] holds no objects: whoever does says whether one was
 //! fresh, and adds it to the [`CastOut::Gossip`] that a call gives out.
@@ -19,7 +19,7 @@
 //! }
 //! ```
 //!
-//! Read `entry`, `cast`, then `links`, `missing` and `tick`.
+//! Read `entry`, `cast`, then `links`, `missing` and `tick`; what holds of every call is in `laws`.
 #![tactic(auto)]
 
 pub mod cast;

@@ -3,7 +3,8 @@
 
 ghost use Rattle.std.specs.Prelude.{◌≡◌, ◌<◌};
 ghost use Rattle.indexmap.specs.IndexSet.{spare};
-ghost use Rattle.plumtree.specs.Draft.{gained, left_in};
+ghost use Rattle.peer_lists.specs.Lists.{without};
+ghost use Rattle.plumtree.specs.Draft.{gained};
 ghost use Rattle.plumtree.specs.Lawful.{AreLinks};
 
 use indexmap::IndexSet;
@@ -13,7 +14,7 @@ use meta_types::NodeId;
 pub(crate) fn become_eager(node: NodeId, eager: &mut IndexSet<NodeId>, lazy: &mut IndexSet<NodeId>)
     requires room { 0 < spare eager.old }
     ensures eager { eager.new.keys ≡ gained node lazy.old.keys eager.old.keys }
-    ensures lazy { lazy.new.keys ≡ left_in node lazy.old.keys }
+    ensures lazy { lazy.new.keys ≡ without node lazy.old.keys }
     ensures links { AreLinks eager.old.keys lazy.old.keys
         → AreLinks eager.new.keys lazy.new.keys }
 {
@@ -23,7 +24,7 @@ pub(crate) fn become_eager(node: NodeId, eager: &mut IndexSet<NodeId>, lazy: &mu
 /// An eager peer becomes lazy, and goes last among them.
 pub(crate) fn become_lazy(node: NodeId, eager: &mut IndexSet<NodeId>, lazy: &mut IndexSet<NodeId>)
     requires room { 0 < spare lazy.old }
-    ensures eager { eager.new.keys ≡ left_in node eager.old.keys }
+    ensures eager { eager.new.keys ≡ without node eager.old.keys }
     ensures lazy { lazy.new.keys ≡ gained node eager.old.keys lazy.old.keys }
     ensures links { AreLinks eager.old.keys lazy.old.keys
         → AreLinks eager.new.keys lazy.new.keys }
@@ -34,7 +35,7 @@ pub(crate) fn become_lazy(node: NodeId, eager: &mut IndexSet<NodeId>, lazy: &mut
 /// A member of the one list goes last in the other.
 fn change_list(node: NodeId, from: &mut IndexSet<NodeId>, to: &mut IndexSet<NodeId>)
     requires room { 0 < spare to.old }
-    ensures left { from.new.keys ≡ left_in node from.old.keys }
+    ensures left { from.new.keys ≡ without node from.old.keys }
     ensures gained { to.new.keys ≡ gained node from.old.keys to.old.keys }
 {
     if from.shift_remove(&node) {

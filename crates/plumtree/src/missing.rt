@@ -3,12 +3,12 @@
 ghost use Rattle.std.specs.Prelude.{◌≡◌, ◌<◌, length, map, IfOk, IfSome, OnOk, OnErr};
 ghost use Rattle.std.specs.List.{filter, position};
 ghost use Rattle.plumtree.specs.declared.entry.CastOut.TheVariants.{Gossip};
-ghost use Rattle.plumtree.specs.Draft.{announcement};
-ghost use Rattle.plumtree.specs.Rows.{forgotten, is_announced_by, is_not_by, is_not_to, is_of};
-ghost use Rattle.plumtree.specs.Rows.{first_announced, is_still_missing, noted, sent};
-ghost use Rattle.plumtree.specs.Rows.{with_announcer};
+ghost use Rattle.plumtree.specs.Draft.{announcement_to};
+ghost use Rattle.plumtree.specs.Rows.{first_announced, ihave_of, is_announced_by, is_not_by};
+ghost use Rattle.plumtree.specs.Rows.{is_not_to, is_of, is_still_missing, noted, with_announcer};
+ghost use Rattle.plumtree.specs.Rows.{without_announcer};
 
-use crate::entry::{Announcement, Announcer, CastOut, Missing};
+use crate::entry::{Announcement, Announcer, CastOut, MissingObject};
 use dvvset::{Vector, descends};
 use meta_frame::Message;
 use meta_types::{MetaKey, NodeId};
@@ -17,7 +17,7 @@ use std::alloc::{AllocError, Global};
 /// How many ticks an announced object has until it is asked for.
 const PATIENCE: u8 = 2;
 
-impl Missing {
+impl MissingObject {
     /// An object that is announced for the first time.
     fn announced_by(
         alloc: Global,
@@ -32,7 +32,7 @@ impl Missing {
         let vector = vector.copy()?;
         let mut announcers = Vec::new(alloc);
         announcers.push(announcer)?;
-        Ok(Missing {
+        Ok(MissingObject {
             key,
             vector,
             announcers,
@@ -54,7 +54,7 @@ impl Missing {
         let vector = self.vector.copy()?;
         let mut left = Vec::new(alloc);
         left.extend_from_slice(announcers)?;
-        Ok(Missing {
+        Ok(MissingObject {
             key,
             vector,
             announcers: left,
@@ -87,8 +87,8 @@ impl Missing {
         Ok(())
     }
 
-    fn forget(&mut self, node: NodeId)
-        ensures { self.new ≡ forgotten node self.old }
+    fn lose_announcer(&mut self, node: NodeId)
+        ensures { self.new ≡ without_announcer node self.old }
     {
         leave_announcers(&mut self.announcers, node);
     }
@@ -100,7 +100,7 @@ fn is_announced_by(announcers: &[Announcer], node: NodeId) -> bool
     announcers.iter().any(|announcer| node == announcer.peer)
 }
 
-fn place_of(missing: &[Missing], key: &MetaKey, vector: &Vector) -> Option<usize>
+fn place_of(missing: &[MissingObject], key: &MetaKey, vector: &Vector) -> Option<usize>
     ensures value { result ≡ position (is_of key.now vector.now) missing.now }
     ensures within { IfSome result (λ place. place < length missing.now) }
 {
@@ -110,7 +110,7 @@ fn place_of(missing: &[Missing], key: &MetaKey, vector: &Vector) -> Option<usize
 /// An announcement came of an object that isn't here.
 pub(crate) fn note(
     alloc: Global,
-    missing: &mut Vec<Missing>,
+    missing: &mut Vec<MissingObject>,
     announcer: Announcer,
     key: &MetaKey,
     vector: &Vector,
@@ -122,19 +122,19 @@ pub(crate) fn note(
     match place_of(missing.as_slice(), key, vector) {
         Some(place) => missing[place].add_announcer(announcer),
         None => {
-            let new = Missing::announced_by(alloc, announcer, key, vector)?;
+            let new = MissingObject::announced_by(alloc, announcer, key, vector)?;
             missing.push(new)?;
             Ok(())
         }
     }
 }
 
-/// Forgets who announced an object, where it was this node.
-pub(crate) fn forget(missing: &mut Vec<Missing>, node: NodeId)
-    ensures { missing.new.items ≡ map (forgotten node) missing.old.items }
+/// This node leaves the announcers of each missing object.
+pub(crate) fn lose_announcer(missing: &mut Vec<MissingObject>, node: NodeId)
+    ensures { missing.new.items ≡ map (without_announcer node) missing.old.items }
 {
     for place in 0..missing.len() {
-        missing[place].forget(node);
+        missing[place].lose_announcer(node);
     }
 }
 
@@ -145,7 +145,7 @@ fn leave_announcers(announcers: &mut Vec<Announcer>, node: NodeId)
 }
 
 /// The objects under the key leave that this vector descends.
-pub(crate) fn leave_known(missing: &mut Vec<Missing>, key: &MetaKey, vector: &Vector)
+pub(crate) fn leave_known(missing: &mut Vec<MissingObject>, key: &MetaKey, vector: &Vector)
     ensures { missing.new.items
         ≡ filter (is_still_missing key.now vector.now) missing.old.items }
 {
@@ -190,7 +190,7 @@ pub(crate) fn announcements(
     vector: &Vector,
 ) -> Result<Vec<Announcement>, AllocError>
     ensures { IfOk result
-        (λ queue. queue.items ≡ map (announcement round key.now vector.now) peers.now) }
+        (λ queue. queue.items ≡ map (announcement_to round key.now vector.now) peers.now) }
 {
     let mut queue = Vec::new(alloc);
     for peer in peers {
@@ -208,7 +208,7 @@ pub(crate) fn announcements(
 
 /// The announcements that wait, as messages.
 pub(crate) fn announced(alloc: Global, queue: &[Announcement]) -> Result<Vec<CastOut>, AllocError>
-    ensures { IfOk result (λ out. out.items ≡ map sent queue.now) }
+    ensures { IfOk result (λ out. out.items ≡ map ihave_of queue.now) }
 {
     let mut out = Vec::new(alloc);
     for announcement in queue {
@@ -220,7 +220,10 @@ pub(crate) fn announced(alloc: Global, queue: &[Announcement]) -> Result<Vec<Cas
     Ok(out)
 }
 
-pub(crate) fn copy_missing(alloc: Global, missing: &[Missing]) -> Result<Vec<Missing>, AllocError>
+pub(crate) fn copy_missing(
+    alloc: Global,
+    missing: &[MissingObject],
+) -> Result<Vec<MissingObject>, AllocError>
     ensures { IfOk result (λ copy. copy.items ≡ missing.now) }
 {
     let mut copy = Vec::new(alloc);

@@ -2,7 +2,7 @@
 
 ghost use Rattle.std.specs.Prelude.{◌≡◌, OnOk};
 
-use crate::entry::{Announcer, CastOut, Missing};
+use crate::entry::{Announcer, CastOut, MissingObject};
 use crate::links::become_eager;
 use indexmap::IndexSet;
 use meta_frame::Message;
@@ -17,7 +17,7 @@ pub(crate) struct Draft {
     pub(crate) alloc: Global,
     pub(crate) eager: IndexSet<NodeId>,
     pub(crate) lazy: IndexSet<NodeId>,
-    pub(crate) missing: Vec<Missing>,
+    pub(crate) missing: Vec<MissingObject>,
     pub(crate) out: Vec<CastOut>,
 }
 
@@ -45,7 +45,7 @@ impl Draft {
     ghost use Rattle.plumtree.specs.Rows.{ask_first, keep, tick_each, tick_one};
 
     /// Each missing object loses a tick, in order.
-    pub(crate) fn tick_each(&mut self, missing: &[Missing]) -> Result<(), AllocError>
+    pub(crate) fn tick_each(&mut self, missing: &[MissingObject]) -> Result<(), AllocError>
         ensures { OnOk result (self.new ≡ tick_each missing.now self.old) }
     {
         for object in missing {
@@ -55,7 +55,7 @@ impl Draft {
     }
 
     #[tactic(auto, unfolding(crate::specs::Rows::tick_one))]
-    fn tick_one(&mut self, object: &Missing) -> Result<(), AllocError>
+    fn tick_one(&mut self, object: &MissingObject) -> Result<(), AllocError>
         ensures { OnOk result (self.new ≡ tick_one object.now self.old) }
     {
         if object.ticks > 1 {
@@ -66,7 +66,7 @@ impl Draft {
     }
 
     /// The first that announced the object is asked for it. Without one it is forgotten.
-    fn ask_first(&mut self, object: &Missing) -> Result<(), AllocError>
+    fn ask_first(&mut self, object: &MissingObject) -> Result<(), AllocError>
         ensures { OnOk result (self.new ≡ ask_first object.now object.now.announcers self.old) }
     {
         match object.announcers.as_slice() {
@@ -79,7 +79,7 @@ impl Draft {
     }
 
     /// Asks an announcer for the object. It becomes eager.
-    fn graft(&mut self, object: &Missing, announcer: Announcer) -> Result<(), AllocError>
+    fn graft(&mut self, object: &MissingObject, announcer: Announcer) -> Result<(), AllocError>
         ensures { OnOk result (self.new ≡ (self.old ▷ becomes_eager announcer.peer
             ▷ send announcer.peer (Graft announcer.round object.now.key object.now.vector))) }
     {
@@ -95,7 +95,7 @@ impl Draft {
     /// The object stays missing, with these announcers and ticks.
     fn keep(
         &mut self,
-        object: &Missing,
+        object: &MissingObject,
         announcers: &[Announcer],
         ticks: u8,
     ) -> Result<(), AllocError>

@@ -1,6 +1,0 @@
-use Rattle.std.proofs.Common.{◌≡◌, ◌++◌, drop, take, map, length}
-use Rattle.plumtree.specs.Rows.{forgotten}
-use Rattle.plumtree.proofs.missing.forget.Given as goal
-
-abbrev pub invariant-loop-place : goal.invariant-loop-place
-invariant-loop-place l = (length l.missing.items ≡ length l.initial.missing.items) × (l.missing.items ≡ map (forgotten l.node) (take l.place l.initial.missing.items) ++ drop l.place l.initial.missing.items)
