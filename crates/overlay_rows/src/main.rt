@@ -1,0 +1,42 @@
+//! Tells rows: a text of commands at standard input, each an event of a node's views or a call of
+//! its broadcast, and at standard output what each gives out. The gate compares that with the
+//! stored text, so rows cost no proof.
+//!
+//! Read `rows`, then `node`, `views` and `broadcast`, and last `words` and `print`.
+#![tactic(auto)]
+
+mod broadcast;
+mod fault;
+mod node;
+mod print;
+mod rows;
+mod views;
+mod words;
+
+use plumctl_core::tell;
+use rows::told;
+use std::io::{self, ErrorKind};
+use std::process::ExitCode;
+use streams::{MayFail, StreamFault, write_whole};
+
+fn main(rt: HostRuntime) -> ExitCode {
+    ExitCode::from(match run(&rt) {
+        Ok(()) => 0,
+        Err(fault) => tell(&mut MayFail(rt.stderr()), fault),
+    })
+}
+
+/// Tells the rows at standard input.
+fn run(rt: &HostRuntime) -> Result<(), StreamFault> {
+    let rows = read_rows(rt)?;
+    let text = told(rt.alloc(), rows.as_str())?;
+    write_whole(&mut MayFail(rt.stdout()), text.as_slice())
+}
+
+fn read_rows(rt: &HostRuntime) -> Result<String, StreamFault> {
+    match io::read_to_string(rt.alloc(), rt.stdin()) {
+        Ok(rows) => Ok(rows),
+        Err(error) if error.kind() == ErrorKind::OutOfMemory => Err(StreamFault::Memory),
+        Err(_) => Err(StreamFault::Read),
+    }
+}
