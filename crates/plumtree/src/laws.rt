@@ -6,8 +6,8 @@ pub fn peers_are_eager_or_lazy()
     ensures { StayLinks }
 {}
 
-/// `up` adds its node to the peers, `down` takes it out, and no other call changes who is a peer, in
-/// any broadcast where each peer stands once, and is either eager or lazy.
+/// `up` adds its node to the peers, `down` takes it out, and no other call changes who is a peer,
+/// in any broadcast where each peer stands once, and is either eager or lazy.
 pub fn peers_come_up_and_go_down()
     ensures { PeersComeAndGo }
 {}
