@@ -1,0 +1,4 @@
+-- the peers of the broadcast stay the members of the active view
+mod Peering
+-- messages become frames, one after another
+pub mod Numbering

@@ -1,0 +1,86 @@
+-- A node in the midst of a step, with the messages that it has given out so far, and the small steps
+-- that the rows of the table are made of.
+use Rattle.std.specs.Prelude.{ℕ, List, [], ◌∷◌, ◌++◌, map}
+use Rattle.meta_types.specs.Name.{Key}
+use Rattle.dvvset.specs.Object.{Entry}
+use Rattle.meta_frame.specs.declared.message.Message.{Message}
+use Rattle.meta_frame.specs.declared.message.Message.TheVariants.{Gossip}
+use Rattle.meta_store.specs.Table.{Table, object_at, with_object}
+use Rattle.hyparview.specs.declared.event.ViewEvent.{ViewEvent}
+use Rattle.plumtree.specs.declared.entry.CastOut.{CastOut}
+use Rattle.plumtree.specs.declared.entry.CastOut.TheVariants as OfCast
+use Rattle.plumtree.specs.Broadcast.{Broadcast, CastCall, Changes, Broadcasts, row, draft_of, broadcast_of}
+use Rattle.subscriptions.specs.declared.change.Change.{Change}
+use Rattle.subscriptions.specs.Watching.{noted}
+use Rattle.node_core.specs.Node.{NodeParts, vector_under}
+use Rattle.node_core.specs.Overlay.{after_view, envelope, sent_by_view}
+use Rattle.node_core.specs.declared.envelope.Envelope.{Envelope}
+
+pub record Draft : Type 0 where
+  pub parts : NodeParts
+  pub sent : List Envelope
+
+infixl 5 ◌▷◌
+-- and then
+abbrev pub ◌▷◌ : Draft → (Draft → Draft) → Draft
+t ▷ f = f t
+
+-- ---- what is sent goes last
+
+abbrev pub send : ℕ → Message → Draft → Draft
+send to message t = record t { sent = t.sent ++ envelope to message ∷ [] }
+
+-- all of these go to one node
+abbrev pub send_all : ℕ → List Message → Draft → Draft
+send_all to messages t = record t { sent = t.sent ++ map (envelope to) messages }
+
+-- ---- the broadcast, which is told of a call and knows no objects: a GOSSIP carries the one that
+-- is held
+
+abbrev pub envelope_of : Table → CastOut → Envelope
+envelope_of table (OfCast.Gossip to round key) =
+    envelope to (Gossip round key (object_at table key))
+envelope_of table (OfCast.Send to message) = envelope to message
+
+abbrev pub with_cast : Broadcast → NodeParts → NodeParts
+with_cast b s = record s { overlay = record s.overlay { cast = b } }
+
+abbrev pub cast : CastCall → Draft → Draft
+cast call t =
+    let after = row call (draft_of t.parts.overlay.cast) in
+    record t {
+      parts = with_cast (broadcast_of after) t.parts;
+      sent = t.sent ++ map (envelope_of t.parts.table) after.out;
+    }
+
+-- ---- the views, of which the broadcast hears who came and who went
+
+abbrev pub view : ViewEvent → ℕ → Draft → Draft
+view event word t =
+    record t {
+      parts = record t.parts { overlay = after_view event word t.parts.overlay };
+      sent = t.sent ++ sent_by_view event word t.parts.overlay;
+    }
+
+-- ---- the table, and who hears of a change: the watches, and the broadcast, which waits no longer
+-- for what is known
+
+abbrev pub hold : Key → List Entry → Draft → Draft
+hold key object t =
+    record t { parts = record t.parts { table = with_object key object t.parts.table } }
+
+abbrev pub change_under : Key → NodeParts → Change
+change_under key s = record { key = key; vector = vector_under key s }
+
+abbrev pub note : Change → Draft → Draft
+note change t = record t { parts = record t.parts { watches = map (noted change) t.parts.watches } }
+
+-- the object under the key is this one now
+abbrev pub change : Key → List Entry → Draft → Draft
+change key object t =
+    let new = hold key object t in
+    new ▷ note (change_under key new.parts) ▷ cast (Changes key (vector_under key new.parts))
+
+-- what is held under the key goes to all peers, or its announcement
+abbrev pub broadcast : Key → Draft → Draft
+broadcast key t = cast (Broadcasts key (vector_under key t.parts)) t

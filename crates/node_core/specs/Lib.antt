@@ -1,0 +1,13 @@
+-- What must be believed of one node, in the order in which to read it.
+-- whom it talks to, and what always holds of that
+pub mod Overlay
+-- one node
+pub mod Node
+-- a node in the midst of a step, and the small steps that the rows are made of
+pub mod Draft
+-- the table, one definition a row
+pub mod Rows
+-- the frames of a node's messages
+pub mod Outbox
+-- one step, as four functions
+pub mod Step

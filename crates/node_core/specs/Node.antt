@@ -1,0 +1,80 @@
+-- One node.
+use Rattle.std.specs.Prelude.{ℕ, ◌≡◌, ◌≤◌, ◌+◌, ◌-◌, ◌^◌, min, List, [], replicate, length}
+use Rattle.meta_types.specs.Actor.{writer_number}
+use Rattle.meta_types.specs.Name.{Key}
+use Rattle.dvvset.specs.Clock.{join}
+use Rattle.dvvset.specs.Object.{Counter}
+use Rattle.meta_store.specs.Context.{Reading, reading_at}
+use Rattle.meta_store.specs.Table.{Table, object_at}
+use Rattle.subscriptions.specs.Watching.{Watching}
+use Rattle.hyparview.specs.Views.{NodeViews}
+use Rattle.plumtree.specs.Broadcast.{Broadcast}
+use Rattle.plumtree.specs.Lawful.{NamesOthers}
+use Rattle.node_core.specs.Overlay.{ArePeers, Overlay, alone, talking}
+
+-- which node it is, and in which of its lives; what it holds, whom it talks to, and who watches it;
+-- the greatest life that it heard of each node, by number; and of its life, how many steps it made,
+-- how many frames it sent, and how many ticks it had
+pub record NodeParts : Type 0 where
+  pub node : ℕ
+  pub incarnation : ℕ
+  pub table : Table
+  pub overlay : Overlay
+  pub watches : List Watching
+  pub heard : List ℕ
+  pub steps : ℕ
+  pub frames : ℕ
+  pub ticks : ℕ
+
+abbrev pub parts : ℕ → ℕ → Table → NodeViews → Broadcast → List Watching → List ℕ → ℕ → ℕ → ℕ
+    → NodeParts
+parts node incarnation table views cast watches heard steps frames ticks = record {
+  node = node;
+  incarnation = incarnation;
+  table = table;
+  overlay = talking views cast;
+  watches = watches;
+  heard = heard;
+  steps = steps;
+  frames = frames;
+  ticks = ticks;
+}
+
+-- what holds of a node after every list of events: the broadcast's peers are the members of its
+-- active view, and it never names itself; lives are numbered from 1, and it has few watches
+pub record IsNodeState (s : NodeParts) : Type 0 where
+  pub peers : ArePeers s.overlay
+  pub own_views : s.overlay.views.node ≡ s.node
+  pub names_others : NamesOthers s.node s.overlay.cast
+  pub lives : 1 ≤ s.incarnation
+  pub few_watches : length s.watches ≤ 16
+
+-- a life begins with a table, and with nothing else
+abbrev pub opening : ℕ → ℕ → Table → NodeParts
+opening node incarnation table = record {
+  node = node;
+  incarnation = incarnation;
+  table = table;
+  overlay = alone node;
+  watches = [];
+  heard = replicate 16 0;
+  steps = 0;
+  frames = 0;
+  ticks = 0;
+}
+
+-- counts go as far as 64 bits do, and stay there
+abbrev pub count : ℕ → ℕ → ℕ
+count so_far more = min (so_far + more) (2 ^ 64 - 1)
+
+-- who counts what the node writes
+abbrev pub writer : NodeParts → ℕ
+writer s = writer_number s.node s.incarnation
+
+-- how many events of each writer it knows under the key
+abbrev pub vector_under : Key → NodeParts → List Counter
+vector_under key s = join (object_at s.table key)
+
+-- the context that a read in its next step hands out
+abbrev pub present : Key → NodeParts → Reading
+present key s = reading_at s.table key (record { actor = writer s; step = count s.steps 1 })

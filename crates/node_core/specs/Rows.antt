@@ -1,0 +1,153 @@
+-- What a node does with each event, one definition for each row of the table, in its order.
+use Rattle.std.specs.Prelude.{ℕ, ◌≡◌, ◌-◌, ◌%◌, ◌==◌, nat_lt, Bool, not, List, [], ◌∷◌, ◌++◌, slice_index, slice_set, slice_get, Option, None, Some, if◌then◌else◌}
+use Rattle.peer_lists.specs.Lists.{has}
+use Rattle.meta_types.specs.Name.{Key, Prefix}
+use Rattle.meta_types.specs.Value.{ValueParts}
+use Rattle.dvvset.specs.Object.{Entry, Counter}
+use Rattle.dvvset.specs.Clock.{join}
+use Rattle.meta_frame.specs.declared.message.Message.{Message}
+use Rattle.meta_frame.specs.declared.message.Message.TheVariants.{Gossip, IHave, Graft, Prune, XRoot, XPrefixes, XInner, XLeaves, XBucket, XObject, XWant, Hello}
+use Rattle.meta_frame.specs.declared.message.Frame.{Frame}
+use Rattle.meta_frame.specs.Frame.{Spells}
+use Rattle.meta_store.specs.Context.{Reading}
+use Rattle.meta_store.specs.Step.{object_after_put, merge_of}
+use Rattle.meta_store.specs.Table.{is_stale}
+use Rattle.hash_tree.specs.Tree.{rows_of, tree_root}
+use Rattle.exchange.specs.Answers.{answer}
+use Rattle.hyparview.specs.declared.event.ViewEvent.TheVariants as OfViews
+use Rattle.plumtree.specs.Broadcast.{TakesGossip, TakesPrune, TakesIHave, TakesGraft, Tick as CastTick}
+use Rattle.subscriptions.specs.Watching.{Watching, empty, taken}
+use Rattle.node_events.specs.declared.event.NodeEvent.{NodeEvent}
+use Rattle.node_events.specs.declared.event.NodeEvent.TheVariants.{Read, Write, PutOver, Take, Tick, Join, PeerDown, Exchange, Keep, Watch, Changes, Hello as SayHello, Leave}
+use Rattle.node_core.specs.Node.{NodeParts, count, present, vector_under, writer}
+use Rattle.node_core.specs.Draft.{Draft, ◌▷◌, send, send_all, cast, view, change, broadcast}
+
+-- ---- a write: what is held changes, and is broadcast
+
+abbrev pub write : Key → ValueParts → Option Reading → Draft → Draft
+write key value context t =
+    t ▷ change key (object_after_put t.parts.table (writer t.parts) key value context)
+    ▷ broadcast key
+
+-- ---- an object that came: what counts a write that isn't known is merged
+
+abbrev pub is_fresh : Key → List Entry → NodeParts → Bool
+is_fresh key object s = not (is_stale s.table key (join object))
+
+abbrev pub merge : Key → List Entry → Draft → Draft
+merge key object t =
+    if is_fresh key object t.parts then change key (merge_of t.parts.table key object) t else t
+
+-- ---- GOSSIP: the merge, and then its row of the broadcast
+
+abbrev pub on_gossip : ℕ → ℕ → Key → List Entry → Draft → Draft
+on_gossip from round key object t =
+    let merged = merge key object t in
+    let fresh = is_fresh key object t.parts in
+    cast (TakesGossip from round key (vector_under key merged.parts) fresh) merged
+
+-- ---- IHAVE and GRAFT, whose vector is compared with what is held
+
+abbrev pub on_ihave : ℕ → ℕ → Key → List Counter → Draft → Draft
+on_ihave from round key vector t =
+    cast (TakesIHave from round key vector (is_stale t.parts.table key vector)) t
+
+abbrev pub on_graft : ℕ → ℕ → Key → List Counter → Draft → Draft
+on_graft from round key vector t =
+    cast (TakesGraft from round key (is_stale t.parts.table key vector)) t
+
+-- ---- HELLO: of a life that is later than all that were heard, the former ones are over
+
+abbrev pub hear : ℕ → ℕ → Draft → Draft
+hear from life t = record t { parts = record t.parts { heard = slice_set t.parts.heard from life } }
+
+abbrev pub drop_neighbour : ℕ → ℕ → Draft → Draft
+drop_neighbour node word t =
+    if has t.parts.overlay.views.active node then view (OfViews.PeerDown node) word t else t
+
+abbrev pub on_hello : ℕ → ℕ → ℕ → Draft → Draft
+on_hello from life word t =
+    if nat_lt (slice_index t.parts.heard from) life
+    then t ▷ hear from life ▷ drop_neighbour from word
+    else t
+
+-- ---- a frame that came, by its message: those of an exchange are answered to their sender, an
+-- object in one is merged and not broadcast, and those of the views go to the views
+
+abbrev pub reply_to : ℕ → Message → Draft → Draft
+reply_to from message t = send_all from (answer t.parts.table message) t
+
+abbrev pub on_message : ℕ → ℕ → Message → Draft → Draft
+on_message from word (Gossip round key object) = on_gossip from round key object
+on_message from word (IHave round key vector) = on_ihave from round key vector
+on_message from word (Graft round key vector) = on_graft from round key vector
+on_message from word Prune = cast (TakesPrune from)
+on_message from word (XRoot root) = reply_to from (XRoot root)
+on_message from word (XPrefixes prefixes) = reply_to from (XPrefixes prefixes)
+on_message from word (XInner prefix digests) = reply_to from (XInner prefix digests)
+on_message from word (XLeaves prefix inner digests) = reply_to from (XLeaves prefix inner digests)
+on_message from word (XBucket prefix leaf keys) = reply_to from (XBucket prefix leaf keys)
+on_message from word (XWant key) = reply_to from (XWant key)
+on_message from word (XObject key object) = merge key object
+on_message from word (Hello life) = on_hello from life word
+on_message from word message = view (OfViews.Taken from message) word
+
+-- ---- a tick: announcements go out, what is overdue is asked for, and each tenth shuffles
+
+abbrev pub count_tick : Draft → Draft
+count_tick t = record t { parts = record t.parts { ticks = count t.parts.ticks 1 } }
+
+abbrev pub shuffle_if_due : ℕ → Draft → Draft
+shuffle_if_due word t = if t.parts.ticks % 10 == 0 then view OfViews.ShuffleDue word t else t
+
+abbrev pub tick : ℕ → Draft → Draft
+tick word t = t ▷ count_tick ▷ cast CastTick ▷ shuffle_if_due word
+
+-- ---- watches, which are numbered from 1
+
+abbrev pub watch : Prefix → ℕ → Draft → Draft
+watch prefix capacity t =
+    record t { parts = record t.parts { watches = t.parts.watches ++ empty prefix capacity ∷ [] } }
+
+abbrev pub with_taken : Option Watching → ℕ → List Watching → List Watching
+with_taken None place watches = watches
+with_taken (Some w) place watches = slice_set watches place (taken w)
+
+abbrev pub hand_out : ℕ → List Watching → List Watching
+hand_out number watches = with_taken (slice_get watches (number - 1)) (number - 1) watches
+
+abbrev pub changes : ℕ → Draft → Draft
+changes number t =
+    record t { parts = record t.parts { watches = hand_out number t.parts.watches } }
+
+-- ---- what a node is asked to do: an event, or a frame that was taken, with its word
+
+pub data Input : Type 0 where
+  Asked : NodeEvent → Input
+  Brought : Frame → ℕ → Input
+
+-- the event, whose bytes, if it brings some, spell the frame
+abbrev pub IsInput : NodeEvent → Input → Type 0
+IsInput (Take bytes word) (Asked event) = ⊥
+IsInput (Take bytes word) (Brought frame w) = Spells frame bytes × (w ≡ word)
+IsInput event (Asked same) = same ≡ event
+IsInput event (Brought frame word) = ⊥
+
+abbrev pub row_of_event : NodeEvent → Draft → Draft
+row_of_event (Read key) t = t
+row_of_event (Write key value context) t = write key value context t
+row_of_event (PutOver key value) t = write key value (Some (present key t.parts)) t
+row_of_event (Take bytes word) t = t
+row_of_event (Tick word) t = tick word t
+row_of_event (Join contact word) t = view (OfViews.JoinThrough contact) word t
+row_of_event (PeerDown peer word) t = view (OfViews.PeerDown peer) word t
+row_of_event (Exchange peer) t = send peer (XRoot (tree_root (rows_of t.parts.table))) t
+row_of_event (Keep key) t = t
+row_of_event (Watch prefix capacity) t = watch prefix capacity t
+row_of_event (Changes number) t = changes number t
+row_of_event (SayHello peer) t = send peer (Hello t.parts.incarnation) t
+row_of_event Leave t = view OfViews.Leave 0 t
+
+abbrev pub row : Input → Draft → Draft
+row (Asked event) = row_of_event event
+row (Brought frame word) = on_message frame.from word frame.message

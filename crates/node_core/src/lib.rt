@@ -1,0 +1,12 @@
+//! One node: a machine from frames in to frames out.
+#![tactic(auto)]
+
+pub mod envelope;
+mod held;
+pub mod laws;
+mod overlay;
+mod sending;
+pub mod state;
+
+pub use envelope::Envelope;
+pub use state::{NodeState, Stepped};

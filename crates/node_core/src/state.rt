@@ -1,0 +1,129 @@
+ghost use Rattle.std.specs.Prelude.{◌≡◌, ◌≤◌, [], IfOk};
+ghost use Rattle.hash_tree.specs.Tree.{rows_of};
+ghost use Rattle.node_core.specs.Node.{opening};
+ghost use Rattle.node_core.specs.Overlay.{ArePeers};
+
+use crate::held::Held;
+use hash_tree::Tree;
+use hyparview::Views;
+use meta_store::Store;
+use meta_types::NodeId;
+use node_events::{Outbox, Reply};
+use plumtree::Cast;
+use std::alloc::{AllocError, Global};
+use std::marker::Model;
+use subscriptions::Watch;
+
+/// What a step gives: the reply, and the frames to send.
+#[derive(Debug, Drop, PartialEq, Eq)]
+pub struct Stepped {
+    pub reply: Reply,
+    pub outbox: Outbox,
+}
+
+/// How many nodes there may be.
+const NODES: usize = 16;
+
+/// One node in one of its lives: what it holds, whom it talks to, who watches it, and the counts of
+/// its life.
+#[derive(Drop)]
+pub struct NodeState {
+    pub(crate) alloc: Global,
+    pub(crate) node: NodeId,
+    pub(crate) incarnation: u32,
+    pub(crate) held: Held,
+    pub(crate) views: Views,
+    pub(crate) cast: Cast,
+    pub(crate) watches: Vec<Watch>,
+    /// The greatest life that was heard of each node, by its number.
+    pub(crate) heard: [u32; NODES],
+    pub(crate) steps: u64,
+    pub(crate) frames: u64,
+    pub(crate) ticks: u64,
+}
+
+impl Model for NodeState {
+    ghost use Rattle.node_core.specs.Node.{IsNodeState, NodeParts, parts};
+
+    ghost Value = { NodeParts };
+
+    ghost view = { λ n. parts n.node n.incarnation n.held n.views n.cast n.watches.items n.heard
+        n.steps n.frames n.ticks };
+
+    ghost invariant = { λ n. IsNodeState (parts n.node n.incarnation n.held n.views n.cast
+        n.watches.items n.heard n.steps n.frames n.ticks) };
+}
+
+impl NodeState {
+    /// A node that holds nothing and knows nobody, in the life of this number. Fails only when
+    /// memory runs out.
+    pub fn new(alloc: Global, node: NodeId, incarnation: u32) -> Result<Self, AllocError>
+        requires { 1 ≤ incarnation }
+        ensures { IfOk result (λ state. state ≡ opening node incarnation []) }
+    {
+        NodeState::from_store(alloc, node, incarnation, Store::new(alloc))
+    }
+
+    /// A node that begins the life of this number with what this store holds, and knows nobody.
+    /// Fails only when memory runs out.
+    pub fn from_store(
+        alloc: Global,
+        node: NodeId,
+        incarnation: u32,
+        store: Store,
+    ) -> Result<Self, AllocError>
+        requires { 1 ≤ incarnation }
+        ensures { IfOk result (λ state. state ≡ opening node incarnation store) }
+    {
+        let held = Held::new(alloc, store)?;
+        Ok(NodeState {
+            alloc,
+            node,
+            incarnation,
+            held,
+            views: Views::new(alloc, node),
+            cast: Cast::new(alloc),
+            watches: Vec::new(alloc),
+            heard: [0; NODES],
+            steps: 0,
+            frames: 0,
+            ticks: 0,
+        })
+    }
+
+    /// What it holds.
+    pub fn store(&self) -> &Store
+        ensures { result.now ≡ self.now.table }
+    {
+        self.held.store()
+    }
+
+    /// The tree that stands for what it holds.
+    pub fn tree(&self) -> &Tree
+        ensures { result.now ≡ rows_of self.now.table }
+    {
+        self.held.tree()
+    }
+
+    pub fn views(&self) -> &Views
+        ensures value { result.now ≡ self.now.overlay.views }
+        ensures peers { ArePeers self.now.overlay }
+    {
+        &self.views
+    }
+
+    /// The broadcast, whose peers are the members of the active view.
+    pub fn cast(&self) -> &Cast
+        ensures value { result.now ≡ self.now.overlay.cast }
+        ensures peers { ArePeers self.now.overlay }
+    {
+        &self.cast
+    }
+
+    /// The watches, in the order in which they were made; they are numbered from 1.
+    pub fn watches(&self) -> &[Watch]
+        ensures { result.now ≡ self.now.watches }
+    {
+        self.watches.as_slice()
+    }
+}

@@ -1,0 +1,5 @@
+-- What must be believed of the events of a node.
+-- the numbers and names of refusals
+pub mod Fault
+-- which words and lemmas say that comparisons of lists are equality; impls cite them
+pub mod Equal

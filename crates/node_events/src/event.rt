@@ -1,0 +1,129 @@
+ghost use Rattle.std.specs.Prelude.{◌≡◌, IfOk};
+ghost use Rattle.node_events.specs.declared.event.NodeEvent.TheVariants.{Write};
+
+use meta_store::Context;
+use meta_types::{ByteString, FullPrefix, MetaKey, NodeId, Value};
+use std::alloc::AllocError;
+
+/// What a node is asked to do. A word is a random number from outside, for the choices of a step.
+#[derive(Debug, Drop, PartialEq, Eq)]
+pub enum NodeEvent {
+    /// The node is read.
+    Read {
+        key: MetaKey,
+    },
+    /// The node writes a value, which has read what the context says, or nothing.
+    Write {
+        key: MetaKey,
+        value: Value,
+        context: Option<Context>,
+    },
+    /// The node is read and writes at once a value that has read what was shown.
+    PutOver {
+        key: MetaKey,
+        value: Value,
+    },
+    /// Bytes came that should be a frame for the node.
+    Take {
+        frame: ByteString,
+        word: u64,
+    },
+    /// Time passes.
+    Tick {
+        word: u64,
+    },
+    /// The node joins the cluster through a contact.
+    Join {
+        contact: NodeId,
+        word: u64,
+    },
+    /// Somebody found that a peer doesn't answer.
+    PeerDown {
+        peer: NodeId,
+        word: u64,
+    },
+    /// The node begins an exchange with a peer.
+    Exchange {
+        peer: NodeId,
+    },
+    /// What is held under the key is to be stored. It changes nothing in the node.
+    Keep {
+        key: MetaKey,
+    },
+    /// Somebody wants to hear of the changes under a full prefix: so many of the last.
+    Watch {
+        prefix: FullPrefix,
+        capacity: usize,
+    },
+    /// What the watch of that number has noted is handed out. Watches are numbered from 1.
+    Changes {
+        number: u64,
+    },
+    /// The node tells a peer which life it is in.
+    Hello {
+        peer: NodeId,
+    },
+    /// The node leaves the cluster.
+    Leave,
+}
+
+impl NodeEvent {
+    /// Fails only when memory runs out.
+    pub fn copy(&self) -> Result<Self, AllocError>
+        ensures { IfOk result (λ copy. copy ≡ self.now) }
+    {
+        Ok(match self {
+            NodeEvent::Read { key } => NodeEvent::Read { key: key.copy()? },
+            NodeEvent::Write {
+                key,
+                value,
+                context,
+            } => return copy_write(key, value, context),
+            NodeEvent::PutOver { key, value } => NodeEvent::PutOver {
+                key: key.copy()?,
+                value: value.copy()?,
+            },
+            NodeEvent::Take { frame, word } => NodeEvent::Take {
+                frame: frame.copy()?,
+                word: *word,
+            },
+            NodeEvent::Tick { word } => NodeEvent::Tick { word: *word },
+            NodeEvent::Join { contact, word } => NodeEvent::Join {
+                contact: *contact,
+                word: *word,
+            },
+            NodeEvent::PeerDown { peer, word } => NodeEvent::PeerDown {
+                peer: *peer,
+                word: *word,
+            },
+            NodeEvent::Exchange { peer } => NodeEvent::Exchange { peer: *peer },
+            NodeEvent::Keep { key } => NodeEvent::Keep { key: key.copy()? },
+            NodeEvent::Watch { prefix, capacity } => NodeEvent::Watch {
+                prefix: prefix.copy()?,
+                capacity: *capacity,
+            },
+            NodeEvent::Changes { number } => NodeEvent::Changes { number: *number },
+            NodeEvent::Hello { peer } => NodeEvent::Hello { peer: *peer },
+            NodeEvent::Leave => NodeEvent::Leave,
+        })
+    }
+}
+
+fn copy_write(
+    key: &MetaKey,
+    value: &Value,
+    context: &Option<Context>,
+) -> Result<NodeEvent, AllocError>
+    ensures { IfOk result (λ copy. copy ≡ Write key.now value.now context.now) }
+{
+    let context = match context {
+        None => None,
+        Some(context) => Some(context.copy()?),
+    };
+    let (key, value) = (key.copy()?, value.copy()?);
+    Ok(NodeEvent::Write {
+        key,
+        value,
+        context,
+    })
+}
