@@ -1,5 +1,5 @@
--- A node in the midst of a step, with the messages that it has given out so far, and the small steps
--- that the rows of the table are made of.
+-- A node in the midst of a step, with the messages that it has given out so far, and the small
+-- steps that the rows of the table are made of.
 use Rattle.std.specs.Prelude.{ℕ, List, [], ◌∷◌, ◌++◌, map}
 use Rattle.meta_types.specs.Name.{Key}
 use Rattle.dvvset.specs.Object.{Entry}
@@ -12,8 +12,8 @@ use Rattle.plumtree.specs.declared.entry.CastOut.TheVariants as OfCast
 use Rattle.plumtree.specs.Broadcast.{Broadcast, CastCall, Changes, Broadcasts, row, draft_of, broadcast_of}
 use Rattle.subscriptions.specs.declared.change.Change.{Change}
 use Rattle.subscriptions.specs.Watching.{noted}
-use Rattle.node_core.specs.Node.{NodeParts, vector_under}
-use Rattle.node_core.specs.Overlay.{after_view, envelope, sent_by_view}
+use Rattle.node_core.specs.Node.{NodeParts, vector_under, with_overlay}
+use Rattle.node_core.specs.Overlay.{after_view, envelope, sent_by_view, talking}
 use Rattle.node_core.specs.declared.envelope.Envelope.{Envelope}
 
 pub record Draft : Type 0 where
@@ -43,7 +43,7 @@ envelope_of table (OfCast.Gossip to round key) =
 envelope_of table (OfCast.Send to message) = envelope to message
 
 abbrev pub with_cast : Broadcast → NodeParts → NodeParts
-with_cast b s = record s { overlay = record s.overlay { cast = b } }
+with_cast b s = with_overlay (talking s.overlay.views b) s
 
 abbrev pub cast : CastCall → Draft → Draft
 cast call t =
@@ -58,7 +58,7 @@ cast call t =
 abbrev pub view : ViewEvent → ℕ → Draft → Draft
 view event word t =
     record t {
-      parts = record t.parts { overlay = after_view event word t.parts.overlay };
+      parts = with_overlay (after_view event word t.parts.overlay) t.parts;
       sent = t.sent ++ sent_by_view event word t.parts.overlay;
     }
 

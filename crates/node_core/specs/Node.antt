@@ -78,3 +78,6 @@ vector_under key s = join (object_at s.table key)
 -- the context that a read in its next step hands out
 abbrev pub present : Key → NodeParts → Reading
 present key s = reading_at s.table key (record { actor = writer s; step = count s.steps 1 })
+
+abbrev pub with_overlay : Overlay → NodeParts → NodeParts
+with_overlay overlay s = record s { overlay = overlay }

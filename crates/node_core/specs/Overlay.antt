@@ -1,4 +1,5 @@
--- Whom a node talks to: its views, and its broadcast, whose peers are the members of the active view.
+-- Whom a node talks to: its views, and its broadcast, whose peers are the members of the active
+-- view.
 use Rattle.std.specs.Prelude.{ℕ, ◌≡◌, List, [], ◌∷◌}
 use Rattle.meta_frame.specs.declared.message.Message.{Message}
 use Rattle.peer_lists.specs.Lists.{has}
@@ -65,8 +66,8 @@ IsOfNoPeer (Up node) = ⊥
 IsOfNoPeer (Down node) = ⊥
 IsOfNoPeer _ = Unit {0}
 
--- so it is of a node that knows nobody, and stays with each event of the views, and with each call of
--- the broadcast that is of no peer
+-- so it is of a node that knows nobody, and stays with each event of the views, and with each call
+-- of the broadcast that is of no peer
 pub record StayPeers : Type 0 where
   pub begins : (node : ℕ) → ArePeers (alone node)
   pub views : (o : Overlay) (event : ViewEvent) (word : ℕ) → ArePeers o

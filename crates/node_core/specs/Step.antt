@@ -81,10 +81,11 @@ abbrev pub draft_after : Input → NodeParts → Draft
 draft_after input s = row input (record { parts = s; sent = [] })
 
 -- the step counts, and so does each frame
+abbrev pub counted : ℕ → NodeParts → NodeParts
+counted sent s = record s { steps = count s.steps 1; frames = count s.frames sent }
+
 abbrev pub after : Input → NodeParts → NodeParts
-after input s =
-    let t = draft_after input s in
-    record t.parts { steps = count s.steps 1; frames = count s.frames (length t.sent) }
+after input s = let t = draft_after input s in counted (length t.sent) t.parts
 
 -- ---- what it replies
 

@@ -1,6 +1,8 @@
 //! One node: a machine from frames in to frames out.
 #![tactic(auto)]
 
+mod both;
+mod commit;
 pub mod envelope;
 mod held;
 pub mod laws;

@@ -3,6 +3,7 @@ ghost use Rattle.hash_tree.specs.Tree.{rows_of};
 ghost use Rattle.node_core.specs.Node.{opening};
 ghost use Rattle.node_core.specs.Overlay.{ArePeers};
 
+use crate::both::both;
 use crate::held::Held;
 use hash_tree::Tree;
 use hyparview::Views;
@@ -126,4 +127,36 @@ impl NodeState {
     {
         self.watches.as_slice()
     }
+
+    /// Fails only when memory runs out.
+    pub fn copy(&self) -> Result<Self, AllocError>
+        ensures { IfOk result (λ copy. copy ≡ self.now) }
+    {
+        let overlay = both(self.views.copy(), self.cast.copy());
+        let held = both(self.held.copy(), copy_watches(self.alloc, self.watches.as_slice()));
+        let ((views, cast), (held, watches)) = both(overlay, held)?;
+        Ok(NodeState {
+            alloc: self.alloc,
+            node: self.node,
+            incarnation: self.incarnation,
+            held,
+            views,
+            cast,
+            watches,
+            heard: self.heard,
+            steps: self.steps,
+            frames: self.frames,
+            ticks: self.ticks,
+        })
+    }
+}
+
+fn copy_watches(alloc: Global, watches: &[Watch]) -> Result<Vec<Watch>, AllocError>
+    ensures { IfOk result (λ copies. copies.items ≡ watches.now) }
+{
+    let mut copies = Vec::with_capacity(alloc, watches.len())?;
+    for watch in watches {
+        copies.push(watch.copy()?)?;
+    }
+    Ok(copies)
 }
