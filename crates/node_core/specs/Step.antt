@@ -1,5 +1,5 @@
 -- One step of a node, as four functions of what it was and of what it was asked: what refuses it,
--- what the node is then, what it replies, and which frames it sends. And many steps.
+-- what the node is then, what it replies, and which frames it sends.
 use Rattle.std.specs.Prelude.{ℕ, ◌≡◌, ◌+◌, ◌-◌, nat_eq, nat_le, nat_lt, Bool, ◌||◌, List, [], ◌∷◌, map, length, slice_get, Option, None, Some, if◌then◌else◌}
 use Rattle.std.specs.Option.{option_map}
 use Rattle.meta_types.specs.First.{first_that_applies}
@@ -22,6 +22,7 @@ use Rattle.node_events.specs.declared.event.NodeEvent.{NodeEvent}
 use Rattle.node_events.specs.declared.event.NodeEvent.TheVariants.{Read, Write, PutOver, Join, PeerDown, Exchange, Watch, Changes, Hello}
 use Rattle.node_events.specs.declared.reply.Reply.{Reply}
 use Rattle.node_events.specs.declared.reply.Reply.TheVariants.{Looked, Wrote, Took, TookFresh, TookStale, Done, Watching as IsWatching, Changed}
+use Rattle.node_core.specs.declared.state.Stepped.{Stepped}
 use Rattle.node_core.specs.Node.{NodeParts, count, present, vector_under, writer}
 use Rattle.node_core.specs.Draft.{Draft}
 use Rattle.node_core.specs.Outbox.{numbered}
@@ -117,14 +118,18 @@ reply_of (Brought frame word) s = reply_of_message frame.message s
 abbrev pub frames_of : Input → NodeParts → List Frame
 frames_of input s = numbered s.node s.frames (draft_after input s).sent
 
--- ---- a step, and many
+-- ---- a step
 
--- an accepted event takes the old node to the new one, with this reply and these frames as bytes
-pub record IsStep (old : NodeParts) (event : NodeEvent) (new : NodeParts) (reply : Reply)
-    (sent : List (List ℕ)) : Type 0 where
-  pub input : Input
-  pub is_input : IsInput event input
+-- what was asked takes the old node to the new one, with this reply and these frames as bytes
+pub record Makes (old : NodeParts) (input : Input) (new : NodeParts) (stepped : Stepped) : Type 0 where
   pub accepted : refusal_of input old ≡ None
   pub after : new ≡ after input old
-  pub replies : reply ≡ reply_of input old
-  pub sends : sent ≡ map spelling (frames_of input old)
+  pub replies : stepped.reply ≡ reply_of input old
+  pub sends : stepped.outbox ≡ map spelling (frames_of input old)
+
+-- an event does so as what it asks, or as the frame that its bytes spell
+pub record IsStep (old : NodeParts) (event : NodeEvent) (new : NodeParts) (stepped : Stepped)
+    : Type 0 where
+  pub input : Input
+  pub is_input : IsInput event input
+  pub makes : Makes old input new stepped

@@ -9,6 +9,7 @@ pub mod laws;
 mod overlay;
 mod sending;
 pub mod state;
+mod step;
 
 pub use envelope::Envelope;
 pub use state::{NodeState, Stepped};
