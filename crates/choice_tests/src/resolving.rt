@@ -73,12 +73,12 @@ fn the_largest_wins(rt: HostRuntime) {
     }
 }
 
-/// A resolver of one's own: the writer with the greatest number wins, since siblings come in the
-/// order of their writers.
+/// A resolver of one's own: the greatest writer wins, and of its siblings the oldest, since they
+/// come in the order of their writers, each one's newest first.
 #[derive(Drop)]
-struct LastWriterInOrder;
+struct GreatestWriter;
 
-impl Resolver for LastWriterInOrder {
+impl Resolver for GreatestWriter {
     ghost use Rattle.std.specs.Prelude.{◌-◌, length};
 
     ghost choice = { λ _ siblings. length siblings - 1 };
@@ -91,7 +91,7 @@ impl Resolver for LastWriterInOrder {
 #[test]
 fn a_resolver_of_ones_own_chooses(rt: HostRuntime) {
     let alloc = rt.alloc();
-    let own: Box<dyn Resolver> = Box::new(alloc, LastWriterInOrder).expect(&rt, "memory");
+    let own: Box<dyn Resolver> = Box::new(alloc, GreatestWriter).expect(&rt, "memory");
     let siblings = [stamped("x", 9), stamped("~", 1), stamped("y", 2)];
     assert_eq!(rt; place(&rt, alloc, &own, &siblings), 2);
 }

@@ -62,8 +62,10 @@ fn a_watch_has_room_for_1_to_1024_changes(rt: HostRuntime) {
         let watch = Watch::new(alloc, prefix(&rt, alloc, "b"), capacity);
         assert_eq!(rt; watch.is_ok(), is_taken);
     }
-    let refused = Watch::new(alloc, prefix(&rt, alloc, "b"), 0);
-    assert!(rt; matches!(refused, Err(WatchFault::BadWatch)));
+    for capacity in [0, 1025] {
+        let refused = Watch::new(alloc, prefix(&rt, alloc, "b"), capacity);
+        assert!(rt; matches!(refused, Err(WatchFault::BadWatch)));
+    }
 }
 
 /// Allocates at most 60 times.

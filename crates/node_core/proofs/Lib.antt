@@ -2,3 +2,5 @@
 mod Peering
 -- messages become frames, one after another
 pub mod Numbering
+-- what a node says of itself can be sent
+pub mod OwnWords

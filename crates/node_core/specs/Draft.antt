@@ -11,7 +11,7 @@ use Rattle.plumtree.specs.declared.entry.CastOut.{CastOut}
 use Rattle.plumtree.specs.declared.entry.CastOut.TheVariants as OfCast
 use Rattle.plumtree.specs.Broadcast.{Broadcast, CastCall, Changes, Broadcasts, row, draft_of, broadcast_of}
 use Rattle.subscriptions.specs.declared.change.Change.{Change}
-use Rattle.subscriptions.specs.Watching.{noted}
+use Rattle.subscriptions.specs.Watching.{with_change}
 use Rattle.node_core.specs.Node.{NodeParts, vector_under, with_overlay}
 use Rattle.node_core.specs.Overlay.{after_view, envelope, sent_by_view, talking}
 use Rattle.node_core.specs.declared.envelope.Envelope.{Envelope}
@@ -73,7 +73,7 @@ abbrev pub change_under : Key → NodeParts → Change
 change_under key s = record { key = key; vector = vector_under key s }
 
 abbrev pub note : Change → Draft → Draft
-note change t = record t { parts = record t.parts { watches = map (noted change) t.parts.watches } }
+note change t = record t { parts = record t.parts { watches = map (with_change change) t.parts.watches } }
 
 -- the object under the key is this one now
 abbrev pub change : Key → List Entry → Draft → Draft

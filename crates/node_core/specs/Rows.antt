@@ -16,7 +16,7 @@ use Rattle.hash_tree.specs.Tree.{rows_of, tree_root}
 use Rattle.exchange.specs.Answers.{answer}
 use Rattle.hyparview.specs.declared.event.ViewEvent.TheVariants as OfViews
 use Rattle.plumtree.specs.Broadcast.{TakesGossip, TakesPrune, TakesIHave, TakesGraft, Tick as CastTick}
-use Rattle.subscriptions.specs.Watching.{Watching, empty, taken}
+use Rattle.subscriptions.specs.Watching.{Watching, emptied, empty}
 use Rattle.node_events.specs.declared.event.NodeEvent.{NodeEvent}
 use Rattle.node_events.specs.declared.event.NodeEvent.TheVariants.{Read, Write, PutOver, Take, Tick, Join, PeerDown, Exchange, Keep, Watch, Changes, Hello as SayHello, Leave}
 use Rattle.node_core.specs.Node.{NodeParts, count, present, vector_under, writer}
@@ -109,12 +109,12 @@ abbrev pub watch : Prefix → ℕ → Draft → Draft
 watch prefix capacity t =
     record t { parts = record t.parts { watches = t.parts.watches ++ empty prefix capacity ∷ [] } }
 
-abbrev pub with_taken : Option Watching → ℕ → List Watching → List Watching
-with_taken None place watches = watches
-with_taken (Some w) place watches = slice_set watches place (taken w)
+abbrev pub with_emptied : Option Watching → ℕ → List Watching → List Watching
+with_emptied None place watches = watches
+with_emptied (Some w) place watches = slice_set watches place (emptied w)
 
 abbrev pub hand_out : ℕ → List Watching → List Watching
-hand_out number watches = with_taken (slice_get watches (number - 1)) (number - 1) watches
+hand_out number watches = with_emptied (slice_get watches (number - 1)) (number - 1) watches
 
 abbrev pub changes : ℕ → Draft → Draft
 changes number t =

@@ -7,6 +7,7 @@ pub mod envelope;
 mod held;
 pub mod laws;
 mod overlay;
+mod saying;
 mod sending;
 pub mod state;
 mod step;

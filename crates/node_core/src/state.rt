@@ -133,7 +133,10 @@ impl NodeState {
         ensures { IfOk result (λ copy. copy ≡ self.now) }
     {
         let overlay = both(self.views.copy(), self.cast.copy());
-        let held = both(self.held.copy(), copy_watches(self.alloc, self.watches.as_slice()));
+        let held = both(
+            self.held.copy(),
+            copy_watches(self.alloc, self.watches.as_slice()),
+        );
         let ((views, cast), (held, watches)) = both(overlay, held)?;
         Ok(NodeState {
             alloc: self.alloc,

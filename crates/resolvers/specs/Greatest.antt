@@ -1,5 +1,5 @@
--- Of several values, the first of the greatest. The rules are those of stores that keep the last
--- writer's value, or the largest.
+-- Of several values, the first of the greatest. That the last writer or the largest wins is common;
+-- what decides at ties is our own.
 use Rattle.std.specs.Prelude.{ℕ, Bool, not, List}
 use Rattle.std.specs.List.{list_all, position_or_len}
 use Rattle.std.specs.declared.cmp.Ordering.{Ordering}

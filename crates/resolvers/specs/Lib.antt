@@ -1,4 +1,4 @@
 -- What must be believed of a choice among siblings.
 pub mod Greatest
--- which order a rank names; a word of the proof
+-- which order a rank names; only contracts of private functions cite it
 pub mod Ranks

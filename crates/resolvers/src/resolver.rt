@@ -6,7 +6,7 @@ use meta_types::Value;
 use std::cmp::Ordering;
 
 /// Chooses among siblings. The choice is a function of their list and of the resolver: equal lists
-/// are resolved alike on every node.
+/// are resolved alike by equal resolvers, on every node.
 pub trait Resolver: Drop {
     ghost use Rattle.std.specs.Prelude.{◌≡◌, ◌<◌, ℕ, List, length};
     ghost use Rattle.meta_types.specs.Value.{ValueParts};
@@ -14,7 +14,7 @@ pub trait Resolver: Drop {
     ghost choice: { Self → List ValueParts → ℕ };
 
     /// The place, counted from 0, of the value that is chosen. There is at least one sibling. It
-    /// takes no memory.
+    /// can't fail, and is to take no memory.
     fn resolve(&self, siblings: &[Value]) -> usize
         requires { 0 < length siblings.now }
         ensures place { result < length siblings.now }

@@ -5,7 +5,7 @@ use Rattle.meta_types.specs.Order.{prefix_eq}
 use Rattle.subscriptions.specs.declared.change.Change.{Change}
 
 -- whose changes are heard of, how many are held at most, those that are held, oldest first, and how
--- many left without having been taken
+-- many left without having been taken since the last were taken
 pub record Watching : Type 0 where
   pub prefix : Prefix
   pub capacity : ℕ
@@ -20,9 +20,11 @@ IsCapacity capacity = (1 ≤ capacity) × (capacity ≤ 1024)
 abbrev pub empty : Prefix → ℕ → Watching
 empty prefix capacity = record { prefix = prefix; capacity = capacity; changes = []; missed = 0 }
 
+-- the key's full prefix is the watch's
 abbrev pub hears : Watching → Key → Bool
 hears w key = prefix_eq w.prefix key.prefix
 
+-- it holds as many changes as it may
 abbrev pub is_full : Watching → Bool
 is_full w = nat_eq (length w.changes) w.capacity
 
@@ -34,6 +36,7 @@ without_oldest w = record w { changes = drop 1 w.changes; missed = min (w.missed
 abbrev pub with_room : Watching → Watching
 with_room w = if is_full w then without_oldest w else w
 
+-- it may hold one more
 abbrev pub HasRoom : Watching → Type 0
 HasRoom w = length w.changes < w.capacity
 
@@ -42,9 +45,9 @@ abbrev pub with_last : Change → Watching → Watching
 with_last change w = record w { changes = w.changes ++ change ∷ [] }
 
 -- a change of another prefix does nothing
-abbrev pub noted : Change → Watching → Watching
-noted change w = if hears w change.key then with_last change (with_room w) else w
+abbrev pub with_change : Change → Watching → Watching
+with_change change w = if hears w change.key then with_last change (with_room w) else w
 
--- all that was held is handed out
-abbrev pub taken : Watching → Watching
-taken w = record w { changes = []; missed = 0 }
+-- nothing is held, and nothing was missed
+abbrev pub emptied : Watching → Watching
+emptied w = record w { changes = []; missed = 0 }

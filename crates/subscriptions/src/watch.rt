@@ -1,7 +1,7 @@
-ghost use Rattle.std.specs.Prelude.{◌≡◌, ◌+◌, ◌<◌, ◌≤◌, [], ◌∷◌, ◌++◌, length, vec_len, vec_capacity, IfOk, OnOk, OnErr};
+ghost use Rattle.std.specs.Prelude.{◌≡◌, ◌+◌, ◌<◌, ◌≤◌, [], ◌∷◌, ◌++◌, length, vec_len, vec_capacity, IfOk, IfErr, OnOk, OnErr};
 ghost use Rattle.circular_buffer.specs.Buffer.{buffer};
 ghost use Rattle.meta_types.specs.Failing.{FailsWith};
-ghost use Rattle.subscriptions.specs.Watching.{HasRoom, IsCapacity, empty, hears, noted, taken, with_room};
+ghost use Rattle.subscriptions.specs.Watching.{HasRoom, IsCapacity, emptied, empty, hears, with_change, with_room};
 ghost use Rattle.subscriptions.specs.declared.fault.WatchFault.TheVariants.{BadWatch, Memory};
 
 use crate::change::Change;
@@ -42,13 +42,14 @@ impl Model for Watch {
 
 impl Watch {
     /// A watch of what changes under the prefix, with room for so many changes. It takes the memory
-    /// for all of them.
+    /// for their places; each change brings its own.
     ///
-    /// Refused with 28 `BadWatch` where there is room for none, or for more than 1,024, and with 99
-    /// `Memory`.
+    /// Refused with 28 `BadWatch` where the capacity is 0 or more than 1,024, and only there, and
+    /// otherwise only with 99 `Memory`.
     pub fn new(alloc: Global, prefix: FullPrefix, capacity: usize) -> Result<Self, WatchFault>
         ensures value { IfOk result (λ watch. watch ≡ empty prefix capacity) }
         ensures in_range { OnOk result (IsCapacity capacity) }
+        ensures out_of_range { (IsCapacity capacity → ⊥) → IfErr result (λ fault. fault ≡ BadWatch) }
         ensures refusals { FailsWith Memory
             (λ fault. (fault ≡ BadWatch) × (IsCapacity capacity → ⊥)) result }
     {
@@ -72,9 +73,9 @@ impl Watch {
     }
 
     /// Takes a change in, unless it is of another prefix. Where there is no room the oldest leaves
-    /// and counts as missed. It takes no memory.
+    /// and counts as missed. It never fails, and takes no memory.
     pub fn note(&mut self, change: Change)
-        ensures { self.new ≡ noted change self.old }
+        ensures { self.new ≡ with_change change self.old }
     {
         if self.hears(&change.key) {
             self.make_room();
@@ -105,7 +106,7 @@ impl Watch {
     /// only when memory runs out, and then all is as before.
     pub fn take(&mut self) -> Result<Vec<Change>, AllocError>
         ensures changes { IfOk result (λ changes. changes.items ≡ self.old.changes) }
-        ensures emptied { OnOk result (self.new ≡ taken self.old) }
+        ensures emptied { OnOk result (self.new ≡ emptied self.old) }
         ensures unchanged { OnErr result (self.new ≡ self.old) }
     {
         let count = self.changes.len();

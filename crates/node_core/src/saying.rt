@@ -1,0 +1,71 @@
+//! Events by which a node says one thing to a peer.
+
+ghost use Rattle.std.specs.Prelude.{◌≡◌, ◌∷◌, [], None, Some, IfOk, IfErr, OnOk, OnErr, map};
+ghost use Rattle.meta_frame.specs.Frame.{spelling};
+ghost use Rattle.meta_types.specs.Failing.{FailsBy};
+ghost use Rattle.node_core.specs.Outbox.{CanBeSent, numbered};
+ghost use Rattle.node_core.specs.Overlay.{envelope};
+ghost use Rattle.node_core.specs.Rows.{Asked};
+ghost use Rattle.node_core.specs.Step.{Makes, is_itself, refusal_of};
+ghost use Rattle.node_events.specs.declared.event.NodeEvent.TheVariants.{Exchange, Hello};
+ghost use Rattle.node_events.specs.declared.fault.StepFault.TheVariants.{Memory};
+
+use crate::envelope::Envelope;
+use crate::state::{NodeState, Stepped};
+use exchange::start;
+use meta_frame::Message;
+use meta_types::NodeId;
+use node_events::{Outbox, Reply, StepFault};
+
+impl NodeState {
+    /// The node begins an exchange with a peer.
+    #[tactic(auto, using(crate::proofs::OwnWords::root_can_be_sent))]
+    pub(crate) fn exchange(&mut self, peer: NodeId) -> Result<Stepped, StepFault>
+        ensures step { IfOk result
+            (λ stepped. Makes self.old (Asked (Exchange peer)) self.new stepped) }
+        ensures refused { FailsBy Memory (refusal_of (Asked (Exchange peer)) self.old) result }
+        ensures same { OnErr result (self.new ≡ self.old) }
+    {
+        self.is_another(peer)?;
+        let outbox = self.one_frame(peer, start(self.held.tree()))?;
+        Ok(self.finish(Reply::Done, outbox))
+    }
+
+    /// The node tells a peer which life it is in.
+    #[tactic(auto, using(crate::proofs::OwnWords::life_can_be_sent))]
+    pub(crate) fn hello(&mut self, peer: NodeId) -> Result<Stepped, StepFault>
+        ensures step { IfOk result
+            (λ stepped. Makes self.old (Asked (Hello peer)) self.new stepped) }
+        ensures refused { FailsBy Memory (refusal_of (Asked (Hello peer)) self.old) result }
+        ensures same { OnErr result (self.new ≡ self.old) }
+    {
+        self.is_another(peer)?;
+        let life = self.incarnation;
+        let outbox = self.one_frame(peer, Message::Hello { life })?;
+        Ok(self.finish(Reply::Done, outbox))
+    }
+
+    /// The frame of one message.
+    fn one_frame(&self, to: NodeId, message: Message) -> Result<Outbox, StepFault>
+        requires { CanBeSent self.now.node (envelope to message) }
+        ensures frames { IfOk result (λ outbox. outbox ≡ map spelling
+            (numbered self.now.node self.now.frames (envelope to message ∷ []))) }
+        ensures memory { IfErr result (λ fault. fault ≡ Memory) }
+    {
+        let mut sent = Vec::new(self.alloc);
+        sent.push(Envelope { to, message })?;
+        self.outbox(sent)
+    }
+
+    /// Refused where the other is the node itself.
+    pub(crate) fn is_another(&self, other: NodeId) -> Result<(), StepFault>
+        ensures accepted { OnOk result (is_itself other self.now ≡ None) }
+        ensures refused { IfErr result (λ fault. is_itself other self.now ≡ Some fault) }
+    {
+        if other == self.node {
+            Err(StepFault::BadNode)
+        } else {
+            Ok(())
+        }
+    }
+}
