@@ -13,7 +13,6 @@ mod rows;
 mod views;
 mod words;
 
-use plumctl_core::tell;
 use rows::told;
 use std::io::{self, ErrorKind};
 use std::process::ExitCode;
@@ -22,7 +21,7 @@ use streams::{MayFail, StreamFault, write_whole};
 fn main(rt: HostRuntime) -> ExitCode {
     ExitCode::from(match run(&rt) {
         Ok(()) => 0,
-        Err(fault) => tell(&mut MayFail(rt.stderr()), fault),
+        Err(fault) => told_fault(&rt, fault),
     })
 }
 
@@ -38,5 +37,17 @@ fn read_rows(rt: &HostRuntime) -> Result<String, StreamFault> {
         Ok(rows) => Ok(rows),
         Err(error) if error.kind() == ErrorKind::OutOfMemory => Err(StreamFault::Memory),
         Err(_) => Err(StreamFault::Read),
+    }
+}
+
+/// Tells a fault at standard error, and returns the exit status.
+fn told_fault(rt: &HostRuntime, fault: StreamFault) -> u8 {
+    let _ = match fault.code() {
+        Some(code) => eprintln!(rt; "error {code} {fault}"),
+        None => eprintln!(rt; "error {fault}"),
+    };
+    match fault {
+        StreamFault::Memory => 4,
+        _ => 3,
     }
 }
