@@ -3,15 +3,15 @@ use Rattle.std.proofs.Common.{◌≡◌, ℕ, List, [], ◌∷◌, ◌++◌, map
 use Rattle.std.proofs.lemmas.List.{append_assoc}
 use Rattle.meta_frame.specs.Frame.{spelling}
 use Rattle.node_core.specs.declared.envelope.Envelope.{Envelope}
-use Rattle.node_core.specs.Node.{count}
-use Rattle.node_core.specs.Outbox.{framed, numbered}
+use Rattle.node_core.specs.Node.{count_on}
+use Rattle.node_core.specs.Outbox.{frame_of, frames_from}
 
 pub one_more : (from number next : ℕ) (e : Envelope) (front : List (List ℕ)) (frame : List ℕ)
     (rest : List Envelope) (all : List (List ℕ))
-    → next ≡ count number 1 → frame ≡ spelling (framed from next e)
-    → front ++ map spelling (numbered from number (e ∷ rest)) ≡ all
-    → (front ++ frame ∷ []) ++ map spelling (numbered from next rest) ≡ all
+    → next ≡ count_on number 1 → frame ≡ spelling (frame_of from next e)
+    → front ++ map spelling (frames_from from number (e ∷ rest)) ≡ all
+    → (front ++ frame ∷ []) ++ map spelling (frames_from from next rest) ≡ all
 one_more from number next e front frame rest all counted spelled is =
-    append_assoc front (frame ∷ []) (map spelling (numbered from next rest))
-    ∙ ap (λ bytes. front ++ bytes ∷ map spelling (numbered from next rest)) spelled
-    ∙ ap (λ n. front ++ spelling (framed from n e) ∷ map spelling (numbered from n rest)) counted ∙ is
+    append_assoc front (frame ∷ []) (map spelling (frames_from from next rest))
+    ∙ ap (λ bytes. front ++ bytes ∷ map spelling (frames_from from next rest)) spelled
+    ∙ ap (λ n. front ++ spelling (frame_of from n e) ∷ map spelling (frames_from from n rest)) counted ∙ is

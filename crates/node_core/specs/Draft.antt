@@ -34,8 +34,7 @@ send to message t = record t { sent = t.sent ++ envelope to message ∷ [] }
 abbrev pub send_all : ℕ → List Message → Draft → Draft
 send_all to messages t = record t { sent = t.sent ++ map (envelope to) messages }
 
--- ---- the broadcast, which is told of a call and knows no objects: a GOSSIP carries the one that
--- is held
+-- ---- the broadcast, which holds no objects: a GOSSIP that it gives out takes the one held then
 
 abbrev pub envelope_of : Table → CastOut → Envelope
 envelope_of table (OfCast.Gossip to round key) =
@@ -45,8 +44,8 @@ envelope_of table (OfCast.Send to message) = envelope to message
 abbrev pub with_cast : Broadcast → NodeParts → NodeParts
 with_cast b s = with_overlay (talking s.overlay.views b) s
 
-abbrev pub cast : CastCall → Draft → Draft
-cast call t =
+abbrev pub call_broadcast : CastCall → Draft → Draft
+call_broadcast call t =
     let after = row call (draft_of t.parts.overlay.cast) in
     record t {
       parts = with_cast (broadcast_of after) t.parts;
@@ -55,8 +54,8 @@ cast call t =
 
 -- ---- the views, of which the broadcast hears who came and who went
 
-abbrev pub view : ViewEvent → ℕ → Draft → Draft
-view event word t =
+abbrev pub step_views : ViewEvent → ℕ → Draft → Draft
+step_views event word t =
     record t {
       parts = with_overlay (after_view event word t.parts.overlay) t.parts;
       sent = t.sent ++ sent_by_view event word t.parts.overlay;
@@ -73,14 +72,16 @@ abbrev pub change_under : Key → NodeParts → Change
 change_under key s = record { key = key; vector = vector_under key s }
 
 abbrev pub note : Change → Draft → Draft
-note change t = record t { parts = record t.parts { watches = map (with_change change) t.parts.watches } }
+note change t =
+    record t { parts = record t.parts { watches = map (with_change change) t.parts.watches } }
 
 -- the object under the key is this one now
 abbrev pub change : Key → List Entry → Draft → Draft
 change key object t =
     let new = hold key object t in
-    new ▷ note (change_under key new.parts) ▷ cast (Changes key (vector_under key new.parts))
+    new ▷ note (change_under key new.parts)
+    ▷ call_broadcast (Changes key (vector_under key new.parts))
 
 -- what is held under the key goes to all peers, or its announcement
-abbrev pub broadcast : Key → Draft → Draft
-broadcast key t = cast (Broadcasts key (vector_under key t.parts)) t
+abbrev pub broadcast_held : Key → Draft → Draft
+broadcast_held key t = call_broadcast (Broadcasts key (vector_under key t.parts)) t

@@ -40,14 +40,19 @@ parts node incarnation table views cast watches heard steps frames ticks = recor
   ticks = ticks;
 }
 
--- what holds of a node after every list of events: the broadcast's peers are the members of its
--- active view, and it never names itself; lives are numbered from 1, and it has few watches
+-- the most watches of a node
+abbrev pub most_watches : ℕ
+most_watches = 16
+
+-- what always holds of a node, beside what the types of its parts say: the broadcast's peers are
+-- the members of its active view, and it never names itself; lives are numbered from 1, and it has
+-- few watches
 pub record IsNodeState (s : NodeParts) : Type 0 where
   pub peers : ArePeers s.overlay
   pub own_views : s.overlay.views.node ≡ s.node
   pub names_others : NamesOthers s.node s.overlay.cast
   pub lives : 1 ≤ s.incarnation
-  pub few_watches : length s.watches ≤ 16
+  pub few_watches : length s.watches ≤ most_watches
 
 -- a life begins with a table, and with nothing else
 abbrev pub opening : ℕ → ℕ → Table → NodeParts
@@ -64,8 +69,8 @@ opening node incarnation table = record {
 }
 
 -- counts go as far as 64 bits do, and stay there
-abbrev pub count : ℕ → ℕ → ℕ
-count so_far more = min (so_far + more) (2 ^ 64 - 1)
+abbrev pub count_on : ℕ → ℕ → ℕ
+count_on so_far more = min (so_far + more) (2 ^ 64 - 1)
 
 -- who counts what the node writes
 abbrev pub writer : NodeParts → ℕ
@@ -75,9 +80,11 @@ writer s = writer_number s.node s.incarnation
 abbrev pub vector_under : Key → NodeParts → List Counter
 vector_under key s = join (object_at s.table key)
 
--- the context that a read in its next step hands out
+-- the context that a read in its next step hands out; a write over all has read it, and its source
+-- is seen nowhere
 abbrev pub present : Key → NodeParts → Reading
-present key s = reading_at s.table key (record { actor = writer s; step = count s.steps 1 })
+present key s = reading_at s.table key (record { actor = writer s; step = count_on s.steps 1 })
 
+-- the node, talking to these
 abbrev pub with_overlay : Overlay → NodeParts → NodeParts
 with_overlay overlay s = record s { overlay = overlay }

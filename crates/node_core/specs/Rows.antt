@@ -1,5 +1,5 @@
 -- What a node does with each event, one definition for each row of the table, in its order.
-use Rattle.std.specs.Prelude.{ℕ, ◌≡◌, ◌-◌, ◌%◌, ◌==◌, nat_lt, Bool, not, List, [], ◌∷◌, ◌++◌, slice_index, slice_set, slice_get, Option, None, Some, if◌then◌else◌}
+use Rattle.std.specs.Prelude.{ℕ, ◌≡◌, ◌-◌, ◌%◌, ◌==◌, nat_eq, nat_lt, Bool, not, List, [], ◌∷◌, ◌++◌, slice_index, slice_set, slice_get, Option, None, Some, if◌then◌else◌}
 use Rattle.peer_lists.specs.Lists.{has}
 use Rattle.meta_types.specs.Name.{Key, Prefix}
 use Rattle.meta_types.specs.Value.{ValueParts}
@@ -19,17 +19,18 @@ use Rattle.plumtree.specs.Broadcast.{TakesGossip, TakesPrune, TakesIHave, TakesG
 use Rattle.subscriptions.specs.Watching.{Watching, emptied, empty}
 use Rattle.node_events.specs.declared.event.NodeEvent.{NodeEvent}
 use Rattle.node_events.specs.declared.event.NodeEvent.TheVariants.{Read, Write, PutOver, Take, Tick, Join, PeerDown, Exchange, Keep, Watch, Changes, Hello as SayHello, Leave}
-use Rattle.node_core.specs.Node.{NodeParts, count, present, vector_under, writer}
-use Rattle.node_core.specs.Draft.{Draft, ◌▷◌, send, send_all, cast, view, change, broadcast}
+use Rattle.node_core.specs.Node.{NodeParts, count_on, present, vector_under, writer}
+use Rattle.node_core.specs.Draft.{Draft, ◌▷◌, send, send_all, call_broadcast, step_views, change, broadcast_held}
 
 -- ---- a write: what is held changes, and is broadcast
 
 abbrev pub write : Key → ValueParts → Option Reading → Draft → Draft
 write key value context t =
     t ▷ change key (object_after_put t.parts.table (writer t.parts) key value context)
-    ▷ broadcast key
+    ▷ broadcast_held key
 
--- ---- an object that came: what counts a write that isn't known is merged
+-- ---- an object that came: one that has a write which isn't known here is merged, any other
+-- changes nothing
 
 abbrev pub is_fresh : Key → List Entry → NodeParts → Bool
 is_fresh key object s = not (is_stale s.table key (join object))
@@ -44,26 +45,27 @@ abbrev pub on_gossip : ℕ → ℕ → Key → List Entry → Draft → Draft
 on_gossip from round key object t =
     let merged = merge key object t in
     let fresh = is_fresh key object t.parts in
-    cast (TakesGossip from round key (vector_under key merged.parts) fresh) merged
+    call_broadcast (TakesGossip from round key (vector_under key merged.parts) fresh) merged
 
 -- ---- IHAVE and GRAFT, whose vector is compared with what is held
 
 abbrev pub on_ihave : ℕ → ℕ → Key → List Counter → Draft → Draft
 on_ihave from round key vector t =
-    cast (TakesIHave from round key vector (is_stale t.parts.table key vector)) t
+    call_broadcast (TakesIHave from round key vector (is_stale t.parts.table key vector)) t
 
 abbrev pub on_graft : ℕ → ℕ → Key → List Counter → Draft → Draft
 on_graft from round key vector t =
-    cast (TakesGraft from round key (is_stale t.parts.table key vector)) t
+    call_broadcast (TakesGraft from round key (is_stale t.parts.table key vector)) t
 
--- ---- HELLO: of a life that is later than all that were heard, the former ones are over
+-- ---- HELLO: a life greater than any heard of its sender is noted, and the sender, if a neighbour,
+-- is taken down: it came anew
 
 abbrev pub hear : ℕ → ℕ → Draft → Draft
 hear from life t = record t { parts = record t.parts { heard = slice_set t.parts.heard from life } }
 
 abbrev pub drop_neighbour : ℕ → ℕ → Draft → Draft
 drop_neighbour node word t =
-    if has t.parts.overlay.views.active node then view (OfViews.PeerDown node) word t else t
+    if has t.parts.overlay.views.active node then step_views (OfViews.PeerDown node) word t else t
 
 abbrev pub on_hello : ℕ → ℕ → ℕ → Draft → Draft
 on_hello from life word t =
@@ -81,7 +83,7 @@ abbrev pub on_message : ℕ → ℕ → Message → Draft → Draft
 on_message from word (Gossip round key object) = on_gossip from round key object
 on_message from word (IHave round key vector) = on_ihave from round key vector
 on_message from word (Graft round key vector) = on_graft from round key vector
-on_message from word Prune = cast (TakesPrune from)
+on_message from word Prune = call_broadcast (TakesPrune from)
 on_message from word (XRoot root) = reply_to from (XRoot root)
 on_message from word (XPrefixes prefixes) = reply_to from (XPrefixes prefixes)
 on_message from word (XInner prefix digests) = reply_to from (XInner prefix digests)
@@ -90,18 +92,18 @@ on_message from word (XBucket prefix leaf keys) = reply_to from (XBucket prefix 
 on_message from word (XWant key) = reply_to from (XWant key)
 on_message from word (XObject key object) = merge key object
 on_message from word (Hello life) = on_hello from life word
-on_message from word message = view (OfViews.Taken from message) word
+on_message from word message = step_views (OfViews.Taken from message) word
 
--- ---- a tick: announcements go out, what is overdue is asked for, and each tenth shuffles
+-- ---- a tick: announcements go out, what is overdue is asked for, and each tenth tick shuffles
 
 abbrev pub count_tick : Draft → Draft
-count_tick t = record t { parts = record t.parts { ticks = count t.parts.ticks 1 } }
+count_tick t = record t { parts = record t.parts { ticks = count_on t.parts.ticks 1 } }
 
 abbrev pub shuffle_if_due : ℕ → Draft → Draft
-shuffle_if_due word t = if t.parts.ticks % 10 == 0 then view OfViews.ShuffleDue word t else t
+shuffle_if_due word t = if t.parts.ticks % 10 == 0 then step_views OfViews.ShuffleDue word t else t
 
 abbrev pub tick : ℕ → Draft → Draft
-tick word t = t ▷ count_tick ▷ cast CastTick ▷ shuffle_if_due word
+tick word t = t ▷ count_tick ▷ call_broadcast CastTick ▷ shuffle_if_due word
 
 -- ---- watches, which are numbered from 1
 
@@ -109,45 +111,50 @@ abbrev pub watch : Prefix → ℕ → Draft → Draft
 watch prefix capacity t =
     record t { parts = record t.parts { watches = t.parts.watches ++ empty prefix capacity ∷ [] } }
 
+-- the one of that number, if there is one
+abbrev pub at_number : {A : Type 0} → List A → ℕ → Option A
+at_number xs number = if nat_eq number 0 then None else slice_get xs (number - 1)
+
 abbrev pub with_emptied : Option Watching → ℕ → List Watching → List Watching
-with_emptied None place watches = watches
-with_emptied (Some w) place watches = slice_set watches place (emptied w)
+with_emptied None number watches = watches
+with_emptied (Some w) number watches = slice_set watches (number - 1) (emptied w)
 
 abbrev pub hand_out : ℕ → List Watching → List Watching
-hand_out number watches = with_emptied (slice_get watches (number - 1)) (number - 1) watches
+hand_out number watches = with_emptied (at_number watches number) number watches
 
-abbrev pub changes : ℕ → Draft → Draft
-changes number t =
+abbrev pub hand_out_changes : ℕ → Draft → Draft
+hand_out_changes number t =
     record t { parts = record t.parts { watches = hand_out number t.parts.watches } }
 
--- ---- what a node is asked to do: an event, or a frame that was taken, with its word
+-- ---- what a node is asked to do: an event of its own, or a frame that was received, with its word
 
 pub data Input : Type 0 where
-  Asked : NodeEvent → Input
-  Brought : Frame → ℕ → Input
+  Local : NodeEvent → Input
+  Received : Frame → ℕ → Input
 
 -- the event, whose bytes, if it brings some, spell the frame
 abbrev pub IsInput : NodeEvent → Input → Type 0
-IsInput (Take bytes word) (Asked event) = ⊥
-IsInput (Take bytes word) (Brought frame w) = Spells frame bytes × (w ≡ word)
-IsInput event (Asked same) = same ≡ event
-IsInput event (Brought frame word) = ⊥
+IsInput (Take bytes word) (Local event) = ⊥
+IsInput (Take bytes word) (Received frame w) = Spells frame bytes × (w ≡ word)
+IsInput event (Local same) = same ≡ event
+IsInput event (Received frame word) = ⊥
 
+-- leaving makes no choice, so any word would do
 abbrev pub row_of_event : NodeEvent → Draft → Draft
 row_of_event (Read key) t = t
 row_of_event (Write key value context) t = write key value context t
 row_of_event (PutOver key value) t = write key value (Some (present key t.parts)) t
 row_of_event (Take bytes word) t = t
 row_of_event (Tick word) t = tick word t
-row_of_event (Join contact word) t = view (OfViews.JoinThrough contact) word t
-row_of_event (PeerDown peer word) t = view (OfViews.PeerDown peer) word t
+row_of_event (Join contact word) t = step_views (OfViews.JoinThrough contact) word t
+row_of_event (PeerDown peer word) t = step_views (OfViews.PeerDown peer) word t
 row_of_event (Exchange peer) t = send peer (XRoot (tree_root (rows_of t.parts.table))) t
 row_of_event (Keep key) t = t
 row_of_event (Watch prefix capacity) t = watch prefix capacity t
-row_of_event (Changes number) t = changes number t
+row_of_event (Changes number) t = hand_out_changes number t
 row_of_event (SayHello peer) t = send peer (Hello t.parts.incarnation) t
-row_of_event Leave t = view OfViews.Leave 0 t
+row_of_event Leave t = step_views OfViews.Leave 0 t
 
 abbrev pub row : Input → Draft → Draft
-row (Asked event) = row_of_event event
-row (Brought frame word) = on_message frame.from word frame.message
+row (Local event) = row_of_event event
+row (Received frame word) = on_message frame.from word frame.message

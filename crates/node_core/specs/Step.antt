@@ -1,6 +1,6 @@
 -- One step of a node, as four functions of what it was and of what it was asked: what refuses it,
--- what the node is then, what it replies, and which frames it sends.
-use Rattle.std.specs.Prelude.{ℕ, ◌≡◌, ◌+◌, ◌-◌, nat_eq, nat_le, nat_lt, Bool, ◌||◌, List, [], ◌∷◌, map, length, slice_get, Option, None, Some, if◌then◌else◌}
+-- what the node is then, what it replies, and which frames it sends. And many steps.
+use Rattle.std.specs.Prelude.{ℕ, ◌≡◌, ◌+◌, nat_eq, nat_le, nat_lt, Bool, ◌||◌, ◌⊎◌, List, [], ◌∷◌, map, length, slice_get, Option, None, Some, is_none, if◌then◌else◌}
 use Rattle.std.specs.Option.{option_map}
 use Rattle.meta_types.specs.First.{first_that_applies}
 use Rattle.meta_types.specs.Name.{Key}
@@ -10,28 +10,28 @@ use Rattle.dvvset.specs.Clock.{values_of}
 use Rattle.meta_frame.specs.declared.message.Frame.{Frame}
 use Rattle.meta_frame.specs.declared.message.Message.{Message}
 use Rattle.meta_frame.specs.declared.message.Message.TheVariants.{Gossip, XObject}
-use Rattle.meta_frame.specs.Frame.{spelling}
+use Rattle.meta_frame.specs.Frame.{RefusesBytes, spelling}
 use Rattle.meta_store.specs.Context.{Reading}
 use Rattle.meta_store.specs.Step.{refusal_of_merge, refusal_of_put}
 use Rattle.meta_store.specs.Table.{object_at}
 use Rattle.subscriptions.specs.Watching.{Watching}
 use Rattle.node_events.specs.Fault.{of_store}
 use Rattle.node_events.specs.declared.fault.StepFault.{StepFault}
-use Rattle.node_events.specs.declared.fault.StepFault.TheVariants.{BadNode, NotAddressed, BadWatch, NoSuchWatch}
+use Rattle.node_events.specs.declared.fault.StepFault.TheVariants.{BadNode, NotAddressed, BadWatch, NoSuchWatch, Frame as OfFrame, Memory}
 use Rattle.node_events.specs.declared.event.NodeEvent.{NodeEvent}
-use Rattle.node_events.specs.declared.event.NodeEvent.TheVariants.{Read, Write, PutOver, Join, PeerDown, Exchange, Watch, Changes, Hello}
+use Rattle.node_events.specs.declared.event.NodeEvent.TheVariants.{Take, Read, Write, PutOver, Join, PeerDown, Exchange, Watch, Changes, Hello}
 use Rattle.node_events.specs.declared.reply.Reply.{Reply}
 use Rattle.node_events.specs.declared.reply.Reply.TheVariants.{Looked, Wrote, Took, TookFresh, TookStale, Done, Watching as IsWatching, Changed}
 use Rattle.node_core.specs.declared.state.Stepped.{Stepped}
-use Rattle.node_core.specs.Node.{NodeParts, count, present, vector_under, writer}
+use Rattle.node_core.specs.Node.{NodeParts, count_on, most_watches, present, vector_under, writer}
 use Rattle.node_core.specs.Draft.{Draft}
-use Rattle.node_core.specs.Outbox.{numbered}
-use Rattle.node_core.specs.Rows.{Asked, Brought, Input, IsInput, is_fresh, row}
+use Rattle.node_core.specs.Outbox.{frames_from}
+use Rattle.node_core.specs.Rows.{Local, Received, Input, IsInput, at_number, is_fresh, row}
 
 -- ---- what refuses it
 
-abbrev pub is_itself : ℕ → NodeParts → Option StepFault
-is_itself node s = first_that_applies ((nat_eq node s.node, BadNode) ∷ [])
+abbrev pub refusal_of_peer : ℕ → NodeParts → Option StepFault
+refusal_of_peer node s = first_that_applies ((nat_eq node s.node, BadNode) ∷ [])
 
 abbrev pub refusal_of_write : Key → ValueParts → Option Reading → NodeParts → Option StepFault
 refusal_of_write key value context s =
@@ -55,26 +55,27 @@ is_no_capacity capacity = nat_eq capacity 0 || nat_lt 1024 capacity
 
 abbrev pub refusal_of_watch : ℕ → NodeParts → Option StepFault
 refusal_of_watch capacity s =
-    first_that_applies ((is_no_capacity capacity || nat_le 16 (length s.watches), BadWatch) ∷ [])
+    let has_all = nat_le most_watches (length s.watches) in
+    first_that_applies ((is_no_capacity capacity || has_all, BadWatch) ∷ [])
 
 abbrev pub refusal_of_changes : ℕ → NodeParts → Option StepFault
 refusal_of_changes number s =
-    first_that_applies ((nat_eq number 0 || nat_lt (length s.watches) number, NoSuchWatch) ∷ [])
+    first_that_applies ((is_none (at_number s.watches number), NoSuchWatch) ∷ [])
 
 abbrev pub refusal_of_event : NodeEvent → NodeParts → Option StepFault
 refusal_of_event (Write key value context) s = refusal_of_write key value context s
 refusal_of_event (PutOver key value) s = refusal_of_write key value (Some (present key s)) s
-refusal_of_event (Join contact word) s = is_itself contact s
-refusal_of_event (PeerDown peer word) s = is_itself peer s
-refusal_of_event (Exchange peer) s = is_itself peer s
-refusal_of_event (Hello peer) s = is_itself peer s
+refusal_of_event (Join contact word) s = refusal_of_peer contact s
+refusal_of_event (PeerDown peer word) s = refusal_of_peer peer s
+refusal_of_event (Exchange peer) s = refusal_of_peer peer s
+refusal_of_event (Hello peer) s = refusal_of_peer peer s
 refusal_of_event (Watch prefix capacity) s = refusal_of_watch capacity s
 refusal_of_event (Changes number) s = refusal_of_changes number s
 refusal_of_event event s = None
 
 abbrev pub refusal_of : Input → NodeParts → Option StepFault
-refusal_of (Asked event) = refusal_of_event event
-refusal_of (Brought frame word) = refusal_of_frame frame
+refusal_of (Local event) = refusal_of_event event
+refusal_of (Received frame word) = refusal_of_frame frame
 
 -- ---- what the node is then
 
@@ -83,10 +84,10 @@ draft_after input s = row input (record { parts = s; sent = [] })
 
 -- the step counts, and so does each frame
 abbrev pub counted : ℕ → NodeParts → NodeParts
-counted sent s = record s { steps = count s.steps 1; frames = count s.frames sent }
+counted sent s = record s { steps = count_on s.steps 1; frames = count_on s.frames sent }
 
-abbrev pub after : Input → NodeParts → NodeParts
-after input s = let t = draft_after input s in counted (length t.sent) t.parts
+abbrev pub node_after : Input → NodeParts → NodeParts
+node_after input s = let t = draft_after input s in counted (length t.sent) t.parts
 
 -- ---- what it replies
 
@@ -98,38 +99,74 @@ reply_of_message (Gossip round key object) s = reply_of_object key object s
 reply_of_message (XObject key object) s = reply_of_object key object s
 reply_of_message message s = Took
 
-abbrev pub changed : Option Watching → Reply
-changed None = Done
-changed (Some w) = Changed w.missed w.changes
+abbrev pub reply_of_changes : Option Watching → Reply
+reply_of_changes None = Done
+reply_of_changes (Some w) = Changed w.missed w.changes
 
 abbrev pub reply_of : Input → NodeParts → Reply
-reply_of (Asked (Read key)) s = Looked (values_of (object_at s.table key)) (present key s)
-reply_of (Asked (Write key value context)) s =
-    Wrote (vector_under key (after (Asked (Write key value context)) s))
-reply_of (Asked (PutOver key value)) s =
-    Wrote (vector_under key (after (Asked (PutOver key value)) s))
-reply_of (Asked (Watch prefix capacity)) s = IsWatching (length s.watches + 1)
-reply_of (Asked (Changes number)) s = changed (slice_get s.watches (number - 1))
-reply_of (Asked event) s = Done
-reply_of (Brought frame word) s = reply_of_message frame.message s
+reply_of (Local (Read key)) s = Looked (values_of (object_at s.table key)) (present key s)
+reply_of (Local (Write key value context)) s =
+    Wrote (vector_under key (node_after (Local (Write key value context)) s))
+reply_of (Local (PutOver key value)) s =
+    Wrote (vector_under key (node_after (Local (PutOver key value)) s))
+reply_of (Local (Watch prefix capacity)) s = IsWatching (length s.watches + 1)
+reply_of (Local (Changes number)) s = reply_of_changes (at_number s.watches number)
+reply_of (Local event) s = Done
+reply_of (Received frame word) s = reply_of_message frame.message s
 
 -- ---- which frames it sends: numbered over the life from 1, in order
 
-abbrev pub frames_of : Input → NodeParts → List Frame
-frames_of input s = numbered s.node s.frames (draft_after input s).sent
+abbrev pub frames_sent : Input → NodeParts → List Frame
+frames_sent input s = frames_from s.node s.frames (draft_after input s).sent
 
 -- ---- a step
 
 -- what was asked takes the old node to the new one, with this reply and these frames as bytes
-pub record Makes (old : NodeParts) (input : Input) (new : NodeParts) (stepped : Stepped) : Type 0 where
+pub record IsStepOf (old : NodeParts) (input : Input) (new : NodeParts) (stepped : Stepped)
+    : Type 0 where
   pub accepted : refusal_of input old ≡ None
-  pub after : new ≡ after input old
+  pub node : new ≡ node_after input old
   pub replies : stepped.reply ≡ reply_of input old
-  pub sends : stepped.outbox ≡ map spelling (frames_of input old)
+  pub sends : stepped.outbox ≡ map spelling (frames_sent input old)
 
--- an event does so as what it asks, or as the frame that its bytes spell
-pub record IsStep (old : NodeParts) (event : NodeEvent) (new : NodeParts) (stepped : Stepped)
+-- the step of an event: of itself, or of the frame that its bytes spell
+pub record IsNodeStep (old : NodeParts) (event : NodeEvent) (new : NodeParts) (stepped : Stepped)
     : Type 0 where
   pub input : Input
   pub is_input : IsInput event input
-  pub makes : Makes old input new stepped
+  pub step : IsStepOf old input new stepped
+
+-- ---- what comes of an event
+
+-- its bytes are no frame, for this first cause
+abbrev pub IsNoFrame : NodeEvent → StepFault → Type 0
+IsNoFrame (Take bytes word) (OfFrame fault) = RefusesBytes bytes fault
+IsNoFrame event fault = ⊥
+
+-- what it asks, or the frame that it brings, is refused so
+pub record IsRefused (old : NodeParts) (event : NodeEvent) (fault : StepFault) : Type 0 where
+  pub input : Input
+  pub is_input : IsInput event input
+  pub first : refusal_of input old ≡ Some fault
+
+-- a refused event changes nothing
+pub record Rejects (old : NodeParts) (event : NodeEvent) (fault : StepFault) (new : NodeParts)
+    : Type 0 where
+  pub cause : (fault ≡ Memory) ⊎ (IsNoFrame event fault ⊎ IsRefused old event fault)
+  pub same : new ≡ old
+
+-- ---- many steps, one after the other: accepted events, each with what it gave
+
+abbrev pub IsRun : NodeParts → List (NodeEvent × Stepped) → NodeParts → Type 0
+IsRun old [] new = new ≡ old
+IsRun old (e ∷ es) new =
+    (between : NodeParts) × (IsNodeStep old e.0 between e.1 × IsRun between es new)
+
+-- ---- a repair: where siblings stand under the key, the chosen one is to be written over all
+
+abbrev pub repair_event : (List ValueParts → ℕ) → Key → NodeParts → Option NodeEvent
+repair_event choice key s =
+    let siblings = values_of (object_at s.table key) in
+    if nat_le 2 (length siblings)
+    then option_map (PutOver key) (slice_get siblings (choice siblings))
+    else None

@@ -4,7 +4,7 @@
 ghost use Rattle.std.specs.Prelude.{◌≡◌, All, IfOk, IfErr, length, map};
 ghost use Rattle.meta_frame.specs.Frame.{spelling};
 ghost use Rattle.node_core.specs.Node.{IsNodeState, with_overlay};
-ghost use Rattle.node_core.specs.Outbox.{CanBeSent, numbered};
+ghost use Rattle.node_core.specs.Outbox.{CanBeSent, frames_from};
 ghost use Rattle.node_core.specs.Overlay.{talking};
 ghost use Rattle.node_core.specs.Step.{counted};
 ghost use Rattle.node_events.specs.declared.fault.StepFault.TheVariants.{Memory};
@@ -22,7 +22,7 @@ impl NodeState {
     pub(crate) fn outbox(&self, sent: Vec<Envelope>) -> Result<Outbox, StepFault>
         requires { All (CanBeSent self.now.node) sent.items }
         ensures frames { IfOk result (λ outbox. outbox
-            ≡ map spelling (numbered self.now.node self.now.frames sent.items)) }
+            ≡ map spelling (frames_from self.now.node self.now.frames sent.items)) }
         ensures memory { IfErr result (λ fault. fault ≡ Memory) }
     {
         Ok(outbox(self.alloc, self.node, self.frames, sent)?)

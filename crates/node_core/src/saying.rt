@@ -3,10 +3,10 @@
 ghost use Rattle.std.specs.Prelude.{◌≡◌, ◌∷◌, [], None, Some, IfOk, IfErr, OnOk, OnErr, map};
 ghost use Rattle.meta_frame.specs.Frame.{spelling};
 ghost use Rattle.meta_types.specs.Failing.{FailsBy};
-ghost use Rattle.node_core.specs.Outbox.{CanBeSent, numbered};
+ghost use Rattle.node_core.specs.Outbox.{CanBeSent, frames_from};
 ghost use Rattle.node_core.specs.Overlay.{envelope};
-ghost use Rattle.node_core.specs.Rows.{Asked};
-ghost use Rattle.node_core.specs.Step.{Makes, is_itself, refusal_of};
+ghost use Rattle.node_core.specs.Rows.{Local};
+ghost use Rattle.node_core.specs.Step.{IsStepOf, refusal_of_peer, refusal_of};
 ghost use Rattle.node_events.specs.declared.event.NodeEvent.TheVariants.{Exchange, Hello};
 ghost use Rattle.node_events.specs.declared.fault.StepFault.TheVariants.{Memory};
 
@@ -22,8 +22,8 @@ impl NodeState {
     #[tactic(auto, using(crate::proofs::OwnWords::root_can_be_sent))]
     pub(crate) fn exchange(&mut self, peer: NodeId) -> Result<Stepped, StepFault>
         ensures step { IfOk result
-            (λ stepped. Makes self.old (Asked (Exchange peer)) self.new stepped) }
-        ensures refused { FailsBy Memory (refusal_of (Asked (Exchange peer)) self.old) result }
+            (λ stepped. IsStepOf self.old (Local (Exchange peer)) self.new stepped) }
+        ensures refused { FailsBy Memory (refusal_of (Local (Exchange peer)) self.old) result }
         ensures same { OnErr result (self.new ≡ self.old) }
     {
         self.is_another(peer)?;
@@ -35,8 +35,8 @@ impl NodeState {
     #[tactic(auto, using(crate::proofs::OwnWords::life_can_be_sent))]
     pub(crate) fn hello(&mut self, peer: NodeId) -> Result<Stepped, StepFault>
         ensures step { IfOk result
-            (λ stepped. Makes self.old (Asked (Hello peer)) self.new stepped) }
-        ensures refused { FailsBy Memory (refusal_of (Asked (Hello peer)) self.old) result }
+            (λ stepped. IsStepOf self.old (Local (Hello peer)) self.new stepped) }
+        ensures refused { FailsBy Memory (refusal_of (Local (Hello peer)) self.old) result }
         ensures same { OnErr result (self.new ≡ self.old) }
     {
         self.is_another(peer)?;
@@ -49,7 +49,7 @@ impl NodeState {
     fn one_frame(&self, to: NodeId, message: Message) -> Result<Outbox, StepFault>
         requires { CanBeSent self.now.node (envelope to message) }
         ensures frames { IfOk result (λ outbox. outbox ≡ map spelling
-            (numbered self.now.node self.now.frames (envelope to message ∷ []))) }
+            (frames_from self.now.node self.now.frames (envelope to message ∷ []))) }
         ensures memory { IfErr result (λ fault. fault ≡ Memory) }
     {
         let mut sent = Vec::new(self.alloc);
@@ -59,8 +59,8 @@ impl NodeState {
 
     /// Refused where the other is the node itself.
     pub(crate) fn is_another(&self, other: NodeId) -> Result<(), StepFault>
-        ensures accepted { OnOk result (is_itself other self.now ≡ None) }
-        ensures refused { IfErr result (λ fault. is_itself other self.now ≡ Some fault) }
+        ensures accepted { OnOk result (refusal_of_peer other self.now ≡ None) }
+        ensures refused { IfErr result (λ fault. refusal_of_peer other self.now ≡ Some fault) }
     {
         if other == self.node {
             Err(StepFault::BadNode)

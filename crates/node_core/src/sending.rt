@@ -3,7 +3,7 @@
 ghost use Rattle.std.specs.Prelude.{◌≡◌, ◌≤◌, length, map, All, IfOk, IfErr};
 ghost use Rattle.meta_frame.specs.Frame.{IsLawful, limit, spelling};
 ghost use Rattle.meta_frame.specs.declared.fault.FrameFault.TheVariants.{Memory};
-ghost use Rattle.node_core.specs.Outbox.{CanBeSent, framed, numbered};
+ghost use Rattle.node_core.specs.Outbox.{CanBeSent, frame_of, frames_from};
 
 use crate::envelope::Envelope;
 use meta_frame::{Frame, FrameFault, encode};
@@ -21,7 +21,7 @@ pub(crate) fn outbox(
 ) -> Result<Outbox, FrameFault>
     requires { All (CanBeSent from) sent.items }
     ensures frames { IfOk result
-        (λ outbox. outbox ≡ map spelling (numbered from number sent.items)) }
+        (λ outbox. outbox ≡ map spelling (frames_from from number sent.items)) }
     ensures memory { IfErr result (λ fault. fault ≡ Memory) }
 {
     let mut number = number;
@@ -40,7 +40,7 @@ fn spelled(
     envelope: Envelope,
 ) -> Result<ByteString, FrameFault>
     requires { CanBeSent from envelope }
-    ensures frame { IfOk result (λ bytes. bytes ≡ spelling (framed from number envelope)) }
+    ensures frame { IfOk result (λ bytes. bytes ≡ spelling (frame_of from number envelope)) }
     ensures memory { IfErr result (λ fault. fault ≡ Memory) }
 {
     let frame = Frame {

@@ -2,9 +2,9 @@
 
 ghost use Rattle.std.specs.Prelude.{◌≡◌, [], None, IfOk, IfErr, OnOk, OnErr};
 ghost use Rattle.meta_types.specs.Failing.{FailsBy};
-ghost use Rattle.node_core.specs.Node.{count, writer};
-ghost use Rattle.node_core.specs.Rows.{Asked};
-ghost use Rattle.node_core.specs.Step.{Makes, refusal_of};
+ghost use Rattle.node_core.specs.Node.{count_on, writer};
+ghost use Rattle.node_core.specs.Rows.{Local};
+ghost use Rattle.node_core.specs.Step.{IsStepOf, refusal_of};
 ghost use Rattle.subscriptions.specs.Watching.{empty};
 ghost use Rattle.node_events.specs.declared.event.NodeEvent.TheVariants.{Keep, Read, Watch as WatchEvent};
 ghost use Rattle.node_events.specs.declared.fault.StepFault.TheVariants.{Memory};
@@ -22,7 +22,7 @@ impl NodeState {
     /// The node is read: what it shows, and a context for a write that has read it.
     pub(crate) fn read(&mut self, key: &MetaKey) -> Result<Stepped, StepFault>
         ensures step { IfOk result
-            (λ stepped. Makes self.old (Asked (Read key.now)) self.new stepped) }
+            (λ stepped. IsStepOf self.old (Local (Read key.now)) self.new stepped) }
         ensures memory { IfErr result (λ fault. fault ≡ Memory) }
         ensures same { OnErr result (self.new ≡ self.old) }
     {
@@ -31,9 +31,9 @@ impl NodeState {
         Ok(self.finish(Reply::Looked { values, context }, self.nothing_sent()))
     }
 
-    /// What is held under the key is to be stored; nothing changes.
+    /// What is held under the key is to be stored: nothing changes but the count of steps.
     pub(crate) fn keep(&mut self, key: &MetaKey) -> Stepped
-        ensures { Makes self.old (Asked (Keep key.now)) self.new result }
+        ensures { IsStepOf self.old (Local (Keep key.now)) self.new result }
     {
         let _ = key;
         self.finish(Reply::Done, self.nothing_sent())
@@ -45,10 +45,10 @@ impl NodeState {
         prefix: &FullPrefix,
         capacity: usize,
     ) -> Result<Stepped, StepFault>
-        ensures step { IfOk result (λ stepped. Makes self.old
-            (Asked (WatchEvent prefix.now capacity)) self.new stepped) }
+        ensures step { IfOk result (λ stepped. IsStepOf self.old
+            (Local (WatchEvent prefix.now capacity)) self.new stepped) }
         ensures refused { FailsBy Memory
-            (refusal_of (Asked (WatchEvent prefix.now capacity)) self.old) result }
+            (refusal_of (Local (WatchEvent prefix.now capacity)) self.old) result }
         ensures same { OnErr result (self.new ≡ self.old) }
     {
         let number = self.watches.len() as u64 + 1;
@@ -60,9 +60,9 @@ impl NodeState {
     fn new_watch(&self, prefix: &FullPrefix, capacity: usize) -> Result<Watch, StepFault>
         ensures watch { IfOk result (λ watch. watch ≡ empty prefix.now capacity) }
         ensures accepted { OnOk result
-            (refusal_of (Asked (WatchEvent prefix.now capacity)) self.now ≡ None) }
+            (refusal_of (Local (WatchEvent prefix.now capacity)) self.now ≡ None) }
         ensures refused { FailsBy Memory
-            (refusal_of (Asked (WatchEvent prefix.now capacity)) self.now) result }
+            (refusal_of (Local (WatchEvent prefix.now capacity)) self.now) result }
     {
         if self.watches.len() >= MAX_WATCHES {
             return Err(StepFault::BadWatch);
@@ -73,7 +73,7 @@ impl NodeState {
 
     /// Who reads in this step.
     fn source(&self) -> Source
-        ensures { result ≡ record { actor = writer self.now; step = count self.now.steps 1 } }
+        ensures { result ≡ record { actor = writer self.now; step = count_on self.now.steps 1 } }
     {
         Source {
             actor: Actor::new(self.node, self.incarnation),

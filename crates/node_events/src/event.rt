@@ -46,7 +46,8 @@ pub enum NodeEvent {
     Exchange {
         peer: NodeId,
     },
-    /// What is held under the key is to be stored. It changes nothing in the node.
+    /// What is held under the key is to be stored. It changes nothing but the count of steps, as a
+    /// read does.
     Keep {
         key: MetaKey,
     },

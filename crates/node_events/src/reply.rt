@@ -21,7 +21,7 @@ pub enum Reply {
     TookStale,
     /// It is done, and there is nothing to tell.
     Done,
-    /// There is a watch of this number.
+    /// The new watch has this number.
     Watching { number: u64 },
     /// What a watch handed out, and how many changes it had missed.
     Changed { missed: u64, changes: Changes },

@@ -1,6 +1,6 @@
 use Rattle.std.proofs.Common.{◌++◌, map, All, suc, arith, subst, sym, ap, ◌∙◌}
 use Rattle.meta_frame.specs.Frame.{spelling}
-use Rattle.node_core.specs.Outbox.{CanBeSent, numbered}
+use Rattle.node_core.specs.Outbox.{CanBeSent, frames_from}
 use Rattle.node_core.proofs.Numbering.{one_more}
 use Rattle.node_core.proofs.sending.outbox.Goals as goal
 
@@ -12,9 +12,9 @@ loop-envelope-preserved c =
     let front = c.loop-envelope.frames.items in
     let left = c.next.new.self.rest.items in
     let is = c.in-Some.ensures.steps.0 in
-    let before = ap (λ es. front ++ map spelling (numbered from number es)) (sym is) ∙ c.loop-envelope.invariant.0 in
+    let before = ap (λ es. front ++ map spelling (frames_from from number es)) (sym is) ∙ c.loop-envelope.invariant.0 in
     let rest = subst (All (CanBeSent from)) is c.loop-envelope.invariant.1 in (
-      ap (λ frames. frames ++ map spelling (numbered from next left)) c.in_ok-push.ensures.items
+      ap (λ frames. frames ++ map spelling (frames_from from next left)) c.in_ok-push.ensures.items
           ∙ one_more from number next c.in-Some.envelope front c.in_ok-spelled.field-0 left _
           c.saturating_add-number.ensures c.in_ok-spelled.ensures.frame before,
       λ k d inside. rest (suc k) d (omega (arith, inside)),

@@ -1,11 +1,11 @@
 use Rattle.std.proofs.Common.{◌≡◌, ◌++◌, map, All}
 use Rattle.meta_frame.specs.Frame.{spelling}
-use Rattle.node_core.specs.Outbox.{CanBeSent, numbered}
+use Rattle.node_core.specs.Outbox.{CanBeSent, frames_from}
 use Rattle.node_core.proofs.sending.outbox.Given as goal
 
 abbrev pub invariant-loop-envelope : goal.invariant-loop-envelope
 invariant-loop-envelope l =
     let rest = l.envelope-iterator.rest.items in
-    (l.frames.items ++ map spelling (numbered l.fn.from l.number rest)
-    ≡ map spelling (numbered l.fn.from l.fn.number l.fn.sent.items))
+    (l.frames.items ++ map spelling (frames_from l.fn.from l.number rest)
+    ≡ map spelling (frames_from l.fn.from l.fn.number l.fn.sent.items))
     × All (CanBeSent l.fn.from) rest
