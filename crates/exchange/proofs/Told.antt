@@ -1,5 +1,5 @@
 -- Steps of the loops over what differs between two lists of rows.
-use Rattle.std.proofs.Common.{◌≡◌, ℕ, ◌<◌, Bool, true, false, cond, ◌&&◌, suc, List, [], ◌∷◌, ◌++◌, length, map, get_or, Option, Some, None, is_none, refl, sym, ap, ◌∙◌, append_assoc, arith}
+use Rattle.std.proofs.Common.{◌≡◌, ℕ, ◌<◌, Bool, true, false, cond, ◌&&◌, suc, List, [], ◌∷◌, ◌++◌, length, map, get_or, Option, refl, sym, ap, ◌∙◌, append_assoc, arith}
 use Rattle.std.specs.List.{flat_map}
 use Rattle.std.specs.Ordering.{is_lt}
 use Rattle.std.specs.declared.cmp.Ordering.{Ordering}
@@ -17,7 +17,6 @@ use Rattle.frame_fields.specs.declared.keys.KeyDigest.{KeyDigest}
 use Rattle.frame_fields.specs.declared.prefixes.PrefixDigest.{PrefixDigest}
 use Rattle.frame_fields.proofs.Ordered.{keys_rise, keys_rise_throughout, prefixes_rise_throughout}
 use Rattle.meta_frame.specs.declared.message.Message.{Message}
-use Rattle.meta_frame.specs.declared.message.Message.TheVariants.{XWant}
 use Rattle.meta_store.specs.Table.{Table}
 use Rattle.hash_tree.specs.Tree.{Digest, bucket, prefix_roots, rows_of}
 use Rattle.hash_tree.specs.Hashed.{rows_below}
@@ -115,25 +114,3 @@ pub ended : {A K M : Type 0} (R : K → K → Ordering) (parts : A → K × Dige
     → done ++ flat_map g (differing R (map parts theirs) (map parts own)) ≡ total → done ≡ total
 ended R parts g done total theirs own t o so_far =
     sym (append-nil done) ∙ (λ i. done ++ flat_map g (differing R (map parts (sym t i)) (map parts (sym o i)))) ∙ so_far
-
--- ---- one key
-
-wants : (key : Key) (x : Option Digest) → is_none x ≡ false → want_messages key x ≡ XWant key ∷ []
-wants key None e = cc
-wants key (Some d) e = refl
-
-wants_not : (key : Key) (x : Option Digest) → is_none x ≡ true → want_messages key x ≡ []
-wants_not key None e = refl
-wants_not key (Some d) e = cc
-
-pub appended_both : (old mid new objects : List Message) (key : Key) (x : Option Digest) (b : Bool) → b ≡ true → is_none x ≡ false → mid ≡ old ++ objects → new ≡ mid ++ XWant key ∷ []
-    → new ≡ old ++ cond b (objects ++ want_messages key x) []
-appended_both old mid new objects key x b differs is made pushed =
-    pushed ∙ ap (λ xs. xs ++ XWant key ∷ []) made ∙ append_assoc old objects (XWant key ∷ [])
-    ∙ (λ i. old ++ cond (sym differs i) (objects ++ sym (wants key x is) i) [])
-
-pub appended_one : (old new objects : List Message) (key : Key) (x : Option Digest) (b : Bool) → b ≡ true → is_none x ≡ true → new ≡ old ++ objects
-    → new ≡ old ++ cond b (objects ++ want_messages key x) []
-appended_one old new objects key x b differs is made =
-    made ∙ ap (λ xs. old ++ xs) (sym (append-nil objects))
-    ∙ (λ i. old ++ cond (sym differs i) (objects ++ sym (wants_not key x is) i) [])

@@ -2,7 +2,7 @@
 
 ghost use Rattle.std.specs.Prelude.{◌≡◌, ◌<◌, ◌∷◌, ◌++◌, cond, [], IfOk, OnOk};
 ghost use Rattle.meta_types.specs.Name.{IsName, Key};
-ghost use Rattle.frame_fields.specs.Field.{digests};
+ghost use Rattle.frame_fields.specs.Field.{digests, keys};
 ghost use Rattle.meta_frame.specs.declared.message.Message.TheVariants.{XRoot};
 ghost use Rattle.hash_tree.specs.Tree.{bucket, prefix_roots, rows_of, tree_root};
 ghost use Rattle.hash_tree.specs.Hashed.{rows_below};
@@ -182,12 +182,11 @@ fn answer_bucket(
     ensures { IfOk result
         (λ answers. answers.items ≡ answer_bucket store.now prefix.now leaf theirs.now) }
 {
-    let own = own_keys(store, tree, prefix, leaf)?;
     let mut their_rest = theirs.as_slice();
-    let mut own_rest = own.as_slice();
+    let mut own_rest = lent_keys(store, tree, prefix, leaf);
     let mut answers = Vec::new(alloc);
     while let Some(next) = next_key(their_rest, own_rest) {
-        answer_key(alloc, &mut answers, store, prefix, &next)?;
+        answer_key(&mut answers, store, prefix, &next)?;
         their_rest = next.theirs;
         own_rest = next.own;
     }
@@ -197,7 +196,6 @@ fn answer_bucket(
 /// Appends what a key that differs is answered: its object if it is held, and a want of it if the
 /// other side lists it.
 fn answer_key(
-    alloc: Global,
     answers: &mut Vec<Message>,
     store: &Store,
     prefix: &FullPrefix,
@@ -212,8 +210,7 @@ fn answer_key(
         return Ok(());
     }
     let key = MetaKey::under(prefix.copy()?, next.key.copy()?);
-    let mut objects = object_if_held(alloc, store, &key)?;
-    answers.append(&mut objects)?;
+    add_object_if_held(answers, store, &key)?;
     if next.digest.is_none() {
         return Ok(());
     }
@@ -226,13 +223,26 @@ fn object_if_held(alloc: Global, store: &Store, key: &MetaKey) -> Result<Vec<Mes
     ensures { IfOk result (λ answers. answers.items ≡ object_if_held store.now key.now) }
 {
     let mut answers = Vec::new(alloc);
+    add_object_if_held(&mut answers, store, key)?;
+    Ok(answers)
+}
+
+/// Appends the object under the key, if it is held.
+fn add_object_if_held(
+    answers: &mut Vec<Message>,
+    store: &Store,
+    key: &MetaKey,
+) -> Result<(), AllocError>
+    ensures { OnOk result (answers.new.items
+        ≡ answers.old.items ++ object_if_held store.now key.now) }
+{
     if let Some(object) = store.object(key) {
         answers.push(Message::XObject {
             key: key.copy()?,
             object: object.copy()?,
         })?;
     }
-    Ok(answers)
+    Ok(())
 }
 
 /// The digests of the inner nodes of a full prefix.
@@ -299,7 +309,17 @@ fn own_prefixes(store: &Store, tree: &Tree) -> Result<PrefixDigests, AllocError>
     Ok(PrefixDigests::new(tree.prefix_roots()?))
 }
 
-/// The keys of a leaf, in order, with their digests.
+/// The keys of a leaf, in order, with their digests, as the tree keeps them.
+fn lent_keys<'a>(store: &Store, tree: &'a Tree, prefix: &FullPrefix, leaf: u8) -> &'a [KeyDigest]
+    requires { tree.now ≡ rows_of store.now }
+    ensures value { result.now ≡ bucket (rows_below prefix.now store.now) leaf }
+    ensures lawful { keys.Fits result.now }
+{
+    let _few = store.len();
+    tree.lent_bucket(prefix, leaf)
+}
+
+/// The keys of a leaf, in order, with their digests. They are copies.
 fn own_keys(
     store: &Store,
     tree: &Tree,

@@ -1,15 +1,12 @@
 //! A whole exchange of two stores.
 
-ghost use Rattle.std.specs.Prelude.{◌≡◌, ℕ, List, None, Some, IfOk, OnOk, OnErr};
-ghost use Rattle.std.specs.FinMap.{find};
+ghost use Rattle.std.specs.Prelude.{◌≡◌, false, None, IfOk, OnOk, OnErr};
 ghost use Rattle.meta_types.specs.Failing.{FailsBy};
-ghost use Rattle.meta_types.specs.Order.{key_cmp};
-ghost use Rattle.dvvset.specs.Object.{Entry};
-ghost use Rattle.meta_store.specs.Step.{answer_of_merge, refusal_of_merge};
-ghost use Rattle.meta_store.specs.Step.{table_after_merge};
+ghost use Rattle.meta_store.specs.Table.{IsHeld, with_object};
+ghost use Rattle.meta_store.specs.Step.{is_full_for, refusal_of_merge, table_after_merge};
 ghost use Rattle.meta_store.specs.declared.fault.StoreFault.TheVariants.{Memory};
 ghost use Rattle.meta_frame.specs.declared.message.Message.TheVariants.{XRoot};
-ghost use Rattle.hash_tree.specs.Tree.{object_digest, rows_of, tree_root};
+ghost use Rattle.hash_tree.specs.Tree.{rows_of, tree_root};
 ghost use Rattle.exchange.specs.Answers.{answer};
 ghost use Rattle.exchange.specs.Whole.{StayBetween, EndInUnion, answers_in_turn, answers_to};
 ghost use Rattle.exchange.specs.Whole.{here_after, offers, refusal_of, refusal_of_all};
@@ -18,10 +15,9 @@ ghost use Rattle.exchange.specs.Whole.{table_after_all, there_after, wanted};
 
 use crate::answering::{answer, start};
 use dvvset::Entries;
-use frame_fields::Digest;
 use hash_tree::{Tree, object_digest};
 use meta_frame::Message;
-use meta_store::{Merged, Store, StoreFault};
+use meta_store::{Store, StoreFault};
 use meta_types::MetaKey;
 use std::alloc::{AllocError, Global};
 
@@ -85,8 +81,7 @@ fn take(store: &mut Store, tree: &mut Tree, message: &Message) -> Result<(), Sto
     }
 }
 
-/// Merges an object into the store, and takes what then is held into the tree. Where memory is
-/// refused for a key that is new to the tree, the store forgets it again.
+/// Merges an object into the store, and takes what then is held into the tree.
 fn merge(
     store: &mut Store,
     tree: &mut Tree,
@@ -100,42 +95,35 @@ fn merge(
     ensures no_refusal { OnOk result (refusal_of_merge store.old key.now object.now ≡ None) }
     ensures fault { FailsBy Memory (refusal_of_merge store.old key.now object.now) result }
 {
-    match merge_copy(store, key, object) {
-        Err(fault) => Err(fault),
-        Ok(Merged::Stale) => Ok(()),
-        Ok(Merged::Fresh) => match tree.update(key, digest_under(store, key)) {
-            Ok(()) => Ok(()),
-            Err(error) => {
-                store.forget(key);
-                Err(error.into())
-            }
-        },
+    match store.preview_merge(key, object)? {
+        None => Ok(()),
+        Some(merged) => Ok(hold(store, tree, key, merged)?),
     }
 }
 
-/// Merges a copy of the object into the store.
-fn merge_copy(store: &mut Store, key: &MetaKey, object: &Entries) -> Result<Merged, StoreFault>
-    ensures value { OnOk result (store.new ≡ table_after_merge store.old key.now object.now) }
-    ensures answer { IfOk result
-        (λ answer. answer ≡ answer_of_merge store.old key.now object.now) }
+/// Holds the object in the store, and takes it into the tree. Fails only when memory runs out; the
+/// store forgets a key again that is new to the tree where the tree is refused memory.
+fn hold(
+    store: &mut Store,
+    tree: &mut Tree,
+    key: &MetaKey,
+    object: Entries,
+) -> Result<(), AllocError>
+    requires tree { tree.old ≡ rows_of store.old }
+    requires held { IsHeld object }
+    requires room { is_full_for store.old key.now ≡ false }
+    ensures tree { tree.new ≡ rows_of store.new }
+    ensures value { OnOk result (store.new ≡ with_object key.now object store.old) }
     ensures same { OnErr result (store.new ≡ store.old) }
-    ensures no_refusal { OnOk result (refusal_of_merge store.old key.now object.now ≡ None) }
-    ensures fault { FailsBy Memory (refusal_of_merge store.old key.now object.now) result }
 {
-    let key = key.copy()?;
-    let object = object.copy()?;
-    store.merge(key, object)
-}
-
-/// The digest of the object that is held under the key.
-fn digest_under(store: &Store, key: &MetaKey) -> Digest
-    requires { (object : List Entry) × (find key_cmp key.now store.now ≡ Some object) }
-    ensures { (object : List Entry) → find key_cmp key.now store.now ≡ Some object
-        → result ≡ object_digest object }
-{
-    match store.object(key) {
-        Some(object) => object_digest(object),
-        None => unreachable!(),
+    let digest = object_digest(&object);
+    store.hold(key.copy()?, object)?;
+    match tree.update(key, digest) {
+        Ok(()) => Ok(()),
+        Err(error) => {
+            store.forget(key);
+            Err(error)
+        }
     }
 }
 

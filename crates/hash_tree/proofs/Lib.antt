@@ -1,5 +1,7 @@
 -- the leaves of a full prefix
 pub mod ByLeaf
+-- the place of a key among the rows of a leaf
+mod ByPlace
 -- the digests that a changed key changes
 mod Changing
 -- the parts of a tree, and its readers

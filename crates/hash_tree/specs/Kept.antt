@@ -1,13 +1,29 @@
 -- How a tree keeps its rows: by full prefix, and under each by leaf.
-use Rattle.std.specs.Prelude.{◌≡◌, ◌≢◌, ℕ, ◌*◌, take, drop, true, List, [], ◌∷◌, map, All}
-use Rattle.std.specs.List.{concat, flat_map, range_with_len}
+use Rattle.std.specs.Prelude.{◌≡◌, ◌≢◌, ℕ, ◌*◌, ◌<◌, ◌≤◌, take, drop, true, List, [], ◌∷◌, length, map, All, None, slice_index_or, slice_set}
+use Rattle.std.specs.List.{concat, flat_map, insert, range_with_len}
 use Rattle.std.specs.Option.{unwrap_or}
 use Rattle.std.specs.Ordering.{nat_cmp}
 use Rattle.std.specs.FinMap.{find, is_sorted, put}
 use Rattle.sha2.specs.Sha256.{sha256}
 use Rattle.meta_types.specs.Order.{bytes_cmp, prefix_cmp}
+use Rattle.frame_fields.specs.Field.{key_row_parts}
+use Rattle.frame_fields.specs.declared.keys.KeyDigest.{KeyDigest}
 use Rattle.meta_store.specs.Kept.{AreRows, PartsOf}
 use Rattle.hash_tree.specs.Tree.{Digest, OwnRows, leaf_of, leaf_digest}
+
+-- a key stands at this place of the rows of a leaf: another digest of it is put there
+pub record IsAt (key : List ℕ) (rows : List KeyDigest) (place : ℕ) : Type 0 where
+  pub within : place < length rows
+  pub replaced : (row : KeyDigest) → row ≡ slice_index_or rows place row → (digest : Digest)
+      → put bytes_cmp key digest (map key_row_parts rows)
+      ≡ map key_row_parts (slice_set rows place (record { key = row.key; digest = digest }))
+
+-- a key stands nowhere among the rows of a leaf, and is put at this place
+pub record IsAbsentAt (key : List ℕ) (rows : List KeyDigest) (place : ℕ) : Type 0 where
+  pub within : place ≤ length rows
+  pub inserted : (digest : Digest) → put bytes_cmp key digest (map key_row_parts rows)
+      ≡ map key_row_parts (insert rows place (record { key = key; digest = digest }))
+  pub absent : find bytes_cmp key (map key_row_parts rows) ≡ None
 
 -- numbers of leaves, each with the rows of the leaf
 abbrev pub RowsByLeaf : Type 0

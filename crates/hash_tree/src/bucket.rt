@@ -1,10 +1,15 @@
 //! The keys of one leaf.
 
-ghost use Rattle.std.specs.Prelude.{◌≡◌, [], ◌∷◌, map, IfOk, OnOk, OnErr, None};
-ghost use Rattle.std.specs.FinMap.{find, put};
+ghost use Rattle.std.specs.Prelude.{◌≡◌, [], ◌∷◌, map, IfOk, IfErr, OnOk, OnErr, None, true, All};
+ghost use Rattle.std.specs.List.{flat_map};
+ghost use Rattle.std.specs.FinMap.{find, is_sorted, put};
 ghost use Rattle.sha2.specs.Sha256.{sha256};
+ghost use Rattle.frame_fields.specs.Field.{key_row_parts};
 ghost use Rattle.meta_types.specs.Name.{IsName};
 ghost use Rattle.meta_types.specs.Order.{bytes_cmp};
+ghost use Rattle.hash_tree.specs.Hashing.{Adds};
+ghost use Rattle.hash_tree.specs.Kept.{IsAbsentAt, IsAt};
+ghost use Rattle.hash_tree.specs.Rising.{do_keys_rise};
 ghost use Rattle.hash_tree.specs.Tree.{text_of};
 
 use crate::hashing::add_name;
@@ -12,24 +17,26 @@ use frame_fields::{Digest, KeyDigest};
 use meta_types::ByteString;
 use sha2::{Digest as _, Sha256};
 use std::alloc::{AllocError, Global};
-use std::collections::BTreeMap;
+use std::cmp::Ordering;
 use std::marker::Model;
 
-/// The keys of one leaf by their own bytes, in byte order, each with the digest of its object.
+/// The keys of one leaf in byte order, each with the digest of its object.
 #[derive(Debug, Drop)]
 pub(crate) struct Bucket {
-    by_key: BTreeMap<ByteString, Digest>,
+    rows: Vec<KeyDigest>,
 }
 
 impl Model for Bucket {
+    ghost use Rattle.std.specs.Prelude.{map};
+    ghost use Rattle.frame_fields.specs.Field.{key_row_parts};
     ghost use Rattle.meta_store.specs.Kept.{AreRows};
     ghost use Rattle.hash_tree.specs.Tree.{OwnRows};
 
     ghost Value = { OwnRows };
 
-    ghost view = { λ b. b.by_key.entries };
+    ghost view = { λ b. map key_row_parts b.rows.items };
 
-    ghost invariant = { λ b. AreRows b.by_key.entries };
+    ghost invariant = { λ b. AreRows (map key_row_parts b.rows.items) };
 }
 
 impl Bucket {
@@ -37,9 +44,9 @@ impl Bucket {
         requires in_range { IsName 256 key }
         ensures { IfOk result (λ bucket. bucket ≡ (key, digest) ∷ []) }
     {
-        let mut by_key = BTreeMap::new(alloc);
-        by_key.insert(key, digest)?;
-        Ok(Bucket { by_key })
+        let mut rows = Vec::new(alloc);
+        rows.push(KeyDigest { key, digest })?;
+        Ok(Bucket { rows })
     }
 
     /// Holds the digest under the key in place of what stands there. A key that is there is neither
@@ -50,12 +57,17 @@ impl Bucket {
         ensures absent { OnErr result (find bytes_cmp key.now self.old ≡ None) }
         ensures same { OnErr result (self.new ≡ self.old) }
     {
-        if let Some(kept) = self.by_key.get_mut(key) {
-            *kept = digest;
-            return Ok(());
+        match place_of(self.rows.as_slice(), key) {
+            Ok(place) => {
+                self.rows[place].digest = digest;
+                Ok(())
+            }
+            Err(place) => {
+                let key = key.copy()?;
+                self.rows.insert(place, KeyDigest { key, digest })?;
+                Ok(())
+            }
         }
-        self.by_key.insert(key.copy()?, digest)?;
-        Ok(())
     }
 
     /// The digest of the leaf.
@@ -63,36 +75,60 @@ impl Bucket {
         ensures { result ≡ sha256 (text_of self.now) }
     {
         let mut hasher = Sha256::new();
-        for (key, digest) in self.by_key.iter() {
-            add_name(&mut hasher, key.as_slice());
-            hasher.update(digest.bytes());
-        }
+        add_rows(&mut hasher, self.rows.as_slice());
         Digest::new(hasher.finalize())
     }
 
-    /// The keys with their digests, in order. They are copies.
-    pub(crate) fn rows(&self, alloc: Global) -> Result<Vec<KeyDigest>, AllocError>
-        ensures { IfOk result (λ rows. rows.items
-            ≡ map (λ row. record { key = row.0; digest = row.1 }) self.now) }
+    /// The keys with their digests, in order.
+    pub(crate) fn rows(&self) -> &[KeyDigest]
+        ensures { result.now ≡ map (λ row. record { key = row.0; digest = row.1 }) self.now }
     {
-        let mut rows = Vec::with_capacity(alloc, self.by_key.len())?;
-        for (key, digest) in self.by_key.iter() {
-            rows.push(KeyDigest {
-                key: key.copy()?,
-                digest: *digest,
-            })?;
-        }
-        Ok(rows)
+        self.rows.as_slice()
     }
 
     /// Fails only when memory runs out.
     pub(crate) fn copy(&self, alloc: Global) -> Result<Self, AllocError>
         ensures { IfOk result (λ copy. copy ≡ self.now) }
     {
-        let mut by_key = BTreeMap::new(alloc);
-        for (key, digest) in self.by_key.iter() {
-            by_key.insert(key.copy()?, *digest)?;
-        }
-        Ok(Bucket { by_key })
+        Ok(Bucket {
+            rows: copied(alloc, self.rows.as_slice())?,
+        })
     }
+}
+
+/// The place of the key among rising rows, or as an error the one where it would stand.
+fn place_of(rows: &[KeyDigest], key: &ByteString) -> Result<usize, usize>
+    requires { do_keys_rise rows.now ≡ true }
+    ensures there { IfOk result (IsAt key.now rows.now) }
+    ensures absent { IfErr result (IsAbsentAt key.now rows.now) }
+{
+    for (place, row) in rows.iter().enumerate() {
+        match key.cmp(&row.key) {
+            Ordering::Greater => {}
+            Ordering::Equal => return Ok(place),
+            Ordering::Less => return Err(place),
+        }
+    }
+    Err(rows.len())
+}
+
+fn add_rows(hasher: &mut Sha256, rows: &[KeyDigest])
+    requires { All (λ row. IsName 256 row.key) rows.now }
+    ensures { Adds hasher.old hasher.new (text_of (map key_row_parts rows.now)) }
+{
+    for row in rows {
+        add_name(hasher, row.key.as_slice());
+        hasher.update(row.digest.bytes());
+    }
+}
+
+/// Copies of rows. Fails only when memory runs out.
+pub(crate) fn copied(alloc: Global, rows: &[KeyDigest]) -> Result<Vec<KeyDigest>, AllocError>
+    ensures { IfOk result (λ copies. copies.items ≡ rows.now) }
+{
+    let mut copies = Vec::with_capacity(alloc, rows.len())?;
+    for row in rows {
+        copies.push(row.copy()?)?;
+    }
+    Ok(copies)
 }

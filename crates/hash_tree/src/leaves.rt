@@ -102,14 +102,14 @@ impl Leaves {
         Ok(digests)
     }
 
-    /// A leaf's keys with their digests, in order; none where it has none. They are copies.
-    pub(crate) fn bucket(&self, leaf: u8) -> Result<Vec<KeyDigest>, AllocError>
-        ensures value { IfOk result (λ rows. rows.items ≡ bucket self.now leaf) }
-        ensures rising { IfOk result (λ rows. do_keys_rise rows.items ≡ true) }
+    /// A leaf's keys with their digests, in order; none where it has none.
+    pub(crate) fn bucket(&self, leaf: u8) -> &[KeyDigest]
+        ensures value { result.now ≡ bucket self.now leaf }
+        ensures rising { do_keys_rise result.now ≡ true }
     {
         match self.by_number.get(&leaf) {
-            Some(bucket) => bucket.rows(self.alloc),
-            None => Ok(Vec::new(self.alloc)),
+            Some(bucket) => bucket.rows(),
+            None => &[],
         }
     }
 

@@ -124,10 +124,10 @@ impl PrefixTree {
         part
     }
 
-    /// The keys of a leaf with their digests, in order. They are copies.
-    pub(crate) fn bucket(&self, leaf: u8) -> Result<Vec<KeyDigest>, AllocError>
-        ensures value { IfOk result (λ rows. rows.items ≡ bucket self.now leaf) }
-        ensures rising { IfOk result (λ rows. do_keys_rise rows.items ≡ true) }
+    /// The keys of a leaf with their digests, in order.
+    pub(crate) fn bucket(&self, leaf: u8) -> &[KeyDigest]
+        ensures value { result.now ≡ bucket self.now leaf }
+        ensures rising { do_keys_rise result.now ≡ true }
     {
         self.leaves.bucket(leaf)
     }

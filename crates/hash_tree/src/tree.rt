@@ -7,6 +7,7 @@ ghost use Rattle.hash_tree.specs.Tree.{prefix_roots, rows_of, tree_root, with_di
 ghost use Rattle.hash_tree.specs.Tree.{bucket, inner_digests, leaf_digests, own_rows};
 ghost use Rattle.hash_tree.specs.Rising.{do_keys_rise, do_prefixes_rise};
 
+use crate::bucket::copied;
 use crate::hashing::digest_of_all;
 use crate::leaves::empty_digest;
 use crate::parts::{copy_parts, parts_of, put_part, root_of, roots_of};
@@ -110,9 +111,17 @@ impl Tree {
             (λ keys. keys.items ≡ bucket (own_rows prefix.now self.now) leaf) }
         ensures rising { IfOk result (λ keys. do_keys_rise keys.items ≡ true) }
     {
+        copied(self.alloc, self.lent_bucket(prefix, leaf))
+    }
+
+    /// The same keys as they are kept. It takes no memory.
+    pub fn lent_bucket(&self, prefix: &FullPrefix, leaf: u8) -> &[KeyDigest]
+        ensures value { result.now ≡ bucket (own_rows prefix.now self.now) leaf }
+        ensures rising { do_keys_rise result.now ≡ true }
+    {
         match self.parts.get(prefix) {
             Some(tree) => tree.bucket(leaf),
-            None => Ok(Vec::new(self.alloc)),
+            None => &[],
         }
     }
 

@@ -1,4 +1,4 @@
-use Rattle.std.proofs.Common.{map, subst, sym}
+use Rattle.std.proofs.Common.{map, refl, subst, sym}
 use Rattle.meta_types.specs.Order.{bytes_cmp}
 use Rattle.frame_fields.specs.Field.{key_row_parts, keys}
 use Rattle.exchange.specs.Answers.{answer_bucket}
@@ -9,14 +9,13 @@ use Rattle.exchange.proofs.answering.answer_bucket.Goals as goal
 pub loop-next-init : goal.loop-next-init
 loop-next-init c =
     let theirs_fit : keys.Fits c.as_slice-their_rest.result.now = subst keys.Fits (sym c.as_slice-their_rest.ensures.value) c.as_slice-their_rest.ensures.lawful in
-    let own_fit : keys.Fits c.as_slice-own_rest.result.now = subst keys.Fits (sym c.as_slice-own_rest.ensures.value) c.as_slice-own_rest.ensures.lawful in
     record {
       their_rest_rises = keys_sorted c.as_slice-their_rest.result.now theirs_fit;
-      own_rest_rises = keys_sorted c.as_slice-own_rest.result.now own_fit;
+      own_rest_rises = keys_sorted c.lent_keys-own_rest.result.now c.lent_keys-own_rest.ensures.lawful;
       their_rest_named = keys_named c.as_slice-their_rest.result.now theirs_fit;
-      own_rest_named = keys_named c.as_slice-own_rest.result.now own_fit;
-      told = keys_begun c.args.store.now c.args.prefix.now c.args.leaf c.args.theirs.now c.in_ok-own.own c.as_slice-their_rest.result.now c.as_slice-own_rest.result.now c.new-answers.result.items
-          c.new-answers.ensures.items c.as_slice-their_rest.ensures.value c.as_slice-own_rest.ensures.value c.in_ok-own.ensures;
+      own_rest_named = keys_named c.lent_keys-own_rest.result.now c.lent_keys-own_rest.ensures.lawful;
+      told = keys_begun c.args.store.now c.args.prefix.now c.args.leaf c.args.theirs.now c.lent_keys-own_rest.result.now c.as_slice-their_rest.result.now c.lent_keys-own_rest.result.now c.new-answers.result.items
+          c.new-answers.ensures.items c.as_slice-their_rest.ensures.value refl c.lent_keys-own_rest.ensures.value;
     }
 
 pub loop-next-preserved : goal.loop-next-preserved
