@@ -9,12 +9,12 @@ use Rattle.meta_store.specs.Table.{Table, object_at, with_object}
 use Rattle.hyparview.specs.declared.event.ViewEvent.{ViewEvent}
 use Rattle.plumtree.specs.declared.entry.CastOut.{CastOut}
 use Rattle.plumtree.specs.declared.entry.CastOut.TheVariants as OfCast
-use Rattle.plumtree.specs.Broadcast.{Broadcast, CastCall, Changes, Broadcasts, row, draft_of, broadcast_of}
+use Rattle.plumtree.specs.Broadcast.{CastCall, Changes, Broadcasts}
 use Rattle.subscriptions.specs.declared.change.Change.{Change}
 use Rattle.subscriptions.specs.Watching.{with_change}
 use Rattle.node_core.specs.Node.{NodeParts, vector_under, with_overlay}
-use Rattle.node_core.specs.Overlay.{after_view, envelope, sent_by_view, talking}
-use Rattle.node_core.specs.declared.envelope.Envelope.{Envelope}
+use Rattle.node_parts.specs.Overlay.{after_view, envelope, out_of, sent_by_view, told}
+use Rattle.node_parts.specs.declared.envelope.Envelope.{Envelope}
 
 pub record Draft : Type 0 where
   pub parts : NodeParts
@@ -41,15 +41,11 @@ envelope_of table (OfCast.Gossip to round key) =
     envelope to (Gossip round key (object_at table key))
 envelope_of table (OfCast.Send to message) = envelope to message
 
-abbrev pub with_cast : Broadcast → NodeParts → NodeParts
-with_cast b s = with_overlay (talking s.overlay.views b) s
-
 abbrev pub call_broadcast : CastCall → Draft → Draft
 call_broadcast call t =
-    let after = row call (draft_of t.parts.overlay.cast) in
     record t {
-      parts = with_cast (broadcast_of after) t.parts;
-      sent = t.sent ++ map (envelope_of t.parts.table) after.out;
+      parts = with_overlay (told call t.parts.overlay) t.parts;
+      sent = t.sent ++ map (envelope_of t.parts.table) (out_of call t.parts.overlay);
     }
 
 -- ---- the views, of which the broadcast hears who came and who went

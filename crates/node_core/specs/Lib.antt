@@ -1,13 +1,15 @@
 -- What must be believed of one node, in the order in which to read it.
 -- whom it talks to, and what always holds of that
-pub mod Overlay
+pub use Rattle.node_parts.specs.Overlay
+-- its frames
+pub use Rattle.node_parts.specs.Outbox
+-- who watches it
+pub use Rattle.node_parts.specs.Watches
 -- one node
 pub mod Node
 -- a node in the midst of a step, and the small steps that the rows are made of
 pub mod Draft
 -- the table, one definition a row
 pub mod Rows
--- the frames of a node's messages
-pub mod Outbox
 -- one step, as four functions
 pub mod Step

@@ -1,5 +1,5 @@
 -- One node.
-use Rattle.std.specs.Prelude.{ℕ, ◌≡◌, ◌≤◌, ◌+◌, ◌-◌, ◌^◌, min, List, [], replicate, length}
+use Rattle.std.specs.Prelude.{ℕ, ◌≡◌, ◌≤◌, List, [], replicate, length}
 use Rattle.meta_types.specs.Actor.{writer_number}
 use Rattle.meta_types.specs.Name.{Key}
 use Rattle.dvvset.specs.Clock.{join}
@@ -7,10 +7,9 @@ use Rattle.dvvset.specs.Object.{Counter}
 use Rattle.meta_store.specs.Context.{Reading, reading_at}
 use Rattle.meta_store.specs.Table.{Table, object_at}
 use Rattle.subscriptions.specs.Watching.{Watching}
-use Rattle.hyparview.specs.Views.{NodeViews}
-use Rattle.plumtree.specs.Broadcast.{Broadcast}
-use Rattle.plumtree.specs.Lawful.{NamesOthers}
-use Rattle.node_core.specs.Overlay.{ArePeers, Overlay, alone, talking}
+use Rattle.node_parts.specs.Outbox.{count_on}
+use Rattle.node_parts.specs.Overlay.{IsOverlay, Overlay, alone}
+use Rattle.node_parts.specs.Watches.{most_watches}
 
 -- which node it is, and in which of its lives; what it holds, whom it talks to, and who watches it;
 -- the greatest life that it heard of each node, by number; and of its life, how many steps it made,
@@ -26,13 +25,12 @@ pub record NodeParts : Type 0 where
   pub frames : ℕ
   pub ticks : ℕ
 
-abbrev pub parts : ℕ → ℕ → Table → NodeViews → Broadcast → List Watching → List ℕ → ℕ → ℕ → ℕ
-    → NodeParts
-parts node incarnation table views cast watches heard steps frames ticks = record {
+abbrev pub parts : ℕ → ℕ → Table → Overlay → List Watching → List ℕ → ℕ → ℕ → ℕ → NodeParts
+parts node incarnation table overlay watches heard steps frames ticks = record {
   node = node;
   incarnation = incarnation;
   table = table;
-  overlay = talking views cast;
+  overlay = overlay;
   watches = watches;
   heard = heard;
   steps = steps;
@@ -40,19 +38,18 @@ parts node incarnation table views cast watches heard steps frames ticks = recor
   ticks = ticks;
 }
 
--- the most watches of a node
-abbrev pub most_watches : ℕ
-most_watches = 16
+-- what a node keeps of itself, beside what its parts keep: the views are its own, and lives are
+-- numbered from 1
+pub record IsInLife (s : NodeParts) : Type 0 where
+  pub own_views : s.overlay.views.node ≡ s.node
+  pub lives : 1 ≤ s.incarnation
 
 -- what always holds of a node, beside what the types of its parts say: the broadcast's peers are
--- the members of its active view, and it never names itself; lives are numbered from 1, and it has
--- few watches
+-- the members of its active view, it never names itself, and it has few watches
 pub record IsNodeState (s : NodeParts) : Type 0 where
-  pub peers : ArePeers s.overlay
-  pub own_views : s.overlay.views.node ≡ s.node
-  pub names_others : NamesOthers s.node s.overlay.cast
-  pub lives : 1 ≤ s.incarnation
+  pub overlay : IsOverlay s.overlay
   pub few_watches : length s.watches ≤ most_watches
+  pub in_life : IsInLife s
 
 -- a life begins with a table, and with nothing else
 abbrev pub opening : ℕ → ℕ → Table → NodeParts
@@ -67,10 +64,6 @@ opening node incarnation table = record {
   frames = 0;
   ticks = 0;
 }
-
--- counts go as far as 64 bits do, and stay there
-abbrev pub count_on : ℕ → ℕ → ℕ
-count_on so_far more = min (so_far + more) (2 ^ 64 - 1)
 
 -- who counts what the node writes
 abbrev pub writer : NodeParts → ℕ

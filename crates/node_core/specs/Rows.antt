@@ -1,5 +1,5 @@
 -- What a node does with each event, one definition for each row of the table, in its order.
-use Rattle.std.specs.Prelude.{ℕ, ◌≡◌, ◌-◌, ◌%◌, ◌==◌, nat_eq, nat_lt, Bool, not, List, [], ◌∷◌, ◌++◌, slice_index, slice_set, slice_get, Option, None, Some, if◌then◌else◌}
+use Rattle.std.specs.Prelude.{ℕ, ◌≡◌, ◌%◌, ◌==◌, nat_lt, Bool, not, List, [], ◌∷◌, ◌++◌, slice_index, slice_set, Option, Some, if◌then◌else◌}
 use Rattle.peer_lists.specs.Lists.{has}
 use Rattle.meta_types.specs.Name.{Key, Prefix}
 use Rattle.meta_types.specs.Value.{ValueParts}
@@ -16,10 +16,12 @@ use Rattle.hash_tree.specs.Tree.{rows_of, tree_root}
 use Rattle.exchange.specs.Answers.{answer}
 use Rattle.hyparview.specs.declared.event.ViewEvent.TheVariants as OfViews
 use Rattle.plumtree.specs.Broadcast.{TakesGossip, TakesPrune, TakesIHave, TakesGraft, Tick as CastTick}
-use Rattle.subscriptions.specs.Watching.{Watching, emptied, empty}
+use Rattle.subscriptions.specs.Watching.{empty}
 use Rattle.node_events.specs.declared.event.NodeEvent.{NodeEvent}
 use Rattle.node_events.specs.declared.event.NodeEvent.TheVariants.{Read, Write, PutOver, Take, Tick, Join, PeerDown, Exchange, Keep, Watch, Changes, Hello as SayHello, Leave}
-use Rattle.node_core.specs.Node.{NodeParts, count_on, present, vector_under, writer}
+use Rattle.node_parts.specs.Outbox.{count_on}
+use Rattle.node_parts.specs.Watches.{hand_out}
+use Rattle.node_core.specs.Node.{NodeParts, present, vector_under, writer}
 use Rattle.node_core.specs.Draft.{Draft, ◌▷◌, send, send_all, call_broadcast, step_views, change, broadcast_held}
 
 -- ---- a write: what is held changes, and is broadcast
@@ -110,17 +112,6 @@ tick word t = t ▷ count_tick ▷ call_broadcast CastTick ▷ shuffle_if_due wo
 abbrev pub watch : Prefix → ℕ → Draft → Draft
 watch prefix capacity t =
     record t { parts = record t.parts { watches = t.parts.watches ++ empty prefix capacity ∷ [] } }
-
--- the one of that number, if there is one
-abbrev pub at_number : {A : Type 0} → List A → ℕ → Option A
-at_number xs number = if nat_eq number 0 then None else slice_get xs (number - 1)
-
-abbrev pub with_emptied : Option Watching → ℕ → List Watching → List Watching
-with_emptied None number watches = watches
-with_emptied (Some w) number watches = slice_set watches (number - 1) (emptied w)
-
-abbrev pub hand_out : ℕ → List Watching → List Watching
-hand_out number watches = with_emptied (at_number watches number) number watches
 
 abbrev pub hand_out_changes : ℕ → Draft → Draft
 hand_out_changes number t =

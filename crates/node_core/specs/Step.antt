@@ -1,6 +1,6 @@
 -- One step of a node, as four functions of what it was and of what it was asked: what refuses it,
 -- what the node is then, what it replies, and which frames it sends. And many steps.
-use Rattle.std.specs.Prelude.{ℕ, ◌≡◌, ◌+◌, nat_eq, nat_le, nat_lt, Bool, ◌||◌, ◌⊎◌, List, [], ◌∷◌, map, length, slice_get, Option, None, Some, is_none, if◌then◌else◌}
+use Rattle.std.specs.Prelude.{ℕ, ◌≡◌, ◌+◌, nat_eq, nat_le, ◌⊎◌, List, [], ◌∷◌, map, length, slice_get, Option, None, Some, All, if◌then◌else◌}
 use Rattle.std.specs.Option.{option_map}
 use Rattle.meta_types.specs.First.{first_that_applies}
 use Rattle.meta_types.specs.Name.{Key}
@@ -9,24 +9,24 @@ use Rattle.dvvset.specs.Object.{Entry}
 use Rattle.dvvset.specs.Clock.{values_of}
 use Rattle.meta_frame.specs.declared.message.Frame.{Frame}
 use Rattle.meta_frame.specs.declared.message.Message.{Message}
-use Rattle.meta_frame.specs.declared.message.Message.TheVariants.{Gossip, XObject}
+use Rattle.meta_frame.specs.declared.message.Message.TheVariants.{Gossip, XObject, XRoot, XPrefixes, XInner, XLeaves, XBucket, XWant}
 use Rattle.meta_frame.specs.Frame.{RefusesBytes, spelling}
 use Rattle.meta_store.specs.Context.{Reading}
 use Rattle.meta_store.specs.Step.{refusal_of_merge, refusal_of_put}
 use Rattle.meta_store.specs.Table.{object_at}
-use Rattle.subscriptions.specs.Watching.{Watching}
 use Rattle.node_events.specs.Fault.{of_store}
 use Rattle.node_events.specs.declared.fault.StepFault.{StepFault}
-use Rattle.node_events.specs.declared.fault.StepFault.TheVariants.{BadNode, NotAddressed, BadWatch, NoSuchWatch, Frame as OfFrame, Memory}
+use Rattle.node_events.specs.declared.fault.StepFault.TheVariants.{BadNode, NotAddressed, Frame as OfFrame, Memory}
 use Rattle.node_events.specs.declared.event.NodeEvent.{NodeEvent}
 use Rattle.node_events.specs.declared.event.NodeEvent.TheVariants.{Take, Read, Write, PutOver, Join, PeerDown, Exchange, Watch, Changes, Hello}
 use Rattle.node_events.specs.declared.reply.Reply.{Reply}
-use Rattle.node_events.specs.declared.reply.Reply.TheVariants.{Looked, Wrote, Took, TookFresh, TookStale, Done, Watching as IsWatching, Changed}
+use Rattle.node_events.specs.declared.reply.Reply.TheVariants.{Looked, Wrote, Took, TookFresh, TookStale, Done, Watching as IsWatching}
 use Rattle.node_core.specs.declared.state.Stepped.{Stepped}
-use Rattle.node_core.specs.Node.{NodeParts, count_on, most_watches, present, vector_under, writer}
+use Rattle.node_parts.specs.Outbox.{IsFrameOf, count_on, frames_from}
+use Rattle.node_parts.specs.Watches.{at_number, refusal_of_changes, refusal_of_watch, reply_of_changes}
+use Rattle.node_core.specs.Node.{NodeParts, present, vector_under, writer}
 use Rattle.node_core.specs.Draft.{Draft}
-use Rattle.node_core.specs.Outbox.{frames_from}
-use Rattle.node_core.specs.Rows.{Local, Received, Input, IsInput, at_number, is_fresh, row}
+use Rattle.node_core.specs.Rows.{Local, Received, Input, IsInput, is_fresh, on_message, row}
 
 -- ---- what refuses it
 
@@ -49,19 +49,6 @@ abbrev pub refusal_of_frame : Frame → NodeParts → Option StepFault
 refusal_of_frame frame s =
     if nat_eq frame.to s.node then refusal_of_message frame.message s else Some NotAddressed
 
--- there is room for 1 to 1,024 changes, and a node has at most sixteen watches
-abbrev pub is_no_capacity : ℕ → Bool
-is_no_capacity capacity = nat_eq capacity 0 || nat_lt 1024 capacity
-
-abbrev pub refusal_of_watch : ℕ → NodeParts → Option StepFault
-refusal_of_watch capacity s =
-    let has_all = nat_le most_watches (length s.watches) in
-    first_that_applies ((is_no_capacity capacity || has_all, BadWatch) ∷ [])
-
-abbrev pub refusal_of_changes : ℕ → NodeParts → Option StepFault
-refusal_of_changes number s =
-    first_that_applies ((is_none (at_number s.watches number), NoSuchWatch) ∷ [])
-
 abbrev pub refusal_of_event : NodeEvent → NodeParts → Option StepFault
 refusal_of_event (Write key value context) s = refusal_of_write key value context s
 refusal_of_event (PutOver key value) s = refusal_of_write key value (Some (present key s)) s
@@ -69,8 +56,8 @@ refusal_of_event (Join contact word) s = refusal_of_peer contact s
 refusal_of_event (PeerDown peer word) s = refusal_of_peer peer s
 refusal_of_event (Exchange peer) s = refusal_of_peer peer s
 refusal_of_event (Hello peer) s = refusal_of_peer peer s
-refusal_of_event (Watch prefix capacity) s = refusal_of_watch capacity s
-refusal_of_event (Changes number) s = refusal_of_changes number s
+refusal_of_event (Watch prefix capacity) s = refusal_of_watch capacity s.watches
+refusal_of_event (Changes number) s = refusal_of_changes number s.watches
 refusal_of_event event s = None
 
 abbrev pub refusal_of : Input → NodeParts → Option StepFault
@@ -79,8 +66,11 @@ refusal_of (Received frame word) = refusal_of_frame frame
 
 -- ---- what the node is then
 
+abbrev pub begun : NodeParts → Draft
+begun s = record { parts = s; sent = [] }
+
 abbrev pub draft_after : Input → NodeParts → Draft
-draft_after input s = row input (record { parts = s; sent = [] })
+draft_after input s = row input (begun s)
 
 -- the step counts, and so does each frame
 abbrev pub counted : ℕ → NodeParts → NodeParts
@@ -98,10 +88,6 @@ abbrev pub reply_of_message : Message → NodeParts → Reply
 reply_of_message (Gossip round key object) s = reply_of_object key object s
 reply_of_message (XObject key object) s = reply_of_object key object s
 reply_of_message message s = Took
-
-abbrev pub reply_of_changes : Option Watching → Reply
-reply_of_changes None = Done
-reply_of_changes (Some w) = Changed w.missed w.changes
 
 abbrev pub reply_of : Input → NodeParts → Reply
 reply_of (Local (Read key)) s = Looked (values_of (object_at s.table key)) (present key s)
@@ -121,13 +107,35 @@ frames_sent input s = frames_from s.node s.frames (draft_after input s).sent
 
 -- ---- a step
 
--- what was asked takes the old node to the new one, with this reply and these frames as bytes
-pub record IsStepOf (old : NodeParts) (input : Input) (new : NodeParts) (stepped : Stepped)
-    : Type 0 where
-  pub accepted : refusal_of input old ≡ None
-  pub node : new ≡ node_after input old
-  pub replies : stepped.reply ≡ reply_of input old
-  pub sends : stepped.outbox ≡ map spelling (frames_sent input old)
+-- it isn't refused; the old node becomes what is left when all is done, with this reply, and what
+-- is to be sent goes out as frames to other nodes, as bytes
+pub record IsStepTo (old : NodeParts) (refusal : Option StepFault) (done : Draft) (reply : Reply)
+    (new : NodeParts) (stepped : Stepped) : Type 0 where
+  pub accepted : refusal ≡ None
+  pub node : new ≡ counted (length done.sent) done.parts
+  pub replies : stepped.reply ≡ reply
+  pub sends : stepped.outbox ≡ map spelling (frames_from old.node old.frames done.sent)
+  pub frames : All (IsFrameOf old.node) stepped.outbox
+
+-- what was asked takes the old node to the new one, and gives this
+abbrev pub IsStepOf : NodeParts → Input → NodeParts → Stepped → Type 0
+IsStepOf old input = IsStepTo old (refusal_of input old) (draft_after input old) (reply_of input old)
+
+-- a message of an exchange that has answers
+abbrev pub IsQuestion : Message → Type 0
+IsQuestion (XRoot root) = Unit {0}
+IsQuestion (XPrefixes prefixes) = Unit {0}
+IsQuestion (XInner prefix digests) = Unit {0}
+IsQuestion (XLeaves prefix inner digests) = Unit {0}
+IsQuestion (XBucket prefix leaf keys) = Unit {0}
+IsQuestion (XWant key) = Unit {0}
+IsQuestion _ = ⊥
+
+-- so does a message that came from another node, with its word
+abbrev pub IsStepOfMessage : NodeParts → ℕ → ℕ → Message → NodeParts → Stepped → Type 0
+IsStepOfMessage old from word message =
+    IsStepTo old (refusal_of_message message old) (on_message from word message (begun old))
+    (reply_of_message message old)
 
 -- the step of an event: of itself, or of the frame that its bytes spell
 pub record IsNodeStep (old : NodeParts) (event : NodeEvent) (new : NodeParts) (stepped : Stepped)
@@ -149,10 +157,14 @@ pub record IsRefused (old : NodeParts) (event : NodeEvent) (fault : StepFault) :
   pub is_input : IsInput event input
   pub first : refusal_of input old ≡ Some fault
 
+-- memory ended, its bytes are no frame, or it is refused
+abbrev pub CanComeOf : NodeParts → NodeEvent → StepFault → Type 0
+CanComeOf old event fault = (fault ≡ Memory) ⊎ (IsNoFrame event fault ⊎ IsRefused old event fault)
+
 -- a refused event changes nothing
 pub record Rejects (old : NodeParts) (event : NodeEvent) (fault : StepFault) (new : NodeParts)
     : Type 0 where
-  pub cause : (fault ≡ Memory) ⊎ (IsNoFrame event fault ⊎ IsRefused old event fault)
+  pub cause : CanComeOf old event fault
   pub same : new ≡ old
 
 -- ---- many steps, one after the other: accepted events, each with what it gave

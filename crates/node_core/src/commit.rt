@@ -1,31 +1,50 @@
-//! How a step ends: messages become frames, and then all that changed is kept. What can fail comes
-//! first, so that a step that is refused memory leaves all as it was.
+//! How a step ends: messages become frames, and then the step counts. What can fail comes first, so
+//! that a step that is refused memory leaves all as it was.
 
-ghost use Rattle.std.specs.Prelude.{◌≡◌, All, IfOk, IfErr, length, map};
+ghost use Rattle.std.specs.Prelude.{◌≡◌, ◌∷◌, [], All, IfOk, IfErr, length, map};
 ghost use Rattle.meta_frame.specs.Frame.{spelling};
-ghost use Rattle.node_core.specs.Node.{IsNodeState, with_overlay};
-ghost use Rattle.node_core.specs.Outbox.{CanBeSent, frames_from};
-ghost use Rattle.node_core.specs.Overlay.{talking};
+ghost use Rattle.node_parts.specs.Outbox.{IsFrameOf, MaySend, frames_from};
+ghost use Rattle.node_parts.specs.Overlay.{envelope};
 ghost use Rattle.node_core.specs.Step.{counted};
 ghost use Rattle.node_events.specs.declared.fault.StepFault.TheVariants.{Memory};
 
-use crate::envelope::Envelope;
-use crate::sending::outbox;
 use crate::state::{NodeState, Stepped};
-use hyparview::Views;
+use meta_frame::Message;
+use meta_types::NodeId;
 use node_events::{Outbox, Reply, StepFault};
-use plumtree::Cast;
+use node_parts::{Envelope, outbox};
 
 impl NodeState {
     /// The frames of these messages, with the numbers that come next. Fails only when memory runs
     /// out.
     pub(crate) fn outbox(&self, sent: Vec<Envelope>) -> Result<Outbox, StepFault>
-        requires { All (CanBeSent self.now.node) sent.items }
+        requires { All (MaySend self.now.node) sent.items }
         ensures frames { IfOk result (λ outbox. outbox
             ≡ map spelling (frames_from self.now.node self.now.frames sent.items)) }
+        ensures lawful { IfOk result (λ outbox. All (IsFrameOf self.now.node) outbox) }
         ensures memory { IfErr result (λ fault. fault ≡ Memory) }
     {
         Ok(outbox(self.alloc, self.node, self.frames, sent)?)
+    }
+
+    /// The frame of one message.
+    pub(crate) fn one_frame(&self, to: NodeId, message: Message) -> Result<Outbox, StepFault>
+        requires { MaySend self.now.node (envelope to message) }
+        ensures frames { IfOk result (λ outbox. outbox ≡ map spelling
+            (frames_from self.now.node self.now.frames (envelope to message ∷ []))) }
+        ensures lawful { IfOk result (λ outbox. All (IsFrameOf self.now.node) outbox) }
+        ensures memory { IfErr result (λ fault. fault ≡ Memory) }
+    {
+        let mut sent = Vec::new(self.alloc);
+        sent.push(Envelope { to, message })?;
+        self.outbox(sent)
+    }
+
+    /// No frame.
+    pub(crate) fn nothing_sent(&self) -> Outbox
+        ensures { result ≡ [] }
+    {
+        Outbox::new(Vec::new(self.alloc))
     }
 
     /// The step is made: it counts, and so does each of its frames.
@@ -36,14 +55,5 @@ impl NodeState {
         self.steps = self.steps.saturating_add(1);
         self.frames = self.frames.saturating_add(outbox.as_slice().len() as u64);
         Stepped { reply, outbox }
-    }
-
-    /// The node talks to these from now on.
-    pub(crate) fn keep_overlay(&mut self, views: Views, cast: Cast)
-        requires { IsNodeState (with_overlay (talking views cast) self.old) }
-        ensures { self.new ≡ with_overlay (talking views cast) self.old }
-    {
-        self.views = views;
-        self.cast = cast;
     }
 }

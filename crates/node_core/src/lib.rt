@@ -1,16 +1,10 @@
 //! One node: a machine from frames in to frames out.
 #![tactic(auto)]
 
-mod both;
 mod commit;
-pub mod envelope;
-mod held;
-pub mod laws;
-mod overlay;
+mod reading;
 mod saying;
-mod sending;
 pub mod state;
-mod step;
+mod watching;
 
-pub use envelope::Envelope;
 pub use state::{NodeState, Stepped};

@@ -1,25 +1,20 @@
 //! Events by which a node says one thing to a peer.
 
-ghost use Rattle.std.specs.Prelude.{◌≡◌, ◌∷◌, [], None, Some, IfOk, IfErr, OnOk, OnErr, map};
-ghost use Rattle.meta_frame.specs.Frame.{spelling};
+ghost use Rattle.std.specs.Prelude.{◌≡◌, None, Some, IfOk, IfErr, OnOk, OnErr};
 ghost use Rattle.meta_types.specs.Failing.{FailsBy};
-ghost use Rattle.node_core.specs.Outbox.{CanBeSent, frames_from};
-ghost use Rattle.node_core.specs.Overlay.{envelope};
 ghost use Rattle.node_core.specs.Rows.{Local};
 ghost use Rattle.node_core.specs.Step.{IsStepOf, refusal_of_peer, refusal_of};
 ghost use Rattle.node_events.specs.declared.event.NodeEvent.TheVariants.{Exchange, Hello};
 ghost use Rattle.node_events.specs.declared.fault.StepFault.TheVariants.{Memory};
 
-use crate::envelope::Envelope;
 use crate::state::{NodeState, Stepped};
 use exchange::start;
 use meta_frame::Message;
 use meta_types::NodeId;
-use node_events::{Outbox, Reply, StepFault};
+use node_events::{Reply, StepFault};
 
 impl NodeState {
     /// The node begins an exchange with a peer.
-    #[tactic(auto, using(crate::proofs::OwnWords::root_can_be_sent))]
     pub(crate) fn exchange(&mut self, peer: NodeId) -> Result<Stepped, StepFault>
         ensures step { IfOk result
             (λ stepped. IsStepOf self.old (Local (Exchange peer)) self.new stepped) }
@@ -32,7 +27,6 @@ impl NodeState {
     }
 
     /// The node tells a peer which life it is in.
-    #[tactic(auto, using(crate::proofs::OwnWords::life_can_be_sent))]
     pub(crate) fn hello(&mut self, peer: NodeId) -> Result<Stepped, StepFault>
         ensures step { IfOk result
             (λ stepped. IsStepOf self.old (Local (Hello peer)) self.new stepped) }
@@ -43,18 +37,6 @@ impl NodeState {
         let life = self.incarnation;
         let outbox = self.one_frame(peer, Message::Hello { life })?;
         Ok(self.finish(Reply::Done, outbox))
-    }
-
-    /// The frame of one message.
-    fn one_frame(&self, to: NodeId, message: Message) -> Result<Outbox, StepFault>
-        requires { CanBeSent self.now.node (envelope to message) }
-        ensures frames { IfOk result (λ outbox. outbox ≡ map spelling
-            (frames_from self.now.node self.now.frames (envelope to message ∷ []))) }
-        ensures memory { IfErr result (λ fault. fault ≡ Memory) }
-    {
-        let mut sent = Vec::new(self.alloc);
-        sent.push(Envelope { to, message })?;
-        self.outbox(sent)
     }
 
     /// Refused where the other is the node itself.

@@ -1,15 +1,14 @@
 ghost use Rattle.std.specs.Prelude.{◌≡◌, ◌≤◌, [], IfOk};
 ghost use Rattle.hash_tree.specs.Tree.{rows_of};
-ghost use Rattle.node_core.specs.Node.{opening};
-ghost use Rattle.node_core.specs.Overlay.{ArePeers};
+ghost use Rattle.node_core.specs.Node.{IsNodeState, opening};
+ghost use Rattle.node_parts.specs.Overlay.{ArePeers};
 
-use crate::both::both;
-use crate::held::Held;
 use hash_tree::Tree;
 use hyparview::Views;
 use meta_store::Store;
 use meta_types::NodeId;
 use node_events::{Outbox, Reply};
+use node_parts::{Held, Overlay, Watches, both};
 use plumtree::Cast;
 use std::alloc::{AllocError, Global};
 use std::marker::Model;
@@ -33,9 +32,8 @@ pub struct NodeState {
     pub(crate) node: NodeId,
     pub(crate) incarnation: u32,
     pub(crate) held: Held,
-    pub(crate) views: Views,
-    pub(crate) cast: Cast,
-    pub(crate) watches: Vec<Watch>,
+    pub(crate) overlay: Overlay,
+    pub(crate) watches: Watches,
     /// The greatest life that was heard of each node, by its number.
     pub(crate) heard: [u32; NODES],
     pub(crate) steps: u64,
@@ -44,15 +42,15 @@ pub struct NodeState {
 }
 
 impl Model for NodeState {
-    ghost use Rattle.node_core.specs.Node.{IsNodeState, NodeParts, parts};
+    ghost use Rattle.node_core.specs.Node.{IsInLife, NodeParts, parts};
 
     ghost Value = { NodeParts };
 
-    ghost view = { λ n. parts n.node n.incarnation n.held n.views n.cast n.watches.items n.heard
-        n.steps n.frames n.ticks };
+    ghost view = { λ n. parts n.node n.incarnation n.held n.overlay n.watches n.heard n.steps
+        n.frames n.ticks };
 
-    ghost invariant = { λ n. IsNodeState (parts n.node n.incarnation n.held n.views n.cast
-        n.watches.items n.heard n.steps n.frames n.ticks) };
+    ghost invariant = { λ n. IsInLife (parts n.node n.incarnation n.held n.overlay n.watches
+        n.heard n.steps n.frames n.ticks) };
 }
 
 impl NodeState {
@@ -82,9 +80,8 @@ impl NodeState {
             node,
             incarnation,
             held,
-            views: Views::new(alloc, node),
-            cast: Cast::new(alloc),
-            watches: Vec::new(alloc),
+            overlay: Overlay::new(alloc, node),
+            watches: Watches::new(alloc),
             heard: [0; NODES],
             steps: 0,
             frames: 0,
@@ -110,7 +107,7 @@ impl NodeState {
         ensures value { result.now ≡ self.now.overlay.views }
         ensures peers { ArePeers self.now.overlay }
     {
-        &self.views
+        self.overlay.views()
     }
 
     /// The broadcast, whose peers are the members of the active view.
@@ -118,13 +115,16 @@ impl NodeState {
         ensures value { result.now ≡ self.now.overlay.cast }
         ensures peers { ArePeers self.now.overlay }
     {
-        &self.cast
+        self.overlay.cast()
     }
 
     /// The watches, in the order in which they were made; they are numbered from 1.
     pub fn watches(&self) -> &[Watch]
-        ensures { result.now ≡ self.now.watches }
+        ensures value { result.now ≡ self.now.watches }
+        ensures lawful { IsNodeState self.now }
     {
+        // Read for what it tells: the peers are the active view.
+        let _ = self.overlay.views();
         self.watches.as_slice()
     }
 
@@ -132,19 +132,14 @@ impl NodeState {
     pub fn copy(&self) -> Result<Self, AllocError>
         ensures { IfOk result (λ copy. copy ≡ self.now) }
     {
-        let overlay = both(self.views.copy(), self.cast.copy());
-        let held = both(
-            self.held.copy(),
-            copy_watches(self.alloc, self.watches.as_slice()),
-        );
-        let ((views, cast), (held, watches)) = both(overlay, held)?;
+        let rest = both(self.overlay.copy(), self.watches.copy());
+        let (held, (overlay, watches)) = both(self.held.copy(), rest)?;
         Ok(NodeState {
             alloc: self.alloc,
             node: self.node,
             incarnation: self.incarnation,
             held,
-            views,
-            cast,
+            overlay,
             watches,
             heard: self.heard,
             steps: self.steps,
@@ -152,14 +147,4 @@ impl NodeState {
             ticks: self.ticks,
         })
     }
-}
-
-fn copy_watches(alloc: Global, watches: &[Watch]) -> Result<Vec<Watch>, AllocError>
-    ensures { IfOk result (λ copies. copies.items ≡ watches.now) }
-{
-    let mut copies = Vec::with_capacity(alloc, watches.len())?;
-    for watch in watches {
-        copies.push(watch.copy()?)?;
-    }
-    Ok(copies)
 }

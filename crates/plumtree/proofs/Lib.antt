@@ -6,3 +6,5 @@ pub mod Peers
 pub mod Standing
 -- what is given out goes to others, and each message has a spelling
 pub mod Sending
+-- calls are taken back
+pub mod TakingBack

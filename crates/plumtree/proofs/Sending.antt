@@ -16,7 +16,7 @@ use Rattle.plumtree.specs.Missing.{MissingObject}
 use Rattle.plumtree.specs.Draft.{Draft, announcement_to, announce_to, becomes_eager, becomes_lazy, gained, gossip_to, send}
 use Rattle.plumtree.specs.Rows.{up, down, on_broadcast, on_fresh, on_stale, on_prune, on_ihave, on_graft, on_change, on_tick, announcer, ask_first, first_announced, is_announced_by, is_not_by, is_not_to, is_of, is_still_missing, keep, next_round, none_missing, noted, noted_at, ihave_of, send_announcements, tick_each, tick_one, with_announcer, without_announcer}
 use Rattle.plumtree.specs.Broadcast.{Broadcast, CastCall, Up, Down, Broadcasts, TakesGossip, TakesPrune, TakesIHave, TakesGraft, Changes, Tick, draft_of, empty, row}
-use Rattle.plumtree.specs.Lawful.{MayBeSent, MayBeAsked, MayCome, NamesOthers, SendsToOthers, TellsOthers}
+use Rattle.plumtree.specs.Lawful.{IsOfBroadcast, MayBeSent, MayBeAsked, MayCome, NamesOthers, SendsToOthers, TellsOthers}
 
 -- the element of a list, or what stands for it, has what all have
 index_all : {X : Type 0} (P : X → Type 0) (xs : List X) (i : ℕ) (d : X) → All P xs → P d → P (slice_index_or xs i d)
@@ -68,7 +68,7 @@ module _ (node : ℕ) where
     out = h.out;
   }
 
-  Fine-send : (to : ℕ) (m : Message) (t : Draft) → to ≢ node → IsMessage m → Fine t → Fine (send to m t)
+  Fine-send : (to : ℕ) (m : Message) (t : Draft) → to ≢ node → IsOfBroadcast m → Fine t → Fine (send to m t)
   Fine-send to m t other spelled h = record {
     eager = h.eager;
     lazy = h.lazy;

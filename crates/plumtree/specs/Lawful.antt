@@ -1,7 +1,8 @@
 -- What each call keeps of the broadcast, and what holds of what it gives out.
 use Rattle.std.specs.Prelude.{ℕ, ◌≡◌, ◌≢◌, ◌<◌, ◌^◌, Bool, true, false, not, ◌||◌, ◌&&◌, List, [], ◌∷◌, nat_eq, All}
 use Rattle.std.specs.List.{IsDistinct}
-use Rattle.meta_frame.specs.declared.message.Message.TheVariants.{IHave, Graft}
+use Rattle.meta_frame.specs.declared.message.Message.{Message}
+use Rattle.meta_frame.specs.declared.message.Message.TheVariants.{IHave, Graft, Prune}
 use Rattle.meta_frame.specs.Frame.{IsMessage}
 use Rattle.plumtree.specs.declared.entry.CastOut.{CastOut}
 use Rattle.plumtree.specs.declared.entry.CastOut.TheVariants.{Gossip, Send}
@@ -53,10 +54,17 @@ PeersComeAndGo =
 
 -- ---- what may be sent
 
--- to another node; where the message is whole, its fields have a spelling
+-- one of the messages that the broadcast sends whole, and its fields have a spelling
+abbrev pub IsOfBroadcast : Message → Type 0
+IsOfBroadcast (IHave round key vector) = IsMessage (IHave round key vector)
+IsOfBroadcast (Graft round key vector) = IsMessage (Graft round key vector)
+IsOfBroadcast Prune = IsMessage Prune
+IsOfBroadcast _ = ⊥
+
+-- to another node
 abbrev pub MayBeSent : ℕ → CastOut → Type 0
 MayBeSent node (Gossip to round key) = to ≢ node
-MayBeSent node (Send to message) = (to ≢ node) × IsMessage message
+MayBeSent node (Send to message) = (to ≢ node) × IsOfBroadcast message
 
 -- its key and vector have a spelling, and whoever announced it, in the round of a frame, is another
 -- node: so it may be asked for
@@ -93,7 +101,8 @@ pub record TellsOthers (node : ℕ) (b : Broadcast) (call : CastCall) : Type 0 w
   pub broadcast : NamesOthers node (after_call b call)
 
 -- a new broadcast names no node, and where a broadcast names others, such a call tells others:
--- nothing goes to the node itself, and each IHAVE, GRAFT and PRUNE has a spelling
+-- nothing goes to the node itself, what is sent whole is IHAVE, GRAFT or PRUNE, and it has a
+-- spelling
 pub record SendsToOthers : Type 0 where
   pub begins : (node : ℕ) → NamesOthers node empty
   pub goes_on :

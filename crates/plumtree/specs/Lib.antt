@@ -11,3 +11,5 @@ pub mod Rows
 pub mod Broadcast
 -- what always holds of it
 pub mod Lawful
+-- coming back to where it stood
+pub mod Savepoint

@@ -27,9 +27,9 @@ use std::marker::Model;
 #[derive(Drop)]
 pub struct Cast {
     alloc: Global,
-    eager: IndexSet<NodeId>,
-    lazy: IndexSet<NodeId>,
-    queue: Vec<Announcement>,
+    pub(crate) eager: IndexSet<NodeId>,
+    pub(crate) lazy: IndexSet<NodeId>,
+    pub(crate) queue: Vec<Announcement>,
     missing: Vec<MissingObject>,
 }
 

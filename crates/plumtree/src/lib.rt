@@ -19,7 +19,8 @@
 //! }
 //! ```
 //!
-//! Read `entry`, `cast`, then `links`, `missing` and `tick`; what holds of every call is in `laws`.
+//! Read `entry`, `cast`, then `links`, `missing` and `tick`; `savepoint` takes calls back; what holds
+//! of every call is in `laws`.
 #![tactic(auto)]
 
 pub mod cast;
@@ -27,7 +28,9 @@ pub mod entry;
 pub mod laws;
 mod links;
 mod missing;
+pub mod savepoint;
 mod tick;
 
 pub use cast::Cast;
 pub use entry::CastOut;
+pub use savepoint::Savepoint;

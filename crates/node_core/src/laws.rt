@@ -1,9 +1,0 @@
-//! Laws of a node. The contract of a function is the law; its body does nothing.
-
-ghost use Rattle.node_core.specs.Overlay.{StayPeers};
-
-/// The eager and the lazy peers of the broadcast together are the members of the active view: so it
-/// is of a node that knows nobody, and so it stays, whatever the views and the broadcast do.
-pub fn peers_are_the_active_view()
-    ensures { StayPeers }
-{}

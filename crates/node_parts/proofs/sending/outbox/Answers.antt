@@ -1,0 +1,25 @@
+use Rattle.std.proofs.Common.{◌++◌, map, All, suc, arith, subst, sym, ap, ◌∙◌}
+use Rattle.std.proofs.lemmas.List.Elements.{All-push, All-same}
+use Rattle.meta_frame.specs.Frame.{spelling}
+use Rattle.node_parts.specs.Outbox.{IsFrameOf, MaySend, frames_from}
+use Rattle.node_parts.proofs.Numbering.{one_more}
+use Rattle.node_parts.proofs.sending.outbox.Goals as goal
+
+pub loop-envelope-preserved : goal.loop-envelope-preserved
+loop-envelope-preserved c =
+    let from = c.args.from in
+    let number = c.loop-envelope.number in
+    let next = c.saturating_add-number.result in
+    let front = c.loop-envelope.frames.items in
+    let left = c.next.new.self.rest.items in
+    let is = c.in-Some.ensures.steps.0 in
+    let before = ap (λ es. front ++ map spelling (frames_from from number es)) (sym is) ∙ c.loop-envelope.invariant.frames in
+    let rest = subst (All (MaySend from)) is c.loop-envelope.invariant.left in
+    record {
+      frames = ap (λ frames. frames ++ map spelling (frames_from from next left)) c.in_ok-push.ensures.items
+          ∙ one_more from number next c.in-Some.envelope front c.in_ok-spelled.field-0 left _
+          c.saturating_add-number.ensures c.in_ok-spelled.ensures.frame before;
+      lawful = All-same (IsFrameOf from) _ _ c.in_ok-push.ensures.items
+          (All-push (IsFrameOf from) front _ c.loop-envelope.invariant.lawful c.in_ok-spelled.ensures.lawful);
+      left = λ k d inside. rest (suc k) d (omega (arith, inside));
+    }

@@ -1,0 +1,14 @@
+use Rattle.std.proofs.Common.{◌≡◌, ◌++◌, map, All}
+use Rattle.meta_frame.specs.Frame.{spelling}
+use Rattle.node_parts.specs.Outbox.{IsFrameOf, MaySend, frames_from}
+use Rattle.node_parts.proofs.sending.outbox.Given as goal
+
+abbrev pub invariant-loop-envelope : goal.invariant-loop-envelope
+invariant-loop-envelope l =
+    let rest = l.envelope-iterator.rest.items in
+    record {
+      frames : l.frames.items ++ map spelling (frames_from l.fn.from l.number rest)
+          ≡ map spelling (frames_from l.fn.from l.fn.number l.fn.sent.items);
+      lawful : All (IsFrameOf l.fn.from) l.frames.items;
+      left : All (MaySend l.fn.from) rest;
+    }

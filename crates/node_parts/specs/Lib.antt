@@ -1,0 +1,11 @@
+-- What must be believed of the parts of a node, in the order in which to read it.
+-- whom it talks to, and what always holds of that
+pub mod Overlay
+-- the frames of its messages
+pub mod Outbox
+-- what the broadcast is told of a change, and what it gives out
+pub mod Origin
+-- a change that is to be told
+pub mod News
+-- who watches it
+pub mod Watches

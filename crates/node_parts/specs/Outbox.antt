@@ -1,0 +1,49 @@
+-- The frames of a node's messages.
+use Rattle.std.specs.Prelude.{ℕ, ◌≡◌, ◌≢◌, ◌≤◌, ◌+◌, ◌-◌, ◌^◌, min, List, [], ◌∷◌}
+use Rattle.dvvset.specs.Object.{Counter}
+use Rattle.frame_fields.specs.Field.{place, vector as vector_form}
+use Rattle.meta_frame.specs.declared.message.Frame.{Frame}
+use Rattle.meta_frame.specs.declared.message.Message.{Message}
+use Rattle.meta_frame.specs.declared.message.Message.TheVariants.{Gossip, IHave, Graft, XLeaves, XObject, Hello}
+use Rattle.meta_frame.specs.Frame.{Spells}
+use Rattle.meta_store.specs.Table.{IsHeld}
+use Rattle.node_parts.specs.declared.envelope.Envelope.{Envelope}
+
+-- counts go as far as 64 bits do, and stay there
+abbrev pub count_on : ℕ → ℕ → ℕ
+count_on so_far more = min (so_far + more) (2 ^ 64 - 1)
+
+abbrev pub frame_of : ℕ → ℕ → Envelope → Frame
+frame_of node number e = record { from = node; to = e.to; number = number; message = e.message }
+
+-- numbered on from here: the first has the next number; at the greatest, all have that one
+abbrev pub frames_from : ℕ → ℕ → List Envelope → List Frame
+frames_from node number [] = []
+frames_from node number (e ∷ es) =
+    frame_of node (count_on number 1) e ∷ frames_from node (count_on number 1) es
+
+-- the vector has a spelling: it counts an event, and few writers
+abbrev pub IsSpelledVector : List Counter → Type 0
+IsSpelledVector = vector_form.Fits
+
+-- what the types of a message's fields leave open, so that it has a spelling: its object may be
+-- held, its vector is spelled, its inner node is one of sixteen, and its life is one
+abbrev pub IsSendable : Message → Type 0
+IsSendable (Gossip round key object) = IsHeld object
+IsSendable (IHave round key vector) = IsSpelledVector vector
+IsSendable (Graft round key vector) = IsSpelledVector vector
+IsSendable (XLeaves prefix inner digests) = place.Fits inner
+IsSendable (XObject key object) = IsHeld object
+IsSendable (Hello life) = 1 ≤ life
+IsSendable message = Unit {0}
+
+-- such a message goes to another node
+pub record MaySend (node : ℕ) (e : Envelope) : Type 0 where
+  pub apart : e.to ≢ node
+  pub sendable : IsSendable e.message
+
+-- the bytes are a frame of this node, and so one to another node
+pub record IsFrameOf (node : ℕ) (bytes : List ℕ) : Type 0 where
+  pub frame : Frame
+  pub spelled : Spells frame bytes
+  pub from : frame.from ≡ node

@@ -1,0 +1,98 @@
+-- Whom a node talks to: its views, and its broadcast, whose peers are the members of the active
+-- view.
+use Rattle.std.specs.Prelude.{ℕ, ◌≡◌, List, [], ◌∷◌}
+use Rattle.meta_frame.specs.declared.message.Message.{Message}
+use Rattle.peer_lists.specs.Lists.{has}
+use Rattle.hyparview.specs.declared.event.ViewEvent.{ViewEvent}
+use Rattle.hyparview.specs.declared.event.ViewOut.{ViewOut}
+use Rattle.hyparview.specs.declared.event.ViewOut.TheVariants as OfViews
+use Rattle.hyparview.specs.Lawful.{AreLawful, IsOfAnother}
+use Rattle.hyparview.specs.Views as views
+use Rattle.hyparview.specs.Views.{NodeViews, draft_after, views_of}
+use Rattle.plumtree.specs.Broadcast as broadcast
+use Rattle.plumtree.specs.Broadcast.{Broadcast, CastCall, Up, Down, draft_of, row}
+use Rattle.plumtree.specs.declared.entry.CastOut.{CastOut}
+use Rattle.plumtree.specs.Lawful.{HasLinks, MayCome, NamesOthers, after_call, is_peer}
+use Rattle.node_parts.specs.declared.envelope.Envelope.{Envelope}
+
+pub record Overlay : Type 0 where
+  pub views : NodeViews
+  pub cast : Broadcast
+
+abbrev pub talking : NodeViews → Broadcast → Overlay
+talking views cast = record { views = views; cast = cast }
+
+-- a node that knows nobody
+abbrev pub alone : ℕ → Overlay
+alone node = record { views = views.empty node; cast = broadcast.empty }
+
+-- a message, and to whom it goes
+abbrev pub envelope : ℕ → Message → Envelope
+envelope to message = record { to = to; message = message }
+
+-- ---- a step of the views, of which the broadcast hears who came and who went, in order
+
+abbrev pub follow : List ViewOut → Broadcast → Broadcast
+follow [] b = b
+follow (OfViews.Send to message ∷ outs) b = follow outs b
+follow (OfViews.Up node ∷ outs) b = follow outs (after_call b (Up node))
+follow (OfViews.Down node ∷ outs) b = follow outs (after_call b (Down node))
+
+abbrev pub after_view : ViewEvent → ℕ → Overlay → Overlay
+after_view event word o =
+    let after = draft_after event word o.views in
+    record { views = views_of after; cast = follow after.out o.cast }
+
+-- the messages among what was given out
+abbrev pub messages_of : List ViewOut → List Envelope
+messages_of [] = []
+messages_of (OfViews.Send to message ∷ outs) = envelope to message ∷ messages_of outs
+messages_of (OfViews.Up node ∷ outs) = messages_of outs
+messages_of (OfViews.Down node ∷ outs) = messages_of outs
+
+abbrev pub sent_by_view : ViewEvent → ℕ → Overlay → List Envelope
+sent_by_view event word o = messages_of (draft_after event word o.views).out
+
+-- ---- a call of the broadcast: the overlay after it, and what it gives out
+
+abbrev pub told : CastCall → Overlay → Overlay
+told call o = talking o.views (after_call o.cast call)
+
+abbrev pub out_of : CastCall → Overlay → List CastOut
+out_of call o = (row call (draft_of o.cast)).out
+
+-- ---- what always holds
+
+-- the views are lawful, and eager and lazy peers together are the active view
+pub record ArePeers (o : Overlay) : Type 0 where
+  pub lawful : AreLawful o.views.node o.views.active o.views.passive
+  pub links : HasLinks o.cast
+  pub same : (x : ℕ) → is_peer x o.cast ≡ has o.views.active x
+
+-- so it is of a node's overlay, which never names the node itself
+pub record IsOverlay (o : Overlay) : Type 0 where
+  pub peers : ArePeers o
+  pub names_others : NamesOthers o.views.node o.cast
+
+-- a call of the broadcast in which no peer comes or goes
+abbrev pub IsOfNoPeer : CastCall → Type 0
+IsOfNoPeer (Up node) = ⊥
+IsOfNoPeer (Down node) = ⊥
+IsOfNoPeer _ = Unit {0}
+
+-- the peers are the active view of a node that knows nobody, and stay it with each event of the
+-- views, and with each call of the broadcast that is of no peer
+pub record StayPeers : Type 0 where
+  pub begins : (node : ℕ) → ArePeers (alone node)
+  pub views : (o : Overlay) (event : ViewEvent) (word : ℕ) → ArePeers o
+      → ArePeers (after_view event word o)
+  pub calls : (o : Overlay) (call : CastCall) → IsOfNoPeer call → ArePeers o
+      → ArePeers (told call o)
+
+-- a node that knows nobody names nobody, and what it hears of other nodes never makes it name itself
+pub record NamesOthersOn : Type 0 where
+  pub begins : (node : ℕ) → IsOverlay (alone node)
+  pub views : (o : Overlay) (event : ViewEvent) (word : ℕ) → IsOfAnother o.views.node event
+      → IsOverlay o → IsOverlay (after_view event word o)
+  pub calls : (o : Overlay) (call : CastCall) → IsOfNoPeer call → MayCome o.views.node call
+      → IsOverlay o → IsOverlay (told call o)

@@ -1,0 +1,44 @@
+-- Who watches a node. Watches are numbered from 1.
+use Rattle.std.specs.Prelude.{ℕ, ◌-◌, nat_eq, nat_le, nat_lt, Bool, ◌||◌, List, [], ◌∷◌, length, slice_get, slice_set, Option, None, Some, is_none, if◌then◌else◌}
+use Rattle.meta_types.specs.First.{first_that_applies}
+use Rattle.subscriptions.specs.Watching.{Watching, emptied}
+use Rattle.node_events.specs.declared.fault.StepFault.{StepFault}
+use Rattle.node_events.specs.declared.fault.StepFault.TheVariants.{BadWatch, NoSuchWatch}
+use Rattle.node_events.specs.declared.reply.Reply.{Reply}
+use Rattle.node_events.specs.declared.reply.Reply.TheVariants.{Done, Changed}
+
+-- the most watches of a node
+abbrev pub most_watches : ℕ
+most_watches = 16
+
+-- the one of that number, if there is one
+abbrev pub at_number : {A : Type 0} → List A → ℕ → Option A
+at_number xs number = if nat_eq number 0 then None else slice_get xs (number - 1)
+
+-- ---- one more
+
+-- there is room for 1 to 1,024 changes
+abbrev pub is_no_capacity : ℕ → Bool
+is_no_capacity capacity = nat_eq capacity 0 || nat_lt 1024 capacity
+
+abbrev pub refusal_of_watch : ℕ → List Watching → Option StepFault
+refusal_of_watch capacity watches =
+    let has_all = nat_le most_watches (length watches) in
+    first_that_applies ((is_no_capacity capacity || has_all, BadWatch) ∷ [])
+
+-- ---- what one has noted is handed out
+
+abbrev pub with_emptied : Option Watching → ℕ → List Watching → List Watching
+with_emptied None number watches = watches
+with_emptied (Some w) number watches = slice_set watches (number - 1) (emptied w)
+
+abbrev pub hand_out : ℕ → List Watching → List Watching
+hand_out number watches = with_emptied (at_number watches number) number watches
+
+abbrev pub reply_of_changes : Option Watching → Reply
+reply_of_changes None = Done
+reply_of_changes (Some w) = Changed w.missed w.changes
+
+abbrev pub refusal_of_changes : ℕ → List Watching → Option StepFault
+refusal_of_changes number watches =
+    first_that_applies ((is_none (at_number watches number), NoSuchWatch) ∷ [])

@@ -1,0 +1,80 @@
+ghost use Rattle.std.specs.Prelude.{◌≡◌, ◌↔◌, IfOk, OnOk, OnErr, IsTrue, false};
+ghost use Rattle.hash_tree.specs.Tree.{rows_of};
+ghost use Rattle.meta_store.specs.Step.{is_full_for};
+ghost use Rattle.meta_store.specs.Table.{IsHeld, Table, with_object};
+
+use dvvset::Entries;
+use hash_tree::{Tree, object_digest};
+use meta_store::Store;
+use meta_types::MetaKey;
+use std::alloc::{AllocError, Global};
+use std::marker::Model;
+
+/// What a node holds: its store, with the tree that stands for it. Both change together.
+#[derive(Drop)]
+pub struct Held {
+    store: Store,
+    tree: Tree,
+}
+
+impl Model for Held {
+    ghost use Rattle.std.specs.Prelude.{◌≡◌};
+    ghost use Rattle.hash_tree.specs.Tree.{rows_of};
+    ghost use Rattle.meta_store.specs.Table.{Table};
+
+    ghost Value = { Table };
+
+    ghost view = { λ h. h.store };
+
+    ghost invariant = { λ h. h.tree ≡ rows_of h.store };
+}
+
+impl Held {
+    /// Holds what the store does. Fails only when memory runs out.
+    pub fn new(alloc: Global, store: Store) -> Result<Self, AllocError>
+        ensures { IfOk result (λ held. held ≡ store) }
+    {
+        let tree = Tree::from_store(alloc, &store)?;
+        Ok(Held { store, tree })
+    }
+
+    pub fn store(&self) -> &Store
+        ensures { result.now ≡ self.now }
+    {
+        &self.store
+    }
+
+    pub fn tree(&self) -> &Tree
+        ensures { result.now ≡ rows_of self.now }
+    {
+        &self.tree
+    }
+
+    /// Holds this object under the key from now on. Fails only when memory runs out, and then all
+    /// is as before.
+    pub fn hold(&mut self, key: &MetaKey, object: Entries) -> Result<(), AllocError>
+        requires held { IsHeld object }
+        requires room { is_full_for self.old key.now ≡ false }
+        ensures value { OnOk result (self.new ≡ with_object key.now object self.old) }
+        ensures same { OnErr result (self.new ≡ self.old) }
+    {
+        let digest = object_digest(&object);
+        let own = key.copy()?;
+        self.store.hold(own, object)?;
+        match self.tree.update(key, digest) {
+            Ok(()) => Ok(()),
+            Err(error) => {
+                self.store.forget(key);
+                Err(error)
+            }
+        }
+    }
+
+    /// Fails only when memory runs out.
+    pub fn copy(&self) -> Result<Self, AllocError>
+        ensures { IfOk result (λ copy. copy ≡ self.now) }
+    {
+        let (store, tree) = (self.store.copy()?, self.tree.copy()?);
+        Ok(Held { store, tree })
+    }
+}

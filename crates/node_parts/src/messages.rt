@@ -1,0 +1,53 @@
+//! What the broadcast gives out becomes messages.
+
+ghost use Rattle.std.specs.Prelude.{◌≡◌, IfOk, map};
+ghost use Rattle.node_parts.specs.Origin.{sent_whole, with_object};
+
+use crate::envelope::Envelope;
+use dvvset::Entries;
+use meta_frame::Message;
+use plumtree::CastOut;
+use std::alloc::{AllocError, Global};
+
+/// Each of these as a message, a GOSSIP with this object. Fails only when memory runs out.
+pub fn gossips(
+    alloc: Global,
+    outs: Vec<CastOut>,
+    object: &Entries,
+) -> Result<Vec<Envelope>, AllocError>
+    ensures { IfOk result (λ sent. sent.items ≡ map (with_object object.now) outs.items) }
+{
+    let mut sent = Vec::with_capacity(alloc, outs.len())?;
+    for out in outs {
+        sent.push(gossip(out, object)?)?;
+    }
+    Ok(sent)
+}
+
+fn gossip(out: CastOut, object: &Entries) -> Result<Envelope, AllocError>
+    ensures { IfOk result (λ envelope. envelope ≡ with_object object.now out) }
+{
+    Ok(match out {
+        CastOut::Gossip { to, round, key } => {
+            let object = object.copy()?;
+            Envelope {
+                to,
+                message: Message::Gossip { round, key, object },
+            }
+        }
+        CastOut::Send(to, message) => Envelope { to, message },
+    })
+}
+
+/// The messages that are whole, which are all where no GOSSIP is among them.
+pub fn whole(alloc: Global, outs: Vec<CastOut>) -> Result<Vec<Envelope>, AllocError>
+    ensures { IfOk result (λ sent. sent.items ≡ sent_whole outs.items) }
+{
+    let mut sent = Vec::new(alloc);
+    for out in outs {
+        if let CastOut::Send(to, message) = out {
+            sent.push(Envelope { to, message })?;
+        }
+    }
+    Ok(sent)
+}

@@ -1,0 +1,145 @@
+ghost use Rattle.std.specs.Prelude.{◌≡◌, ◌≤◌, ◌+◌, ◌∷◌, ◌++◌, [], None, Some, length, map, IfOk, OnOk, OnErr};
+ghost use Rattle.meta_types.specs.Failing.{FailsBy};
+ghost use Rattle.subscriptions.specs.Watching.{empty, with_change};
+ghost use Rattle.node_parts.specs.Watches.{at_number, hand_out, most_watches};
+ghost use Rattle.node_parts.specs.Watches.{refusal_of_changes, refusal_of_watch, reply_of_changes};
+ghost use Rattle.node_events.specs.declared.fault.StepFault.TheVariants.{Memory};
+
+use crate::news::News;
+use dvvset::Vector;
+use meta_types::{FullPrefix, MetaKey};
+use node_events::{Changes, Reply, StepFault};
+use std::alloc::{AllocError, Global};
+use std::marker::Model;
+use subscriptions::{Change, Watch};
+
+/// The most watches of a node.
+const MAX_WATCHES: usize = 16;
+
+/// Who watches a node, in the order in which the watches were made; they are numbered from 1.
+#[derive(Drop)]
+pub struct Watches {
+    alloc: Global,
+    list: Vec<Watch>,
+}
+
+impl Model for Watches {
+    ghost use Rattle.std.specs.Prelude.{◌≤◌, List, length};
+    ghost use Rattle.node_parts.specs.Watches.{most_watches};
+    ghost use Rattle.subscriptions.specs.Watching.{Watching};
+
+    ghost Value = { List Watching };
+
+    ghost view = { λ w. w.list.items };
+
+    ghost invariant = { λ w. length w.list.items ≤ most_watches };
+}
+
+impl Watches {
+    pub fn new(alloc: Global) -> Self
+        ensures { result ≡ [] }
+    {
+        Watches {
+            alloc,
+            list: Vec::new(alloc),
+        }
+    }
+
+    pub fn as_slice(&self) -> &[Watch]
+        ensures value { result.now ≡ self.now }
+        ensures few { length self.now ≤ most_watches }
+    {
+        self.list.as_slice()
+    }
+
+    /// One more watch. Answers its number.
+    pub fn add(&mut self, prefix: &FullPrefix, capacity: usize) -> Result<u64, StepFault>
+        ensures value { OnOk result (self.new ≡ self.old ++ empty prefix.now capacity ∷ []) }
+        ensures number { IfOk result (λ number. number ≡ length self.old + 1) }
+        ensures accepted { OnOk result (refusal_of_watch capacity self.old ≡ None) }
+        ensures refused { FailsBy Memory (refusal_of_watch capacity self.old) result }
+        ensures same { OnErr result (self.new ≡ self.old) }
+    {
+        let number = self.list.len() as u64 + 1;
+        let watch = self.new_watch(prefix, capacity)?;
+        self.list.push(watch)?;
+        Ok(number)
+    }
+
+    fn new_watch(&self, prefix: &FullPrefix, capacity: usize) -> Result<Watch, StepFault>
+        ensures watch { IfOk result (λ watch. watch ≡ empty prefix.now capacity) }
+        ensures accepted { OnOk result (refusal_of_watch capacity self.now ≡ None) }
+        ensures refused { FailsBy Memory (refusal_of_watch capacity self.now) result }
+    {
+        if self.list.len() >= MAX_WATCHES {
+            return Err(StepFault::BadWatch);
+        }
+        let prefix = prefix.copy()?;
+        Ok(Watch::new(self.alloc, prefix, capacity)?)
+    }
+
+    /// What the watch of this number has noted is handed out.
+    pub fn hand_out(&mut self, number: u64) -> Result<Reply, StepFault>
+        ensures value { OnOk result (self.new ≡ hand_out number self.old) }
+        ensures reply { IfOk result
+            (λ reply. reply ≡ reply_of_changes (at_number self.old number)) }
+        ensures accepted { OnOk result (refusal_of_changes number self.old ≡ None) }
+        ensures refused { FailsBy Memory (refusal_of_changes number self.old) result }
+        ensures same { OnErr result (self.new ≡ self.old) }
+    {
+        if number == 0 || number > self.list.len() as u64 {
+            return Err(StepFault::NoSuchWatch);
+        }
+        let place = number as usize - 1;
+        let missed = self.list[place].missed();
+        let changes = self.list[place].take()?;
+        Ok(Reply::Changed {
+            missed,
+            changes: Changes::new(changes),
+        })
+    }
+
+    /// What there is to tell of a change: a note for each watch. Fails only when memory runs out.
+    pub fn news(&self, key: &MetaKey, vector: Vector) -> Result<News, AllocError>
+        ensures { IfOk result (λ news. news ≡ record {
+          change = record { key = key.now; vector = vector };
+          notes = length self.now;
+        }) }
+    {
+        let key = key.copy()?;
+        News::new(self.alloc, Change { key, vector }, self.list.len())
+    }
+
+    /// Each watch notes the change. It never fails, and takes no memory.
+    pub fn note(&mut self, news: &mut News)
+        requires { news.old.notes ≡ length self.old }
+        ensures watches { self.new ≡ map (with_change news.old.change) self.old }
+        ensures change { news.new.change ≡ news.old.change }
+    {
+        for place in 0..self.list.len() {
+            let note = news.next();
+            self.list[place].note(note);
+        }
+    }
+
+    /// Fails only when memory runs out.
+    pub fn copy(&self) -> Result<Self, AllocError>
+        ensures { IfOk result (λ copy. copy ≡ self.now) }
+    {
+        let list = copy_watches(self.alloc, self.list.as_slice())?;
+        Ok(Watches {
+            alloc: self.alloc,
+            list,
+        })
+    }
+}
+
+fn copy_watches(alloc: Global, watches: &[Watch]) -> Result<Vec<Watch>, AllocError>
+    ensures { IfOk result (λ copies. copies.items ≡ watches.now) }
+{
+    let mut copies = Vec::with_capacity(alloc, watches.len())?;
+    for watch in watches {
+        copies.push(watch.copy()?)?;
+    }
+    Ok(copies)
+}

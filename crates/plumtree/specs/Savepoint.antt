@@ -1,0 +1,36 @@
+-- Coming back to where a broadcast stood.
+use Rattle.std.specs.Prelude.{ℕ, ◌≡◌, List, length, take}
+use Rattle.plumtree.specs.Broadcast.{Broadcast, CastCall, Broadcasts, TakesGossip, TakesPrune, TakesGraft}
+use Rattle.plumtree.specs.Lawful.{after_call}
+
+-- the peers, and how many announcements waited
+pub record Standing : Type 0 where
+  pub eager : List ℕ
+  pub lazy : List ℕ
+  pub waiting : ℕ
+
+abbrev pub savepoint_of : Broadcast → Standing
+savepoint_of b = record { eager = b.eager; lazy = b.lazy; waiting = length b.queue }
+
+-- the peers are those again, and what waits is what waited then
+abbrev pub rolled_back : Standing → Broadcast → Broadcast
+rolled_back s b = record {
+  eager = s.eager;
+  lazy = s.lazy;
+  queue = take s.waiting b.queue;
+  missing = b.missing;
+}
+
+-- a call that changes nothing of what is missing, and takes nothing out of the queue
+abbrev pub IsOfObjects : CastCall → Type 0
+IsOfObjects (Broadcasts key vector) = Unit {0}
+IsOfObjects (TakesGossip from round key vector fresh) = Unit {0}
+IsOfObjects (TakesPrune from) = Unit {0}
+IsOfObjects (TakesGraft from round key held) = Unit {0}
+IsOfObjects _ = ⊥
+
+-- such a call is taken back
+abbrev pub AreTakenBack : Type 0
+AreTakenBack =
+    (b : Broadcast) (call : CastCall) → IsOfObjects call
+    → rolled_back (savepoint_of b) (after_call b call) ≡ b
