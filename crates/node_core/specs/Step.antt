@@ -119,7 +119,8 @@ pub record IsStepTo (old : NodeParts) (refusal : Option StepFault) (done : Draft
 
 -- what was asked takes the old node to the new one, and gives this
 abbrev pub IsStepOf : NodeParts → Input → NodeParts → Stepped → Type 0
-IsStepOf old input = IsStepTo old (refusal_of input old) (draft_after input old) (reply_of input old)
+IsStepOf old input =
+    IsStepTo old (refusal_of input old) (draft_after input old) (reply_of input old)
 
 -- a message of an exchange that has answers
 abbrev pub IsQuestion : Message → Type 0

@@ -89,7 +89,8 @@ pub record StayPeers : Type 0 where
   pub calls : (o : Overlay) (call : CastCall) → IsOfNoPeer call → ArePeers o
       → ArePeers (told call o)
 
--- a node that knows nobody names nobody, and what it hears of other nodes never makes it name itself
+-- a node that knows nobody names nobody, and what it hears of other nodes never makes it name
+-- itself
 pub record NamesOthersOn : Type 0 where
   pub begins : (node : ℕ) → IsOverlay (alone node)
   pub views : (o : Overlay) (event : ViewEvent) (word : ℕ) → IsOfAnother o.views.node event

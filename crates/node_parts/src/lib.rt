@@ -1,8 +1,8 @@
 //! The parts of a node, each of which keeps what must always hold of it.
 //!
 //! Read `held` (the store with its tree), `overlay` (the views with the broadcast), `talking` and
-//! `ticking` (what the overlay does), `watches` with `news`; then `messages` and `sending`, by which
-//! what a node says becomes frames. `laws` has what always holds of an overlay.
+//! `ticking` (what the overlay does), `watches` with `news`; then `messages` and `sending`, by
+//! which what a node says becomes frames. `laws` has what always holds of an overlay.
 #![tactic(auto)]
 
 pub mod envelope;

@@ -1,5 +1,5 @@
-//! What the broadcast of a node is told, call by call. Each changes nothing where it fails, which is
-//! for want of memory alone.
+//! What the broadcast of a node is told, call by call. Each changes nothing where it fails, which
+//! is for want of memory alone.
 
 ghost use Rattle.std.specs.Prelude.{◌≡◌, ◌≢◌, true, false, All, IfOk, OnOk, OnErr};
 ghost use Rattle.plumtree.specs.Broadcast.{Changes, Tick, TakesGossip, TakesGraft, TakesIHave, TakesPrune};

@@ -14,15 +14,15 @@ pub fn peers_come_up_and_go_down()
 {}
 
 /// A new broadcast names no node. Where a call names other nodes, and what it may announce or wait
-/// for can be spelled, all that it gives out goes to other nodes, what it sends whole is IHAVE, GRAFT
-/// or PRUNE, and each of these can be spelled; and so it goes on, from any broadcast that names other
-/// nodes alone.
+/// for can be spelled, all that it gives out goes to other nodes, what it sends whole is IHAVE,
+/// GRAFT or PRUNE, and each of these can be spelled; and so it goes on, from any broadcast that
+/// names other nodes alone.
 pub fn what_is_sent_goes_to_others()
     ensures { SendsToOthers }
 {}
 
-/// Whoever rolls a broadcast back to where it stood before a write was broadcast, or a GOSSIP, PRUNE
-/// or GRAFT was taken, has it as it was.
+/// Whoever rolls a broadcast back to where it stood before a write was broadcast, or a GOSSIP,
+/// PRUNE or GRAFT was taken, has it as it was.
 pub fn calls_are_taken_back()
     ensures { AreTakenBack }
 {}

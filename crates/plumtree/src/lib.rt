@@ -19,8 +19,8 @@
 //! }
 //! ```
 //!
-//! Read `entry`, `cast`, then `links`, `missing` and `tick`; `savepoint` takes calls back; what holds
-//! of every call is in `laws`.
+//! Read `entry`, `cast`, then `links`, `missing` and `tick`; `savepoint` takes calls back; what
+//! holds of every call is in `laws`.
 #![tactic(auto)]
 
 pub mod cast;
