@@ -1,0 +1,22 @@
+-- a step is made of what it did
+pub mod Making
+-- a change in the order of the code is that of the table
+pub mod Changing
+-- what a change gives out may be sent, and is taken back where memory ends
+pub mod Spreading
+-- the steps that change an object are those of the table
+pub mod Stepping
+-- an object that came
+pub mod Arriving
+-- the messages of the broadcast that carry no object, and the questions of an exchange
+pub mod Casting
+-- what a question is answered may be sent
+pub mod Answering
+-- an event of the views, a tick and HELLO are those of the table
+pub mod Viewing
+-- what comes of bytes that spell a frame
+pub mod Coming
+-- no event has two outcomes, and a run goes on
+pub mod Outcomes
+-- the sibling that is chosen is the one that is read
+pub mod Repairing

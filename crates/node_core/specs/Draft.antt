@@ -78,6 +78,6 @@ change key object t =
     new ▷ note (change_under key new.parts)
     ▷ call_broadcast (Changes key (vector_under key new.parts))
 
--- what is held under the key goes to all peers, or its announcement
+-- what is held under the key goes to each eager peer; for each lazy one its announcement waits
 abbrev pub broadcast_held : Key → Draft → Draft
 broadcast_held key t = call_broadcast (Broadcasts key (vector_under key t.parts)) t

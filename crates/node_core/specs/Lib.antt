@@ -13,3 +13,15 @@ pub mod Draft
 pub mod Rows
 -- one step, as four functions
 pub mod Step
+-- many steps, and that no event has two outcomes
+pub mod Run
+-- the repair of siblings
+pub mod Repair
+-- equality of what steps give
+pub mod Equal
+
+-- ---- not needed to believe the public contracts: what private functions say of a message, of a
+-- change and of a write
+pub mod Messages
+pub mod Changing
+pub mod Writing

@@ -1,5 +1,6 @@
--- What a node does with each event, one definition for each row of the table, in its order.
-use Rattle.std.specs.Prelude.{ℕ, ◌≡◌, ◌%◌, ◌==◌, nat_lt, Bool, not, List, [], ◌∷◌, ◌++◌, slice_index, slice_set, Option, Some, if◌then◌else◌}
+-- What a node does with each event and each message: the rows that take more than one small step, and
+-- then the two tables, `on_message` and `row_of_event`.
+use Rattle.std.specs.Prelude.{ℕ, ◌≡◌, nat_lt, Bool, not, List, [], ◌∷◌, ◌++◌, slice_index, slice_set, Option, Some, if◌then◌else◌}
 use Rattle.peer_lists.specs.Lists.{has}
 use Rattle.meta_types.specs.Name.{Key, Prefix}
 use Rattle.meta_types.specs.Value.{ValueParts}
@@ -19,6 +20,7 @@ use Rattle.plumtree.specs.Broadcast.{TakesGossip, TakesPrune, TakesIHave, TakesG
 use Rattle.subscriptions.specs.Watching.{empty}
 use Rattle.node_events.specs.declared.event.NodeEvent.{NodeEvent}
 use Rattle.node_events.specs.declared.event.NodeEvent.TheVariants.{Read, Write, PutOver, Take, Tick, Join, PeerDown, Exchange, Keep, Watch, Changes, Hello as SayHello, Leave}
+use Rattle.node_parts.specs.Origin.{is_due}
 use Rattle.node_parts.specs.Outbox.{count_on}
 use Rattle.node_parts.specs.Watches.{hand_out}
 use Rattle.node_core.specs.Node.{NodeParts, present, vector_under, writer}
@@ -102,7 +104,7 @@ abbrev pub count_tick : Draft → Draft
 count_tick t = record t { parts = record t.parts { ticks = count_on t.parts.ticks 1 } }
 
 abbrev pub shuffle_if_due : ℕ → Draft → Draft
-shuffle_if_due word t = if t.parts.ticks % 10 == 0 then step_views OfViews.ShuffleDue word t else t
+shuffle_if_due word t = if is_due t.parts.ticks then step_views OfViews.ShuffleDue word t else t
 
 abbrev pub tick : ℕ → Draft → Draft
 tick word t = t ▷ count_tick ▷ call_broadcast CastTick ▷ shuffle_if_due word
@@ -117,7 +119,8 @@ abbrev pub hand_out_changes : ℕ → Draft → Draft
 hand_out_changes number t =
     record t { parts = record t.parts { watches = hand_out number t.parts.watches } }
 
--- ---- what a node is asked to do: an event of its own, or a frame that was received, with its word
+-- ---- what a node is asked to do: an event of its own, which is any but `Take` (`IsInput`), or a frame
+-- that was received, with its word
 
 pub data Input : Type 0 where
   Local : NodeEvent → Input

@@ -1,6 +1,6 @@
--- One step of a node, as four functions of what it was and of what it was asked: what refuses it,
--- what the node is then, what it replies, and which frames it sends. And many steps.
-use Rattle.std.specs.Prelude.{ℕ, ◌≡◌, ◌+◌, nat_eq, nat_le, ◌⊎◌, List, [], ◌∷◌, map, length, slice_get, Option, None, Some, All, if◌then◌else◌}
+-- One step of a node: what refuses it, what the node is then, what it replies, and which frames it
+-- sends, each a function of what it was and of what it was asked.
+use Rattle.std.specs.Prelude.{ℕ, ◌≡◌, ◌+◌, nat_eq, ◌⊎◌, List, [], ◌∷◌, map, length, Option, None, Some, All, if◌then◌else◌}
 use Rattle.std.specs.Option.{option_map}
 use Rattle.meta_types.specs.First.{first_that_applies}
 use Rattle.meta_types.specs.Name.{Key}
@@ -9,7 +9,7 @@ use Rattle.dvvset.specs.Object.{Entry}
 use Rattle.dvvset.specs.Clock.{values_of}
 use Rattle.meta_frame.specs.declared.message.Frame.{Frame}
 use Rattle.meta_frame.specs.declared.message.Message.{Message}
-use Rattle.meta_frame.specs.declared.message.Message.TheVariants.{Gossip, XObject, XRoot, XPrefixes, XInner, XLeaves, XBucket, XWant}
+use Rattle.meta_frame.specs.declared.message.Message.TheVariants.{Gossip, XObject}
 use Rattle.meta_frame.specs.Frame.{RefusesBytes, spelling}
 use Rattle.meta_store.specs.Context.{Reading}
 use Rattle.meta_store.specs.Step.{refusal_of_merge, refusal_of_put}
@@ -26,7 +26,7 @@ use Rattle.node_parts.specs.Outbox.{IsFrameOf, count_on, frames_from}
 use Rattle.node_parts.specs.Watches.{at_number, refusal_of_changes, refusal_of_watch, reply_of_changes}
 use Rattle.node_core.specs.Node.{NodeParts, present, vector_under, writer}
 use Rattle.node_core.specs.Draft.{Draft}
-use Rattle.node_core.specs.Rows.{Local, Received, Input, IsInput, is_fresh, on_message, row}
+use Rattle.node_core.specs.Rows.{Local, Received, Input, IsInput, is_fresh, row}
 
 -- ---- what refuses it
 
@@ -100,15 +100,10 @@ reply_of (Local (Changes number)) s = reply_of_changes (at_number s.watches numb
 reply_of (Local event) s = Done
 reply_of (Received frame word) s = reply_of_message frame.message s
 
--- ---- which frames it sends: numbered over the life from 1, in order
-
-abbrev pub frames_sent : Input → NodeParts → List Frame
-frames_sent input s = frames_from s.node s.frames (draft_after input s).sent
-
 -- ---- a step
 
 -- it isn't refused; the old node becomes what is left when all is done, with this reply, and what
--- is to be sent goes out as frames to other nodes, as bytes
+-- is to be sent goes out as frames to other nodes, as bytes, numbered over the life from 1, in order
 pub record IsStepTo (old : NodeParts) (refusal : Option StepFault) (done : Draft) (reply : Reply)
     (new : NodeParts) (stepped : Stepped) : Type 0 where
   pub accepted : refusal ≡ None
@@ -121,22 +116,6 @@ pub record IsStepTo (old : NodeParts) (refusal : Option StepFault) (done : Draft
 abbrev pub IsStepOf : NodeParts → Input → NodeParts → Stepped → Type 0
 IsStepOf old input =
     IsStepTo old (refusal_of input old) (draft_after input old) (reply_of input old)
-
--- a message of an exchange that has answers
-abbrev pub IsQuestion : Message → Type 0
-IsQuestion (XRoot root) = Unit {0}
-IsQuestion (XPrefixes prefixes) = Unit {0}
-IsQuestion (XInner prefix digests) = Unit {0}
-IsQuestion (XLeaves prefix inner digests) = Unit {0}
-IsQuestion (XBucket prefix leaf keys) = Unit {0}
-IsQuestion (XWant key) = Unit {0}
-IsQuestion _ = ⊥
-
--- so does a message that came from another node, with its word
-abbrev pub IsStepOfMessage : NodeParts → ℕ → ℕ → Message → NodeParts → Stepped → Type 0
-IsStepOfMessage old from word message =
-    IsStepTo old (refusal_of_message message old) (on_message from word message (begun old))
-    (reply_of_message message old)
 
 -- the step of an event: of itself, or of the frame that its bytes spell
 pub record IsNodeStep (old : NodeParts) (event : NodeEvent) (new : NodeParts) (stepped : Stepped)
@@ -167,19 +146,3 @@ pub record Rejects (old : NodeParts) (event : NodeEvent) (fault : StepFault) (ne
     : Type 0 where
   pub cause : CanComeOf old event fault
   pub same : new ≡ old
-
--- ---- many steps, one after the other: accepted events, each with what it gave
-
-abbrev pub IsRun : NodeParts → List (NodeEvent × Stepped) → NodeParts → Type 0
-IsRun old [] new = new ≡ old
-IsRun old (e ∷ es) new =
-    (between : NodeParts) × (IsNodeStep old e.0 between e.1 × IsRun between es new)
-
--- ---- a repair: where siblings stand under the key, the chosen one is to be written over all
-
-abbrev pub repair_event : (List ValueParts → ℕ) → Key → NodeParts → Option NodeEvent
-repair_event choice key s =
-    let siblings = values_of (object_at s.table key) in
-    if nat_le 2 (length siblings)
-    then option_map (PutOver key) (slice_get siblings (choice siblings))
-    else None

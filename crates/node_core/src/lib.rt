@@ -1,10 +1,20 @@
 //! One node: a machine from frames in to frames out.
 #![tactic(auto)]
 
+mod announcing;
+mod change;
 mod commit;
+pub mod laws;
+mod membership;
+mod merging;
 mod reading;
+mod repair;
 mod saying;
 pub mod state;
+mod step;
+mod taking;
+mod ticking;
 mod watching;
+mod writing;
 
 pub use state::{NodeState, Stepped};

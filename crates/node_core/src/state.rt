@@ -15,10 +15,33 @@ use std::marker::Model;
 use subscriptions::Watch;
 
 /// What a step gives: the reply, and the frames to send.
-#[derive(Debug, Drop, PartialEq, Eq)]
+#[derive(Debug, Drop)]
 pub struct Stepped {
     pub reply: Reply,
     pub outbox: Outbox,
+}
+
+impl PartialEq for Stepped {
+    ghost use Rattle.std.specs.Prelude.{◌≡◌, ◌↔◌, IsTrue};
+    ghost use Rattle.node_core.specs.Equal.{stepped_eq, stepped_equivalence};
+    ghost use Rattle.std.specs.Cmp.{partial_equiv_from_equiv};
+
+    ghost eq = { stepped_eq };
+
+    ghost laws = { partial_equiv_from_equiv stepped_equivalence };
+
+    fn eq(&self, other: &Stepped) -> bool
+        ensures value { result ≡ stepped_eq self.now other.now }
+        ensures same { IsTrue result ↔ (self.now ≡ other.now) }
+    {
+        self.reply == other.reply && self.outbox == other.outbox
+    }
+}
+
+impl Eq for Stepped {
+    ghost use Rattle.node_core.specs.Equal.{stepped_equivalence};
+
+    ghost laws = { stepped_equivalence };
 }
 
 /// How many nodes there may be.

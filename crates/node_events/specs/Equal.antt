@@ -32,14 +32,14 @@ frames_equivalence = decided frames_eq frames_eq-Decides
 pub values_equivalence : IsEquivalence values_eq
 values_equivalence = decided values_eq values_eq-Decides
 
-prefix_eq-Decides : (p q : Prefix) → Decides (prefix_eq p q) (p ≡ q)
+pub prefix_eq-Decides : (p q : Prefix) → Decides (prefix_eq p q) (p ≡ q)
 prefix_eq-Decides p q = both_decide
     (pointwise nat_eq p.prefix q.prefix) (pointwise nat_eq p.sub q.sub)
     (bytes_decides p.prefix q.prefix) (bytes_decides p.sub q.sub)
     (λ firsts subs i. record { prefix = firsts i; sub = subs i })
     (λ same i. (same i).prefix) (λ same i. (same i).sub)
 
-key_eq-Decides : (k l : Key) → Decides (key_eq k l) (k ≡ l)
+pub key_eq-Decides : (k l : Key) → Decides (key_eq k l) (k ≡ l)
 key_eq-Decides k l = both_decide
     (prefix_eq k.prefix l.prefix) (pointwise nat_eq k.key l.key)
     (prefix_eq-Decides k.prefix l.prefix) (bytes_decides k.key l.key)

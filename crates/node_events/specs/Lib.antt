@@ -3,3 +3,5 @@
 pub mod Fault
 -- which words and lemmas say that comparisons of lists are equality; impls cite them
 pub mod Equal
+-- the same of events and of replies, by their kinds
+pub mod EqualEvents

@@ -1,12 +1,13 @@
 ghost use Rattle.std.specs.Prelude.{◌≡◌, IfOk};
-ghost use Rattle.node_events.specs.declared.event.NodeEvent.TheVariants.{Write};
+ghost use Rattle.node_events.specs.declared.event.NodeEvent.TheVariants.{Write, Watch};
+ghost use Rattle.node_events.specs.EqualEvents.{event_eq};
 
 use meta_store::Context;
 use meta_types::{ByteString, FullPrefix, MetaKey, NodeId, Value};
 use std::alloc::AllocError;
 
 /// What a node is asked to do. A word is a random number from outside, for the choices of a step.
-#[derive(Debug, Drop, PartialEq, Eq)]
+#[derive(Debug, Drop)]
 pub enum NodeEvent {
     /// The node is read.
     Read {
@@ -127,4 +128,83 @@ fn copy_write(
         value,
         context,
     })
+}
+
+impl PartialEq for NodeEvent {
+    ghost use Rattle.std.specs.Prelude.{◌≡◌, ◌↔◌, IsTrue};
+    ghost use Rattle.node_events.specs.EqualEvents.{event_equivalence};
+    ghost use Rattle.std.specs.Cmp.{partial_equiv_from_equiv};
+
+    ghost eq = { event_eq };
+
+    ghost laws = { partial_equiv_from_equiv event_equivalence };
+
+    fn eq(&self, other: &NodeEvent) -> bool
+        ensures value { result ≡ event_eq self.now other.now }
+        ensures same { IsTrue result ↔ (self.now ≡ other.now) }
+    {
+        use NodeEvent::*;
+        match (self, other) {
+            (Read { key }, Read { key: theirs }) => key == theirs,
+            (
+                Write {
+                    key,
+                    value,
+                    context,
+                },
+                _,
+            ) => is_write(other, key, value, context),
+            (PutOver { key, value }, PutOver { key: k, value: v }) => key == k && value == v,
+            (Take { frame, word }, Take { frame: f, word: w }) => frame == f && word == w,
+            (Tick { word }, Tick { word: theirs }) => word == theirs,
+            (
+                Join { contact, word },
+                Join {
+                    contact: c,
+                    word: w,
+                },
+            ) => contact == c && word == w,
+            (PeerDown { peer, word }, PeerDown { peer: p, word: w }) => peer == p && word == w,
+            (Exchange { peer }, Exchange { peer: theirs }) => peer == theirs,
+            (Keep { key }, Keep { key: theirs }) => key == theirs,
+            (Watch { prefix, capacity }, _) => is_watch(other, prefix, *capacity),
+            (Changes { number }, Changes { number: theirs }) => number == theirs,
+            (Hello { peer }, Hello { peer: theirs }) => peer == theirs,
+            (Leave, Leave) => true,
+            _ => false,
+        }
+    }
+}
+
+impl Eq for NodeEvent {
+    ghost use Rattle.node_events.specs.EqualEvents.{event_equivalence};
+
+    ghost laws = { event_equivalence };
+}
+
+/// Returns whether an event is the write of these parts.
+fn is_write(event: &NodeEvent, key: &MetaKey, value: &Value, context: &Option<Context>) -> bool
+    ensures { result ≡ event_eq (Write key.now value.now context.now) event.now }
+{
+    match event {
+        NodeEvent::Write {
+            key: k,
+            value: v,
+            context: c,
+        } => key == k && value == v && context == c,
+        _ => false,
+    }
+}
+
+/// Returns whether an event is the watch of these parts.
+fn is_watch(event: &NodeEvent, prefix: &FullPrefix, capacity: usize) -> bool
+    ensures { result ≡ event_eq (Watch prefix.now capacity) event.now }
+{
+    match event {
+        NodeEvent::Watch {
+            prefix: p,
+            capacity: c,
+        } => prefix == p && capacity == *c,
+        _ => false,
+    }
 }

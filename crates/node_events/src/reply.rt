@@ -7,7 +7,7 @@ use meta_store::Context;
 use std::alloc::AllocError;
 
 /// What a node answers to an event that it accepted.
-#[derive(Debug, Drop, PartialEq, Eq)]
+#[derive(Debug, Drop)]
 pub enum Reply {
     /// To a read: what is shown, and a context for a write that has read it.
     Looked { values: Values, context: Context },
@@ -51,4 +51,49 @@ impl Reply {
             },
         })
     }
+}
+
+impl PartialEq for Reply {
+    ghost use Rattle.std.specs.Prelude.{◌≡◌, ◌↔◌, IsTrue};
+    ghost use Rattle.node_events.specs.EqualEvents.{reply_eq, reply_equivalence};
+    ghost use Rattle.std.specs.Cmp.{partial_equiv_from_equiv};
+
+    ghost eq = { reply_eq };
+
+    ghost laws = { partial_equiv_from_equiv reply_equivalence };
+
+    fn eq(&self, other: &Reply) -> bool
+        ensures value { result ≡ reply_eq self.now other.now }
+        ensures same { IsTrue result ↔ (self.now ≡ other.now) }
+    {
+        match (self, other) {
+            (
+                Reply::Looked { values, context },
+                Reply::Looked {
+                    values: others,
+                    context: theirs,
+                },
+            ) => values == others && context == theirs,
+            (Reply::Wrote { vector }, Reply::Wrote { vector: theirs }) => vector == theirs,
+            (Reply::Took, Reply::Took) => true,
+            (Reply::TookFresh, Reply::TookFresh) => true,
+            (Reply::TookStale, Reply::TookStale) => true,
+            (Reply::Done, Reply::Done) => true,
+            (Reply::Watching { number }, Reply::Watching { number: theirs }) => number == theirs,
+            (
+                Reply::Changed { missed, changes },
+                Reply::Changed {
+                    missed: count,
+                    changes: theirs,
+                },
+            ) => missed == count && changes == theirs,
+            _ => false,
+        }
+    }
+}
+
+impl Eq for Reply {
+    ghost use Rattle.node_events.specs.EqualEvents.{reply_equivalence};
+
+    ghost laws = { reply_equivalence };
 }

@@ -1,0 +1,176 @@
+-- An object that came: what the code did is what the table says.
+use Rattle.std.proofs.Common.{◌≡◌, ℕ, Bool, true, false, not, cond, List, [], ◌∷◌, map, length, All, Option, Some, None, Result, Ok, Err, ◌⊎◌, inl, inr, refl, sym, ap, subst, ◌∙◌}
+use Rattle.std.specs.Option.{option_map}
+use Rattle.std.specs.Result.{IsErrAnd}
+use Rattle.std.proofs.lemmas.Bool.{cond-false, cond-true}
+use Rattle.std.proofs.lemmas.List.Elements.{All-nil, All-same}
+use Rattle.meta_types.specs.Failing.{FailsBy}
+use Rattle.meta_types.specs.Name.{Key}
+use Rattle.dvvset.specs.Object.{Counter, Entry}
+use Rattle.dvvset.specs.Clock.{join}
+use Rattle.meta_frame.specs.declared.message.Message.TheVariants.{Gossip, Prune, XObject}
+use Rattle.meta_frame.specs.Frame.{spelling}
+use Rattle.meta_store.specs.Table.{Table, is_stale}
+use Rattle.meta_store.specs.Step.{merge_of, merged_if_fresh, refusal_of_merge}
+use Rattle.meta_store.specs.declared.fault.StoreFault.{StoreFault}
+use Rattle.meta_store.specs.declared.fault.StoreFault.TheVariants as OfStore
+use Rattle.plumtree.specs.Broadcast.{TakesGossip}
+use Rattle.node_events.specs.Fault.{of_store}
+use Rattle.node_events.specs.declared.fault.StepFault.{StepFault}
+use Rattle.node_events.specs.declared.fault.StepFault.TheVariants.{Memory}
+use Rattle.node_events.specs.declared.reply.Reply.TheVariants.{TookFresh, TookStale}
+use Rattle.node_parts.specs.declared.origin.Origin.TheVariants as OfOrigin
+use Rattle.node_parts.specs.Outbox.{IsFrameOf, frames_from}
+use Rattle.node_parts.specs.Overlay.{Overlay, envelope, told}
+use Rattle.node_core.specs.declared.state.Stepped.{Stepped}
+use Rattle.node_core.specs.Node.{NodeParts, vector_under, with_overlay}
+use Rattle.node_core.specs.Draft.{Draft}
+use Rattle.node_core.specs.Rows.{is_fresh, merge, on_gossip}
+use Rattle.node_core.specs.Messages.{IsStepOfMessage}
+use Rattle.node_core.specs.Step.{begun, counted, refusal_of_object, reply_of_object}
+use Rattle.node_core.specs.Changing.{change_to, gossips, holding, noting, spreading}
+use Rattle.node_core.proofs.Changing.{fresh_gossip, fresh_object, stale_gossip}
+use Rattle.node_core.proofs.Making.{made}
+
+-- ---- what a store foresees of what is fresh, and of what is stale
+
+record IsMerge (table : Table) (key : Key) (came object : List Entry) : Type 0 where
+  fresh : is_stale table key (join came) ≡ false
+  merged : object ≡ merge_of table key came
+
+merge_where : (stale : Bool) (object merged : List Entry) → Some object ≡ cond stale None (Some merged)
+    → (stale ≡ false) × (object ≡ merged)
+merge_where true object merged is = cc
+merge_where false object merged is = (refl, cc)
+
+merge_if_some : (table : Table) (key : Key) (came object : List Entry)
+    → Some object ≡ merged_if_fresh table key came → IsMerge table key came object
+merge_if_some table key came object is =
+    let parts = merge_where (is_stale table key (join came)) object (merge_of table key came) is in
+    record { fresh = parts.0; merged = parts.1 }
+
+fresh_so : (key : Key) (came : List Entry) (s : NodeParts) → is_stale s.table key (join came) ≡ false
+    → is_fresh key came s ≡ true
+fresh_so key came s fresh = ap not fresh
+
+stale_so : (key : Key) (came : List Entry) (s : NodeParts) → is_stale s.table key (join came) ≡ true
+    → is_fresh key came s ≡ false
+stale_so key came s stale = ap not stale
+
+-- ---- what a store refuses is refused
+
+refused_so : (fault : StoreFault) (gave : StepFault) (refusal : Option StoreFault) → gave ≡ of_store fault
+    → (fault ≡ OfStore.Memory) ⊎ (refusal ≡ Some fault)
+    → (gave ≡ Memory) ⊎ (option_map of_store refusal ≡ Some gave)
+refused_so fault gave refusal is (inl memory) = inl (is ∙ ap of_store memory)
+refused_so fault gave refusal is (inr refused) = inr (ap (option_map of_store) refused ∙ ap (λ f. Some f) (sym is))
+
+refused_by : {T : Type 0} (r : Result T StepFault) (fault : StoreFault) (refusal : Option StoreFault)
+    → (fault ≡ OfStore.Memory) ⊎ (refusal ≡ Some fault) → IsErrAnd r (λ gave. gave ≡ of_store fault)
+    → FailsBy Memory (option_map of_store refusal) r
+refused_by (Ok x) fault refusal cause gives = tt
+refused_by (Err gave) fault refusal cause gives = refused_so fault gave refusal gives cause
+
+pub merge_refused : {T : Type 0} {store : Table} (r : Result T StepFault) (old : NodeParts) (key : Key) (came : List Entry)
+    (fault : StoreFault) → store ≡ old.table
+    → (fault ≡ OfStore.Memory) ⊎ (refusal_of_merge store key came ≡ Some fault)
+    → IsErrAnd r (λ gave. gave ≡ of_store fault) → FailsBy Memory (refusal_of_object key came old) r
+merge_refused {store = store} r old key came fault store_is cause gives =
+    subst (λ table. FailsBy Memory (option_map of_store (refusal_of_merge table key came)) r) store_is
+    (refused_by r fault (refusal_of_merge store key came) cause gives)
+
+-- ---- what is stale isn't refused
+
+accepted_if_stale : (old : NodeParts) (key : Key) (came : List Entry) → is_stale old.table key (join came) ≡ true
+    → refusal_of_object key came old ≡ None
+accepted_if_stale old key came stale =
+    ap (option_map of_store) (cond-true (is_stale old.table key (join came)) None _ stale)
+
+fresh_reply : (old : NodeParts) (key : Key) (came : List Entry) → is_fresh key came old ≡ true
+    → reply_of_object key came old ≡ TookFresh
+fresh_reply old key came fresh = cond-true (is_fresh key came old) TookFresh TookStale fresh
+
+stale_reply : (old : NodeParts) (key : Key) (came : List Entry) → is_fresh key came old ≡ false
+    → reply_of_object key came old ≡ TookStale
+stale_reply old key came stale = cond-false (is_fresh key came old) TookFresh TookStale stale
+
+-- ---- GOSSIP
+
+pub stale_taken : {old : NodeParts} {outbox : List (List ℕ)} (from round : ℕ) (key : Key) (came : List Entry)
+    (new : NodeParts) (stepped : Stepped) → is_stale old.table key (join came) ≡ true
+    → stepped ≡ record { reply = TookStale; outbox = outbox }
+    → outbox ≡ map spelling (frames_from old.node old.frames (envelope from Prune ∷ []))
+    → All (IsFrameOf old.node) outbox
+    → new ≡ counted (length outbox) (with_overlay (told (TakesGossip from round key (vector_under key old) false) old.overlay) old)
+    → IsStepOfMessage old from 0 (Gossip round key came) new stepped
+stale_taken {old = old} from round key came new stepped stale is sends frames counts =
+    let after = with_overlay (told (TakesGossip from round key (vector_under key old) false) old.overlay) old in
+    let known = stale_so key came old stale in
+    let outbox_is = ap (λ (s : Stepped). s.outbox) is in
+    made old after new (refusal_of_object key came old) (on_gossip from round key came (begun old))
+    (reply_of_object key came old) (envelope from Prune ∷ []) stepped
+    (accepted_if_stale old key came stale) (stale_gossip from round key came old known)
+    (ap (λ (s : Stepped). s.reply) is ∙ sym (stale_reply old key came known))
+    (outbox_is ∙ sends) (subst (All (IsFrameOf old.node)) (sym outbox_is) frames)
+    (counts ∙ ap (λ outbox. counted (length outbox) after) (sym outbox_is))
+
+-- the same, where the overlay was told so
+pub overlay_told : {old s : NodeParts} {overlay : Overlay} {vector : List Counter} (from round : ℕ) (key : Key) → s ≡ old
+    → overlay ≡ told (TakesGossip from round key vector false) s.overlay → vector ≡ vector_under key old
+    → with_overlay overlay s ≡ with_overlay (told (TakesGossip from round key (vector_under key old) false) old.overlay) old
+overlay_told {s = s} {vector = vector} from round key view is vector_is =
+    ap (λ overlay. with_overlay overlay s) is
+    ∙ (λ i. with_overlay (told (TakesGossip from round key (vector_is i) false) (view i).overlay) (view i))
+
+pub fresh_taken : {old : NodeParts} {store : Table} {outbox : List (List ℕ)} (from round : ℕ) (key : Key)
+    (came entries : List Entry) (new : NodeParts) (stepped : Stepped) → store ≡ old.table
+    → Some entries ≡ merged_if_fresh store key came → refusal_of_merge store key came ≡ None
+    → stepped ≡ record { reply = TookFresh; outbox = outbox }
+    → outbox ≡ map spelling (frames_from old.node old.frames (gossips (OfOrigin.Gossip from round) key entries old))
+    → All (IsFrameOf old.node) outbox
+    → new ≡ counted (length outbox) (noting (change_to key entries) (spreading (OfOrigin.Gossip from round) key entries old))
+    → IsStepOfMessage old from 0 (Gossip round key came) new stepped
+fresh_taken {old = old} from round key came entries new stepped store_is merged accepted is sends frames counts =
+    let origin = OfOrigin.Gossip from round in
+    let foreseen = merge_if_some old.table key came entries (merged ∙ ap (λ table. merged_if_fresh table key came) store_is) in
+    let fresh = fresh_so key came old foreseen.fresh in
+    let after = λ (entries : List Entry). let draft : Draft = record {
+      parts = noting (change_to key entries) (spreading origin key entries old);
+      sent = gossips origin key entries old;
+    } in draft in
+    let outbox_is = ap (λ (s : Stepped). s.outbox) is in
+    made old (noting (change_to key entries) (spreading origin key entries old)) new
+    (refusal_of_object key came old) (on_gossip from round key came (begun old)) (reply_of_object key came old)
+    (gossips origin key entries old) stepped
+    (ap (λ table. option_map of_store (refusal_of_merge table key came)) (sym store_is) ∙ ap (option_map of_store) accepted)
+    (fresh_gossip from round key came old fresh ∙ ap after (sym foreseen.merged))
+    (ap (λ (s : Stepped). s.reply) is ∙ sym (fresh_reply old key came fresh))
+    (outbox_is ∙ sends) (subst (All (IsFrameOf old.node)) (sym outbox_is) frames)
+    (counts ∙ ap (λ outbox. counted (length outbox) (noting (change_to key entries) (spreading origin key entries old))) (sym outbox_is))
+
+-- ---- XOBJECT
+
+none_sent : (node : ℕ) (outbox : List (List ℕ)) → outbox ≡ [] → All (IsFrameOf node) outbox
+none_sent node outbox none = All-same (IsFrameOf node) outbox [] none (All-nil (IsFrameOf node))
+
+pub fresh_kept : {old : NodeParts} {store : Table} {outbox : List (List ℕ)} (key : Key) (came entries : List Entry)
+    (new : NodeParts) (stepped : Stepped) → store ≡ old.table
+    → Some entries ≡ merged_if_fresh store key came → refusal_of_merge store key came ≡ None
+    → stepped ≡ record { reply = TookFresh; outbox = outbox } → outbox ≡ []
+    → new ≡ counted (length outbox) (noting (change_to key entries) (holding key entries old))
+    → IsStepOfMessage old 0 0 (XObject key came) new stepped
+fresh_kept {old = old} key came entries new stepped store_is merged accepted is none counts =
+    let foreseen = merge_if_some old.table key came entries (merged ∙ ap (λ table. merged_if_fresh table key came) store_is) in
+    let fresh = fresh_so key came old foreseen.fresh in
+    let after = λ (entries : List Entry). let draft : Draft = record {
+      parts = noting (change_to key entries) (holding key entries old);
+      sent = [];
+    } in draft in
+    let outbox_is = ap (λ (s : Stepped). s.outbox) is in
+    made old (noting (change_to key entries) (holding key entries old)) new
+    (refusal_of_object key came old) (merge key came (begun old)) (reply_of_object key came old) [] stepped
+    (ap (λ table. option_map of_store (refusal_of_merge table key came)) (sym store_is) ∙ ap (option_map of_store) accepted)
+    (fresh_object key came old fresh ∙ ap after (sym foreseen.merged))
+    (ap (λ (s : Stepped). s.reply) is ∙ sym (fresh_reply old key came fresh))
+    (outbox_is ∙ none) (none_sent old.node stepped.outbox (outbox_is ∙ none))
+    (counts ∙ ap (λ outbox. counted (length outbox) (noting (change_to key entries) (holding key entries old))) (sym outbox_is))

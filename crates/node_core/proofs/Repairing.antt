@@ -1,0 +1,52 @@
+-- The sibling that is chosen is the one that is read, and writing it over all is the repair.
+use Rattle.std.proofs.Common.{◌≡◌, ◌<◌, ◌∙◌, ℕ, true, List, length, Some, None, Result, IfOk, IfErr, get_or, if◌then◌else◌, nat_le, refl, sym, ap, subst}
+use Rattle.std.proofs.lemmas.Option.{slice_get_read}
+use Rattle.std.specs.List.{slice_get}
+use Rattle.std.specs.Option.{option_map}
+use Rattle.meta_types.specs.Failing.{FailsBy}
+use Rattle.meta_types.specs.Name.{Key}
+use Rattle.meta_types.specs.Value.{ValueParts}
+use Rattle.dvvset.specs.Clock.{values_of}
+use Rattle.meta_store.specs.Table.{object_at}
+use Rattle.node_events.specs.declared.event.NodeEvent.TheVariants.{PutOver}
+use Rattle.node_events.specs.declared.fault.StepFault.{StepFault}
+use Rattle.node_events.specs.declared.fault.StepFault.TheVariants.{Memory}
+use Rattle.node_core.specs.declared.state.Stepped.{Stepped}
+use Rattle.node_core.specs.Node.{NodeParts}
+use Rattle.node_core.specs.Rows.{Local}
+use Rattle.node_core.specs.Step.{IsStepOf, refusal_of}
+use Rattle.node_core.specs.Repair.{CanComeOfRepair, IsRepair, chosen, repair_event}
+use Rattle.node_core.proofs.Outcomes.{refused, stepped}
+
+pub chosen_is : (choice : List ValueParts → ℕ) (siblings : List ValueParts) (place : ℕ)
+    (v : ValueParts) → nat_le 2 (length siblings) ≡ true → place ≡ choice siblings
+    → place < length siblings → v ≡ get_or siblings place v → Some v ≡ chosen choice siblings
+chosen_is choice siblings place v several at within is =
+    sym (ap (λ b. if b then slice_get siblings (choice siblings) else None) several
+    ∙ ap (slice_get siblings) (sym at)
+    ∙ slice_get_read siblings (length siblings) place v refl within is)
+
+-- the siblings that were read are those of the key, and this is the chosen one
+is_event : (choice : List ValueParts → ℕ) (key : Key) (s : NodeParts) (siblings : List ValueParts)
+    (v : ValueParts) → siblings ≡ values_of (object_at s.table key)
+    → chosen choice siblings ≡ Some v → Some (PutOver key v) ≡ repair_event choice key s
+is_event choice key s siblings v are is =
+    ap (option_map (PutOver key)) (sym is ∙ ap (chosen choice) are)
+
+pub repaired : (choice : List ValueParts → ℕ) (key : Key) (old new : NodeParts)
+    (siblings : List ValueParts) (v : ValueParts) (r : Result Stepped StepFault)
+    → siblings ≡ values_of (object_at old.table key) → chosen choice siblings ≡ Some v
+    → IfOk r (IsStepOf old (Local (PutOver key v)) new)
+    → IfOk r (IsRepair (repair_event choice key old) old new)
+repaired choice key old new siblings v r are is step =
+    subst (λ event. IfOk r (IsRepair event old new)) (is_event choice key old siblings v are is)
+    (stepped old new r (PutOver key v) (PutOver key v) refl refl step)
+
+pub not_repaired : (choice : List ValueParts → ℕ) (key : Key) (old : NodeParts)
+    (siblings : List ValueParts) (v : ValueParts) (r : Result Stepped StepFault)
+    → siblings ≡ values_of (object_at old.table key) → chosen choice siblings ≡ Some v
+    → FailsBy Memory (refusal_of (Local (PutOver key v)) old) r
+    → IfErr r (CanComeOfRepair (repair_event choice key old) old)
+not_repaired choice key old siblings v r are is fails =
+    subst (λ event. IfErr r (CanComeOfRepair event old)) (is_event choice key old siblings v are is)
+    (refused old r (PutOver key v) refl fails)

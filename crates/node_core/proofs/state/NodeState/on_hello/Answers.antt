@@ -1,0 +1,48 @@
+use Rattle.std.proofs.Common.{◌≡◌, ◌<◌, ◌≤◌, ℕ, true, false, map, [], None, nat_lt, get_or, slice_index, slice_set, lt-ltb, le-ltb, refl, sym, ap, subst, ◌∙◌}
+use Rattle.std.proofs.lemmas.List.Elements.{All-nil, All-same}
+use Rattle.meta_frame.specs.Frame.{spelling}
+use Rattle.node_events.specs.declared.reply.Reply.TheVariants.{Took}
+use Rattle.node_parts.specs.Outbox.{IsFrameOf, frames_from}
+use Rattle.node_core.specs.Node.{NodeParts}
+use Rattle.node_core.specs.Draft.{Draft}
+use Rattle.node_core.specs.Rows.{drop_neighbour, on_hello}
+use Rattle.node_core.specs.Step.{begun}
+use Rattle.node_core.proofs.Viewing.{came_anew, finished, known_life}
+use Rattle.node_core.proofs.state.NodeState.on_hello.Goals as goal
+use Rattle.node_core.proofs.state.NodeState.on_hello.Goals.{then-self-place+in_ok-outbox, else-self-place}
+
+pub returns-clause-step : goal.returns-clause-step
+returns-clause-step c =
+    let s = c.args.self.now in
+    let from = c.args.from in
+    let life = c.args.life in
+    let place = c.number-place.result in
+    let heard = c.self.inside.heard in
+    let done = on_hello from life c.args.word (begun s) in
+    let end = finished s c.if-self-place.self c.finish.new.self None done Took c.if-self-place.outbox c.finish.result refl in
+    elim c.if-self-place.branch [
+      | then-self-place+in_ok-outbox w ↦
+          let at_from = subst (λ i. get_or heard i 0 < life) c.number-place.ensures.value w.if-self-place.true in
+          let later = subst (λ (s : NodeParts). get_or s.heard from 0 < life) c.self.view_is at_from in
+          let older : nat_lt (slice_index s.heard from) life ≡ true = lt-ltb (slice_index s.heard from) life later in
+          let dropped = drop_neighbour from c.args.word (begun s) in
+          let hearing = λ (i : ℕ) (s : NodeParts). record s { heard = slice_set s.heard i life } in
+          let done_is = sym (came_anew from life c.args.word s older) in
+          let is : c.if-self-place.self ≡ done.parts =
+          w.self-is ∙ ap (hearing place) (w.self-then-self-place.view_is ∙ w.in_ok-outbox.ensures.node)
+          ∙ ap (λ i. hearing i dropped.parts) c.number-place.ensures.value ∙ ap (λ (t : Draft). t.parts) done_is in
+          end is
+          (w.outbox-is ∙ w.in_ok-outbox.ensures.frames ∙ ap (λ (t : Draft). map spelling (frames_from s.node s.frames t.sent)) done_is)
+          (All-same (IsFrameOf s.node) c.if-self-place.outbox w.in_ok-outbox.outbox w.outbox-is w.in_ok-outbox.ensures.lawful)
+          c.finish.ensures.counts c.finish.ensures.value
+      | else-self-place w ↦
+          let at_from = subst (λ i. life ≤ get_or heard i 0) c.number-place.ensures.value w.if-self-place.false in
+          let before = subst (λ (s : NodeParts). life ≤ get_or s.heard from 0) c.self.view_is at_from in
+          let known : nat_lt (slice_index s.heard from) life ≡ false = le-ltb (slice_index s.heard from) life before in
+          let done_is = sym (known_life from life c.args.word s known) in
+          let nothing = w.outbox-is ∙ w.nothing_sent-outbox.ensures in
+          end (w.self-is ∙ ap (λ (t : Draft). t.parts) done_is)
+          (nothing ∙ ap (λ (t : Draft). map spelling (frames_from s.node s.frames t.sent)) done_is)
+          (All-same (IsFrameOf s.node) c.if-self-place.outbox [] nothing (All-nil (IsFrameOf s.node)))
+          c.finish.ensures.counts c.finish.ensures.value
+    ]

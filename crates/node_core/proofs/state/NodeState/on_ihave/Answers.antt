@@ -1,0 +1,18 @@
+use Rattle.std.proofs.Common.{ap, ◌∙◌}
+use Rattle.meta_store.specs.Table.{is_stale}
+use Rattle.plumtree.specs.Broadcast.{TakesIHave}
+use Rattle.node_core.proofs.Casting.{after_ihave, told_quietly}
+use Rattle.node_core.proofs.state.NodeState.on_ihave.Goals as goal
+
+pub returns-clause-step : goal.returns-clause-step
+returns-clause-step c =
+    let key = c.args.key.now in
+    let vector = c.args.vector.now in
+    let stale = c.is_stale-stale in
+    let table_is = c.store.ensures ∙ ap (λ s. s.table) c.self.view_is in
+    let stale_is = stale.ensures ∙ ap (λ t. is_stale t key vector) table_is in
+    told_quietly (TakesIHave c.args.from c.args.round key vector stale.result) c.args.self.now _ c.finish.new.self c.on_ihave.new.self _
+    c.nothing_sent.result c.finish.result
+    c.self.view_is c.in_ok-on_ihave.ensures.overlay
+    (after_ihave c.args.from c.args.round key vector c.args.self.now stale.result stale_is) c.finish.ensures.value c.nothing_sent.ensures
+    c.finish.ensures.counts

@@ -1,0 +1,24 @@
+use Rattle.std.proofs.Common.{sym, ap, ◌∙◌}
+use Rattle.dvvset.specs.Clock.{values_of}
+use Rattle.meta_store.specs.Table.{Table, object_at}
+use Rattle.node_core.specs.Node.{NodeParts}
+use Rattle.node_core.proofs.Repairing.{repaired, not_repaired}
+use Rattle.node_core.proofs.state.NodeState.repair.Goals as goal
+
+pub returns-in-Some-clause-step : goal.returns-in-Some-clause-step
+returns-in-Some-clause-step g c =
+    let resolver = c.args.resolver.now in
+    let choice = (goal.Resolver-dyn g (resolver.vtable, resolver.value)).choice resolver.value in
+    let shown = λ (t : Table). values_of (object_at t c.args.key.now) in
+    let are = c.as_slice.ensures.value ∙ c.in_ok-siblings.ensures.values ∙ ap shown (c.store.ensures ∙ ap (λ (s : NodeParts). s.table) c.self.view_is) in
+    repaired choice c.args.key.now c.args.self.now c.put_over.new.self c.as_slice.result.now c.in-Some.value c.put_over.result
+    are (sym c.in_ok-value.ensures ∙ c.in-Some.is) c.put_over.ensures.step
+
+pub returns-in-Some-clause-refused : goal.returns-in-Some-clause-refused
+returns-in-Some-clause-refused g c =
+    let resolver = c.args.resolver.now in
+    let choice = (goal.Resolver-dyn g (resolver.vtable, resolver.value)).choice resolver.value in
+    let shown = λ (t : Table). values_of (object_at t c.args.key.now) in
+    let are = c.as_slice.ensures.value ∙ c.in_ok-siblings.ensures.values ∙ ap shown (c.store.ensures ∙ ap (λ (s : NodeParts). s.table) c.self.view_is) in
+    not_repaired choice c.args.key.now c.args.self.now c.as_slice.result.now c.in-Some.value c.put_over.result
+    are (sym c.in_ok-value.ensures ∙ c.in-Some.is) c.put_over.ensures.refused

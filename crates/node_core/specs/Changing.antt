@@ -1,0 +1,59 @@
+-- What a change of an object brings with it, in the order in which the code does it. Words of
+-- private functions; the table says the same by its small steps.
+use Rattle.std.specs.Prelude.{◌≡◌, ◌<◌, ◌^◌, List, map, length}
+use Rattle.meta_types.specs.Name.{Key}
+use Rattle.dvvset.specs.Object.{Entry}
+use Rattle.dvvset.specs.Clock.{join}
+use Rattle.meta_store.specs.Table as table
+use Rattle.plumtree.specs.Broadcast.{Changes}
+use Rattle.plumtree.specs.Savepoint.{rolled_back, savepoint_of}
+use Rattle.subscriptions.specs.declared.change.Change.{Change}
+use Rattle.subscriptions.specs.Watching.{with_change}
+use Rattle.node_parts.specs.declared.envelope.Envelope.{Envelope}
+use Rattle.node_parts.specs.declared.origin.Origin.{Origin}
+use Rattle.node_parts.specs.declared.origin.Origin.TheVariants.{Write, Gossip}
+use Rattle.node_parts.specs.News.{NewsParts}
+use Rattle.node_parts.specs.Origin.{call_of, with_object}
+use Rattle.node_parts.specs.Overlay.{out_of, told}
+use Rattle.node_core.specs.Node.{NodeParts, with_overlay}
+
+-- the object is held under the key
+abbrev pub holding : Key → List Entry → NodeParts → NodeParts
+holding key object s = record s { table = table.with_object key object s.table }
+
+-- it is held, and the peers are told
+abbrev pub spreading : Origin → Key → List Entry → NodeParts → NodeParts
+spreading origin key object s =
+    holding key object (with_overlay (told (call_of origin key (join object)) s.overlay) s)
+
+-- what the peers are sent
+abbrev pub gossips : Origin → Key → List Entry → NodeParts → List Envelope
+gossips origin key object s =
+    map (with_object object) (out_of (call_of origin key (join object)) s.overlay)
+
+-- the watches note the change, and it isn't waited for any more
+abbrev pub noting : Change → NodeParts → NodeParts
+noting change s = record s {
+  overlay = told (Changes change.key change.vector) s.overlay;
+  watches = map (with_change change) s.watches;
+}
+
+-- the change that it makes
+abbrev pub change_to : Key → List Entry → Change
+change_to key object = record { key = key; vector = join object }
+
+-- news of it, with a note for each watch
+abbrev pub AreNews : Key → List Entry → NodeParts → NewsParts → Type 0
+AreNews key object s news =
+    news ≡ record { change = change_to key object; notes = length s.watches }
+
+-- the same node, but for a broadcast that is taken back to where it stood by rolling back
+pub record IsBehind (old new : NodeParts) : Type 0 where
+  pub views : new.overlay.views ≡ old.overlay.views
+  pub cast : rolled_back (savepoint_of old.overlay.cast) new.overlay.cast ≡ old.overlay.cast
+  pub rest : with_overlay old.overlay new ≡ old
+
+-- the round, if there is one, is that of a frame
+abbrev pub HasRound : Origin → Type 0
+HasRound Write = Unit {0}
+HasRound (Gossip from round) = round < 2 ^ 16

@@ -1,0 +1,96 @@
+//! Objects that come, in a GOSSIP or in an exchange.
+
+ghost use Rattle.std.specs.Prelude.{◌≡◌, ◌≢◌, true, [], IfOk, IfErr, OnErr};
+ghost use Rattle.meta_types.specs.Failing.{FailsBy};
+ghost use Rattle.dvvset.specs.Clock.{join};
+ghost use Rattle.frame_fields.specs.Field.{object};
+ghost use Rattle.meta_frame.specs.declared.message.Message.TheVariants.{Gossip, XObject};
+ghost use Rattle.meta_store.specs.Table.{is_stale};
+ghost use Rattle.node_core.specs.Node.{vector_under};
+ghost use Rattle.node_core.specs.Messages.{IsStepOfMessage};
+ghost use Rattle.node_core.specs.Step.{refusal_of_object};
+ghost use Rattle.node_parts.specs.Outbox.{IsSpelledVector};
+ghost use Rattle.node_events.specs.declared.fault.StepFault.TheVariants.{Memory};
+
+use crate::state::{NodeState, Stepped};
+use dvvset::{Entries, Vector, join};
+use meta_frame::Message;
+use meta_types::{MetaKey, NodeId};
+use node_events::{Reply, StepFault};
+use node_parts::Origin;
+
+impl NodeState {
+    /// GOSSIP: what wasn't known is merged and passed on.
+    pub(crate) fn on_gossip(
+        &mut self,
+        from: NodeId,
+        round: u16,
+        key: &MetaKey,
+        came: &Entries,
+    ) -> Result<Stepped, StepFault>
+        requires another { from ≢ self.old.node }
+        requires spelled { object.Fits came.now }
+        ensures step { IfOk result (λ stepped.
+            IsStepOfMessage self.old from 0 (Gossip round key.now came.now) self.new stepped) }
+        ensures refused { FailsBy Memory (refusal_of_object key.now came.now self.old) result }
+        ensures same { OnErr result (self.new ≡ self.old) }
+    {
+        match self.held.store().preview_merge(key, came)? {
+            Some(object) => {
+                let (_, outbox) = self.change(Origin::Gossip { from, round }, key, object)?;
+                Ok(self.finish(Reply::TookFresh, outbox))
+            }
+            None => self.on_stale(from, round, key, came),
+        }
+    }
+
+    /// A GOSSIP that brought nothing new: its sender is sent PRUNE.
+    fn on_stale(
+        &mut self,
+        from: NodeId,
+        round: u16,
+        key: &MetaKey,
+        came: &Entries,
+    ) -> Result<Stepped, StepFault>
+        requires another { from ≢ self.old.node }
+        requires spelled { object.Fits came.now }
+        requires stale { is_stale self.old.table key.now (join came.now) ≡ true }
+        ensures step { IfOk result (λ stepped.
+            IsStepOfMessage self.old from 0 (Gossip round key.now came.now) self.new stepped) }
+        ensures memory { IfErr result (λ fault. fault ≡ Memory) }
+        ensures same { OnErr result (self.new ≡ self.old) }
+    {
+        let vector = self.vector_under(key)?;
+        let outbox = self.one_frame(from, Message::Prune)?;
+        self.overlay.on_stale(from, round, key, &vector)?;
+        Ok(self.finish(Reply::TookStale, outbox))
+    }
+
+    /// How many events of each writer are known under the key. One that knows any is spelled.
+    fn vector_under(&self, key: &MetaKey) -> Result<Vector, StepFault>
+        ensures vector { IfOk result (λ vector. vector ≡ vector_under key.now self.now) }
+        ensures spelled { IfOk result (λ vector. vector ≢ [] → IsSpelledVector vector) }
+        ensures memory { IfErr result (λ fault. fault ≡ Memory) }
+    {
+        match self.held.store().object(key) {
+            Some(object) => Ok(join(self.alloc, object)?),
+            None => Ok(Vector::empty(self.alloc)),
+        }
+    }
+
+    /// XOBJECT: what wasn't known is merged, and not passed on.
+    pub(crate) fn on_object(&mut self, key: &MetaKey, came: &Entries) -> Result<Stepped, StepFault>
+        ensures step { IfOk result (λ stepped.
+            IsStepOfMessage self.old 0 0 (XObject key.now came.now) self.new stepped) }
+        ensures refused { FailsBy Memory (refusal_of_object key.now came.now self.old) result }
+        ensures same { OnErr result (self.new ≡ self.old) }
+    {
+        match self.held.store().preview_merge(key, came)? {
+            Some(object) => {
+                self.change_quietly(key, object)?;
+                Ok(self.finish(Reply::TookFresh, self.nothing_sent()))
+            }
+            None => Ok(self.finish(Reply::TookStale, self.nothing_sent())),
+        }
+    }
+}

@@ -1,0 +1,125 @@
+//! Frames that come.
+
+ghost use Rattle.std.specs.Prelude.{◌≡◌, ◌≢◌, IfOk, IfErr, OnErr, All, map};
+ghost use Rattle.meta_types.specs.Failing.{FailsBy};
+ghost use Rattle.exchange.specs.Answers.{answer};
+ghost use Rattle.meta_frame.specs.Frame.{IsLawful, IsMessage};
+ghost use Rattle.node_parts.specs.Outbox.{MaySend};
+ghost use Rattle.node_parts.specs.Overlay.{envelope};
+ghost use Rattle.node_core.specs.Rows.{Received};
+ghost use Rattle.node_core.specs.Messages.{IsQuestion, IsStepOfMessage};
+ghost use Rattle.node_core.specs.Step.{CanComeOf, IsNodeStep, IsStepOf, refusal_of, refusal_of_message};
+ghost use Rattle.node_events.specs.declared.event.NodeEvent.TheVariants.{Take};
+ghost use Rattle.node_events.specs.declared.fault.StepFault.TheVariants.{Memory};
+
+use crate::state::{NodeState, Stepped};
+use exchange::answer;
+use meta_frame::{Frame, Message, decode};
+use meta_types::{ByteString, NodeId};
+use node_events::{Reply, StepFault};
+use node_parts::Envelope;
+use std::alloc::{AllocError, Global};
+
+impl NodeState {
+    /// Bytes came that should be a frame for the node.
+    pub(crate) fn take(&mut self, bytes: &ByteString, word: u64) -> Result<Stepped, StepFault>
+        ensures step { IfOk result
+            (λ stepped. IsNodeStep self.old (Take bytes.now word) self.new stepped) }
+        ensures refused { IfErr result (CanComeOf self.old (Take bytes.now word)) }
+        ensures same { OnErr result (self.new ≡ self.old) }
+    {
+        let frame = decode(self.alloc, bytes.as_slice())?;
+        self.receive(&frame, word)
+    }
+
+    /// A frame came.
+    fn receive(&mut self, frame: &Frame, word: u64) -> Result<Stepped, StepFault>
+        requires { IsLawful frame.now }
+        ensures step { IfOk result
+            (λ stepped. IsStepOf self.old (Received frame.now word) self.new stepped) }
+        ensures refused { FailsBy Memory (refusal_of (Received frame.now word) self.old) result }
+        ensures same { OnErr result (self.new ≡ self.old) }
+    {
+        if frame.to != self.node {
+            return Err(StepFault::NotAddressed);
+        }
+        self.on_message(frame.from, word, &frame.message)
+    }
+
+    /// A message came: a row for each kind.
+    fn on_message(
+        &mut self,
+        from: NodeId,
+        word: u64,
+        message: &Message,
+    ) -> Result<Stepped, StepFault>
+        requires another { from ≢ self.old.node }
+        requires lawful { IsMessage message.now }
+        ensures step { IfOk result
+            (λ stepped. IsStepOfMessage self.old from word message.now self.new stepped) }
+        ensures refused { FailsBy Memory (refusal_of_message message.now self.old) result }
+        ensures same { OnErr result (self.new ≡ self.old) }
+    {
+        match message {
+            Message::Gossip { round, key, object } => self.on_gossip(from, *round, key, object),
+            Message::IHave { round, key, vector } => self.on_ihave(from, *round, key, vector),
+            Message::Graft { round, key, vector } => self.on_graft(from, *round, key, vector),
+            Message::Prune => self.on_prune(from),
+            Message::XRoot { .. }
+            | Message::XPrefixes { .. }
+            | Message::XInner { .. }
+            | Message::XLeaves { .. }
+            | Message::XBucket { .. }
+            | Message::XWant { .. } => self.on_question(from, message),
+            Message::XObject { key, object } => self.on_object(key, object),
+            Message::Hello { life } => self.on_hello(from, word, *life),
+            Message::Join
+            | Message::ForwardJoin { .. }
+            | Message::Disconnect
+            | Message::Neighbor { .. }
+            | Message::NeighborReply { .. }
+            | Message::Shuffle { .. }
+            | Message::ShuffleReply { .. }
+            | Message::Bye => self.on_views(from, word, message),
+        }
+    }
+
+    /// A question of an exchange, whose answers go to the sender.
+    fn on_question(&mut self, from: NodeId, message: &Message) -> Result<Stepped, StepFault>
+        requires another { from ≢ self.old.node }
+        requires question { IsQuestion message.now }
+        ensures step { IfOk result
+            (λ stepped. IsStepOfMessage self.old from 0 message.now self.new stepped) }
+        ensures memory { IfErr result (λ fault. fault ≡ Memory) }
+        ensures same { OnErr result (self.new ≡ self.old) }
+    {
+        let sent = self.answers(from, message)?;
+        let outbox = self.outbox(sent)?;
+        Ok(self.finish(Reply::Took, outbox))
+    }
+
+    /// The answers to a question, each to the sender. Fails only when memory runs out.
+    fn answers(&self, to: NodeId, message: &Message) -> Result<Vec<Envelope>, StepFault>
+        requires { to ≢ self.now.node }
+        ensures sent { IfOk result (λ sent. sent.items
+            ≡ map (envelope to) (answer self.now.table message.now)) }
+        ensures may { IfOk result (λ sent. All (MaySend self.now.node) sent.items) }
+        ensures memory { IfErr result (λ fault. fault ≡ Memory) }
+    {
+        // Read for what it tells: what is held is a table.
+        let _few = self.held.store().len();
+        let messages = answer(self.alloc, self.held.store(), self.held.tree(), message)?;
+        Ok(addressed(self.alloc, to, messages)?)
+    }
+}
+
+/// These messages, each to the same node. Fails only when memory runs out.
+fn addressed(alloc: Global, to: NodeId, messages: Vec<Message>) -> Result<Vec<Envelope>, AllocError>
+    ensures { IfOk result (λ sent. sent.items ≡ map (envelope to) messages.items) }
+{
+    let mut sent = Vec::with_capacity(alloc, messages.len())?;
+    for message in messages {
+        sent.push(Envelope { to, message })?;
+    }
+    Ok(sent)
+}

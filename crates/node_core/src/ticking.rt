@@ -1,0 +1,32 @@
+//! Ticks.
+
+ghost use Rattle.std.specs.Prelude.{◌≡◌, IfOk, IfErr, OnErr};
+ghost use Rattle.node_core.specs.Rows.{Local};
+ghost use Rattle.node_core.specs.Step.{IsStepOf};
+ghost use Rattle.node_events.specs.declared.event.NodeEvent.TheVariants.{Tick};
+ghost use Rattle.node_events.specs.declared.fault.StepFault.TheVariants.{Memory};
+
+use crate::state::{NodeState, Stepped};
+use node_events::{Reply, StepFault};
+use node_parts::both;
+use std::mem::replace;
+
+impl NodeState {
+    /// Time passes: announcements go out, what is overdue is asked for, and each tenth tick
+    /// shuffles.
+    pub(crate) fn tick(&mut self, word: u64) -> Result<Stepped, StepFault>
+        ensures step { IfOk result
+            (λ stepped. IsStepOf self.old (Local (Tick word)) self.new stepped) }
+        ensures memory { IfErr result (λ fault. fault ≡ Memory) }
+        ensures same { OnErr result (self.new ≡ self.old) }
+    {
+        // Read for what it tells: the views are lawful.
+        let _ = self.overlay.views();
+        let ticks = self.ticks.saturating_add(1);
+        let (overlay, sent) = self.overlay.after_tick(self.alloc, ticks, word)?;
+        let (overlay, outbox) = both(Ok(overlay), self.outbox(sent))?;
+        drop(replace(&mut self.overlay, overlay));
+        self.ticks = ticks;
+        Ok(self.finish(Reply::Done, outbox))
+    }
+}
