@@ -3,7 +3,7 @@ use Rattle.std.proofs.Common.{◌≡◌, ℕ, Bool, true, false, not, cond, List
 use Rattle.std.specs.Option.{option_map}
 use Rattle.std.specs.Result.{IsErrAnd}
 use Rattle.std.proofs.lemmas.Bool.{cond-false, cond-true}
-use Rattle.std.proofs.lemmas.List.Elements.{All-nil, All-same}
+use Rattle.std.proofs.lemmas.List.Elements.{All-nil}
 use Rattle.meta_types.specs.Failing.{FailsBy}
 use Rattle.meta_types.specs.Name.{Key}
 use Rattle.dvvset.specs.Object.{Counter, Entry}
@@ -20,7 +20,7 @@ use Rattle.node_events.specs.declared.fault.StepFault.{StepFault}
 use Rattle.node_events.specs.declared.fault.StepFault.TheVariants.{Memory}
 use Rattle.node_events.specs.declared.reply.Reply.TheVariants.{TookFresh, TookStale}
 use Rattle.node_parts.specs.declared.origin.Origin.TheVariants as OfOrigin
-use Rattle.node_parts.specs.Outbox.{IsFrameOf, frames_from}
+use Rattle.node_parts.specs.Outbox.{HasSpelling, frames_from}
 use Rattle.node_parts.specs.Overlay.{Overlay, envelope, told}
 use Rattle.node_core.specs.declared.state.Stepped.{Stepped}
 use Rattle.node_core.specs.Node.{NodeParts, vector_under, with_overlay}
@@ -100,7 +100,7 @@ pub stale_taken : {old : NodeParts} {outbox : List (List ℕ)} (from round : ℕ
     (new : NodeParts) (stepped : Stepped) → is_stale old.table key (join came) ≡ true
     → stepped ≡ record { reply = TookStale; outbox = outbox }
     → outbox ≡ map spelling (frames_from old.node old.frames (envelope from Prune ∷ []))
-    → All (IsFrameOf old.node) outbox
+    → All HasSpelling (frames_from old.node old.frames (envelope from Prune ∷ []))
     → new ≡ counted (length outbox) (with_overlay (told (TakesGossip from round key (vector_under key old) false) old.overlay) old)
     → IsStepOfMessage old from 0 (Gossip round key came) new stepped
 stale_taken {old = old} from round key came new stepped stale is sends frames counts =
@@ -111,7 +111,7 @@ stale_taken {old = old} from round key came new stepped stale is sends frames co
     (reply_of_object key came old) (envelope from Prune ∷ []) stepped
     (accepted_if_stale old key came stale) (stale_gossip from round key came old known)
     (ap (λ (s : Stepped). s.reply) is ∙ sym (stale_reply old key came known))
-    (outbox_is ∙ sends) (subst (All (IsFrameOf old.node)) (sym outbox_is) frames)
+    (outbox_is ∙ sends) frames
     (counts ∙ ap (λ outbox. counted (length outbox) after) (sym outbox_is))
 
 -- the same, where the overlay was told so
@@ -127,7 +127,7 @@ pub fresh_taken : {old : NodeParts} {store : Table} {outbox : List (List ℕ)} (
     → Some entries ≡ merged_if_fresh store key came → refusal_of_merge store key came ≡ None
     → stepped ≡ record { reply = TookFresh; outbox = outbox }
     → outbox ≡ map spelling (frames_from old.node old.frames (gossips (OfOrigin.Gossip from round) key entries old))
-    → All (IsFrameOf old.node) outbox
+    → All HasSpelling (frames_from old.node old.frames (gossips (OfOrigin.Gossip from round) key entries old))
     → new ≡ counted (length outbox) (noting (change_to key entries) (spreading (OfOrigin.Gossip from round) key entries old))
     → IsStepOfMessage old from 0 (Gossip round key came) new stepped
 fresh_taken {old = old} from round key came entries new stepped store_is merged accepted is sends frames counts =
@@ -145,13 +145,10 @@ fresh_taken {old = old} from round key came entries new stepped store_is merged 
     (ap (λ table. option_map of_store (refusal_of_merge table key came)) (sym store_is) ∙ ap (option_map of_store) accepted)
     (fresh_gossip from round key came old fresh ∙ ap after (sym foreseen.merged))
     (ap (λ (s : Stepped). s.reply) is ∙ sym (fresh_reply old key came fresh))
-    (outbox_is ∙ sends) (subst (All (IsFrameOf old.node)) (sym outbox_is) frames)
+    (outbox_is ∙ sends) frames
     (counts ∙ ap (λ outbox. counted (length outbox) (noting (change_to key entries) (spreading origin key entries old))) (sym outbox_is))
 
 -- ---- XOBJECT
-
-none_sent : (node : ℕ) (outbox : List (List ℕ)) → outbox ≡ [] → All (IsFrameOf node) outbox
-none_sent node outbox none = All-same (IsFrameOf node) outbox [] none (All-nil (IsFrameOf node))
 
 pub fresh_kept : {old : NodeParts} {store : Table} {outbox : List (List ℕ)} (key : Key) (came entries : List Entry)
     (new : NodeParts) (stepped : Stepped) → store ≡ old.table
@@ -172,5 +169,5 @@ fresh_kept {old = old} key came entries new stepped store_is merged accepted is 
     (ap (λ table. option_map of_store (refusal_of_merge table key came)) (sym store_is) ∙ ap (option_map of_store) accepted)
     (fresh_object key came old fresh ∙ ap after (sym foreseen.merged))
     (ap (λ (s : Stepped). s.reply) is ∙ sym (fresh_reply old key came fresh))
-    (outbox_is ∙ none) (none_sent old.node stepped.outbox (outbox_is ∙ none))
+    (outbox_is ∙ none) (All-nil HasSpelling)
     (counts ∙ ap (λ outbox. counted (length outbox) (noting (change_to key entries) (holding key entries old))) (sym outbox_is))

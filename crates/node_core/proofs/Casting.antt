@@ -5,7 +5,7 @@ use Rattle.std.specs.Cmp.{first_so}
 use Rattle.std.specs.Int.{w16, w64}
 use Rattle.std.specs.FinMap.{find}
 use Rattle.std.proofs.lemmas.Bool.{leb-true}
-use Rattle.std.proofs.lemmas.List.Elements.{All-nil, All-same}
+use Rattle.std.proofs.lemmas.List.Elements.{All-nil}
 use Rattle.meta_types.specs.Name.{Key}
 use Rattle.meta_types.specs.Order.{key_cmp}
 use Rattle.dvvset.specs.Object.{Counter, Entry}
@@ -22,7 +22,7 @@ use Rattle.plumtree.specs.Rows as cast
 use Rattle.node_events.specs.declared.outbox.Outbox.{Outbox}
 use Rattle.node_events.specs.declared.reply.Reply.TheVariants.{Took}
 use Rattle.node_parts.specs.declared.envelope.Envelope.{Envelope}
-use Rattle.node_parts.specs.Outbox.{IsFrameOf, IsSpelledVector, frames_from}
+use Rattle.node_parts.specs.Outbox.{HasSpelling, IsSpelledVector, frames_from}
 use Rattle.node_parts.specs.Overlay.{Overlay, envelope, told}
 use Rattle.node_core.specs.declared.state.Stepped.{Stepped}
 use Rattle.node_core.specs.Node.{NodeParts, with_overlay}
@@ -39,7 +39,7 @@ pub told_step : (call : CastCall) (old inside new : NodeParts) (overlay : Overla
     → done ≡ record { parts = with_overlay (told call old.overlay) old; sent = sent }
     → stepped ≡ record { reply = Took; outbox = outbox }
     → outbox ≡ map spelling (frames_from old.node old.frames sent)
-    → All (IsFrameOf old.node) outbox
+    → All HasSpelling (frames_from old.node old.frames sent)
     → new ≡ counted (length outbox) (with_overlay overlay inside)
     → IsStepTo old None done Took new stepped
 told_step call old inside new overlay done sent outbox stepped same told_is is value sends frames counts =
@@ -47,8 +47,7 @@ told_step call old inside new overlay done sent outbox stepped same told_is is v
     let told_old = told_is ∙ ap (λ (s : NodeParts). told call s.overlay) same in
     let mid = ap (with_overlay overlay) same ∙ ap (λ o. with_overlay o old) told_old in
     made old (with_overlay (told call old.overlay) old) new None done Took sent stepped refl is
-    (ap (λ (s : Stepped). s.reply) value) (gives ∙ sends)
-    (All-same (IsFrameOf old.node) stepped.outbox outbox gives frames)
+    (ap (λ (s : Stepped). s.reply) value) (gives ∙ sends) frames
     (counts ∙ ap (λ (sent : List (List ℕ)). counted (length sent) (with_overlay overlay inside)) (sym gives)
     ∙ ap (counted (length stepped.outbox)) mid)
 
@@ -61,7 +60,7 @@ pub told_quietly : (call : CastCall) (old inside new : NodeParts) (overlay : Ove
     → IsStepTo old None done Took new stepped
 told_quietly call old inside new overlay done outbox stepped same told_is is value nothing counts =
     told_step call old inside new overlay done [] outbox stepped same told_is is value nothing
-    (All-same (IsFrameOf old.node) outbox [] nothing (All-nil (IsFrameOf old.node))) counts
+    (All-nil HasSpelling) counts
 
 -- ---- PRUNE
 
@@ -154,13 +153,12 @@ pub asked_step : (from : ℕ) (m : Message) (old new : NodeParts) (sent : List E
     → sent ≡ map (envelope from) (answer old.table m)
     → stepped ≡ record { reply = Took; outbox = outbox }
     → outbox ≡ map spelling (frames_from old.node old.frames sent)
-    → All (IsFrameOf old.node) outbox
+    → All HasSpelling (frames_from old.node old.frames sent)
     → new ≡ counted (length outbox) old
     → IsStepOfMessage old from 0 m new stepped
 asked_step from m old new sent outbox stepped is sent_is value sends frames counts =
     let gives : stepped.outbox ≡ outbox = ap (λ (s : Stepped). s.outbox) value in
     made old old new (refusal_of_message m old) (on_message from 0 m (begun old)) (reply_of_message m old) sent stepped
     (question_accepted m old is) (after_question from m old is ∙ ap (λ sent. record { parts = old; sent = sent }) (sym sent_is))
-    (ap (λ (s : Stepped). s.reply) value ∙ question_reply m old is) (gives ∙ sends)
-    (All-same (IsFrameOf old.node) stepped.outbox outbox gives frames)
+    (ap (λ (s : Stepped). s.reply) value ∙ question_reply m old is) (gives ∙ sends) frames
     (counts ∙ ap (λ (sent : List (List ℕ)). counted (length sent) old) (sym gives))

@@ -1,10 +1,11 @@
 -- A step is made of what it did.
 use Rattle.std.proofs.Common.{◌≡◌, ℕ, List, [], ◌∷◌, map, length, All, Option, None, refl, sym, ap, ◌∙◌, suc}
+use Rattle.std.proofs.lemmas.List.Elements.{All-same}
 use Rattle.meta_frame.specs.Frame.{spelling}
 use Rattle.node_events.specs.declared.fault.StepFault.{StepFault}
 use Rattle.node_events.specs.declared.reply.Reply.{Reply}
 use Rattle.node_parts.specs.declared.envelope.Envelope.{Envelope}
-use Rattle.node_parts.specs.Outbox.{IsFrameOf, count_on, frames_from}
+use Rattle.node_parts.specs.Outbox.{HasSpelling, count_on, frames_from}
 use Rattle.node_core.specs.declared.state.Stepped.{Stepped}
 use Rattle.node_core.specs.Node.{NodeParts}
 use Rattle.node_core.specs.Draft.{Draft}
@@ -18,7 +19,7 @@ frames_counted node number (e ∷ es) = ap suc (frames_counted node (count_on nu
 pub made : (old mid new : NodeParts) (refusal : Option StepFault) (done : Draft) (reply : Reply) (sent : List Envelope) (stepped : Stepped)
     → refusal ≡ None → done ≡ record { parts = mid; sent = sent } → stepped.reply ≡ reply
     → stepped.outbox ≡ map spelling (frames_from old.node old.frames sent)
-    → All (IsFrameOf old.node) stepped.outbox
+    → All HasSpelling (frames_from old.node old.frames sent)
     → new ≡ counted (length stepped.outbox) mid
     → IsStepTo old refusal done reply new stepped
 made old mid new refusal done reply sent stepped accepted is replies sends frames counts = record {
@@ -27,5 +28,7 @@ made old mid new refusal done reply sent stepped accepted is replies sends frame
       ∙ ap (λ n. counted n mid) (frames_counted old.node old.frames sent) ∙ ap (λ (t : Draft). counted (length t.sent) t.parts) (sym is);
   replies = replies;
   sends = sends ∙ ap (λ (t : Draft). map spelling (frames_from old.node old.frames t.sent)) (sym is);
-  frames = frames;
+  frames =
+      All-same HasSpelling (frames_from old.node old.frames done.sent) (frames_from old.node old.frames sent)
+      (ap (λ (t : Draft). frames_from old.node old.frames t.sent) is) frames;
 }

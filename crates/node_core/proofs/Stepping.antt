@@ -1,5 +1,5 @@
 -- The steps that change an object: what the code did is what the table says.
-use Rattle.std.proofs.Common.{◌≡◌, ℕ, List, map, length, All, Option, None, sym, ap, subst, ◌∙◌}
+use Rattle.std.proofs.Common.{◌≡◌, ℕ, List, map, length, All, Option, None, sym, ap, ◌∙◌}
 use Rattle.std.specs.Option.{option_map}
 use Rattle.meta_types.specs.Name.{Key}
 use Rattle.meta_types.specs.Value.{ValueParts}
@@ -13,7 +13,7 @@ use Rattle.meta_store.proofs.Tables.{object_at-here}
 use Rattle.node_events.specs.Fault.{of_store}
 use Rattle.node_events.specs.declared.reply.Reply.TheVariants.{Wrote}
 use Rattle.node_parts.specs.declared.origin.Origin.TheVariants as OfOrigin
-use Rattle.node_parts.specs.Outbox.{IsFrameOf, frames_from}
+use Rattle.node_parts.specs.Outbox.{HasSpelling, frames_from}
 use Rattle.node_core.specs.declared.state.Stepped.{Stepped}
 use Rattle.node_core.specs.Node.{NodeParts, vector_under, writer}
 use Rattle.node_core.specs.Draft.{Draft}
@@ -39,7 +39,7 @@ wrote : (old : NodeParts) (key : Key) (value : ValueParts) (context : Option Rea
     → stepped ≡ record { reply = Wrote vector; outbox = outbox }
     → vector ≡ join entries
     → outbox ≡ map spelling (frames_from old.node old.frames (gossips OfOrigin.Write key entries old))
-    → All (IsFrameOf old.node) outbox
+    → All HasSpelling (frames_from old.node old.frames (gossips OfOrigin.Write key entries old))
     → new ≡ counted (length outbox) (noting (change_to key entries) (spreading OfOrigin.Write key entries old))
     → IsWrite old key value context new stepped
 unfolding after_write
@@ -56,7 +56,7 @@ wrote old key value context entries vector outbox new stepped accepted object_is
     (gossips OfOrigin.Write key entries old) stepped
     (ap (option_map of_store) accepted) done_is
     (ap (λ (s : Stepped). s.reply) is ∙ ap Wrote (vector_is ∙ sym vector_so))
-    (outbox_is ∙ sends) (subst (All (IsFrameOf old.node)) (sym outbox_is) frames)
+    (outbox_is ∙ sends) frames
     (counts ∙ ap (λ outbox. counted (length outbox) mid) (sym outbox_is))
 
 -- the same of what the code read, which is what the node's parts are
@@ -68,7 +68,7 @@ pub write_done : {old : NodeParts} {store : Table} {id : ℕ} {copied value : Va
     → stepped ≡ record { reply = Wrote vector; outbox = outbox }
     → vector ≡ join entries
     → outbox ≡ map spelling (frames_from old.node old.frames (gossips OfOrigin.Write key entries old))
-    → All (IsFrameOf old.node) outbox
+    → All HasSpelling (frames_from old.node old.frames (gossips OfOrigin.Write key entries old))
     → new ≡ counted (length outbox) (noting (change_to key entries) (spreading OfOrigin.Write key entries old))
     → IsWrite old key value context new stepped
 write_done {old = old} {value = value} {vector = vector} {outbox = outbox} key context entries new stepped

@@ -1,7 +1,7 @@
 -- What an event of the views, a tick and HELLO do, in the order of the code, is what the table says.
 use Rattle.std.proofs.Common.{◌≡◌, ℕ, ◌-◌, Bool, true, false, if◌then◌else◌, List, [], ◌∷◌, ◌++◌, map, length, All, nat_lt, slice_index, slice_set, Option, None, refl, sym, ap, ◌∙◌}
 use Rattle.std.proofs.lemmas.Bool.{cond_both}
-use Rattle.std.proofs.lemmas.List.Elements.{All-nil, All-cons, All-head, All-tail, All-push, All-same}
+use Rattle.std.proofs.lemmas.List.Elements.{All-nil, All-cons, All-head, All-tail, All-push}
 use Rattle.meta_frame.specs.declared.message.Message.{Message}
 use Rattle.meta_frame.specs.declared.message.Message.TheVariants.{Graft, Join, ForwardJoin, Disconnect, Neighbor, NeighborReply, Shuffle, ShuffleReply, Bye}
 use Rattle.meta_frame.specs.Frame.{spelling}
@@ -26,7 +26,7 @@ use Rattle.node_events.specs.declared.reply.Reply.TheVariants.{Took}
 use Rattle.node_core.specs.declared.state.Stepped.{Stepped}
 use Rattle.node_parts.specs.declared.envelope.Envelope.{Envelope}
 use Rattle.node_parts.specs.Origin.{after_tick, is_due, sent_whole, tick_sent}
-use Rattle.node_parts.specs.Outbox.{IsFrameOf, count_on, frames_from}
+use Rattle.node_parts.specs.Outbox.{HasSpelling, count_on, frames_from}
 use Rattle.node_parts.specs.Overlay.{IsOverlay, Overlay, after_view, envelope, out_of, sent_by_view, told}
 use Rattle.node_parts.proofs.Naming.{names_others_on}
 use Rattle.node_core.specs.Node.{IsInLife, NodeParts, with_overlay}
@@ -39,13 +39,14 @@ use Rattle.node_core.proofs.Making.{made}
 
 pub finished : (old mid new : NodeParts) (refusal : Option StepFault) (done : Draft) (reply : Reply) (outbox : List (List ℕ)) (stepped : Stepped)
     → refusal ≡ None → mid ≡ done.parts
-    → outbox ≡ map spelling (frames_from old.node old.frames done.sent) → All (IsFrameOf old.node) outbox
+    → outbox ≡ map spelling (frames_from old.node old.frames done.sent)
+    → All HasSpelling (frames_from old.node old.frames done.sent)
     → new ≡ counted (length outbox) mid → stepped ≡ record { reply = reply; outbox = outbox }
     → IsStepTo old refusal done reply new stepped
 finished old mid new refusal done reply outbox stepped accepted is sends frames counts value =
     let same : stepped.outbox ≡ outbox = ap (λ (s : Stepped). s.outbox) value in
     made old done.parts new refusal done reply done.sent stepped accepted refl (ap (λ (s : Stepped). s.reply) value)
-    (same ∙ sends) (All-same (IsFrameOf old.node) stepped.outbox outbox same frames)
+    (same ∙ sends) frames
     (counts ∙ ap (counted (length outbox)) is ∙ ap (λ outbox. counted (length outbox) done.parts) (sym same))
 
 -- ---- the views stay the node's own

@@ -22,7 +22,7 @@ use Rattle.node_events.specs.declared.event.NodeEvent.TheVariants.{Take, Read, W
 use Rattle.node_events.specs.declared.reply.Reply.{Reply}
 use Rattle.node_events.specs.declared.reply.Reply.TheVariants.{Looked, Wrote, Took, TookFresh, TookStale, Done, Watching as IsWatching}
 use Rattle.node_core.specs.declared.state.Stepped.{Stepped}
-use Rattle.node_parts.specs.Outbox.{IsFrameOf, count_on, frames_from}
+use Rattle.node_parts.specs.Outbox.{HasSpelling, count_on, frames_from}
 use Rattle.node_parts.specs.Watches.{at_number, refusal_of_changes, refusal_of_watch, reply_of_changes}
 use Rattle.node_core.specs.Node.{NodeParts, present, vector_under, writer}
 use Rattle.node_core.specs.Draft.{Draft}
@@ -103,14 +103,15 @@ reply_of (Received frame word) s = reply_of_message frame.message s
 -- ---- a step
 
 -- it isn't refused; the old node becomes what is left when all is done, with this reply, and what
--- is to be sent goes out as frames to other nodes, as bytes, numbered over the life from 1, in order
+-- is to be sent goes out as frames, as bytes, numbered over the life from 1, in order; each frame is
+-- lawful, and so one to another node, and its bytes are no more than a frame may have
 pub record IsStepTo (old : NodeParts) (refusal : Option StepFault) (done : Draft) (reply : Reply)
     (new : NodeParts) (stepped : Stepped) : Type 0 where
   pub accepted : refusal ≡ None
   pub node : new ≡ counted (length done.sent) done.parts
   pub replies : stepped.reply ≡ reply
   pub sends : stepped.outbox ≡ map spelling (frames_from old.node old.frames done.sent)
-  pub frames : All (IsFrameOf old.node) stepped.outbox
+  pub frames : All HasSpelling (frames_from old.node old.frames done.sent)
 
 -- what was asked takes the old node to the new one, and gives this
 abbrev pub IsStepOf : NodeParts → Input → NodeParts → Stepped → Type 0

@@ -4,7 +4,7 @@ ghost use Rattle.std.specs.Prelude.{◌≡◌, ◌≢◌, ◌∷◌, [], true, A
 ghost use Rattle.meta_frame.specs.Frame.{spelling};
 ghost use Rattle.meta_frame.specs.declared.message.Message.TheVariants.{Gossip, Graft, IHave, Prune};
 ghost use Rattle.meta_store.specs.Table.{is_stale, object_at};
-ghost use Rattle.node_parts.specs.Outbox.{IsFrameOf, IsSpelledVector, frames_from};
+ghost use Rattle.node_parts.specs.Outbox.{HasSpelling, IsSpelledVector, frames_from};
 ghost use Rattle.node_parts.specs.Overlay.{envelope};
 ghost use Rattle.node_core.specs.Messages.{IsStepOfMessage};
 ghost use Rattle.node_events.specs.declared.fault.StepFault.TheVariants.{Memory};
@@ -75,7 +75,9 @@ impl NodeState {
         ensures frames { let message = Gossip round key.now (object_at self.now.table key.now) in
             IfOk result (λ outbox. outbox ≡ map spelling
             (frames_from self.now.node self.now.frames (envelope to message ∷ []))) }
-        ensures lawful { IfOk result (λ outbox. All (IsFrameOf self.now.node) outbox) }
+        ensures lawful { let message = Gossip round key.now (object_at self.now.table key.now) in
+            IfOk result (λ _. All HasSpelling
+            (frames_from self.now.node self.now.frames (envelope to message ∷ []))) }
         ensures memory { IfErr result (λ fault. fault ≡ Memory) }
     {
         let _ = vector;

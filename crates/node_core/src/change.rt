@@ -8,7 +8,7 @@ ghost use Rattle.meta_store.specs.Step.{is_full_for};
 ghost use Rattle.meta_store.specs.Table.{IsHeld};
 ghost use Rattle.node_core.specs.Changing.{AreNews, HasRound, IsBehind, change_to, gossips, holding, noting, spreading};
 ghost use Rattle.node_parts.specs.Origin.{IsOfAnother};
-ghost use Rattle.node_parts.specs.Outbox.{IsFrameOf, frames_from};
+ghost use Rattle.node_parts.specs.Outbox.{HasSpelling, frames_from};
 ghost use Rattle.node_events.specs.declared.fault.StepFault.TheVariants.{Memory};
 
 use crate::state::NodeState;
@@ -30,11 +30,13 @@ impl NodeState {
         requires room { is_full_for self.old.table key.now ≡ false }
         requires another { IsOfAnother self.old.node origin }
         ensures node { OnOk result
-            (self.new ≡ noting (change_to key.now object) (spreading origin key.now object self.old)) }
+            (self.new ≡ noting (change_to key.now object)
+            (spreading origin key.now object self.old)) }
         ensures vector { IfOk result (λ told. told.0 ≡ join object) }
         ensures frames { IfOk result (λ told. told.1 ≡ map spelling
             (frames_from self.old.node self.old.frames (gossips origin key.now object self.old))) }
-        ensures lawful { IfOk result (λ told. All (IsFrameOf self.old.node) told.1) }
+        ensures lawful { IfOk result (λ _. All HasSpelling
+            (frames_from self.old.node self.old.frames (gossips origin key.now object self.old))) }
         ensures memory { IfErr result (λ fault. fault ≡ Memory) }
         ensures same { OnErr result (self.new ≡ self.old) }
     {
@@ -84,7 +86,8 @@ impl NodeState {
         ensures node { OnOk result (self.new ≡ spreading origin key.now object self.old) }
         ensures frames { IfOk result (λ outbox. outbox ≡ map spelling
             (frames_from self.old.node self.old.frames (gossips origin key.now object self.old))) }
-        ensures lawful { IfOk result (λ outbox. All (IsFrameOf self.old.node) outbox) }
+        ensures lawful { IfOk result (λ _. All HasSpelling
+            (frames_from self.old.node self.old.frames (gossips origin key.now object self.old))) }
         ensures memory { IfErr result (λ fault. fault ≡ Memory) }
         ensures same { OnErr result (self.new ≡ self.old) }
     {
@@ -115,7 +118,8 @@ impl NodeState {
         ensures node { OnOk result (self.new ≡ spreading origin key.now object self.old) }
         ensures frames { IfOk result (λ outbox. outbox ≡ map spelling
             (frames_from self.old.node self.old.frames (gossips origin key.now object self.old))) }
-        ensures lawful { IfOk result (λ outbox. All (IsFrameOf self.old.node) outbox) }
+        ensures lawful { IfOk result (λ _. All HasSpelling
+            (frames_from self.old.node self.old.frames (gossips origin key.now object self.old))) }
         ensures memory { IfErr result (λ fault. fault ≡ Memory) }
         ensures ahead { OnErr result (IsBehind self.old self.new) }
     {

@@ -3,7 +3,7 @@
 
 ghost use Rattle.std.specs.Prelude.{◌≡◌, ◌∷◌, [], All, IfOk, IfErr, length, map};
 ghost use Rattle.meta_frame.specs.Frame.{spelling};
-ghost use Rattle.node_parts.specs.Outbox.{IsFrameOf, MaySend, frames_from};
+ghost use Rattle.node_parts.specs.Outbox.{HasSpelling, MaySend, frames_from};
 ghost use Rattle.node_parts.specs.Overlay.{envelope};
 ghost use Rattle.node_core.specs.Step.{counted};
 ghost use Rattle.node_events.specs.declared.fault.StepFault.TheVariants.{Memory};
@@ -21,7 +21,8 @@ impl NodeState {
         requires { All (MaySend self.now.node) sent.items }
         ensures frames { IfOk result (λ outbox. outbox
             ≡ map spelling (frames_from self.now.node self.now.frames sent.items)) }
-        ensures lawful { IfOk result (λ outbox. All (IsFrameOf self.now.node) outbox) }
+        ensures lawful { IfOk result (λ _.
+            All HasSpelling (frames_from self.now.node self.now.frames sent.items)) }
         ensures memory { IfErr result (λ fault. fault ≡ Memory) }
     {
         Ok(outbox(self.alloc, self.node, self.frames, sent)?)
@@ -32,7 +33,8 @@ impl NodeState {
         requires { MaySend self.now.node (envelope to message) }
         ensures frames { IfOk result (λ outbox. outbox ≡ map spelling
             (frames_from self.now.node self.now.frames (envelope to message ∷ []))) }
-        ensures lawful { IfOk result (λ outbox. All (IsFrameOf self.now.node) outbox) }
+        ensures lawful { IfOk result (λ _. All HasSpelling
+            (frames_from self.now.node self.now.frames (envelope to message ∷ []))) }
         ensures memory { IfErr result (λ fault. fault ≡ Memory) }
     {
         let mut sent = Vec::new(self.alloc);

@@ -6,7 +6,7 @@ ghost use Rattle.hyparview.specs.Lawful.{IsOfAnother, IsOfViews};
 ghost use Rattle.meta_frame.specs.Frame.{spelling};
 ghost use Rattle.meta_frame.specs.declared.message.Message.TheVariants.{Hello};
 ghost use Rattle.node_core.specs.Node.{with_overlay};
-ghost use Rattle.node_parts.specs.Outbox.{IsFrameOf, frames_from};
+ghost use Rattle.node_parts.specs.Outbox.{HasSpelling, frames_from};
 ghost use Rattle.node_parts.specs.Overlay.{after_view, sent_by_view};
 ghost use Rattle.node_core.specs.Rows.{Local, drop_neighbour};
 ghost use Rattle.node_core.specs.Messages.{IsStepOfMessage};
@@ -112,7 +112,9 @@ impl NodeState {
         ensures frames { let done = drop_neighbour node word (begun self.old) in
             IfOk result (λ outbox. outbox
             ≡ map spelling (frames_from self.old.node self.old.frames done.sent)) }
-        ensures lawful { IfOk result (λ outbox. All (IsFrameOf self.old.node) outbox) }
+        ensures lawful { let done = drop_neighbour node word (begun self.old) in
+            IfOk result (λ _. All HasSpelling
+            (frames_from self.old.node self.old.frames done.sent)) }
         ensures memory { IfErr result (λ fault. fault ≡ Memory) }
         ensures same { OnErr result (self.new ≡ self.old) }
     {
@@ -131,7 +133,9 @@ impl NodeState {
         ensures frames { IfOk result (λ outbox. outbox ≡ map spelling
             (frames_from self.old.node self.old.frames
             (sent_by_view event word self.old.overlay))) }
-        ensures lawful { IfOk result (λ outbox. All (IsFrameOf self.old.node) outbox) }
+        ensures lawful { IfOk result (λ _. All HasSpelling
+            (frames_from self.old.node self.old.frames
+            (sent_by_view event word self.old.overlay))) }
         ensures memory { IfErr result (λ fault. fault ≡ Memory) }
         ensures same { OnErr result (self.new ≡ self.old) }
     {

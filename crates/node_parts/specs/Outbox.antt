@@ -1,11 +1,11 @@
 -- The frames of a node's messages.
-use Rattle.std.specs.Prelude.{ℕ, ◌≡◌, ◌≢◌, ◌≤◌, ◌+◌, ◌-◌, ◌^◌, min, List, [], ◌∷◌}
+use Rattle.std.specs.Prelude.{ℕ, ◌≢◌, ◌≤◌, ◌+◌, ◌-◌, ◌^◌, min, List, [], ◌∷◌}
 use Rattle.dvvset.specs.Object.{Counter}
 use Rattle.frame_fields.specs.Field.{place, vector as vector_form}
 use Rattle.meta_frame.specs.declared.message.Frame.{Frame}
 use Rattle.meta_frame.specs.declared.message.Message.{Message}
 use Rattle.meta_frame.specs.declared.message.Message.TheVariants.{Gossip, IHave, Graft, XLeaves, XObject, Hello}
-use Rattle.meta_frame.specs.Frame.{Spells}
+use Rattle.meta_frame.specs.Frame.{Spells, spelling}
 use Rattle.meta_store.specs.Table.{IsHeld}
 use Rattle.node_parts.specs.declared.envelope.Envelope.{Envelope}
 
@@ -42,8 +42,6 @@ pub record MaySend (node : ℕ) (e : Envelope) : Type 0 where
   pub apart : e.to ≢ node
   pub sendable : IsSendable e.message
 
--- the bytes are a frame of this node, and so one to another node
-pub record IsFrameOf (node : ℕ) (bytes : List ℕ) : Type 0 where
-  pub frame : Frame
-  pub spelled : Spells frame bytes
-  pub from : frame.from ≡ node
+-- the frame is lawful, and so one to another node, and its bytes are no more than a frame may have
+abbrev pub HasSpelling : Frame → Type 0
+HasSpelling frame = Spells frame (spelling frame)

@@ -4,7 +4,7 @@ ghost use Rattle.std.specs.Prelude.{◌≡◌, ◌≤◌, ◌<◌, ◌^◌, leng
 ghost use Rattle.frame_fields.specs.Field.{digest, digests, key, keys, life, node, nodes, prefix, prefixes};
 ghost use Rattle.meta_frame.specs.Frame.{IsLawful, IsMessage, Spells, limit, spelling};
 ghost use Rattle.meta_frame.specs.declared.fault.FrameFault.TheVariants.{Memory};
-ghost use Rattle.node_parts.specs.Outbox.{IsFrameOf, IsSendable, MaySend, frame_of, frames_from};
+ghost use Rattle.node_parts.specs.Outbox.{HasSpelling, IsSendable, MaySend, frame_of, frames_from};
 
 use crate::envelope::Envelope;
 use frame_fields::{Digest, Digests, KeyDigests, Nodes, PrefixDigests};
@@ -24,7 +24,8 @@ pub fn outbox(
     requires { All (MaySend from) sent.items }
     ensures frames { IfOk result
         (λ outbox. outbox ≡ map spelling (frames_from from number sent.items)) }
-    ensures lawful { IfOk result (λ outbox. All (IsFrameOf from) outbox) }
+    ensures lawful { IfOk result
+        (λ _. All HasSpelling (frames_from from number sent.items)) }
     ensures memory { IfErr result (λ fault. fault ≡ Memory) }
 {
     let mut number = number;
@@ -45,7 +46,7 @@ fn spelled(
 ) -> Result<ByteString, FrameFault>
     requires { MaySend from envelope }
     ensures frame { IfOk result (λ bytes. bytes ≡ spelling (frame_of from number envelope)) }
-    ensures lawful { IfOk result (λ bytes. IsFrameOf from bytes) }
+    ensures lawful { IfOk result (λ _. HasSpelling (frame_of from number envelope)) }
     ensures memory { IfErr result (λ fault. fault ≡ Memory) }
 {
     let frame = Frame {

@@ -1,8 +1,7 @@
 use Rattle.std.proofs.Common.{◌++◌, map, All, suc, arith, subst, sym, ap, ◌∙◌}
-use Rattle.std.proofs.lemmas.List.Elements.{All-push, All-same}
 use Rattle.meta_frame.specs.Frame.{spelling}
-use Rattle.node_parts.specs.Outbox.{IsFrameOf, MaySend, frames_from}
-use Rattle.node_parts.proofs.Numbering.{one_more}
+use Rattle.node_parts.specs.Outbox.{MaySend, frames_from}
+use Rattle.node_parts.proofs.Numbering.{one_more, one_more_spelled}
 use Rattle.node_parts.proofs.sending.outbox.Goals as goal
 
 pub loop-envelope-preserved : goal.loop-envelope-preserved
@@ -19,7 +18,9 @@ loop-envelope-preserved c =
       frames = ap (λ frames. frames ++ map spelling (frames_from from next left)) c.in_ok-push.ensures.items
           ∙ one_more from number next c.in-Some.envelope front c.in_ok-spelled.field-0 left _
           c.saturating_add-number.ensures c.in_ok-spelled.ensures.frame before;
-      lawful = All-same (IsFrameOf from) _ _ c.in_ok-push.ensures.items
-          (All-push (IsFrameOf from) front _ c.loop-envelope.invariant.lawful c.in_ok-spelled.ensures.lawful);
+      lawful = λ spelled.
+          c.loop-envelope.invariant.lawful
+          (one_more_spelled from number next c.in-Some.envelope left _ is c.saturating_add-number.ensures
+          c.in_ok-spelled.ensures.lawful spelled);
       left = λ k d inside. rest (suc k) d (omega (arith, inside));
     }

@@ -1,6 +1,6 @@
 use Rattle.std.proofs.Common.{◌≡◌, ◌++◌, map, All}
 use Rattle.meta_frame.specs.Frame.{spelling}
-use Rattle.node_parts.specs.Outbox.{IsFrameOf, MaySend, frames_from}
+use Rattle.node_parts.specs.Outbox.{HasSpelling, MaySend, frames_from}
 use Rattle.node_parts.proofs.sending.outbox.Given as goal
 
 abbrev pub invariant-loop-envelope : goal.invariant-loop-envelope
@@ -9,6 +9,7 @@ invariant-loop-envelope l =
     record {
       frames : l.frames.items ++ map spelling (frames_from l.fn.from l.number rest)
           ≡ map spelling (frames_from l.fn.from l.fn.number l.fn.sent.items);
-      lawful : All (IsFrameOf l.fn.from) l.frames.items;
+      lawful : All HasSpelling (frames_from l.fn.from l.number rest)
+          → All HasSpelling (frames_from l.fn.from l.fn.number l.fn.sent.items);
       left : All (MaySend l.fn.from) rest;
     }

@@ -15,3 +15,6 @@ nothing_held c =
 
 pub returns-in_default-clause-frames : goal.returns-in_default-clause-frames
 returns-in_default-clause-frames c = absurd (nothing_held c)
+
+pub returns-in_default-clause-lawful : goal.returns-in_default-clause-lawful
+returns-in_default-clause-lawful c = absurd (nothing_held c)

@@ -1,9 +1,7 @@
 use Rattle.std.proofs.Common.{[], ◌∷◌, true, false, sym, ap, ◌∙◌}
-use Rattle.std.proofs.lemmas.List.Elements.{All-same}
 use Rattle.meta_frame.specs.declared.message.Message.TheVariants.{Gossip}
 use Rattle.meta_store.specs.Table.{is_stale, object_at}
 use Rattle.plumtree.specs.Broadcast.{TakesGraft}
-use Rattle.node_parts.specs.Outbox.{IsFrameOf}
 use Rattle.node_parts.specs.Overlay.{envelope, told}
 use Rattle.node_core.proofs.Casting.{after_bare_graft, after_graft, told_quietly, told_step}
 use Rattle.node_core.proofs.state.NodeState.on_graft.Goals as goal
@@ -26,8 +24,7 @@ returns-clause-step c =
           (envelope from (Gossip round key (object_at s.table key)) ∷ []) outbox c.finish.result c.self.view_is
           (told_is ∙ ap (λ held. told (TakesGraft from round key held) c.self.inside.overlay) w.if-held.true)
           (after_graft from round key vector s (stale_is ∙ w.if-held.true)) c.finish.ensures.value
-          (w.outbox-is ∙ w.in_ok-outbox.ensures.frames)
-          (All-same (IsFrameOf s.node) outbox w.in_ok-outbox.outbox w.outbox-is w.in_ok-outbox.ensures.lawful) c.finish.ensures.counts
+          (w.outbox-is ∙ w.in_ok-outbox.ensures.frames) w.in_ok-outbox.ensures.lawful c.finish.ensures.counts
       | else-held w ↦
           told_quietly (TakesGraft from round key false) s _ c.finish.new.self c.on_graft.new.self _ outbox c.finish.result c.self.view_is
           (told_is ∙ ap (λ held. told (TakesGraft from round key held) c.self.inside.overlay) w.if-held.false)

@@ -1,8 +1,8 @@
-use Rattle.std.proofs.Common.{◌≡◌, ◌<◌, ◌≤◌, ℕ, true, false, map, [], None, nat_lt, get_or, slice_index, slice_set, lt-ltb, le-ltb, refl, sym, ap, subst, ◌∙◌}
-use Rattle.std.proofs.lemmas.List.Elements.{All-nil, All-same}
+use Rattle.std.proofs.Common.{◌≡◌, ◌<◌, ◌≤◌, ℕ, true, false, map, All, None, nat_lt, get_or, slice_index, slice_set, lt-ltb, le-ltb, refl, sym, ap, subst, ◌∙◌}
+use Rattle.std.proofs.lemmas.List.Elements.{All-nil}
 use Rattle.meta_frame.specs.Frame.{spelling}
 use Rattle.node_events.specs.declared.reply.Reply.TheVariants.{Took}
-use Rattle.node_parts.specs.Outbox.{IsFrameOf, frames_from}
+use Rattle.node_parts.specs.Outbox.{HasSpelling, frames_from}
 use Rattle.node_core.specs.Node.{NodeParts}
 use Rattle.node_core.specs.Draft.{Draft}
 use Rattle.node_core.specs.Rows.{drop_neighbour, on_hello}
@@ -33,7 +33,7 @@ returns-clause-step c =
           ∙ ap (λ i. hearing i dropped.parts) c.number-place.ensures.value ∙ ap (λ (t : Draft). t.parts) done_is in
           end is
           (w.outbox-is ∙ w.in_ok-outbox.ensures.frames ∙ ap (λ (t : Draft). map spelling (frames_from s.node s.frames t.sent)) done_is)
-          (All-same (IsFrameOf s.node) c.if-self-place.outbox w.in_ok-outbox.outbox w.outbox-is w.in_ok-outbox.ensures.lawful)
+          (subst (λ (t : Draft). All HasSpelling (frames_from s.node s.frames t.sent)) done_is w.in_ok-outbox.ensures.lawful)
           c.finish.ensures.counts c.finish.ensures.value
       | else-self-place w ↦
           let at_from = subst (λ i. life ≤ get_or heard i 0) c.number-place.ensures.value w.if-self-place.false in
@@ -43,6 +43,6 @@ returns-clause-step c =
           let nothing = w.outbox-is ∙ w.nothing_sent-outbox.ensures in
           end (w.self-is ∙ ap (λ (t : Draft). t.parts) done_is)
           (nothing ∙ ap (λ (t : Draft). map spelling (frames_from s.node s.frames t.sent)) done_is)
-          (All-same (IsFrameOf s.node) c.if-self-place.outbox [] nothing (All-nil (IsFrameOf s.node)))
+          (subst (λ (t : Draft). All HasSpelling (frames_from s.node s.frames t.sent)) done_is (All-nil HasSpelling))
           c.finish.ensures.counts c.finish.ensures.value
     ]

@@ -3,7 +3,7 @@ use Rattle.std.proofs.lemmas.Result.{IfOk-at_ok}
 use Rattle.meta_frame.specs.Frame.{spelling}
 use Rattle.node_events.specs.declared.reply.Reply.TheVariants.{Done}
 use Rattle.node_parts.specs.Origin.{after_tick, tick_sent}
-use Rattle.node_parts.specs.Outbox.{IsFrameOf, count_on, frames_from}
+use Rattle.node_parts.specs.Outbox.{HasSpelling, count_on, frames_from}
 use Rattle.node_parts.specs.Overlay.{Overlay}
 use Rattle.node_core.specs.Node.{NodeParts, parts}
 use Rattle.node_core.specs.Draft.{Draft}
@@ -43,10 +43,11 @@ returns-clause-step c =
     let outbox = c.in_ok-overlay-2.outbox in
     let is_ok = c.in_ok-overlay-2.ensures.value.1 in
     let frames = IfOk-at_ok (λ (o : List (List ℕ)). o ≡ map spelling (frames_from s.node s.frames sent)) is_ok c.outbox.ensures.frames in
-    let lawful = IfOk-at_ok (λ (o : List (List ℕ)). All (IsFrameOf s.node) o) is_ok c.outbox.ensures.lawful in
+    let lawful = IfOk-at_ok (λ (o : List (List ℕ)). All HasSpelling (frames_from s.node s.frames sent)) is_ok c.outbox.ensures.lawful in
     subst (λ (s : NodeParts). IsStepTo s None (tick word (begun s)) Done c.finish.new.self c.finish.result) c.self.view_is
     (finished old (next c.replace.new.dest now) c.finish.new.self None done Done outbox c.finish.result refl is
     (frames ∙ ap (λ (s : NodeParts). map spelling (frames_from s.node s.frames sent)) (sym c.self.view_is)
     ∙ ap (λ sent. map spelling (frames_from was.node was.frames sent)) sent_is)
-    (subst (λ (s : NodeParts). All (IsFrameOf s.node) outbox) (sym c.self.view_is) lawful)
+    (subst (λ sent. All HasSpelling (frames_from was.node was.frames sent)) sent_is
+    (subst (λ (s : NodeParts). All HasSpelling (frames_from s.node s.frames sent)) (sym c.self.view_is) lawful))
     c.finish.ensures.counts c.finish.ensures.value)
