@@ -25,14 +25,14 @@ use Rattle.node_parts.specs.Overlay.{envelope}
 
 -- ---- lists
 
-All-flat_map : {A B : Type 0} (P : B → Type 0) (f : A → List B) → ((x : A) → All P (f x)) → (xs : List A) → All P (flat_map f xs)
+pub All-flat_map : {A B : Type 0} (P : B → Type 0) (f : A → List B) → ((x : A) → All P (f x)) → (xs : List A) → All P (flat_map f xs)
 All-flat_map P f each [] = All-nil P
 All-flat_map P f each (x ∷ xs) =
     All-same P (flat_map f (x ∷ xs)) (f x ++ flat_map f xs) (flat_map-cons f x xs)
     (All-append P (f x) (flat_map f xs) (each x) (All-flat_map P f each xs))
 
 -- where whatever the function gives has the property
-All-mapped : {A B : Type 0} (P : B → Type 0) (f : A → B) → ((x : A) → P (f x)) → (xs : List A) → All P (map f xs)
+pub All-mapped : {A B : Type 0} (P : B → Type 0) (f : A → B) → ((x : A) → P (f x)) → (xs : List A) → All P (map f xs)
 All-mapped P f each xs = All-map P f xs (λ k d inside. each _)
 
 one : (m : Message) → IsSendable m → All IsSendable (m ∷ [])

@@ -20,3 +20,7 @@ pub mod Coming
 pub mod Outcomes
 -- the sibling that is chosen is the one that is read
 pub mod Repairing
+-- what is given out in a step carries no object, or the one that is held
+pub mod Giving
+-- what a step leaves is what its event does
+pub mod Leaves

@@ -17,9 +17,10 @@ pub mod Step
 pub mod Run
 -- the repair of siblings
 pub mod Repair
+-- what a step leaves, in the words of the table: what is held, and what the frames carry
+pub mod Leaving
 -- equality of what steps give
 pub mod Equal
-
 -- ---- not needed to believe the public contracts: what private functions say of a message, of a
 -- change and of a write
 pub mod Messages

@@ -103,8 +103,8 @@ reply_of (Received frame word) s = reply_of_message frame.message s
 -- ---- a step
 
 -- it isn't refused; the old node becomes what is left when all is done, with this reply, and what
--- is to be sent goes out as frames, as bytes, numbered over the life from 1, in order; each frame is
--- lawful, and so one to another node, and its bytes are no more than a frame may have
+-- is to be sent goes out as frames, as bytes, numbered over the life from 1, in order; each frame
+-- is lawful, and so one to another node, and its bytes are no more than a frame may have
 pub record IsStepTo (old : NodeParts) (refusal : Option StepFault) (done : Draft) (reply : Reply)
     (new : NodeParts) (stepped : Stepped) : Type 0 where
   pub accepted : refusal ≡ None
