@@ -9,7 +9,7 @@ use Rattle.node_events.specs.declared.fault.StepFault.TheVariants.{Frame as OfFr
 use Rattle.node_core.specs.declared.state.Stepped.{Stepped}
 use Rattle.node_core.specs.Node.{NodeParts}
 use Rattle.node_core.specs.Rows.{Input, IsInput, Local, Received}
-use Rattle.node_core.specs.Step.{CanComeOf, IsNoFrame, IsNodeStep, IsStepOf, Rejects, refusal_of}
+use Rattle.node_core.specs.Step.{CanComeOf, IsNoFrame, IsNodeStep, IsRefused, IsStepOf, Rejects, refusal_of}
 use Rattle.node_core.specs.Run.{NoEventHasTwoOutcomes, IsOneCause, IsRun, RunsGoOn}
 
 -- ---- an event of the node itself
@@ -22,7 +22,7 @@ stepped old new (Ok s) event own same is step =
     (record { input = Local own; is_input = is; step = step })
 stepped old new (Err fault) event own same is step = tt
 
-cause_of : (old : NodeParts) (fault : StepFault) (own : NodeEvent) → IsInput own (Local own)
+pub cause_of : (old : NodeParts) (fault : StepFault) (own : NodeEvent) → IsInput own (Local own)
     → (fault ≡ Memory) ⊎ (refusal_of (Local own) old ≡ Some fault) → CanComeOf old own fault
 cause_of old fault own is (inl memory) = inl memory
 cause_of old fault own is (inr first) =
@@ -76,6 +76,16 @@ no_refusal_beside_a_step {old = old} {event = event} fault is (inr (inr also)) =
     let same = one_input event is.input also.input is.is_input also.is_input in
     let both : None ≡ Some fault = sym is.step.accepted ∙ ap (λ i. refusal_of i old) same ∙ also.first in
     absurd (cc)
+
+-- what is accepted has no cause
+pub no_cause : {old new : NodeParts} {event : NodeEvent} {s : Stepped} (fault : StepFault)
+    → IsNodeStep old event new s → IsNoFrame event fault ⊎ IsRefused old event fault → ⊥
+no_cause {event = event} fault is (inl none) =
+    no_frame_beside_a_step event is.input fault is.is_input none
+no_cause {old = old} {event = event} fault is (inr also) =
+    let same = one_input event is.input also.input is.is_input also.is_input in
+    let both : None ≡ Some fault = sym is.step.accepted ∙ ap (λ i. refusal_of i old) same ∙ also.first in
+    cc
 
 one_step : {old new other : NodeParts} {event : NodeEvent} {s t : Stepped}
     → IsNodeStep old event new s → IsNodeStep old event other t → (new ≡ other) × (s ≡ t)

@@ -34,15 +34,15 @@ impl NodeState {
         self.finish(Reply::Done, self.nothing_sent())
     }
 
-    /// Who counts what the node writes.
-    pub(crate) fn actor(&self) -> Actor
+    /// The writer of what the node writes: the node in its life.
+    pub fn actor(&self) -> Actor
         ensures { result ≡ writer self.now }
     {
         Actor::new(self.node, self.incarnation)
     }
 
-    /// Who reads in this step.
-    pub(crate) fn source(&self) -> Source
+    /// Who reads in the next step.
+    pub fn source(&self) -> Source
         ensures { result ≡ record { actor = writer self.now; step = count_on self.now.steps 1 } }
     {
         Source {

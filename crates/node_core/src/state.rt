@@ -112,6 +112,20 @@ impl NodeState {
         })
     }
 
+    /// Which node it is.
+    pub fn node(&self) -> NodeId
+        ensures { result ≡ self.now.node }
+    {
+        self.node
+    }
+
+    /// The life that it is in, from 1.
+    pub fn incarnation(&self) -> u32
+        ensures { result ≡ self.now.incarnation }
+    {
+        self.incarnation
+    }
+
     /// What it holds.
     pub fn store(&self) -> &Store
         ensures { result.now ≡ self.now.table }
