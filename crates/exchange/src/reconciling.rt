@@ -1,6 +1,6 @@
 //! A whole exchange of two stores.
 
-ghost use Rattle.std.specs.Prelude.{◌≡◌, false, None, IfOk, OnOk, OnErr};
+ghost use Rattle.std.specs.Prelude.{◌≡◌, ◌++◌, false, None, IfOk, OnOk, OnErr};
 ghost use Rattle.meta_types.specs.Failing.{FailsBy};
 ghost use Rattle.meta_store.specs.Table.{IsHeld, with_object};
 ghost use Rattle.meta_store.specs.Step.{is_full_for, refusal_of_merge, table_after_merge};
@@ -41,8 +41,8 @@ fn take_all(
     let mut answers = Vec::new(alloc);
     for message in messages {
         take(store, tree, message)?;
-        let mut own = answer(alloc, store, tree, message)?;
-        answers.append(&mut own)?;
+        let own = answer(alloc, store, tree, message)?;
+        add_all(&mut answers, own)?;
     }
     Ok(answers)
 }
@@ -59,10 +59,22 @@ fn answer_all(
 {
     let mut answers = Vec::new(alloc);
     for message in messages {
-        let mut own = answer(alloc, store, tree, message)?;
-        answers.append(&mut own)?;
+        let own = answer(alloc, store, tree, message)?;
+        add_all(&mut answers, own)?;
     }
     Ok(answers)
+}
+
+/// Adds answers at the end. Where there are none so far they are kept as they came.
+fn add_all(answers: &mut Vec<Message>, own: Vec<Message>) -> Result<(), AllocError>
+    ensures { OnOk result (answers.new.items ≡ answers.old.items ++ own.items) }
+{
+    if answers.is_empty() {
+        *answers = own;
+        return Ok(());
+    }
+    let mut rest = own;
+    answers.append(&mut rest)
 }
 
 /// Takes a message: merges the object that it brings, if it is an XOBJECT.

@@ -6,6 +6,8 @@ mod ByPlace
 mod Changing
 -- the parts of a tree, and its readers
 pub mod ByPrefix
+-- how a hasher that gathers follows the text
+mod Taken
 -- steps of the loops that hash
 mod Steps
 -- digests are bytes

@@ -4,21 +4,20 @@ use Rattle.std.specs.List.{concat, flat_map, range_with_len}
 use Rattle.std.proofs.lemmas.Grind.{flat_map-append}
 use Rattle.std.proofs.lemmas.List.{append-nil, take_more}
 use Rattle.std.proofs.lemmas.List.FromFn.{map-range_with_len_more}
-use Rattle.sha2.specs.Hashers.{Holds256}
-use Rattle.sha2.specs.declared.Sha256.{Sha256}
 use Rattle.frame_fields.specs.Field.{name, prefix}
 use Rattle.meta_types.specs.Name.{Prefix}
-use Rattle.hash_tree.specs.Hashing.{Adds}
+use Rattle.hash_tree.specs.declared.text_hasher.TextHasher.{TextHasher}
+use Rattle.hash_tree.specs.Hashing.{Adds, HasTaken}
 use Rattle.hash_tree.specs.Tree.{OwnRows, prefix_root, text_of}
 use Rattle.hash_tree.proofs.ByPrefix.{part_text}
 
 -- first these bytes, then those
-pub adds_both : (a b c : Sha256) (x y z : List ℕ) → Adds a b x → Adds b c y → x ++ y ≡ z → Adds a c z
+pub adds_both : (a b c : TextHasher) (x y z : List ℕ) → Adds a b x → Adds b c y → x ++ y ≡ z → Adds a c z
 adds_both a b c x y z first_part second_part e m held =
-    subst (Holds256 c) (append_assoc m x y ∙ ap (λ bytes. m ++ bytes) e) (second_part (m ++ x) (first_part m held))
+    subst (HasTaken c) (append_assoc m x y ∙ ap (λ bytes. m ++ bytes) e) (second_part (m ++ x) (first_part m held))
 
-pub adds_none : (a : Sha256) → Adds a a []
-adds_none a m held = subst (Holds256 a) (sym (append-nil m)) held
+pub adds_none : (a : TextHasher) → Adds a a []
+adds_none a m held = subst (HasTaken a) (sym (append-nil m)) held
 
 -- one item more
 pub one_more : {A : Type 0} (f : A → List ℕ) (xs : List A) (i : ℕ) (x : A) → i < length xs → x ≡ get_or xs i x → flat_map f (take i xs) ++ f x ≡ flat_map f (take (i + 1) xs)

@@ -13,9 +13,9 @@ ghost use Rattle.hash_tree.specs.Rising.{do_keys_rise};
 ghost use Rattle.hash_tree.specs.Tree.{text_of};
 
 use crate::hashing::add_name;
+use crate::text_hasher::TextHasher;
 use frame_fields::{Digest, KeyDigest};
 use meta_types::ByteString;
-use sha2::{Digest as _, Sha256};
 use std::alloc::{AllocError, Global};
 use std::cmp::Ordering;
 use std::marker::Model;
@@ -74,9 +74,9 @@ impl Bucket {
     pub(crate) fn digest(&self) -> Digest
         ensures { result ≡ sha256 (text_of self.now) }
     {
-        let mut hasher = Sha256::new();
+        let mut hasher = TextHasher::new();
         add_rows(&mut hasher, self.rows.as_slice());
-        Digest::new(hasher.finalize())
+        hasher.finish()
     }
 
     /// The keys with their digests, in order.
@@ -112,13 +112,13 @@ fn place_of(rows: &[KeyDigest], key: &ByteString) -> Result<usize, usize>
     Err(rows.len())
 }
 
-fn add_rows(hasher: &mut Sha256, rows: &[KeyDigest])
+fn add_rows(hasher: &mut TextHasher, rows: &[KeyDigest])
     requires { All (λ row. IsName 256 row.key) rows.now }
     ensures { Adds hasher.old hasher.new (text_of (map key_row_parts rows.now)) }
 {
     for row in rows {
         add_name(hasher, row.key.as_slice());
-        hasher.update(row.digest.bytes());
+        hasher.add(row.digest.bytes());
     }
 }
 

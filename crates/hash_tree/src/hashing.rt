@@ -7,6 +7,7 @@ ghost use Rattle.frame_fields.specs.Field.{name, prefix};
 ghost use Rattle.hash_tree.specs.Hashing.{Adds};
 ghost use Rattle.hash_tree.specs.Tree.{leaf_of};
 
+use crate::text_hasher::TextHasher;
 use frame_fields::Digest;
 use meta_types::FullPrefix;
 use sha2::{Digest as _, Sha256};
@@ -20,16 +21,16 @@ pub(crate) fn leaf_of(key: &[u8]) -> u8
 }
 
 /// Adds a byte string with its length.
-pub(crate) fn add_name(hasher: &mut Sha256, bytes: &[u8])
+pub(crate) fn add_name(hasher: &mut TextHasher, bytes: &[u8])
     requires { length bytes.now < 2 ^ 16 }
     ensures { Adds hasher.old hasher.new ((name 0 65535).spell bytes.now) }
 {
     let len = bytes.len() as u16;
-    hasher.update(len.to_be_bytes().as_slice());
-    hasher.update(bytes);
+    hasher.add(len.to_be_bytes().as_slice());
+    hasher.add(bytes);
 }
 
-pub(crate) fn add_prefix(hasher: &mut Sha256, p: &FullPrefix)
+pub(crate) fn add_prefix(hasher: &mut TextHasher, p: &FullPrefix)
     ensures { Adds hasher.old hasher.new (prefix.spell p.now) }
 {
     add_name(hasher, p.prefix());
@@ -40,9 +41,9 @@ pub(crate) fn add_prefix(hasher: &mut Sha256, p: &FullPrefix)
 pub(crate) fn digest_of_all(digests: &[Digest]) -> Digest
     ensures { result ≡ sha256 (concat digests.now) }
 {
-    let mut hasher = Sha256::new();
+    let mut hasher = TextHasher::new();
     for digest in digests {
-        hasher.update(digest.bytes());
+        hasher.add(digest.bytes());
     }
-    Digest::new(hasher.finalize())
+    hasher.finish()
 }

@@ -11,8 +11,8 @@
 //! tree.root() // that of `plain_root(alloc, &store)?`
 //! ```
 //!
-//! Read `tree`, `object`, then `laws`; `parts`, `prefix_tree`, `leaves`, `bucket` and `hashing` are
-//! private.
+//! Read `tree`, `object`, then `laws`; `parts`, `prefix_tree`, `leaves`, `bucket`, `hashing` and
+//! `text_hasher` are private.
 #![tactic(auto)]
 
 mod bucket;
@@ -22,6 +22,7 @@ mod leaves;
 pub mod object;
 mod parts;
 mod prefix_tree;
+mod text_hasher;
 pub mod tree;
 
 pub use object::object_digest;

@@ -12,10 +12,10 @@ ghost use Rattle.hash_tree.specs.Kept.{AreTreeParts};
 
 use crate::hashing::add_prefix;
 use crate::prefix_tree::PrefixTree;
+use crate::text_hasher::TextHasher;
 use frame_fields::{Digest, PrefixDigest};
 use meta_store::Store;
 use meta_types::{FullPrefix, MetaKey};
-use sha2::{Digest as _, Sha256};
 use std::alloc::{AllocError, Global};
 use std::collections::BTreeMap;
 
@@ -64,12 +64,12 @@ pub(crate) fn root_of(parts: &BTreeMap<FullPrefix, PrefixTree>) -> Digest
     ensures { result ≡ sha256
         (flat_map (λ part. prefix.spell part.0 ++ prefix_root part.1) parts.now.entries) }
 {
-    let mut hasher = Sha256::new();
+    let mut hasher = TextHasher::new();
     for (prefix, tree) in parts.iter() {
         add_prefix(&mut hasher, prefix);
-        hasher.update(tree.root().bytes());
+        hasher.add(tree.root().bytes());
     }
-    Digest::new(hasher.finalize())
+    hasher.finish()
 }
 
 /// The full prefixes with their roots, in order. They are copies.

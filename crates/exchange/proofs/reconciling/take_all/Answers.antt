@@ -13,8 +13,8 @@ loop-message-preserved c =
       rest = rest_more c.loop-message.store c.args.messages.now c.loop-message.message-index c.message-item.result lt c.message-item.is c.take.new.store c.in_ok-take.ensures.value
           (table_after_all c.args.store.now c.args.messages.now) c.loop-message.invariant.rest;
       told = told_more c.loop-message.store c.args.messages.now c.loop-message.message-index c.message-item.result lt c.message-item.is c.take.new.store c.in_ok-take.ensures.value
-          c.loop-message.answers.items c.in_ok-own.own.items c.append.new.self.items (answers_in_turn c.args.store.now c.args.messages.now)
-          c.in_ok-own.ensures c.in_ok-append.ensures.items c.loop-message.invariant.told;
+          c.loop-message.answers.items c.in_ok-own.own.items c.add_all.new.answers.items (answers_in_turn c.args.store.now c.args.messages.now)
+          c.in_ok-own.ensures c.in_ok-add_all.ensures c.loop-message.invariant.told;
       refusal = refusal_more c.loop-message.store c.args.messages.now c.loop-message.message-index c.message-item.result lt c.message-item.is c.take.new.store c.in_ok-take.ensures.value
           (refusal_of_all c.args.store.now c.args.messages.now) c.in_ok-take.ensures.no_refusal c.loop-message.invariant.refusal;
     }
@@ -27,8 +27,8 @@ returns-in_err-own-clause-front c =
           c.args.store.now c.loop-message.invariant.front,
     )
 
-pub returns-in_err-append-clause-front : goal.returns-in_err-append-clause-front
-returns-in_err-append-clause-front c =
+pub returns-in_err-add_all-clause-front : goal.returns-in_err-add_all-clause-front
+returns-in_err-add_all-clause-front c =
     let lt : c.loop-message.message-index < length c.args.messages.now = omega arith in (
       c.loop-message.message-index + 1,
       front_more c.loop-message.store c.args.messages.now c.loop-message.message-index c.message-item.result lt c.message-item.is c.take.new.store c.in_ok-take.ensures.value

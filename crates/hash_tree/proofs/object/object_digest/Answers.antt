@@ -10,7 +10,7 @@ use Rattle.hash_tree.proofs.object.object_digest.Goals as goal
 pub returns : goal.returns
 unfolding object_digest
 returns c =
-    c.new.ensures ∙ c.finalize.ensures _ (c.add_entries.ensures _ (c.update.ensures [] c.new-hasher.ensures))
+    c.finish.ensures _ (c.add_entries.ensures _ (c.add.ensures [] c.new-hasher.ensures))
     ∙ ap sha256 (rw (c.as_slice.ensures, c.to_be_bytes.ensures, c.entries.ensures.value, c.entries-2.ensures.value) (written_object [] c.args.o.now))
 
 pub add_entries-requires : goal.add_entries-requires
