@@ -1,0 +1,257 @@
+//! Whichever single allocation is refused: an event that is refused memory changes nothing, and
+//! made again it gives what it should. The rows are those of one node, which takes frames as bytes.
+
+use crate::acts::Act;
+use crate::cluster::new_cluster;
+use crate::meeting::{HELLO_2, JOIN};
+use crate::refusals::{GOSSIP_OF_Y, ONE_PEER};
+use crate::rows::{Row, assert_gives, follow_under_refused_memory};
+use std::alloc::Global;
+use std::process::Abort;
+
+/// Node 0 does what the rows tell, these and then those.
+fn follow(rt: &impl Abort, alloc: Global, these: &[Row], those: &[Row]) {
+    let mut cluster = new_cluster(rt, alloc, 1);
+    follow_under_refused_memory(rt, &mut cluster, these);
+    follow_under_refused_memory(rt, &mut cluster, those);
+}
+
+const JOINING: [Row; 2] = [
+    (0, Act::Join(1), "done", &["JOIN from 0 to 1 number 1"]),
+    (
+        0,
+        Act::Hello(1),
+        "done",
+        &["HELLO from 0 to 1 number 2 life 1"],
+    ),
+];
+
+#[test]
+fn a_node_joins_under_refused_memory(rt: HostRuntime) {
+    follow(&rt, rt.alloc(), &JOINING, &[]);
+}
+
+const LEAVING: [Row; 1] = [(0, Act::Leave, "done", &["BYE from 0 to 1 number 2"])];
+
+#[test]
+fn a_node_leaves_under_refused_memory(rt: HostRuntime) {
+    follow(&rt, rt.alloc(), &ONE_PEER, &LEAVING);
+}
+
+const PEER_DOWN: [Row; 1] = [(0, Act::PeerDown(1), "done", &[])];
+
+#[test]
+fn a_peer_is_down_under_refused_memory(rt: HostRuntime) {
+    follow(&rt, rt.alloc(), &ONE_PEER, &PEER_DOWN);
+}
+
+const WRITING: [Row; 1] = [(
+    0,
+    Act::Write(b'k', b'x'),
+    "wrote ctx 0.1:1",
+    &["GOSSIP from 0 to 1 number 2 round 0 key p/s/k ctx 0.1:1 values x"],
+)];
+
+#[test]
+fn a_node_writes_under_refused_memory(rt: HostRuntime) {
+    follow(&rt, rt.alloc(), &ONE_PEER, &WRITING);
+}
+
+const READING: [Row; 2] = [
+    (0, Act::PutOver(b'k', b'x'), "wrote ctx 0.1:1", &[]),
+    (0, Act::Read(b'k'), "looked ctx 0.1:1 values x step 2", &[]),
+];
+
+#[test]
+fn a_node_is_read_under_refused_memory(rt: HostRuntime) {
+    follow(&rt, rt.alloc(), &READING, &[]);
+}
+
+const FRESH: [Row; 2] = [
+    (0, Act::Join(2), "done", &["JOIN from 0 to 2 number 1"]),
+    (
+        0,
+        Act::TakeBytes(GOSSIP_OF_Y),
+        "took fresh",
+        &["GOSSIP from 0 to 2 number 2 round 1 key p/s/k ctx 1.1:1 values y"],
+    ),
+];
+
+#[test]
+fn what_is_fresh_is_passed_on_under_refused_memory(rt: HostRuntime) {
+    follow(&rt, rt.alloc(), &FRESH, &[]);
+}
+
+const STALE: [Row; 2] = [
+    (0, Act::TakeBytes(GOSSIP_OF_Y), "took fresh", &[]),
+    (
+        0,
+        Act::TakeBytes(GOSSIP_OF_Y),
+        "took stale",
+        &["PRUNE from 0 to 1 number 1"],
+    ),
+];
+
+#[test]
+fn what_is_stale_is_answered_under_refused_memory(rt: HostRuntime) {
+    follow(&rt, rt.alloc(), &STALE, &[]);
+}
+
+/// IHAVE and GRAFT from 1 to 0 of p/s/k, of the first write of node 1, in round 5.
+const IHAVE: &[u8] = b"PT\x02\x02\0\x01\0\0\0\0\0\0\0\0\0\x01\0\0\0\x1b\
+\0\x05\0\x01p\0\x01s\0\x01k\0\x01\0\x01\0\0\0\x01\0\0\0\0\0\0\0\x01";
+
+const GRAFT: &[u8] = b"PT\x02\x03\0\x01\0\0\0\0\0\0\0\0\0\x01\0\0\0\x1b\
+\0\x05\0\x01p\0\x01s\0\x01k\0\x01\0\x01\0\0\0\x01\0\0\0\0\0\0\0\x01";
+
+const ANNOUNCED: [Row; 3] = [
+    (0, Act::TakeBytes(IHAVE), "took", &[]),
+    (0, Act::Tick, "done", &[]),
+    (
+        0,
+        Act::Tick,
+        "done",
+        &["GRAFT from 0 to 1 number 1 round 5 key p/s/k ctx 1.1:1"],
+    ),
+];
+
+#[test]
+fn what_is_missing_is_asked_for_under_refused_memory(rt: HostRuntime) {
+    follow(&rt, rt.alloc(), &ANNOUNCED, &[]);
+}
+
+const ASKED_FOR: [Row; 2] = [
+    (0, Act::TakeBytes(GOSSIP_OF_Y), "took fresh", &[]),
+    (
+        0,
+        Act::TakeBytes(GRAFT),
+        "took",
+        &["GOSSIP from 0 to 1 number 1 round 5 key p/s/k ctx 1.1:1 values y"],
+    ),
+];
+
+#[test]
+fn what_is_asked_for_is_sent_under_refused_memory(rt: HostRuntime) {
+    follow(&rt, rt.alloc(), &ASKED_FOR, &[]);
+}
+
+/// PRUNE and BYE from 1 to 0.
+const PRUNE: &[u8] = b"PT\x02\x04\0\x01\0\0\0\0\0\0\0\0\0\x01\0\0\0\0";
+
+const BYE: &[u8] = b"PT\x02\x14\0\x01\0\0\0\0\0\0\0\0\0\x01\0\0\0\0";
+
+const LAZY: [Row; 3] = [
+    (0, Act::TakeBytes(PRUNE), "took", &[]),
+    (0, Act::Write(b'k', b'x'), "wrote ctx 0.1:1", &[]),
+    (
+        0,
+        Act::Tick,
+        "done",
+        &["IHAVE from 0 to 1 number 2 round 0 key p/s/k ctx 0.1:1"],
+    ),
+];
+
+#[test]
+fn a_lazy_peer_is_told_under_refused_memory(rt: HostRuntime) {
+    follow(&rt, rt.alloc(), &ONE_PEER, &LAZY);
+}
+
+/// XWANT from 1 to 0 of p/s/k, XOBJECT of it with y, which node 1 wrote, and XROOT of nothing.
+const XWANT: &[u8] = b"PT\x02\x12\0\x01\0\0\0\0\0\0\0\0\0\x01\0\0\0\x09\0\x01p\0\x01s\0\x01k";
+
+const XOBJECT: &[u8] = b"PT\x02\x11\0\x01\0\0\0\0\0\0\0\0\0\x01\0\0\0\x27\
+\0\x01p\0\x01s\0\x01k\0\x01\
+\0\x01\0\0\0\x01\0\0\0\0\0\0\0\x01\0\x01\x01\0\0\0\0\0\0\0\0\0\x01y";
+
+const XROOT: &[u8] = b"PT\x02\x0c\0\x01\0\0\0\0\0\0\0\0\0\x01\0\0\0\x20\
+\0\0\0\0\0\0\0\0\0\0\0\0\0\0\0\0\0\0\0\0\0\0\0\0\0\0\0\0\0\0\0\0";
+
+const EXCHANGED: [Row; 3] = [
+    (0, Act::TakeBytes(XOBJECT), "took fresh", &[]),
+    (
+        0,
+        Act::TakeBytes(XWANT),
+        "took",
+        &["XOBJECT from 0 to 1 number 1 key p/s/k ctx 1.1:1 values y"],
+    ),
+    (
+        0,
+        Act::Exchange(1),
+        "done",
+        &["XROOT from 0 to 1 number 2 root .."],
+    ),
+];
+
+#[test]
+fn an_object_is_exchanged_under_refused_memory(rt: HostRuntime) {
+    follow(&rt, rt.alloc(), &EXCHANGED, &[]);
+}
+
+const QUESTION: [Row; 2] = [
+    (0, Act::PutOver(b'k', b'x'), "wrote ctx 0.1:1", &[]),
+    (
+        0,
+        Act::TakeBytes(XROOT),
+        "took",
+        &["XPREFIXES from 0 to 1 number 1 prefixes p/s=.."],
+    ),
+];
+
+#[test]
+fn a_question_is_answered_under_refused_memory(rt: HostRuntime) {
+    follow(&rt, rt.alloc(), &QUESTION, &[]);
+}
+
+const WATCHED: [Row; 3] = [
+    (0, Act::Watch(1), "watching 1", &[]),
+    (0, Act::PutOver(b'k', b'x'), "wrote ctx 0.1:1", &[]),
+    (0, Act::Changes(1), "missed 0 p/s/k 0.1:1", &[]),
+];
+
+#[test]
+fn a_watch_hears_under_refused_memory(rt: HostRuntime) {
+    follow(&rt, rt.alloc(), &WATCHED, &[]);
+}
+
+const COME_ANEW: [Row; 4] = [
+    (0, Act::TakeBytes(JOIN), "took", &[]),
+    (0, Act::TakeBytes(HELLO_2), "took", &[]),
+    (0, Act::TakeBytes(BYE), "took", &[]),
+    (0, Act::Leave, "done", &[]),
+];
+
+#[test]
+fn a_node_comes_anew_under_refused_memory(rt: HostRuntime) {
+    follow(&rt, rt.alloc(), &COME_ANEW, &[]);
+}
+
+const QUIET: Row = (0, Act::Tick, "done", &[]);
+
+const SHUFFLED: [Row; 2] = [
+    (0, Act::Join(1), "done", &["JOIN from 0 to 1 number 1"]),
+    (
+        0,
+        Act::Tick,
+        "done",
+        &["SHUFFLE from 0 to 1 number 2 origin 0 ttl 3 nodes -"],
+    ),
+];
+
+#[test]
+fn a_tick_shuffles_under_refused_memory(rt: HostRuntime) {
+    follow(&rt, rt.alloc(), &[QUIET; 9], &SHUFFLED);
+}
+
+const SIBLINGS: [Row; 2] = [
+    (0, Act::Write(b'k', b'~'), "wrote ctx 0.1:1", &[]),
+    (0, Act::Write(b'k', b'w'), "wrote ctx 0.1:2", &[]),
+];
+
+#[test]
+fn siblings_are_repaired_under_refused_memory(rt: HostRuntime) {
+    let mut cluster = new_cluster(&rt, rt.alloc(), 1);
+    follow_under_refused_memory(&rt, &mut cluster, &SIBLINGS);
+    let repaired = cluster.repair(&rt, 0, b'k');
+    assert_gives(&rt, &mut cluster, repaired, "wrote ctx 0.1:3", &[]);
+    assert!(rt; cluster.refused_memory() <= 1);
+}
