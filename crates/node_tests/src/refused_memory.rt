@@ -1,5 +1,6 @@
 //! Whichever single allocation is refused: an event that is refused memory changes nothing, and
 //! made again it gives what it should. The rows are those of one node, which takes frames as bytes.
+//! Each test holds whichever single allocation is refused.
 
 use crate::acts::Act;
 use crate::cluster::new_cluster;
@@ -26,6 +27,7 @@ const JOINING: [Row; 2] = [
     ),
 ];
 
+// Allocates at most 32 times.
 #[test]
 fn a_node_joins_under_refused_memory(rt: HostRuntime) {
     follow(&rt, rt.alloc(), &JOINING, &[]);
@@ -33,6 +35,7 @@ fn a_node_joins_under_refused_memory(rt: HostRuntime) {
 
 const LEAVING: [Row; 1] = [(0, Act::Leave, "done", &["BYE from 0 to 1 number 2"])];
 
+// Allocates at most 45 times.
 #[test]
 fn a_node_leaves_under_refused_memory(rt: HostRuntime) {
     follow(&rt, rt.alloc(), &ONE_PEER, &LEAVING);
@@ -40,6 +43,7 @@ fn a_node_leaves_under_refused_memory(rt: HostRuntime) {
 
 const PEER_DOWN: [Row; 1] = [(0, Act::PeerDown(1), "done", &[])];
 
+// Allocates at most 40 times.
 #[test]
 fn a_peer_is_down_under_refused_memory(rt: HostRuntime) {
     follow(&rt, rt.alloc(), &ONE_PEER, &PEER_DOWN);
@@ -52,6 +56,7 @@ const WRITING: [Row; 1] = [(
     &["GOSSIP from 0 to 1 number 2 round 0 key p/s/k ctx 0.1:1 values x"],
 )];
 
+// Allocates at most 75 times.
 #[test]
 fn a_node_writes_under_refused_memory(rt: HostRuntime) {
     follow(&rt, rt.alloc(), &ONE_PEER, &WRITING);
@@ -62,6 +67,7 @@ const READING: [Row; 2] = [
     (0, Act::Read(b'k'), "looked ctx 0.1:1 values x step 2", &[]),
 ];
 
+// Allocates at most 62 times.
 #[test]
 fn a_node_is_read_under_refused_memory(rt: HostRuntime) {
     follow(&rt, rt.alloc(), &READING, &[]);
@@ -77,6 +83,7 @@ const FRESH: [Row; 2] = [
     ),
 ];
 
+// Allocates at most 77 times.
 #[test]
 fn what_is_fresh_is_passed_on_under_refused_memory(rt: HostRuntime) {
     follow(&rt, rt.alloc(), &FRESH, &[]);
@@ -92,6 +99,7 @@ const STALE: [Row; 2] = [
     ),
 ];
 
+// Allocates at most 70 times.
 #[test]
 fn what_is_stale_is_answered_under_refused_memory(rt: HostRuntime) {
     follow(&rt, rt.alloc(), &STALE, &[]);
@@ -115,6 +123,7 @@ const ANNOUNCED: [Row; 3] = [
     ),
 ];
 
+// Allocates at most 70 times.
 #[test]
 fn what_is_missing_is_asked_for_under_refused_memory(rt: HostRuntime) {
     follow(&rt, rt.alloc(), &ANNOUNCED, &[]);
@@ -130,6 +139,7 @@ const ASKED_FOR: [Row; 2] = [
     ),
 ];
 
+// Allocates at most 79 times.
 #[test]
 fn what_is_asked_for_is_sent_under_refused_memory(rt: HostRuntime) {
     follow(&rt, rt.alloc(), &ASKED_FOR, &[]);
@@ -151,6 +161,7 @@ const LAZY: [Row; 3] = [
     ),
 ];
 
+// Allocates at most 146 times.
 #[test]
 fn a_lazy_peer_is_told_under_refused_memory(rt: HostRuntime) {
     follow(&rt, rt.alloc(), &ONE_PEER, &LAZY);
@@ -182,6 +193,7 @@ const EXCHANGED: [Row; 3] = [
     ),
 ];
 
+// Allocates at most 90 times.
 #[test]
 fn an_object_is_exchanged_under_refused_memory(rt: HostRuntime) {
     follow(&rt, rt.alloc(), &EXCHANGED, &[]);
@@ -197,6 +209,7 @@ const QUESTION: [Row; 2] = [
     ),
 ];
 
+// Allocates at most 61 times.
 #[test]
 fn a_question_is_answered_under_refused_memory(rt: HostRuntime) {
     follow(&rt, rt.alloc(), &QUESTION, &[]);
@@ -208,6 +221,7 @@ const WATCHED: [Row; 3] = [
     (0, Act::Changes(1), "missed 0 p/s/k 0.1:1", &[]),
 ];
 
+// Allocates at most 80 times.
 #[test]
 fn a_watch_hears_under_refused_memory(rt: HostRuntime) {
     follow(&rt, rt.alloc(), &WATCHED, &[]);
@@ -220,6 +234,7 @@ const COME_ANEW: [Row; 4] = [
     (0, Act::Leave, "done", &[]),
 ];
 
+// Allocates at most 60 times.
 #[test]
 fn a_node_comes_anew_under_refused_memory(rt: HostRuntime) {
     follow(&rt, rt.alloc(), &COME_ANEW, &[]);
@@ -237,6 +252,7 @@ const SHUFFLED: [Row; 2] = [
     ),
 ];
 
+// Allocates at most 67 times.
 #[test]
 fn a_tick_shuffles_under_refused_memory(rt: HostRuntime) {
     follow(&rt, rt.alloc(), &[QUIET; 9], &SHUFFLED);
@@ -247,6 +263,7 @@ const SIBLINGS: [Row; 2] = [
     (0, Act::Write(b'k', b'w'), "wrote ctx 0.1:2", &[]),
 ];
 
+// Allocates at most 102 times.
 #[test]
 fn siblings_are_repaired_under_refused_memory(rt: HostRuntime) {
     let mut cluster = new_cluster(&rt, rt.alloc(), 1);
