@@ -9,8 +9,9 @@ use node_events::NodeEvent;
 use std::alloc::Global;
 use std::process::Abort;
 
-/// What a node is asked: an event, with word 0. A node is told by its number, a key under p/s by
-/// its letter, and the body of a value by its letter, where `~` is a tombstone.
+/// What a node is asked, an event with word 0 or a repair, or what is looked at. A node is told by
+/// its number, a key under p/s by its letter, and the body of a value by its letter, where `~` is
+/// a tombstone.
 #[derive(Clone, Copy)]
 pub enum Act {
     Read(u8),
@@ -32,6 +33,12 @@ pub enum Act {
     Changes(u64),
     Hello(u16),
     Leave,
+    /// The repair of a key by the last write.
+    Repair(u8),
+    /// The neighbours of the node, and which of them are eager and lazy.
+    Peers,
+    /// Whether the root of the node is that of this other one.
+    RootOf(u16),
 }
 
 pub fn node(rt: &impl Abort, number: u16) -> NodeId {

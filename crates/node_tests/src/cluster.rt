@@ -2,7 +2,7 @@
 
 use crate::acts::{Act, event, key, node};
 use meta_store::{Context, Store};
-use meta_types::{ByteString, NodeId};
+use meta_types::ByteString;
 use node_core::{NodeState, Stepped};
 use node_events::{Reply, StepFault};
 use resolvers::{Lww, Resolver};
@@ -102,11 +102,20 @@ fn are_alike(one: &NodeState, other: &NodeState) -> bool {
             .all(|(watch, other)| watch.missed() == other.missed())
 }
 
-fn last_write(rt: &impl Abort, alloc: Global) -> Box<dyn Resolver> {
-    match Box::new(alloc, Lww) {
-        Ok(lww) => lww,
+/// The repair of a key by the last write.
+fn repaired(
+    rt: &impl Abort,
+    alloc: Global,
+    node: &mut NodeState,
+    letter: u8,
+) -> Result<Stepped, StepFault> {
+    let key = key(rt, alloc, letter);
+    let boxed = match Box::new(alloc, Lww) {
+        Ok(boxed) => boxed,
         Err(_) => Box::new(alloc, Lww).expect(rt, "memory once more"),
-    }
+    };
+    let lww: Box<dyn Resolver> = boxed;
+    node.repair(&key, &lww)
 }
 
 impl Cluster {
@@ -123,16 +132,24 @@ impl Cluster {
         self.refused_memory
     }
 
-    /// The step of a node. A refused one leaves the node as it was.
-    fn step_once(&mut self, rt: &impl Abort, number: u16, act: Act) -> Result<Stepped, StepFault> {
-        let (frames, contexts) = (self.frames.as_slice(), self.contexts.as_slice());
-        let event = event(rt, self.alloc, frames, contexts, act);
+    /// What a node gives to an event or a repair.
+    fn asked(&mut self, rt: &impl Abort, number: u16, act: Act) -> Result<Stepped, StepFault> {
         let node = self.nodes.get_mut(number as usize).expect(rt, "a node");
-        let before = copy(rt, node);
-        let outcome = node.step(event);
-        if outcome.is_err() {
-            assert!(rt; are_alike(node, &before));
+        if let Act::Repair(letter) = act {
+            return repaired(rt, self.alloc, node, letter);
         }
+        let (frames, contexts) = (self.frames.as_slice(), self.contexts.as_slice());
+        node.step(event(rt, self.alloc, frames, contexts, act))
+    }
+
+    /// The step of a node, or a repair. A refused one leaves the node as it was.
+    fn step_once(&mut self, rt: &impl Abort, number: u16, act: Act) -> Result<Stepped, StepFault> {
+        let before = copy(rt, self.node(rt, number));
+        let outcome = self.asked(rt, number, act);
+        if outcome.is_err() {
+            assert!(rt; are_alike(self.node(rt, number), &before));
+        }
+        drop(before);
         outcome
     }
 
@@ -147,29 +164,6 @@ impl Cluster {
         }
     }
 
-    /// The repair of a key by the last write. A refused one leaves the node as it was.
-    fn repair_once(&mut self, rt: &impl Abort, number: u16, at: u8) -> Result<Stepped, StepFault> {
-        let (key, lww) = (key(rt, self.alloc, at), last_write(rt, self.alloc));
-        let node = self.nodes.get_mut(number as usize).expect(rt, "a node");
-        let before = copy(rt, node);
-        let outcome = node.repair(&key, &lww);
-        if outcome.is_err() {
-            assert!(rt; are_alike(node, &before));
-        }
-        outcome
-    }
-
-    /// The same, once more where memory was refused.
-    pub fn repair(&mut self, rt: &impl Abort, number: u16, at: u8) -> Result<Stepped, StepFault> {
-        match self.repair_once(rt, number, at) {
-            Err(StepFault::Memory) => {
-                self.refused_memory = self.refused_memory.saturating_add(1);
-                self.repair_once(rt, number, at)
-            }
-            outcome => outcome,
-        }
-    }
-
     /// What a step sent and handed out is there for later steps.
     pub fn keep(&mut self, rt: &impl Abort, stepped: Stepped) {
         for frame in stepped.outbox.into_vec() {
@@ -179,20 +173,4 @@ impl Cluster {
             self.contexts.push(context).expect(rt, "room for a context");
         }
     }
-}
-
-/// Returns whether these are the nodes of these numbers, in order.
-fn are_nodes(nodes: &[NodeId], numbers: &[u16]) -> bool {
-    nodes.len() == numbers.len()
-        && nodes
-            .iter()
-            .zip(numbers)
-            .all(|(node, number)| node.number() == *number)
-}
-
-/// Returns whether these are the neighbours of the node, and these its eager and its lazy peers.
-pub fn has_peers(node: &NodeState, active: &[u16], eager: &[u16], lazy: &[u16]) -> bool {
-    are_nodes(node.views().active(), active)
-        && are_nodes(node.cast().eager(), eager)
-        && are_nodes(node.cast().lazy(), lazy)
 }

@@ -1,10 +1,9 @@
 //! Each event once, with ample memory.
 
 use crate::acts::Act;
-use crate::cluster::new_cluster;
-use crate::rows::{Row, follow};
+use crate::rows::{Row, play};
 
-const EACH_EVENT: [Row; 14] = [
+static EACH_EVENT: [Row; 14] = [
     (0, Act::Join(1), "done", &["JOIN from 0 to 1 number 1"]),
     (1, Act::Take(1), "took", &[]),
     (0, Act::Read(b'k'), "looked ctx - values - step 2", &[]),
@@ -43,6 +42,5 @@ const EACH_EVENT: [Row; 14] = [
 
 #[test]
 fn each_event_is_replied_to(rt: HostRuntime) {
-    let mut cluster = new_cluster(&rt, rt.alloc(), 2);
-    follow(&rt, &mut cluster, &EACH_EVENT);
+    play(&rt, rt.alloc(), 2, &EACH_EVENT, &[]);
 }

@@ -1,25 +1,21 @@
 //! Exchanges of two nodes.
 
 use crate::acts::Act;
-use crate::cluster::{Cluster, new_cluster};
-use crate::rows::{Row, follow};
-use std::process::Abort;
-
-fn have_one_root(rt: &impl Abort, cluster: &Cluster) -> bool {
-    cluster.node(rt, 0).tree().root() == cluster.node(rt, 1).tree().root()
-}
+use crate::rows::{Row, play};
 
 /// Each has a key of its own; node 0 has a neighbour besides.
-const TWO_KEYS: [Row; 3] = [
+static TWO_KEYS: [Row; 4] = [
     (0, Act::Write(b'a', b'x'), "wrote ctx 0.1:1", &[]),
     (1, Act::Write(b'b', b'y'), "wrote ctx 1.1:1", &[]),
     (0, Act::Join(2), "done", &["JOIN from 0 to 2 number 1"]),
+    (0, Act::RootOf(1), "another", &[]),
 ];
 
 /// The frames of the exchange are the second to the eleventh. The digest of a begins ca, that of b
 /// 3e: so the inner nodes 3 and 12 differ, and in them the leaves 62 and 202. An object of an
-/// exchange isn't passed on.
-const AN_EXCHANGE: [Row; 11] = [
+/// exchange isn't passed on. Then both hold both, an object that comes again is stale, and equal
+/// nodes have nothing to answer.
+static AN_EXCHANGE: [Row; 19] = [
     (
         0,
         Act::Exchange(1),
@@ -79,10 +75,7 @@ const AN_EXCHANGE: [Row; 11] = [
         &["XOBJECT from 0 to 1 number 6 key p/s/a ctx 0.1:1 values x"],
     ),
     (1, Act::Take(11), "took fresh", &[]),
-];
-
-/// Both hold both, an object that comes again is stale, and equal nodes have nothing to answer.
-const EQUAL: [Row; 7] = [
+    (0, Act::RootOf(1), "the same", &[]),
     (0, Act::Read(b'b'), "looked ctx 1.1:1 values y step 9", &[]),
     (1, Act::Read(b'a'), "looked ctx 0.1:1 values x step 7", &[]),
     (0, Act::Read(b'a'), "looked ctx 0.1:1 values x step 10", &[]),
@@ -99,10 +92,5 @@ const EQUAL: [Row; 7] = [
 
 #[test]
 fn an_exchange_of_two_keys_takes_ten_frames_and_then_one(rt: HostRuntime) {
-    let mut cluster = new_cluster(&rt, rt.alloc(), 2);
-    follow(&rt, &mut cluster, &TWO_KEYS);
-    assert!(rt; !have_one_root(&rt, &cluster));
-    follow(&rt, &mut cluster, &AN_EXCHANGE);
-    assert!(rt; have_one_root(&rt, &cluster));
-    follow(&rt, &mut cluster, &EQUAL);
+    play(&rt, rt.alloc(), 2, &TWO_KEYS, &AN_EXCHANGE);
 }

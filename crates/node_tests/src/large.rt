@@ -2,8 +2,8 @@
 
 use crate::acts::{Act, bytes, key, node, value};
 use crate::cluster::cluster_of_store;
-use crate::refusals::{GOSSIP_OF_Y, NEXT_FRAME, ONE_PEER};
-use crate::rows::{Row, follow};
+use crate::refusals::{GOSSIP_OF_Y, ONE_PEER};
+use crate::rows::{Row, play_on};
 use dvvset::{Entries, Entry};
 use meta_store::Store;
 use meta_types::{Actor, FullPrefix, MetaKey, Value};
@@ -34,19 +34,23 @@ fn full_store(rt: &impl Abort, alloc: Global) -> Store {
     store
 }
 
-const FULL: [Row; 4] = [
+static FULL: [Row; 5] = [
     (0, Act::Write(b'k', b'x'), "25 StoreFull", &[]),
     (0, Act::PutOver(b'k', b'x'), "25 StoreFull", &[]),
     (0, Act::TakeBytes(GOSSIP_OF_Y), "25 StoreFull", &[]),
     (0, Act::Read(b'k'), "looked ctx - values - step 2", &[]),
+    (
+        0,
+        Act::Hello(1),
+        "done",
+        &["HELLO from 0 to 1 number 2 life 1"],
+    ),
 ];
 
 #[test]
 fn a_full_store_refuses_a_new_key(rt: HostRuntime) {
     let mut cluster = cluster_of_store(&rt, rt.alloc(), full_store(&rt, rt.alloc()));
-    follow(&rt, &mut cluster, &ONE_PEER);
-    follow(&rt, &mut cluster, &FULL);
-    follow(&rt, &mut cluster, &NEXT_FRAME);
+    play_on(&rt, &mut cluster, &ONE_PEER, &FULL);
 }
 
 /// A value of so many bytes.
@@ -69,20 +73,26 @@ fn largest_object(rt: &impl Abort, alloc: Global) -> Entries {
     Entries::from_parts(entries).expect(rt, "an object")
 }
 
-const LARGE: [Row; 2] = [
+fn store_of_largest(rt: &impl Abort, alloc: Global) -> Store {
+    let (key, object) = (key(rt, alloc, b'k'), largest_object(rt, alloc));
+    let mut store = Store::new(alloc);
+    store.merge(key, object).expect(rt, "a merge");
+    store
+}
+
+static LARGE: [Row; 3] = [
     (0, Act::Write(b'k', b'x'), "27 ObjectTooLarge", &[]),
     (0, Act::Keep(b'k'), "done", &[]),
+    (
+        0,
+        Act::Hello(1),
+        "done",
+        &["HELLO from 0 to 1 number 2 life 1"],
+    ),
 ];
 
 #[test]
 fn an_object_grows_no_larger(rt: HostRuntime) {
-    let mut store = Store::new(rt.alloc());
-    let object = largest_object(&rt, rt.alloc());
-    store
-        .merge(key(&rt, rt.alloc(), b'k'), object)
-        .expect(&rt, "a merge");
-    let mut cluster = cluster_of_store(&rt, rt.alloc(), store);
-    follow(&rt, &mut cluster, &ONE_PEER);
-    follow(&rt, &mut cluster, &LARGE);
-    follow(&rt, &mut cluster, &NEXT_FRAME);
+    let mut cluster = cluster_of_store(&rt, rt.alloc(), store_of_largest(&rt, rt.alloc()));
+    play_on(&rt, &mut cluster, &ONE_PEER, &LARGE);
 }

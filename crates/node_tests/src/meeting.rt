@@ -1,11 +1,10 @@
 //! Nodes that join, leave, come anew and shuffle.
 
 use crate::acts::Act;
-use crate::cluster::{has_peers, new_cluster};
-use crate::rows::{Row, follow};
+use crate::rows::{Row, play};
 
 /// Nodes 1 and 2 join through node 0, after which each knows the two others.
-pub const THREE_JOIN: [Row; 7] = [
+pub static THREE_JOIN: [Row; 7] = [
     (1, Act::Join(0), "done", &["JOIN from 1 to 0 number 1"]),
     (0, Act::Take(1), "took", &[]),
     (2, Act::Join(0), "done", &["JOIN from 2 to 0 number 1"]),
@@ -30,17 +29,18 @@ pub const THREE_JOIN: [Row; 7] = [
     (1, Act::Take(5), "took", &[]),
 ];
 
+static EACH_KNOWS_THE_OTHERS: [Row; 3] = [
+    (0, Act::Peers, "active 1 2 eager 1 2 lazy", &[]),
+    (1, Act::Peers, "active 0 2 eager 0 2 lazy", &[]),
+    (2, Act::Peers, "active 0 1 eager 0 1 lazy", &[]),
+];
+
 #[test]
 fn three_nodes_join(rt: HostRuntime) {
-    let mut cluster = new_cluster(&rt, rt.alloc(), 3);
-    follow(&rt, &mut cluster, &THREE_JOIN);
-    for (number, peers) in [(0, [1, 2]), (1, [0, 2]), (2, [0, 1])] {
-        let node = cluster.node(&rt, number);
-        assert!(rt; has_peers(node, &peers, &peers, &[]), "node {number}");
-    }
+    play(&rt, rt.alloc(), 3, &THREE_JOIN, &EACH_KNOWS_THE_OTHERS);
 }
 
-const ONE_LEAVES: [Row; 3] = [
+static ONE_LEAVES: [Row; 6] = [
     (
         0,
         Act::Leave,
@@ -49,25 +49,28 @@ const ONE_LEAVES: [Row; 3] = [
     ),
     (1, Act::Take(6), "took", &[]),
     (2, Act::Take(7), "took", &[]),
+    (0, Act::Peers, "active eager lazy", &[]),
+    (1, Act::Peers, "active 2 eager 2 lazy", &[]),
+    (2, Act::Peers, "active 1 eager 1 lazy", &[]),
 ];
 
 #[test]
 fn a_node_that_leaves_says_so_to_each_neighbour(rt: HostRuntime) {
-    let mut cluster = new_cluster(&rt, rt.alloc(), 3);
-    follow(&rt, &mut cluster, &THREE_JOIN);
-    follow(&rt, &mut cluster, &ONE_LEAVES);
-    let rows: [(u16, &[u16]); 3] = [(0, &[]), (1, &[2]), (2, &[1])];
-    for (number, peers) in rows {
-        let node = cluster.node(&rt, number);
-        assert!(rt; has_peers(node, peers, peers, &[]), "node {number}");
-    }
+    play(&rt, rt.alloc(), 3, &THREE_JOIN, &ONE_LEAVES);
 }
 
-const QUIET: Row = (0, Act::Tick, "done", &[]);
-
-/// The tenth tick of node 0, whose random neighbour is node 1; node 1 passes the walk on to node 2,
+/// Ten ticks of node 0, whose random neighbour is node 1; node 1 passes the walk on to node 2,
 /// with whom it ends, since it knows nobody but the sender and the origin.
-const TENTH_TICK: [Row; 5] = [
+static TEN_TICKS: [Row; 14] = [
+    (0, Act::Tick, "done", &[]),
+    (0, Act::Tick, "done", &[]),
+    (0, Act::Tick, "done", &[]),
+    (0, Act::Tick, "done", &[]),
+    (0, Act::Tick, "done", &[]),
+    (0, Act::Tick, "done", &[]),
+    (0, Act::Tick, "done", &[]),
+    (0, Act::Tick, "done", &[]),
+    (0, Act::Tick, "done", &[]),
     (
         0,
         Act::Tick,
@@ -87,15 +90,12 @@ const TENTH_TICK: [Row; 5] = [
         &["SHUFFLEREPLY from 2 to 0 number 3 nodes -"],
     ),
     (0, Act::Take(8), "took", &[]),
-    QUIET,
+    (0, Act::Tick, "done", &[]),
 ];
 
 #[test]
 fn the_tenth_tick_shuffles(rt: HostRuntime) {
-    let mut cluster = new_cluster(&rt, rt.alloc(), 3);
-    follow(&rt, &mut cluster, &THREE_JOIN);
-    follow(&rt, &mut cluster, &[QUIET; 9]);
-    follow(&rt, &mut cluster, &TENTH_TICK);
+    play(&rt, rt.alloc(), 3, &THREE_JOIN, &TEN_TICKS);
 }
 
 /// JOIN from 1 to 0.
@@ -109,28 +109,26 @@ pub const HELLO_2: &[u8] = b"PT\x02\x13\0\x01\0\0\0\0\0\0\0\0\0\x01\0\0\0\x04\0\
 const HELLO_3: &[u8] = b"PT\x02\x13\0\x01\0\0\0\0\0\0\0\0\0\x01\0\0\0\x04\0\0\0\x03";
 
 /// What node 0 takes, and whether node 1 is its neighbour then.
-const LIVES: [(&[u8], bool); 8] = [
-    (JOIN, true),
-    (HELLO_2, false),
-    (JOIN, true),
-    (HELLO_2, true),
-    (HELLO_1, true),
-    (HELLO_3, false),
-    (JOIN, true),
-    (HELLO_2, true),
+static LIVES: [Row; 16] = [
+    (0, Act::TakeBytes(JOIN), "took", &[]),
+    (0, Act::Peers, "active 1 eager 1 lazy", &[]),
+    (0, Act::TakeBytes(HELLO_2), "took", &[]),
+    (0, Act::Peers, "active eager lazy", &[]),
+    (0, Act::TakeBytes(JOIN), "took", &[]),
+    (0, Act::Peers, "active 1 eager 1 lazy", &[]),
+    (0, Act::TakeBytes(HELLO_2), "took", &[]),
+    (0, Act::Peers, "active 1 eager 1 lazy", &[]),
+    (0, Act::TakeBytes(HELLO_1), "took", &[]),
+    (0, Act::Peers, "active 1 eager 1 lazy", &[]),
+    (0, Act::TakeBytes(HELLO_3), "took", &[]),
+    (0, Act::Peers, "active eager lazy", &[]),
+    (0, Act::TakeBytes(JOIN), "took", &[]),
+    (0, Act::Peers, "active 1 eager 1 lazy", &[]),
+    (0, Act::TakeBytes(HELLO_2), "took", &[]),
+    (0, Act::Peers, "active 1 eager 1 lazy", &[]),
 ];
 
 #[test]
 fn a_greater_life_takes_a_neighbour_down(rt: HostRuntime) {
-    let mut cluster = new_cluster(&rt, rt.alloc(), 1);
-    for (place, (frame, is_neighbour)) in LIVES.iter().enumerate() {
-        follow(
-            &rt,
-            &mut cluster,
-            &[(0, Act::TakeBytes(frame), "took", &[])],
-        );
-        let peers: &[u16] = if *is_neighbour { &[1] } else { &[] };
-        let node = cluster.node(&rt, 0);
-        assert!(rt; has_peers(node, peers, peers, &[]), "row {place}");
-    }
+    play(&rt, rt.alloc(), 1, &LIVES, &[]);
 }

@@ -1,99 +1,117 @@
 //! Each refusal. It leaves the node as it was, as `Cluster::step` sees, and counts neither as a
-//! step nor in the numbers of frames.
+//! step nor in the numbers of frames: the last frame of each list has number 2.
 
 use crate::acts::Act;
-use crate::cluster::new_cluster;
-use crate::rows::{Row, follow};
+use crate::rows::{Row, play};
 
 /// The node knows node 1, and has sent it a frame.
-pub const ONE_PEER: [Row; 1] = [(0, Act::Join(1), "done", &["JOIN from 0 to 1 number 1"])];
+pub static ONE_PEER: [Row; 1] = [(0, Act::Join(1), "done", &["JOIN from 0 to 1 number 1"])];
 
-/// The next frame has the next number.
-pub const NEXT_FRAME: [Row; 1] = [(
-    0,
-    Act::Hello(1),
-    "done",
-    &["HELLO from 0 to 1 number 2 life 1"],
-)];
-
-const ITSELF: [Row; 4] = [
+static ITSELF: [Row; 5] = [
     (0, Act::Join(0), "3 BadNode", &[]),
     (0, Act::PeerDown(0), "3 BadNode", &[]),
     (0, Act::Exchange(0), "3 BadNode", &[]),
     (0, Act::Hello(0), "3 BadNode", &[]),
+    (
+        0,
+        Act::Hello(1),
+        "done",
+        &["HELLO from 0 to 1 number 2 life 1"],
+    ),
 ];
 
 #[test]
 fn a_node_is_no_peer_of_itself(rt: HostRuntime) {
-    let mut cluster = new_cluster(&rt, rt.alloc(), 1);
-    follow(&rt, &mut cluster, &ONE_PEER);
-    follow(&rt, &mut cluster, &ITSELF);
-    follow(&rt, &mut cluster, &NEXT_FRAME);
+    play(&rt, rt.alloc(), 1, &ONE_PEER, &ITSELF);
 }
 
 /// Bytes that are no frame for node 0, and why: PRUNE from 1 to 0, or another message of which one
 /// byte is changed, is missing or is left over.
-const JUNK: [(&[u8], &str); 13] = [
-    (b"", "10 Short"),
-    (b"PT\x02\x04\0\x01\0\0\0\0\0\0\0\0\0\x01\0\0\0", "10 Short"),
+static JUNK: [Row; 14] = [
+    (0, Act::TakeBytes(b""), "10 Short", &[]),
     (
-        b"PT\x02\x13\0\x01\0\0\0\0\0\0\0\0\0\x01\0\0\0\x04\0\0\x01",
+        0,
+        Act::TakeBytes(b"PT\x02\x04\0\x01\0\0\0\0\0\0\0\0\0\x01\0\0\0"),
         "10 Short",
+        &[],
     ),
     (
-        b"QT\x02\x04\0\x01\0\0\0\0\0\0\0\0\0\x01\0\0\0\0",
+        0,
+        Act::TakeBytes(b"PT\x02\x13\0\x01\0\0\0\0\0\0\0\0\0\x01\0\0\0\x04\0\0\x01"),
+        "10 Short",
+        &[],
+    ),
+    (
+        0,
+        Act::TakeBytes(b"QT\x02\x04\0\x01\0\0\0\0\0\0\0\0\0\x01\0\0\0\0"),
         "11 BadMagic",
+        &[],
     ),
     (
-        b"PT\x01\x04\0\x01\0\0\0\0\0\0\0\0\0\x01\0\0\0\0",
+        0,
+        Act::TakeBytes(b"PT\x01\x04\0\x01\0\0\0\0\0\0\0\0\0\x01\0\0\0\0"),
         "12 BadVersion",
+        &[],
     ),
     (
-        b"PT\x02\x15\0\x01\0\0\0\0\0\0\0\0\0\x01\0\0\0\0",
+        0,
+        Act::TakeBytes(b"PT\x02\x15\0\x01\0\0\0\0\0\0\0\0\0\x01\0\0\0\0"),
         "13 BadKind",
+        &[],
     ),
     (
-        b"PT\x02\x04\0\x01\0\0\0\0\0\0\0\0\0\x01\0\xff\xff\xed",
+        0,
+        Act::TakeBytes(b"PT\x02\x04\0\x01\0\0\0\0\0\0\0\0\0\x01\0\xff\xff\xed"),
         "14 TooLong",
+        &[],
     ),
     (
-        b"PT\x02\x04\0\x01\0\0\0\0\0\0\0\0\0\x01\0\0\0\0\0",
+        0,
+        Act::TakeBytes(b"PT\x02\x04\0\x01\0\0\0\0\0\0\0\0\0\x01\0\0\0\0\0"),
         "16 LeftOver",
+        &[],
     ),
     (
-        b"PT\x02\x04\0\x10\0\0\0\0\0\0\0\0\0\x01\0\0\0\0",
+        0,
+        Act::TakeBytes(b"PT\x02\x04\0\x10\0\0\0\0\0\0\0\0\0\x01\0\0\0\0"),
         "15 BadBody at 4",
+        &[],
     ),
     (
-        b"PT\x02\x04\0\0\0\0\0\0\0\0\0\0\0\x01\0\0\0\0",
+        0,
+        Act::TakeBytes(b"PT\x02\x04\0\0\0\0\0\0\0\0\0\0\0\x01\0\0\0\0"),
         "15 BadBody at 6",
+        &[],
     ),
     (
-        b"PT\x02\x08\0\x01\0\0\0\0\0\0\0\0\0\x01\0\0\0\x01\x02",
+        0,
+        Act::TakeBytes(b"PT\x02\x08\0\x01\0\0\0\0\0\0\0\0\0\x01\0\0\0\x01\x02"),
         "15 BadBody at 20",
+        &[],
     ),
     (
-        b"PT\x02\x06\0\x01\0\0\0\0\0\0\0\0\0\x01\0\0\0\x02\0\x02",
+        0,
+        Act::TakeBytes(b"PT\x02\x06\0\x01\0\0\0\0\0\0\0\0\0\x01\0\0\0\x02\0\x02"),
         "15 BadBody at 22",
+        &[],
     ),
     (
-        b"PT\x02\x04\0\x01\0\x02\0\0\0\0\0\0\0\x01\0\0\0\0",
+        0,
+        Act::TakeBytes(b"PT\x02\x04\0\x01\0\x02\0\0\0\0\0\0\0\x01\0\0\0\0"),
         "40 NotAddressed",
+        &[],
+    ),
+    (
+        0,
+        Act::Hello(1),
+        "done",
+        &["HELLO from 0 to 1 number 2 life 1"],
     ),
 ];
 
 #[test]
 fn junk_and_frames_for_others_are_refused(rt: HostRuntime) {
-    let mut cluster = new_cluster(&rt, rt.alloc(), 1);
-    follow(&rt, &mut cluster, &ONE_PEER);
-    for (junk, refusal) in &JUNK {
-        follow(
-            &rt,
-            &mut cluster,
-            &[(0, Act::TakeBytes(junk), refusal, &[])],
-        );
-    }
-    follow(&rt, &mut cluster, &NEXT_FRAME);
+    play(&rt, rt.alloc(), 1, &ONE_PEER, &JUNK);
 }
 
 /// GOSSIP from 1 to 0 of p/s/k with y, which node 1 wrote.
@@ -119,7 +137,7 @@ const GOSSIP_OF_THE_LAST: &[u8] = b"PT\x02\x01\0\x01\0\0\0\0\0\0\0\0\0\x01\0\0\0
 \0\0\0\x01p\0\x01s\0\x01k\0\x01\
 \0\0\0\0\0\x01\xff\xff\xff\xff\xff\xff\xff\xff\0\x01\x01\0\0\0\0\0\0\0\0\0\x01x";
 
-const BY_THE_STORE: [Row; 8] = [
+static BY_THE_STORE: [Row; 9] = [
     (0, Act::TakeBytes(GOSSIP_OF_Y), "took fresh", &[]),
     (0, Act::PutOver(b'k', b'x'), "wrote ctx 0.1:1,1.1:1", &[]),
     (0, Act::TakeBytes(FORGED_GOSSIP), "21 BadEntries", &[]),
@@ -138,50 +156,68 @@ const BY_THE_STORE: [Row; 8] = [
         &[],
     ),
     (0, Act::Join(1), "done", &["JOIN from 0 to 1 number 1"]),
+    (
+        0,
+        Act::Hello(1),
+        "done",
+        &["HELLO from 0 to 1 number 2 life 1"],
+    ),
 ];
 
 #[test]
 fn what_the_store_refuses_changes_nothing(rt: HostRuntime) {
-    let mut cluster = new_cluster(&rt, rt.alloc(), 1);
-    follow(&rt, &mut cluster, &BY_THE_STORE);
-    follow(&rt, &mut cluster, &NEXT_FRAME);
+    play(&rt, rt.alloc(), 1, &BY_THE_STORE, &[]);
 }
 
-const A_SPENT_COUNTER: [Row; 3] = [
+static A_SPENT_COUNTER: [Row; 4] = [
     (0, Act::TakeBytes(GOSSIP_OF_THE_LAST), "took fresh", &[]),
     (0, Act::Write(b'k', b'y'), "20 CounterSpent", &[]),
     (0, Act::PutOver(b'k', b'y'), "20 CounterSpent", &[]),
+    (
+        0,
+        Act::Hello(1),
+        "done",
+        &["HELLO from 0 to 1 number 2 life 1"],
+    ),
 ];
 
 #[test]
 fn a_writer_whose_counter_is_spent_writes_no_more(rt: HostRuntime) {
-    let mut cluster = new_cluster(&rt, rt.alloc(), 1);
-    follow(&rt, &mut cluster, &ONE_PEER);
-    follow(&rt, &mut cluster, &A_SPENT_COUNTER);
-    follow(&rt, &mut cluster, &NEXT_FRAME);
+    play(&rt, rt.alloc(), 1, &ONE_PEER, &A_SPENT_COUNTER);
 }
 
-const BAD_WATCHES: [Row; 4] = [
+static BAD_WATCHES: [Row; 23] = [
     (0, Act::Watch(0), "28 BadWatch", &[]),
     (0, Act::Watch(1_025), "28 BadWatch", &[]),
     (0, Act::Changes(0), "29 NoSuchWatch", &[]),
     (0, Act::Changes(1), "29 NoSuchWatch", &[]),
-];
-
-const LAST_WATCHES: [Row; 3] = [
+    (0, Act::Watch(1), "watching ..", &[]),
+    (0, Act::Watch(1), "watching ..", &[]),
+    (0, Act::Watch(1), "watching ..", &[]),
+    (0, Act::Watch(1), "watching ..", &[]),
+    (0, Act::Watch(1), "watching ..", &[]),
+    (0, Act::Watch(1), "watching ..", &[]),
+    (0, Act::Watch(1), "watching ..", &[]),
+    (0, Act::Watch(1), "watching ..", &[]),
+    (0, Act::Watch(1), "watching ..", &[]),
+    (0, Act::Watch(1), "watching ..", &[]),
+    (0, Act::Watch(1), "watching ..", &[]),
+    (0, Act::Watch(1), "watching ..", &[]),
+    (0, Act::Watch(1), "watching ..", &[]),
+    (0, Act::Watch(1), "watching ..", &[]),
+    (0, Act::Watch(1), "watching ..", &[]),
     (0, Act::Watch(1_024), "watching 16", &[]),
     (0, Act::Watch(1), "28 BadWatch", &[]),
     (0, Act::Changes(17), "29 NoSuchWatch", &[]),
+    (
+        0,
+        Act::Hello(1),
+        "done",
+        &["HELLO from 0 to 1 number 2 life 1"],
+    ),
 ];
 
 #[test]
 fn a_seventeenth_watch_is_refused(rt: HostRuntime) {
-    let mut cluster = new_cluster(&rt, rt.alloc(), 1);
-    follow(&rt, &mut cluster, &ONE_PEER);
-    follow(&rt, &mut cluster, &BAD_WATCHES);
-    for _ in 1..16 {
-        follow(&rt, &mut cluster, &[(0, Act::Watch(1), "watching ..", &[])]);
-    }
-    follow(&rt, &mut cluster, &LAST_WATCHES);
-    follow(&rt, &mut cluster, &NEXT_FRAME);
+    play(&rt, rt.alloc(), 1, &ONE_PEER, &BAD_WATCHES);
 }

@@ -3,21 +3,11 @@
 //! Each test holds whichever single allocation is refused.
 
 use crate::acts::Act;
-use crate::cluster::new_cluster;
 use crate::meeting::{HELLO_2, JOIN};
 use crate::refusals::{GOSSIP_OF_Y, ONE_PEER};
-use crate::rows::{Row, assert_gives, follow_under_refused_memory};
-use std::alloc::Global;
-use std::process::Abort;
+use crate::rows::{Row, play_under_refused_memory as play};
 
-/// Node 0 does what the rows tell, these and then those.
-fn follow(rt: &impl Abort, alloc: Global, these: &[Row], those: &[Row]) {
-    let mut cluster = new_cluster(rt, alloc, 1);
-    follow_under_refused_memory(rt, &mut cluster, these);
-    follow_under_refused_memory(rt, &mut cluster, those);
-}
-
-const JOINING: [Row; 2] = [
+static JOINING: [Row; 2] = [
     (0, Act::Join(1), "done", &["JOIN from 0 to 1 number 1"]),
     (
         0,
@@ -30,26 +20,26 @@ const JOINING: [Row; 2] = [
 // Allocates at most 32 times.
 #[test]
 fn a_node_joins_under_refused_memory(rt: HostRuntime) {
-    follow(&rt, rt.alloc(), &JOINING, &[]);
+    play(&rt, rt.alloc(), &JOINING, &[]);
 }
 
-const LEAVING: [Row; 1] = [(0, Act::Leave, "done", &["BYE from 0 to 1 number 2"])];
+static LEAVING: [Row; 1] = [(0, Act::Leave, "done", &["BYE from 0 to 1 number 2"])];
 
 // Allocates at most 45 times.
 #[test]
 fn a_node_leaves_under_refused_memory(rt: HostRuntime) {
-    follow(&rt, rt.alloc(), &ONE_PEER, &LEAVING);
+    play(&rt, rt.alloc(), &ONE_PEER, &LEAVING);
 }
 
-const PEER_DOWN: [Row; 1] = [(0, Act::PeerDown(1), "done", &[])];
+static PEER_DOWN: [Row; 1] = [(0, Act::PeerDown(1), "done", &[])];
 
 // Allocates at most 40 times.
 #[test]
 fn a_peer_is_down_under_refused_memory(rt: HostRuntime) {
-    follow(&rt, rt.alloc(), &ONE_PEER, &PEER_DOWN);
+    play(&rt, rt.alloc(), &ONE_PEER, &PEER_DOWN);
 }
 
-const WRITING: [Row; 1] = [(
+static WRITING: [Row; 1] = [(
     0,
     Act::Write(b'k', b'x'),
     "wrote ctx 0.1:1",
@@ -59,10 +49,10 @@ const WRITING: [Row; 1] = [(
 // Allocates at most 75 times.
 #[test]
 fn a_node_writes_under_refused_memory(rt: HostRuntime) {
-    follow(&rt, rt.alloc(), &ONE_PEER, &WRITING);
+    play(&rt, rt.alloc(), &ONE_PEER, &WRITING);
 }
 
-const READING: [Row; 2] = [
+static READING: [Row; 2] = [
     (0, Act::PutOver(b'k', b'x'), "wrote ctx 0.1:1", &[]),
     (0, Act::Read(b'k'), "looked ctx 0.1:1 values x step 2", &[]),
 ];
@@ -70,10 +60,10 @@ const READING: [Row; 2] = [
 // Allocates at most 62 times.
 #[test]
 fn a_node_is_read_under_refused_memory(rt: HostRuntime) {
-    follow(&rt, rt.alloc(), &READING, &[]);
+    play(&rt, rt.alloc(), &READING, &[]);
 }
 
-const FRESH: [Row; 2] = [
+static FRESH: [Row; 2] = [
     (0, Act::Join(2), "done", &["JOIN from 0 to 2 number 1"]),
     (
         0,
@@ -86,10 +76,10 @@ const FRESH: [Row; 2] = [
 // Allocates at most 77 times.
 #[test]
 fn what_is_fresh_is_passed_on_under_refused_memory(rt: HostRuntime) {
-    follow(&rt, rt.alloc(), &FRESH, &[]);
+    play(&rt, rt.alloc(), &FRESH, &[]);
 }
 
-const STALE: [Row; 2] = [
+static STALE: [Row; 2] = [
     (0, Act::TakeBytes(GOSSIP_OF_Y), "took fresh", &[]),
     (
         0,
@@ -102,7 +92,7 @@ const STALE: [Row; 2] = [
 // Allocates at most 70 times.
 #[test]
 fn what_is_stale_is_answered_under_refused_memory(rt: HostRuntime) {
-    follow(&rt, rt.alloc(), &STALE, &[]);
+    play(&rt, rt.alloc(), &STALE, &[]);
 }
 
 /// IHAVE and GRAFT from 1 to 0 of p/s/k, of the first write of node 1, in round 5.
@@ -112,7 +102,7 @@ const IHAVE: &[u8] = b"PT\x02\x02\0\x01\0\0\0\0\0\0\0\0\0\x01\0\0\0\x1b\
 const GRAFT: &[u8] = b"PT\x02\x03\0\x01\0\0\0\0\0\0\0\0\0\x01\0\0\0\x1b\
 \0\x05\0\x01p\0\x01s\0\x01k\0\x01\0\x01\0\0\0\x01\0\0\0\0\0\0\0\x01";
 
-const ANNOUNCED: [Row; 3] = [
+static ANNOUNCED: [Row; 3] = [
     (0, Act::TakeBytes(IHAVE), "took", &[]),
     (0, Act::Tick, "done", &[]),
     (
@@ -126,10 +116,10 @@ const ANNOUNCED: [Row; 3] = [
 // Allocates at most 70 times.
 #[test]
 fn what_is_missing_is_asked_for_under_refused_memory(rt: HostRuntime) {
-    follow(&rt, rt.alloc(), &ANNOUNCED, &[]);
+    play(&rt, rt.alloc(), &ANNOUNCED, &[]);
 }
 
-const ASKED_FOR: [Row; 2] = [
+static ASKED_FOR: [Row; 2] = [
     (0, Act::TakeBytes(GOSSIP_OF_Y), "took fresh", &[]),
     (
         0,
@@ -142,7 +132,7 @@ const ASKED_FOR: [Row; 2] = [
 // Allocates at most 79 times.
 #[test]
 fn what_is_asked_for_is_sent_under_refused_memory(rt: HostRuntime) {
-    follow(&rt, rt.alloc(), &ASKED_FOR, &[]);
+    play(&rt, rt.alloc(), &ASKED_FOR, &[]);
 }
 
 /// PRUNE and BYE from 1 to 0.
@@ -150,7 +140,7 @@ const PRUNE: &[u8] = b"PT\x02\x04\0\x01\0\0\0\0\0\0\0\0\0\x01\0\0\0\0";
 
 const BYE: &[u8] = b"PT\x02\x14\0\x01\0\0\0\0\0\0\0\0\0\x01\0\0\0\0";
 
-const LAZY: [Row; 3] = [
+static LAZY: [Row; 3] = [
     (0, Act::TakeBytes(PRUNE), "took", &[]),
     (0, Act::Write(b'k', b'x'), "wrote ctx 0.1:1", &[]),
     (
@@ -164,7 +154,7 @@ const LAZY: [Row; 3] = [
 // Allocates at most 146 times.
 #[test]
 fn a_lazy_peer_is_told_under_refused_memory(rt: HostRuntime) {
-    follow(&rt, rt.alloc(), &ONE_PEER, &LAZY);
+    play(&rt, rt.alloc(), &ONE_PEER, &LAZY);
 }
 
 /// XWANT from 1 to 0 of p/s/k, XOBJECT of it with y, which node 1 wrote, and XROOT of nothing.
@@ -177,7 +167,7 @@ const XOBJECT: &[u8] = b"PT\x02\x11\0\x01\0\0\0\0\0\0\0\0\0\x01\0\0\0\x27\
 const XROOT: &[u8] = b"PT\x02\x0c\0\x01\0\0\0\0\0\0\0\0\0\x01\0\0\0\x20\
 \0\0\0\0\0\0\0\0\0\0\0\0\0\0\0\0\0\0\0\0\0\0\0\0\0\0\0\0\0\0\0\0";
 
-const EXCHANGED: [Row; 3] = [
+static EXCHANGED: [Row; 3] = [
     (0, Act::TakeBytes(XOBJECT), "took fresh", &[]),
     (
         0,
@@ -196,10 +186,10 @@ const EXCHANGED: [Row; 3] = [
 // Allocates at most 90 times.
 #[test]
 fn an_object_is_exchanged_under_refused_memory(rt: HostRuntime) {
-    follow(&rt, rt.alloc(), &EXCHANGED, &[]);
+    play(&rt, rt.alloc(), &EXCHANGED, &[]);
 }
 
-const QUESTION: [Row; 2] = [
+static QUESTION: [Row; 2] = [
     (0, Act::PutOver(b'k', b'x'), "wrote ctx 0.1:1", &[]),
     (
         0,
@@ -212,10 +202,10 @@ const QUESTION: [Row; 2] = [
 // Allocates at most 61 times.
 #[test]
 fn a_question_is_answered_under_refused_memory(rt: HostRuntime) {
-    follow(&rt, rt.alloc(), &QUESTION, &[]);
+    play(&rt, rt.alloc(), &QUESTION, &[]);
 }
 
-const WATCHED: [Row; 3] = [
+static WATCHED: [Row; 3] = [
     (0, Act::Watch(1), "watching 1", &[]),
     (0, Act::PutOver(b'k', b'x'), "wrote ctx 0.1:1", &[]),
     (0, Act::Changes(1), "missed 0 p/s/k 0.1:1", &[]),
@@ -224,10 +214,10 @@ const WATCHED: [Row; 3] = [
 // Allocates at most 80 times.
 #[test]
 fn a_watch_hears_under_refused_memory(rt: HostRuntime) {
-    follow(&rt, rt.alloc(), &WATCHED, &[]);
+    play(&rt, rt.alloc(), &WATCHED, &[]);
 }
 
-const COME_ANEW: [Row; 4] = [
+static COME_ANEW: [Row; 4] = [
     (0, Act::TakeBytes(JOIN), "took", &[]),
     (0, Act::TakeBytes(HELLO_2), "took", &[]),
     (0, Act::TakeBytes(BYE), "took", &[]),
@@ -237,12 +227,19 @@ const COME_ANEW: [Row; 4] = [
 // Allocates at most 60 times.
 #[test]
 fn a_node_comes_anew_under_refused_memory(rt: HostRuntime) {
-    follow(&rt, rt.alloc(), &COME_ANEW, &[]);
+    play(&rt, rt.alloc(), &COME_ANEW, &[]);
 }
 
-const QUIET: Row = (0, Act::Tick, "done", &[]);
-
-const SHUFFLED: [Row; 2] = [
+static TEN_TICKS: [Row; 11] = [
+    (0, Act::Tick, "done", &[]),
+    (0, Act::Tick, "done", &[]),
+    (0, Act::Tick, "done", &[]),
+    (0, Act::Tick, "done", &[]),
+    (0, Act::Tick, "done", &[]),
+    (0, Act::Tick, "done", &[]),
+    (0, Act::Tick, "done", &[]),
+    (0, Act::Tick, "done", &[]),
+    (0, Act::Tick, "done", &[]),
     (0, Act::Join(1), "done", &["JOIN from 0 to 1 number 1"]),
     (
         0,
@@ -255,20 +252,17 @@ const SHUFFLED: [Row; 2] = [
 // Allocates at most 67 times.
 #[test]
 fn a_tick_shuffles_under_refused_memory(rt: HostRuntime) {
-    follow(&rt, rt.alloc(), &[QUIET; 9], &SHUFFLED);
+    play(&rt, rt.alloc(), &TEN_TICKS, &[]);
 }
 
-const SIBLINGS: [Row; 2] = [
+static SIBLINGS: [Row; 3] = [
     (0, Act::Write(b'k', b'~'), "wrote ctx 0.1:1", &[]),
     (0, Act::Write(b'k', b'w'), "wrote ctx 0.1:2", &[]),
+    (0, Act::Repair(b'k'), "wrote ctx 0.1:3", &[]),
 ];
 
 // Allocates at most 102 times.
 #[test]
 fn siblings_are_repaired_under_refused_memory(rt: HostRuntime) {
-    let mut cluster = new_cluster(&rt, rt.alloc(), 1);
-    follow_under_refused_memory(&rt, &mut cluster, &SIBLINGS);
-    let repaired = cluster.repair(&rt, 0, b'k');
-    assert_gives(&rt, &mut cluster, repaired, "wrote ctx 0.1:3", &[]);
-    assert!(rt; cluster.refused_memory() <= 1);
+    play(&rt, rt.alloc(), &SIBLINGS, &[]);
 }

@@ -1,10 +1,9 @@
 //! The repair of siblings.
 
 use crate::acts::Act;
-use crate::cluster::new_cluster;
-use crate::rows::{Row, assert_gives, follow};
+use crate::rows::{Row, play};
 
-const TWO_SIBLINGS: [Row; 3] = [
+static TWO_SIBLINGS: [Row; 3] = [
     (0, Act::Join(1), "done", &["JOIN from 0 to 1 number 1"]),
     (
         0,
@@ -22,7 +21,14 @@ const TWO_SIBLINGS: [Row; 3] = [
 
 /// The step and the frame after the repair of the one sibling that is left count on from the
 /// repair of two.
-const ONE_SIBLING: [Row; 2] = [
+static REPAIRS: [Row; 4] = [
+    (
+        0,
+        Act::Repair(b'k'),
+        "wrote ctx 0.1:3",
+        &["GOSSIP from 0 to 1 number 4 round 0 key p/s/k ctx 0.1:3 values w"],
+    ),
+    (0, Act::Repair(b'k'), "done", &[]),
     (0, Act::Read(b'k'), "looked ctx 0.1:3 values w step 5", &[]),
     (
         0,
@@ -34,12 +40,5 @@ const ONE_SIBLING: [Row; 2] = [
 
 #[test]
 fn the_last_write_is_written_over_a_tombstone_once(rt: HostRuntime) {
-    let mut cluster = new_cluster(&rt, rt.alloc(), 2);
-    follow(&rt, &mut cluster, &TWO_SIBLINGS);
-    let repaired = cluster.repair(&rt, 0, b'k');
-    let frame = "GOSSIP from 0 to 1 number 4 round 0 key p/s/k ctx 0.1:3 values w";
-    assert_gives(&rt, &mut cluster, repaired, "wrote ctx 0.1:3", &[frame]);
-    let repaired = cluster.repair(&rt, 0, b'k');
-    assert_gives(&rt, &mut cluster, repaired, "done", &[]);
-    follow(&rt, &mut cluster, &ONE_SIBLING);
+    play(&rt, rt.alloc(), 1, &TWO_SIBLINGS, &REPAIRS);
 }

@@ -2,8 +2,8 @@
 //! as they are printed.
 
 use crate::acts::Act;
-use crate::cluster::Cluster;
-use crate::telling::{fault_text, frame_text, reply_text};
+use crate::cluster::{Cluster, new_cluster};
+use crate::telling::{fault_text, frame_text, peers_text, reply_text};
 use meta_types::ByteString;
 use node_core::Stepped;
 use node_events::StepFault;
@@ -30,7 +30,7 @@ fn assert_frames(rt: &impl Abort, alloc: Global, frames: &[ByteString], told: &[
 }
 
 /// A step gave what is told, and later steps may use it.
-pub fn assert_gives(
+fn assert_gives(
     rt: &impl Abort,
     cluster: &mut Cluster,
     outcome: Result<Stepped, StepFault>,
@@ -51,22 +51,47 @@ pub fn assert_gives(
     }
 }
 
-/// The nodes do what the rows tell, one after the other.
-fn follow_all(rt: &impl Abort, cluster: &mut Cluster, rows: &[Row]) {
-    for (number, act, reply, frames) in rows {
-        let outcome = cluster.step(rt, *number, *act);
-        assert_gives(rt, cluster, outcome, reply, frames);
+/// The node is as told.
+fn assert_shows(rt: &impl Abort, cluster: &Cluster, number: u16, act: Act, told: &str) {
+    let node = cluster.node(rt, number);
+    if let Act::RootOf(other) = act {
+        let root = cluster.node(rt, other).tree().root();
+        assert_eq!(rt; node.tree().root() == root, told == "the same");
+    } else {
+        let text = peers_text(rt, cluster.allocator(), node);
+        assert_told(rt, text.as_slice(), told);
     }
 }
 
-/// The same, and none of them is refused memory.
-pub fn follow(rt: &impl Abort, cluster: &mut Cluster, rows: &[Row]) {
-    follow_all(rt, cluster, rows);
+/// The nodes do what the rows tell, one after the other.
+fn follow_all(rt: &impl Abort, cluster: &mut Cluster, rows: &[Row]) {
+    for (number, act, told, frames) in rows {
+        if let Act::Peers | Act::RootOf(_) = act {
+            assert_shows(rt, cluster, *number, *act, told);
+        } else {
+            let outcome = cluster.step(rt, *number, *act);
+            assert_gives(rt, cluster, outcome, told, frames);
+        }
+    }
+}
+
+/// So many new nodes do what the rows tell, these and then those. None is refused memory.
+pub fn play(rt: &impl Abort, alloc: Global, count: u16, these: &[Row], those: &[Row]) {
+    let mut cluster = new_cluster(rt, alloc, count);
+    play_on(rt, &mut cluster, these, those);
+}
+
+/// The same, of nodes that are there.
+pub fn play_on(rt: &impl Abort, cluster: &mut Cluster, these: &[Row], those: &[Row]) {
+    follow_all(rt, cluster, these);
+    follow_all(rt, cluster, those);
     assert_eq!(rt; cluster.refused_memory(), 0);
 }
 
-/// The same, where one of them may be refused memory.
-pub fn follow_under_refused_memory(rt: &impl Abort, cluster: &mut Cluster, rows: &[Row]) {
-    follow_all(rt, cluster, rows);
+/// The same of node 0, which may be refused memory once.
+pub fn play_under_refused_memory(rt: &impl Abort, alloc: Global, these: &[Row], those: &[Row]) {
+    let mut cluster = new_cluster(rt, alloc, 1);
+    follow_all(rt, &mut cluster, these);
+    follow_all(rt, &mut cluster, those);
     assert!(rt; cluster.refused_memory() <= 1);
 }

@@ -1,17 +1,17 @@
 //! Writes that are broadcast.
 
 use crate::acts::Act;
-use crate::cluster::{has_peers, new_cluster};
 use crate::meeting::THREE_JOIN;
-use crate::rows::{Row, follow};
+use crate::rows::{Row, play};
 
-const TWO_JOIN: [Row; 2] = [
+static TWO_JOIN: [Row; 2] = [
     (1, Act::Join(0), "done", &["JOIN from 1 to 0 number 1"]),
     (0, Act::Take(1), "took", &[]),
 ];
 
-/// Each writes beside the other, and both show both.
-const TWO_WRITE: [Row; 6] = [
+/// Each writes beside the other, and both show both. Then a GOSSIP comes again, after which each is
+/// a lazy peer of the other, and is sent announcements.
+static TWO_WRITE: [Row; 12] = [
     (
         0,
         Act::Write(b'k', b'x'),
@@ -38,10 +38,7 @@ const TWO_WRITE: [Row; 6] = [
         "looked ctx 0.1:1,1.1:1 values x,y step 4",
         &[],
     ),
-];
-
-/// A GOSSIP comes again, after which each is a lazy peer of the other, and is sent announcements.
-const ONE_COMES_AGAIN: [Row; 4] = [
+    // The first GOSSIP comes again.
     (
         1,
         Act::Take(2),
@@ -56,22 +53,17 @@ const ONE_COMES_AGAIN: [Row; 4] = [
         "done",
         &["IHAVE from 0 to 1 number 2 round 0 key p/s/k ctx 0.1:2,1.1:1"],
     ),
+    (0, Act::Peers, "active 1 eager lazy 1", &[]),
+    (1, Act::Peers, "active 0 eager lazy 0", &[]),
 ];
 
 #[test]
 fn writes_beside_each_other_are_siblings_everywhere(rt: HostRuntime) {
-    let mut cluster = new_cluster(&rt, rt.alloc(), 2);
-    follow(&rt, &mut cluster, &TWO_JOIN);
-    follow(&rt, &mut cluster, &TWO_WRITE);
-    follow(&rt, &mut cluster, &ONE_COMES_AGAIN);
-    for (number, other) in [(0, 1), (1, 0)] {
-        let node = cluster.node(&rt, number);
-        assert!(rt; has_peers(node, &[other], &[], &[other]), "node {number}");
-    }
+    play(&rt, rt.alloc(), 2, &TWO_JOIN, &TWO_WRITE);
 }
 
 /// A write over a read one comes before it.
-const REORDERED: [Row; 6] = [
+static REORDERED: [Row; 6] = [
     (
         0,
         Act::Write(b'k', b'x'),
@@ -97,14 +89,13 @@ const REORDERED: [Row; 6] = [
 
 #[test]
 fn what_was_written_over_stays_away_when_it_comes_late(rt: HostRuntime) {
-    let mut cluster = new_cluster(&rt, rt.alloc(), 2);
-    follow(&rt, &mut cluster, &TWO_JOIN);
-    follow(&rt, &mut cluster, &REORDERED);
+    play(&rt, rt.alloc(), 2, &TWO_JOIN, &REORDERED);
 }
 
 /// Node 2 hears of the first write from node 0 and then from node 1, which becomes a lazy peer of
-/// it, as it does of node 1.
-const ONE_LINK_BECOMES_LAZY: [Row; 5] = [
+/// it, as it does of node 1. Of the second write a frame is lost: node 1 announces that write, and
+/// node 2 asks for it after two ticks.
+static A_FRAME_IS_LOST: [Row; 15] = [
     (
         0,
         Act::Write(b'k', b'x'),
@@ -133,11 +124,7 @@ const ONE_LINK_BECOMES_LAZY: [Row; 5] = [
         &["PRUNE from 2 to 1 number 4"],
     ),
     (1, Act::Take(10), "took", &[]),
-];
-
-/// The frame of the second write to node 2 is lost. Node 1 announces the write, and node 2 asks for
-/// it after two ticks.
-const A_FRAME_IS_LOST: [Row; 8] = [
+    // The frame of the second write to node 2 is lost.
     (
         0,
         Act::PutOver(b'k', b'y'),
@@ -174,16 +161,11 @@ const A_FRAME_IS_LOST: [Row; 8] = [
         "took fresh",
         &["GOSSIP from 2 to 0 number 6 round 2 key p/s/k ctx 0.1:2 values y"],
     ),
+    (1, Act::Peers, "active 0 2 eager 0 2 lazy", &[]),
+    (2, Act::Peers, "active 0 1 eager 0 1 lazy", &[]),
 ];
 
 #[test]
 fn an_announcement_repairs_a_lost_frame(rt: HostRuntime) {
-    let mut cluster = new_cluster(&rt, rt.alloc(), 3);
-    follow(&rt, &mut cluster, &THREE_JOIN);
-    follow(&rt, &mut cluster, &ONE_LINK_BECOMES_LAZY);
-    follow(&rt, &mut cluster, &A_FRAME_IS_LOST);
-    for (number, peers) in [(1, [0, 2]), (2, [0, 1])] {
-        let node = cluster.node(&rt, number);
-        assert!(rt; has_peers(node, &peers, &peers, &[]), "node {number}");
-    }
+    play(&rt, rt.alloc(), 3, &THREE_JOIN, &A_FRAME_IS_LOST);
 }

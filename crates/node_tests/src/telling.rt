@@ -1,8 +1,9 @@
 //! What a step gives, as text.
 
-use meta_frame::{FrameFault, decode};
+use meta_frame::{Frame, FrameFault, decode};
 use meta_store::Context;
-use meta_types::ByteString;
+use meta_types::{ByteString, NodeId};
+use node_core::NodeState;
 use node_events::{Changes, Reply, StepFault, Values};
 use printing::{print_frame, print_key, print_value, print_vector};
 use std::alloc::{AllocError, Global};
@@ -108,18 +109,40 @@ pub fn fault_text(rt: &impl Abort, alloc: Global, fault: &StepFault) -> Vec<u8> 
     text
 }
 
-fn add_frame(text: &mut Vec<u8>, bytes: &[u8]) -> Result<(), FrameFault> {
-    let frame = decode(*text.allocator(), bytes)?;
-    print_frame(text, &frame)?;
-    Ok(())
+/// The frame of these bytes, asked for once more where memory is refused.
+fn frame_of(rt: &impl Abort, alloc: Global, bytes: &[u8]) -> Frame {
+    match decode(alloc, bytes) {
+        Ok(frame) => frame,
+        Err(_) => decode(alloc, bytes).expect(rt, "a frame"),
+    }
 }
 
 /// The text of the frame, asked for once more where memory is refused.
 pub fn frame_text(rt: &impl Abort, alloc: Global, frame: &ByteString) -> Vec<u8> {
+    let frame = frame_of(rt, alloc, frame.as_slice());
     let mut text = Vec::new(alloc);
-    if add_frame(&mut text, frame.as_slice()).is_err() {
-        text.clear();
-        add_frame(&mut text, frame.as_slice()).expect(rt, "a frame");
+    if print_frame(&mut text, &frame).is_err() {
+        print_frame(&mut text, &frame).expect(rt, "memory once more");
     }
+    drop(frame);
+    text
+}
+
+fn add_nodes(text: &mut Vec<u8>, word: &str, nodes: &[NodeId]) -> Result<(), AllocError> {
+    add(text, word)?;
+    for node in nodes {
+        add(text, " ")?;
+        add_number(text, u64::from(node.number()))?;
+    }
+    Ok(())
+}
+
+/// The neighbours, and which of them are eager and lazy.
+pub fn peers_text(rt: &impl Abort, alloc: Global, node: &NodeState) -> Vec<u8> {
+    let mut text = Vec::new(alloc);
+    let (active, cast) = (node.views().active(), node.cast());
+    add_nodes(&mut text, "active", active).expect(rt, "memory");
+    add_nodes(&mut text, " eager", cast.eager()).expect(rt, "memory");
+    add_nodes(&mut text, " lazy", cast.lazy()).expect(rt, "memory");
     text
 }

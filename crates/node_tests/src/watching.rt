@@ -1,11 +1,10 @@
 //! What watches hear.
 
 use crate::acts::Act;
-use crate::cluster::new_cluster;
 use crate::refusals::GOSSIP_OF_Y;
-use crate::rows::{Row, follow};
+use crate::rows::{Row, play};
 
-const THREE_WRITES: [Row; 6] = [
+static THREE_WRITES: [Row; 6] = [
     (0, Act::Watch(2), "watching 1", &[]),
     (0, Act::Write(b'a', b'x'), "wrote ctx 0.1:1", &[]),
     (0, Act::Write(b'b', b'x'), "wrote ctx 0.1:1", &[]),
@@ -16,12 +15,11 @@ const THREE_WRITES: [Row; 6] = [
 
 #[test]
 fn a_watch_of_capacity_2_misses_the_first_of_three_writes(rt: HostRuntime) {
-    let mut cluster = new_cluster(&rt, rt.alloc(), 1);
-    follow(&rt, &mut cluster, &THREE_WRITES);
+    play(&rt, rt.alloc(), 1, &THREE_WRITES, &[]);
 }
 
 /// What comes is heard of where it is fresh, and only there; two watches are handed out apart.
-const FRESH_AND_STALE: [Row; 7] = [
+static FRESH_AND_STALE: [Row; 7] = [
     (0, Act::Watch(9), "watching 1", &[]),
     (0, Act::TakeBytes(GOSSIP_OF_Y), "took fresh", &[]),
     (0, Act::Watch(9), "watching 2", &[]),
@@ -43,6 +41,5 @@ const FRESH_AND_STALE: [Row; 7] = [
 
 #[test]
 fn a_watch_hears_of_what_is_fresh(rt: HostRuntime) {
-    let mut cluster = new_cluster(&rt, rt.alloc(), 1);
-    follow(&rt, &mut cluster, &FRESH_AND_STALE);
+    play(&rt, rt.alloc(), 1, &FRESH_AND_STALE, &[]);
 }
