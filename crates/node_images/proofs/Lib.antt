@@ -4,7 +4,13 @@ pub mod Chains
 pub mod Bounded
 -- a store filled from an image
 pub mod Restoring
+-- what is kept of a node, after what a history tells of it
+pub mod Keepings
 -- what each change of a node keeps
 pub mod Noding
+-- what is ready before a step
+pub mod Ready
+-- a node after a step
+pub mod Stepping
 -- a node after one more happening
 pub mod Following

@@ -22,7 +22,8 @@ use Rattle.meta_store.proofs.Keys.{key_total}
 use Rattle.meta_store.proofs.Tables.{found_row, not_absent, object_at-elsewhere, object_at-here, table_put}
 use Rattle.past_objects.specs.Objects.{Holding}
 use Rattle.node_images.specs.Images.{Image, ChangeEarlier, IsTabled, change_of, changed, holdings}
-use Rattle.node_images.specs.Node.{Node, IsImagedNode, change_at, most_incarnation, new_node, with_image, with_restart}
+use Rattle.node_images.specs.Keeping.{Keeping, IsRestorable, change_at, most_incarnation}
+use Rattle.node_images.proofs.Keepings.{new_keeping, with_image, with_restart}
 use Rattle.node_images.proofs.Bounded.{KeysWithin, found_from, room_within, shown_from}
 use Rattle.node_images.proofs.Chains.{holdings_snoc, none}
 
@@ -34,7 +35,7 @@ tabled-none images number low = record {
   same = λ k. sym (ap (λ n. holdings images n k) (let e : number ≡ 0 = omega (arith, low) in e) ∙ none images k);
 }
 
-pub is_node-new : IsImagedNode new_node
+pub is_node-new : IsRestorable new_keeping
 is_node-new = record {
   earlier = record { earlier = λ at d low. let no : at < 0 = low in absurd (omega (arith, no)) };
   standing = omega arith;
@@ -80,11 +81,11 @@ with_object_reads table key o there same k false e =
     object_at-elsewhere key o table k (λ is. let t : key_eq k key ≡ true = ap (λ l. key_eq k l) (sym is) ∙ key_eq-self k in let no : true ≡ false = sym t ∙ e in cc) ∙ same k
 
 -- what the standing image has, the table after a change has
-record Grows (node : Node) (table : Table) : Type 0 where
+record Grows (node : Keeping) (table : Table) : Type 0 where
   is_table : IsTable table
   more : (k : Key) → object_at node.table k ≢ [] → object_at table k ≢ []
 
-tabled_by : (node : Node) (table : Table) (key : Key) → IsImagedNode node → Grows node table → (found : Option (List Entry)) → find key_cmp key table ≡ found
+tabled_by : (node : Keeping) (table : Table) (key : Key) → IsRestorable node → Grows node table → (found : Option (List Entry)) → find key_cmp key table ≡ found
     → IsTabled (changed (holdings node.images node.standing) (change_of key found))
 tabled_by node table key is g None e = is.tabled node.standing is.standing
 tabled_by node table key is g (Some o) e =
@@ -101,7 +102,7 @@ tabled_by node table key is g (Some o) e =
       same = λ k. with_object_reads stood.table key o (holdings node.images node.standing) stood.same k (key_eq k key) refl;
     }
 
-within_by : (node : Node) (table : Table) (key : Key) → IsImagedNode node → Grows node table → (found : Option (List Entry)) → find key_cmp key table ≡ found
+within_by : (node : Keeping) (table : Table) (key : Key) → IsRestorable node → Grows node table → (found : Option (List Entry)) → find key_cmp key table ≡ found
     → (k : Key) (b : Bool) → key_eq k key ≡ b → changed (holdings node.images node.standing) (change_of key found) k ≢ [] → object_at table k ≢ []
 within_by node table key is g None e k b same some = g.more k (is.within k some)
 within_by node table key is g (Some o) e k true same some =
@@ -122,7 +123,7 @@ tabled_at images image all new number false e low =
     subst (λ n. IsTabled (holdings (images ++ image ∷ []) n)) same (subst IsTabled (sym (reads_new images image)) new)
 
 -- a node with a table that shows at least as many keys, and one image more
-pub is_node-image : (node : Node) (table : Table) (key : Key) → IsImagedNode node → IsTable table → ((k : Key) → object_at node.table k ≢ [] → object_at table k ≢ []) → IsImagedNode (with_image table key node)
+pub is_node-image : (node : Keeping) (table : Table) (key : Key) → IsRestorable node → IsTable table → ((k : Key) → object_at node.table k ≢ [] → object_at table k ≢ []) → IsRestorable (with_image table key node)
 is_node-image node table key is is_table more =
     let image : Image = record { base = node.standing; change = change_at table key } in
     let g : Grows node table = record { is_table = is_table; more = more } in
@@ -138,7 +139,7 @@ is_node-image node table key is is_table more =
     }
 
 -- a table that shows at least as many keys, and the images as they were
-pub is_node-table : (node : Node) (table : Table) → IsImagedNode node → ((k : Key) → object_at node.table k ≢ [] → object_at table k ≢ []) → IsImagedNode (record node { table = table })
+pub is_node-table : (node : Keeping) (table : Table) → IsRestorable node → ((k : Key) → object_at node.table k ≢ [] → object_at table k ≢ []) → IsRestorable (record node { table = table })
 is_node-table node table is more = record {
   lives = is.lives;
   earlier = is.earlier;
@@ -148,8 +149,8 @@ is_node-table node table is more = record {
 }
 
 -- the table of an image
-pub is_node-restart : (node : Node) (table : Table) (number : ℕ) → IsImagedNode node → number ≤ length node.images → node.incarnation < most_incarnation → ((k : Key) → object_at table k ≡ holdings node.images number k)
-    → IsImagedNode (with_restart table number node)
+pub is_node-restart : (node : Keeping) (table : Table) (number : ℕ) → IsRestorable node → number ≤ length node.images → node.incarnation < most_incarnation → ((k : Key) → object_at table k ≡ holdings node.images number k)
+    → IsRestorable (with_restart table number node)
 is_node-restart node table number is low left same = record {
   lives = omega (arith, left);
   earlier = is.earlier;
@@ -191,21 +192,21 @@ merge_grows table key came is = merge_grows_by table key came (is_stale table ke
 
 -- ---- the node after a call
 
-pub is_node-added : (node : Node) (table : Table) (key : Key) → IsImagedNode node → IsTable table → ((k : Key) → object_at node.table k ≢ [] → object_at table k ≢ [])
+pub is_node-added : (node : Keeping) (table : Table) (key : Key) → IsRestorable node → IsTable table → ((k : Key) → object_at node.table k ≢ [] → object_at table k ≢ [])
     → (image : Image) (images : List Image) (standing : ℕ) → image ≡ record { base = node.standing; change = change_at table key } → images ≡ node.images ++ image ∷ [] → standing ≡ length images
-    → IsImagedNode (record { table = table; images = images; standing = standing; incarnation = node.incarnation })
+    → IsRestorable (record { table = table; images = images; standing = standing; incarnation = node.incarnation })
 is_node-added node table key is is_table more image images standing made e l =
-    let whole : IsImagedNode (with_image table key node) = is_node-image node table key is is_table more in
+    let whole : IsRestorable (with_image table key node) = is_node-image node table key is is_table more in
     let new : List Image = node.images ++ (record { base = node.standing; change = change_at table key }) ∷ [] in
     let same : images ≡ new = e ∙ ap (λ x. node.images ++ x ∷ []) made in
     let long : length new ≡ length node.images + 1 = length-append node.images ((record { base = node.standing; change = change_at table key }) ∷ []) in
     let last : standing ≡ length node.images + 1 = l ∙ ap length same ∙ long in
-    subst (λ n. IsImagedNode (record { table = table; images = images; standing = n; incarnation = node.incarnation })) (sym last)
-    (subst (λ xs. IsImagedNode (record { table = table; images = xs; standing = length node.images + 1; incarnation = node.incarnation })) (sym same) whole)
+    subst (λ n. IsRestorable (record { table = table; images = images; standing = n; incarnation = node.incarnation })) (sym last)
+    (subst (λ xs. IsRestorable (record { table = table; images = xs; standing = length node.images + 1; incarnation = node.incarnation })) (sym same) whole)
 
-pub is_node-written : (node : Node) (table : Table) (key : Key) (o : List Entry) → IsImagedNode node → IsTable table → table ≡ with_object key o node.table
+pub is_node-written : (node : Keeping) (table : Table) (key : Key) (o : List Entry) → IsRestorable node → IsTable table → table ≡ with_object key o node.table
     → (image : Image) (images : List Image) (standing : ℕ) → image ≡ record { base = node.standing; change = Some (key, o) } → images ≡ node.images ++ image ∷ [] → standing ≡ length images
-    → IsImagedNode (record { table = table; images = images; standing = standing; incarnation = node.incarnation })
+    → IsRestorable (record { table = table; images = images; standing = standing; incarnation = node.incarnation })
 is_node-written node table key o is is_table put image images standing made e l =
     let held : IsHeld o = held_at node.table key o (subst IsTable put is_table) in
     is_node-added node table key is is_table (λ k some. subst (λ t. object_at t k ≢ []) (sym put) (put_grows node.table key o held k some))

@@ -37,7 +37,9 @@ instead (Some change) k = if key_eq k change.0 then Some change.1 else None
 -- what the images have, by number: the next one has what its base has, but for its change
 abbrev pub holdings_from : (ℕ → Holding) → ℕ → List Image → ℕ → Holding
 holdings_from there last [] = there
-holdings_from there last (image ∷ later) = holdings_from (set_at there (last + 1) (changed (there image.base) image.change)) (last + 1) later
+holdings_from there last (image ∷ later) =
+    holdings_from (set_at there (last + 1) (changed (there image.base) image.change)) (last + 1)
+    later
 
 abbrev pub holdings : List Image → ℕ → Holding
 holdings images = holdings_from (λ j. holds_nothing) 0 images

@@ -9,9 +9,13 @@ pub use Rattle.meta_store.specs.Step
 pub use Rattle.past_objects.specs.Objects
 -- images as they are kept
 pub mod Images
--- what is kept of one node
+-- what a history tells of one node
+pub mod Keeping
+-- one node with its images, its steps and restarts
 pub mod Node
 -- where a node stands after a history, which the rule of a world cites
 pub mod Follows
--- what private functions alone cite: a store that is filled from an image
+-- what private functions alone cite: what is made ready before a step, and a store that is filled
+-- from an image
+pub mod Ahead
 pub mod Restore

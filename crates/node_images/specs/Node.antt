@@ -1,67 +1,101 @@
--- What the world keeps of one node: its table, its images, the number of the image that the next
--- one changes, and the life that it is in. The rule is our own.
-use Rattle.std.specs.Prelude.{◌≢◌, ℕ, ◌+◌, ◌≤◌, List, [], ◌∷◌, ◌++◌, length, Option, Some}
-use Rattle.std.specs.FinMap.{find}
+-- One node with its images: its state, and beside it what its writes and keepings left.
+use Rattle.std.specs.Prelude.{◌≡◌, ℕ, ◌+◌, ◌≤◌, List, [], ◌∷◌, ◌++◌, length, Option, Some, None}
+use Rattle.std.specs.Option.{option_map}
 use Rattle.meta_types.specs.Name.{Key}
-use Rattle.meta_types.specs.Value.{ValueParts}
-use Rattle.meta_types.specs.Order.{key_cmp}
 use Rattle.dvvset.specs.Object.{Entry}
 use Rattle.meta_store.specs.Context.{Reading}
-use Rattle.meta_store.specs.Table.{Table, object_at, with_object}
-use Rattle.meta_store.specs.Step.{table_after_merge, object_after_put}
-use Rattle.node_images.specs.Images.{Image, change_of, ChangeEarlier, IsTabled, holdings}
+use Rattle.meta_store.specs.Table.{Table, IsTable, object_at}
+use Rattle.node_events.specs.declared.event.NodeEvent.{NodeEvent}
+use Rattle.node_events.specs.declared.event.NodeEvent.TheVariants.{Read, Write, PutOver, Keep}
+use Rattle.node_core.specs.declared.state.Stepped.{Stepped}
+use Rattle.node_core.specs.Node.{NodeParts, opening, present}
+use Rattle.node_core.specs.Step.{IsNodeStep}
+use Rattle.node_images.specs.declared.node.ImagedStep.{ImagedStep}
+use Rattle.node_images.specs.Images.{Image, holdings}
+use Rattle.node_images.specs.Keeping.{Keeping, change_at}
 
-pub record Node : Type 0 where
-  pub table : Table
+-- the node, its images, and the number of the one that the next image changes
+pub record ImagedNode : Type 0 where
+  pub state : NodeParts
   pub images : List Image
   pub standing : ℕ
-  pub incarnation : ℕ
 
--- the last life that a node can be in
-abbrev pub most_incarnation : ℕ
-most_incarnation = 4294967295
-
--- images can be read and restored; under each key where the standing one has an object the node has
--- one
-pub record IsImagedNode (node : Node) : Type 0 where
-  pub earlier : ChangeEarlier node.images
-  pub standing : node.standing ≤ length node.images
-  pub tabled : (number : ℕ) → number ≤ length node.images → IsTabled (holdings node.images number)
-  pub lives : node.incarnation ≤ most_incarnation
-  pub within : (k : Key) → holdings node.images node.standing k ≢ [] → object_at node.table k ≢ []
-
-abbrev pub new_node : Node
-new_node = record { table = []; images = []; standing = 0; incarnation = 1 }
-
--- what a key has in a table, as a change of an image
-abbrev pub change_at : Table → Key → Option (Key × List Entry)
-change_at table key = change_of key (find key_cmp key table)
-
--- the next image: the standing one with what the table has under the key
-abbrev pub with_image : Table → Key → Node → Node
-with_image table key node = record {
-  table = table;
-  images = node.images ++ (record { base = node.standing; change = change_at table key }) ∷ [];
-  standing = length node.images + 1;
-  incarnation = node.incarnation;
+-- what a history tells of it
+abbrev pub keeping : ImagedNode → Keeping
+keeping n = record {
+  table = n.state.table;
+  images = n.images;
+  standing = n.standing;
+  incarnation = n.state.incarnation;
 }
 
--- the image that a write leaves: the standing one with what the write leaves under its key
-abbrev pub image_of_write : ℕ → Key → ValueParts → Option Reading → Node → Image
-image_of_write id key value context node = record { base = node.standing; change = Some (key, object_after_put node.table id key value context) }
+-- a node in its first life, which holds nothing and has no image but the empty one
+abbrev pub new_node : ℕ → ImagedNode
+new_node number = record { state = opening number 1 []; images = []; standing = 0 }
 
--- after a write: its object stands under its key, and the next image has it
-abbrev pub with_write : ℕ → Key → ValueParts → Option Reading → Node → Node
-with_write id key value context node = with_image (with_object key (object_after_put node.table id key value context) node.table) key node
+-- ---- a step
 
--- after keeping what is held under a key: the next image has it
-abbrev pub with_kept : Key → Node → Node
-with_kept key node = with_image node.table key node
+-- the key under which an event leaves an image: a write, and a keeping
+abbrev pub image_key : NodeEvent → Option Key
+image_key (Write key value context) = Some key
+image_key (PutOver key value) = Some key
+image_key (Keep key) = Some key
+image_key event = None
 
--- after a delivery
-abbrev pub with_merge : Key → List Entry → Node → Node
-with_merge key came node = record node { table = table_after_merge node.table key came }
+-- the context that an event reads with: a read hands it out, and a write over all has read it
+abbrev pub context_read : NodeEvent → NodeParts → Option Reading
+context_read (Read key) s = Some (present key s)
+context_read (PutOver key value) s = Some (present key s)
+context_read event s = None
 
--- after a restart from the image of that number, with its table: the next life begins
-abbrev pub with_restart : Table → ℕ → Node → Node
-with_restart table number node = record { table = table; images = node.images; standing = number; incarnation = node.incarnation + 1 }
+-- the node in this state, with these images, of which this one stands
+abbrev pub with_images : NodeParts → List Image → ℕ → ImagedNode
+with_images state images standing = record { state = state; images = images; standing = standing }
+
+-- the images, with one more where a change is left: it changes the standing one
+abbrev pub images_with : Option (Option (Key × List Entry)) → ℕ → List Image → List Image
+images_with None standing images = images
+images_with (Some change) standing images =
+    images ++ (record { base = standing; change = change }) ∷ []
+
+-- which one stands from then on
+abbrev pub standing_with : Option (Option (Key × List Entry)) → ℕ → List Image → ℕ
+standing_with None standing images = standing
+standing_with (Some change) standing images = length images + 1
+
+-- the node in this state; where an image is left, it has what the node then holds under the key
+abbrev pub arrived : NodeParts → Option Key → ImagedNode → ImagedNode
+arrived state key n =
+    let change = option_map (change_at state.table) key in
+    with_images state (images_with change n.standing n.images)
+    (standing_with change n.standing n.images)
+
+-- what the step of the node itself gave
+abbrev pub stepped_of : ImagedStep → Stepped
+stepped_of given = record { reply = given.reply; outbox = given.outbox }
+
+-- the step of the node, by which it makes an image where the event leaves one; its reply stands
+-- twice, beside the context of its read
+pub record IsImagedStep (old : ImagedNode) (event : NodeEvent) (new : ImagedNode)
+    (given : ImagedStep) : Type 0 where
+  pub state : NodeParts
+  pub step : IsNodeStep old.state event state (stepped_of given)
+  pub arrives : new ≡ arrived state (image_key event) old
+  pub copy : given.copy ≡ given.reply
+  pub context : given.context ≡ context_read event old.state
+
+-- ---- a restart
+
+-- the node begins its next life with a table that holds what the image of that number has
+pub record BeginsFrom (images : List Image) (number : ℕ) (old new : NodeParts) : Type 0 where
+  pub there : number ≤ length images
+  pub table : Table
+  pub is_table : IsTable table
+  pub restored : (key : Key) → object_at table key ≡ holdings images number key
+  pub begins : new ≡ opening old.node (old.incarnation + 1) table
+
+-- so it does from one of its images, which then stands
+pub record IsRestarted (old : ImagedNode) (number : ℕ) (new : ImagedNode) : Type 0 where
+  pub begins : BeginsFrom old.images number old.state new.state
+  pub images : new.images ≡ old.images
+  pub standing : new.standing ≡ number

@@ -11,7 +11,10 @@ use Rattle.meta_store.specs.Step.{is_full_for}
 -- a change where nothing is held yet under its key
 abbrev pub filled : Table → Option (Key × List Entry) → Table
 filled table None = table
-filled table (Some change) = if is_none (find key_cmp change.0 table) then with_object change.0 change.1 table else table
+filled table (Some change) =
+    if is_none (find key_cmp change.0 table)
+    then with_object change.0 change.1 table
+    else table
 
 -- there is room for the object of a change
 abbrev pub HasRoomFor : Table → Option (Key × List Entry) → Type 0

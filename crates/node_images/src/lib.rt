@@ -1,10 +1,11 @@
-//! One node with its images: the store that it writes, what each write and each keeping left, and
-//! the way back to an image by a restart.
+//! One node with its images: each of its steps, what each write and each keeping left, and the way
+//! back to an image by a restart.
 #![tactic(auto)]
 
+mod ahead;
 pub mod image;
 pub mod node;
 mod restore;
 
 pub use image::Image;
-pub use node::Node;
+pub use node::{ImagedNode, ImagedStep};

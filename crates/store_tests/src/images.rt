@@ -1,85 +1,95 @@
 use crate::parts::{LONGEST, Parts, SHORT, SIXTEEN, Sizes, key, node, object, value, values};
-use meta_store::{Merged, StoreFault};
-use meta_types::Actor;
-use node_images::Node;
+use meta_frame::{Frame, Message, encode, is_lawful};
+use meta_types::ByteString;
+use node_events::{NodeEvent, StepFault};
+use node_images::ImagedNode;
 use std::alloc::Global;
 use std::process::Abort;
 
 // Each call is made once more where memory was refused.
 
-fn write_once(
-    rt: &impl Abort,
-    alloc: Global,
-    at: &mut Node,
-    sizes: Sizes,
-    name: u8,
-    letter: u8,
-) -> Result<(), StoreFault> {
-    let id = Actor::new(node(rt, 0), at.incarnation());
-    let (key, value) = (key(rt, alloc, sizes, name), value(rt, alloc, sizes, letter));
-    let copy = match value.copy() {
+fn copy(rt: &impl Abort, event: &NodeEvent) -> NodeEvent {
+    match event.copy() {
         Ok(copy) => copy,
-        Err(_) => value.copy().expect(rt, "memory once more"),
-    };
-    let (image, _) = at.next_image(id, &key, copy, None)?;
-    at.write(image, id, key, value, None)
+        Err(_) => event.copy().expect(rt, "memory once more"),
+    }
+}
+
+/// The event is accepted.
+fn accept(rt: &impl Abort, at: &mut ImagedNode, event: NodeEvent) {
+    match at.step(copy(rt, &event)) {
+        Err(StepFault::Memory) => at.step(event),
+        answer => answer,
+    }
+    .expect(rt, "a step");
 }
 
 /// A blind write of node 0, under the key of the letter.
-fn write(rt: &impl Abort, alloc: Global, at: &mut Node, sizes: Sizes, name: u8, letter: u8) {
-    match write_once(rt, alloc, at, sizes, name, letter) {
-        Err(StoreFault::Memory) => write_once(rt, alloc, at, sizes, name, letter),
-        answer => answer,
+fn write(rt: &impl Abort, alloc: Global, sizes: Sizes, name: u8, letter: u8) -> NodeEvent {
+    NodeEvent::Write {
+        key: key(rt, alloc, sizes, name),
+        value: value(rt, alloc, sizes, letter),
+        context: None,
     }
-    .expect(rt, "a write");
 }
 
-fn take_once(
-    rt: &impl Abort,
-    alloc: Global,
-    at: &mut Node,
-    sizes: Sizes,
-    name: u8,
-    parts: &[Parts],
-) -> Result<Merged, StoreFault> {
-    let key = key(rt, alloc, sizes, name);
-    at.take(key, object(rt, alloc, sizes, parts))
-}
-
-/// A delivery of that object.
-fn take(rt: &impl Abort, alloc: Global, at: &mut Node, sizes: Sizes, name: u8, parts: &[Parts]) {
-    match take_once(rt, alloc, at, sizes, name, parts) {
-        Err(StoreFault::Memory) => take_once(rt, alloc, at, sizes, name, parts),
-        answer => answer,
+/// The bytes of a frame.
+fn spelled(rt: &impl Abort, alloc: Global, frame: &Frame) -> Vec<u8> {
+    assert!(rt; is_lawful(frame));
+    match encode(alloc, frame) {
+        Ok(bytes) => bytes,
+        Err(_) => encode(alloc, frame).expect(rt, "memory once more"),
     }
-    .expect(rt, "a merge");
 }
 
-fn keep(rt: &impl Abort, alloc: Global, at: &mut Node, sizes: Sizes, name: u8) {
-    let key = key(rt, alloc, sizes, name);
-    match at.keep(&key) {
-        Err(_) => at.keep(&key),
+/// A delivery of that object, in an exchange with node 1.
+fn take(rt: &impl Abort, alloc: Global, sizes: Sizes, name: u8, parts: &[Parts]) -> NodeEvent {
+    let message = Message::XObject {
+        key: key(rt, alloc, sizes, name),
+        object: object(rt, alloc, sizes, parts),
+    };
+    let frame = Frame {
+        from: node(rt, 1),
+        to: node(rt, 0),
+        number: 1,
+        message,
+    };
+    NodeEvent::Take {
+        frame: ByteString::new(spelled(rt, alloc, &frame)),
+        word: 0,
+    }
+}
+
+fn keep(rt: &impl Abort, alloc: Global, sizes: Sizes, name: u8) -> NodeEvent {
+    NodeEvent::Keep {
+        key: key(rt, alloc, sizes, name),
+    }
+}
+
+/// Node 0, in its first life.
+fn new_node(rt: &impl Abort, alloc: Global) -> ImagedNode {
+    match ImagedNode::new(alloc, node(rt, 0)) {
+        Ok(at) => at,
+        Err(_) => ImagedNode::new(alloc, node(rt, 0)).expect(rt, "memory once more"),
+    }
+}
+
+fn restart(rt: &impl Abort, at: &mut ImagedNode, image: usize) {
+    assert!(rt; image <= at.images().len());
+    assert!(rt; at.state().incarnation() < u32::MAX);
+    match at.restart(image) {
+        Err(_) => at.restart(image),
         answer => answer,
     }
     .expect(rt, "memory once more");
 }
 
-fn restart(rt: &impl Abort, at: &mut Node, image: usize) {
-    assert!(rt; image <= at.images().len());
-    assert!(rt; at.incarnation() < u32::MAX);
-    let store = match at.restored(image) {
-        Ok(store) => store,
-        Err(_) => at.restored(image).expect(rt, "memory once more"),
-    };
-    at.restart(store, image);
-}
-
 /// Returns whether these values stand under the key of the letter.
-fn shows(rt: &impl Abort, alloc: Global, at: &Node, name: u8, letters: &[u8]) -> bool {
+fn shows(rt: &impl Abort, alloc: Global, at: &ImagedNode, name: u8, letters: &[u8]) -> bool {
     let key = key(rt, alloc, SHORT, name);
-    let (shown, _) = match at.store().get(&key) {
+    let (shown, _) = match at.state().store().get(&key) {
         Ok(answer) => answer,
-        Err(_) => at.store().get(&key).expect(rt, "memory once more"),
+        Err(_) => at.state().store().get(&key).expect(rt, "memory once more"),
     };
     shown.as_slice() == values(rt, alloc, SHORT, letters).as_slice()
 }
@@ -100,21 +110,21 @@ enum Step {
     Life(u32),
 }
 
-fn is_done(rt: &impl Abort, alloc: Global, at: &mut Node, step: Step) -> bool {
+fn is_done(rt: &impl Abort, alloc: Global, at: &mut ImagedNode, step: Step) -> bool {
     match step {
-        Step::Write(name, letter) => write(rt, alloc, at, SHORT, name, letter),
-        Step::Take(name, parts) => take(rt, alloc, at, SHORT, name, parts),
-        Step::Keep(name) => keep(rt, alloc, at, SHORT, name),
+        Step::Write(name, letter) => accept(rt, at, write(rt, alloc, SHORT, name, letter)),
+        Step::Take(name, parts) => accept(rt, at, take(rt, alloc, SHORT, name, parts)),
+        Step::Keep(name) => accept(rt, at, keep(rt, alloc, SHORT, name)),
         Step::Restart(image) => restart(rt, at, image),
         Step::Shows(name, letters) => return shows(rt, alloc, at, name, letters),
         Step::Images(many) => return at.images().len() == many,
-        Step::Life(life) => return at.incarnation() == life,
+        Step::Life(life) => return at.state().incarnation() == life,
     }
     true
 }
 
 fn are_done(rt: &impl Abort, alloc: Global, steps: &[Step]) -> bool {
-    let mut at = Node::new(alloc);
+    let mut at = new_node(rt, alloc);
     let mut are_done = true;
     for step in steps {
         are_done = are_done && is_done(rt, alloc, &mut at, *step);
@@ -144,8 +154,8 @@ fn a_write_changes_the_image_of_the_last_restart(rt: HostRuntime) {
     assert!(rt; are_done(&rt, rt.alloc(), &steps));
 }
 
-fn has_values(rt: &impl Abort, alloc: Global, at: &Node, many: usize) -> bool {
-    match at.store().get(&key(rt, alloc, LONGEST, b'a')) {
+fn has_values(rt: &impl Abort, alloc: Global, at: &ImagedNode, many: usize) -> bool {
+    match at.state().store().get(&key(rt, alloc, LONGEST, b'a')) {
         Ok((values, _)) => values.len() == many,
         Err(_) => false,
     }
@@ -153,10 +163,10 @@ fn has_values(rt: &impl Abort, alloc: Global, at: &Node, many: usize) -> bool {
 
 #[test]
 fn calls_succeed_on_large_objects(rt: HostRuntime) {
-    let mut at = Node::new(rt.alloc());
-    take(&rt, rt.alloc(), &mut at, LONGEST, b'a', &SIXTEEN);
-    keep(&rt, rt.alloc(), &mut at, LONGEST, b'a');
-    write(&rt, rt.alloc(), &mut at, LONGEST, b'a', b'w');
+    let mut at = new_node(&rt, rt.alloc());
+    accept(&rt, &mut at, take(&rt, rt.alloc(), LONGEST, b'a', &SIXTEEN));
+    accept(&rt, &mut at, keep(&rt, rt.alloc(), LONGEST, b'a'));
+    accept(&rt, &mut at, write(&rt, rt.alloc(), LONGEST, b'a', b'w'));
     assert!(rt; has_values(&rt, rt.alloc(), &at, 993));
     restart(&rt, &mut at, 1);
     assert!(rt; has_values(&rt, rt.alloc(), &at, 992));

@@ -1,32 +1,32 @@
+-- lists side by side
+pub mod Lists
 -- what accepted events tell
 pub mod Telling
--- the life that a node is in
-pub mod Actors
 -- what a world keeps to, happening by happening
-pub mod Worlds
--- one more accepted event
-pub mod Applying
--- causes of refusals that don't apply
-pub mod Refusing
--- what a read number names
+pub mod States
+-- what an event names
 pub mod Named
--- writes and reads
-pub mod Putting
+-- a step of a node, as its event tells it
+pub mod Happens
+-- the lives of a node
+pub mod Living
+-- a world after one more event
+pub mod Worlds
+-- which refusal an event meets
+pub mod Refusing
 -- outcomes
 pub mod Outcomes
--- the lists of a world after an event
+-- steps and restarts that are accepted
+pub mod Accepting
+-- a chronicle after one more event
 pub mod Chronicles
--- restarts
-pub mod Restarts
--- sendings
-pub mod Sending
--- deliveries
-pub mod Delivering
+-- the history told anew
+pub mod Retelling
 -- what a world lends
-pub mod Lent
--- fresh and stale deliveries
+pub mod Shown
+-- fresh deliveries
 pub mod Fresh
--- a refusal that never comes
+-- 21 is never the cause
 pub mod Never
--- what is said of one event, and events one after the other
+-- events one after the other
 pub mod Running

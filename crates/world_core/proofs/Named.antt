@@ -1,92 +1,107 @@
--- What a read number names.
-use Rattle.std.proofs.Common.{◌≡◌, ℕ, ◌<◌, [], length, get_or, Option, Some, None, refl, sym, ap, subst, ◌∙◌, arith}
-use Rattle.std.specs.Prelude.{slice_get, IfSome}
-use Rattle.std.specs.Option.{option_and_then}
-use Rattle.std.proofs.lemmas.Option.{slice_get-get_or}
+-- What an event names is there: the read of a write, and the frame of a delivery.
+use Rattle.std.proofs.Common.{◌≡◌, ◌⊎◌, ℕ, zero, suc, Bool, true, false, not, List, [], ◌∷◌, Option, Some, None, inl, inr, refl, sym, ap, subst, ◌∙◌}
+use Rattle.std.specs.Prelude.{slice_get}
 use Rattle.meta_types.specs.Actor.{node_of_writer}
+use Rattle.meta_types.specs.First.{first_that_applies}
 use Rattle.meta_types.specs.Name.{Key}
 use Rattle.meta_types.specs.Value.{ValueParts}
+use Rattle.dvvset.specs.Object.{Entry}
 use Rattle.dvvset.specs.Clock.{join}
+use Rattle.meta_frame.specs.Frame.{Spells}
+use Rattle.meta_frame.specs.declared.message.Frame.{Frame}
+use Rattle.meta_frame.proofs.Frames.{one_frame}
 use Rattle.meta_store.specs.Context.{Reading, vector_read}
-use Rattle.meta_store.specs.Table.{Table}
-use Rattle.meta_store.specs.Step.{refusal_of_put}
+use Rattle.meta_store.specs.Table.{Table, is_small_enough, most_written}
+use Rattle.meta_store.specs.Step.{is_full_for, is_spent, refusal_of_put, object_after_put}
+use Rattle.meta_store.specs.declared.fault.StoreFault.{StoreFault}
+use Rattle.meta_store.specs.declared.fault.StoreFault.TheVariants.{CounterSpent, StoreFull, WrongKey, ObjectTooLarge}
+use Rattle.past_model.specs.Sets.{key_eq}
+use Rattle.past_model.proofs.Keys.{key_eq-true}
 use Rattle.past_model.specs.declared.happening.Happening.TheVariants.{Wrote, Looked}
 use Rattle.past_model.specs.History.{Fits}
 use Rattle.past_objects.specs.Objects.{object_of_read, seen_object}
 use Rattle.world_core.specs.declared.event.Event.TheVariants.{Put}
-use Rattle.world_core.specs.Tells.{Names, look_of, numbered}
-use Rattle.world_core.specs.World.{World, IsRead, IsWorld}
-use Rattle.world_core.specs.Refusal.{HasNoRead, context_of}
-use Rattle.world_core.specs.Steps.{IsPlaceOf}
-use Rattle.world_core.proofs.Applying.{pair_first, pair_length}
-use Rattle.world_core.proofs.Refusing.{numbered_at, of_the_key}
+use Rattle.world_core.specs.Events.{context_of}
+use Rattle.world_core.specs.Tells.{NamesEarlier, Pairwise, Told, look_of, numbered}
+use Rattle.world_core.specs.World.{IsRead, IsTold}
+use Rattle.world_core.proofs.Lists.{pair_first, pair_second}
 
-pub context_there : (w : World) (read place : Option ℕ) → IsPlaceOf w read place → option_and_then (slice_get w.contexts) place ≡ context_of w read
-context_there w None place is = ap (option_and_then (slice_get w.contexts)) is
-context_there w (Some read) None is = absurd is
-context_there w (Some read) (Some place) is = sym (numbered_at w.contexts read place is.0)
+-- ---- the read of a write
 
-pub look_there : (w : World) (read place : Option ℕ) → IsPlaceOf w read place → option_and_then (slice_get w.told.looks) place ≡ look_of w.told read
-look_there w None place is = ap (option_and_then (slice_get w.told.looks)) is
-look_there w (Some read) None is = absurd is
-look_there w (Some read) (Some place) is = sym (numbered_at w.told.looks read place is.0)
+of_the_key_by : (key : Key) (context : Reading) (rest : List (Bool × StoreFault)) (b : Bool) → key_eq context.key key ≡ b → first_that_applies ((not b, WrongKey) ∷ rest) ≡ None → context.key ≡ key
+of_the_key_by key context rest true e taken = key_eq-true context.key key e
+of_the_key_by key context rest false e taken = cc
 
--- a read that is there is no cause
-pub has_read : (w : World) (read place : Option ℕ) → IsPlaceOf w read place → HasNoRead w read → ⊥
-has_read w None place is none = none
-has_read w (Some read) None is none = is
-has_read w (Some read) (Some place) is none =
-    let other : Reading = record { key = record { prefix = record { prefix = []; sub = [] }; key = [] }; vector = []; source = record { actor = 0; step = 0 } } in
-    let context : Reading = get_or w.contexts place other in
-    let there : slice_get w.contexts place ≡ Some context = slice_get-get_or w.contexts place other is.1 in
-    let both : Some context ≡ None = sym there ∙ sym (numbered_at w.contexts read place is.0) ∙ none in
-    cc
+-- the context of a write that a store takes is of its key
+of_the_key : (table : Table) (id : ℕ) (key : Key) (v : ValueParts) (context : Reading) → refusal_of_put table id key v (Some context) ≡ None → context.key ≡ key
+of_the_key table id key v context taken =
+    of_the_key_by key context
+    ((is_full_for table key, StoreFull)
+    ∷ (is_spent table id key (Some context), CounterSpent)
+    ∷ (not (is_small_enough most_written (object_after_put table id key v (Some context))), ObjectTooLarge)
+    ∷ [])
+    (key_eq context.key key) refl taken
 
 -- a write may be made with that read
-pub record CanRead (w : World) (n : ℕ) (k : Key) (v : ValueParts) (read : Option ℕ) : Type 0 where
-  pub fits : Fits w.told.history (Wrote n k v (look_of w.told read))
-  pub vector : vector_read (context_of w read) ≡ join (object_of_read w.told.history k (look_of w.told read))
+pub record CanRead (t : Told) (contexts : List Reading) (n : ℕ) (k : Key) (v : ValueParts) (read : Option ℕ) : Type 0 where
+  pub fits : Fits t.history (Wrote n k v (look_of t read))
+  pub vector : vector_read (context_of contexts read) ≡ join (object_of_read t.history k (look_of t read))
+  pub named : NamesEarlier t (Put n k v read)
 
 -- the context at a place, and the Looked that handed it out
-can_read_at : (w : World) (n id : ℕ) (k : Key) (v : ValueParts) (read place : ℕ) (table : Table) (context : Reading) (look : ℕ) → IsRead w.told.history look context
-    → numbered w.contexts read ≡ Some context → numbered w.told.looks read ≡ Some look → refusal_of_put table id k v (numbered w.contexts read) ≡ None → CanRead w n k v (Some read)
-can_read_at w n id k v read place table context look is there looked taken =
-    let key : context.key ≡ k = of_the_key table id k v context (subst (λ c. refusal_of_put table id k v c ≡ None) there taken) in
-    record {
-      fits = subst (λ r. Fits w.told.history (Wrote n k v r)) (sym looked) ((node_of_writer context.source.actor), is.looked ∙ ap (λ l. Some (Looked (node_of_writer context.source.actor) l)) key);
-      vector =
-          ap vector_read there ∙ is.vector ∙ ap (λ l. join (seen_object w.told.history look l)) key
-          ∙ ap (λ r. join (object_of_read w.told.history k r)) (sym looked);
-    }
+can_read_at : (t : Told) (contexts : List Reading) (n : ℕ) (k : Key) (v : ValueParts) (read look : ℕ) (context : Reading) → IsRead t.history look context → context.key ≡ k
+    → numbered contexts read ≡ Some context → numbered t.looks read ≡ Some look → CanRead t contexts n k v (Some read)
+can_read_at t contexts n k v read look context is key there looked = record {
+  fits = subst (λ r. Fits t.history (Wrote n k v r)) (sym looked)
+      (node_of_writer context.source.actor, is.looked ∙ ap (λ l. Some (Looked (node_of_writer context.source.actor) l)) key);
+  vector = ap vector_read there ∙ is.vector ∙ ap (λ l. join (seen_object t.history look l)) key
+      ∙ ap (λ r. join (object_of_read t.history k r)) (sym looked);
+  named = (look, looked);
+}
 
-pub can_read : (w : World) (n id : ℕ) (k : Key) (v : ValueParts) (read place : Option ℕ) (table : Table) → IsWorld w → IsPlaceOf w read place → refusal_of_put table id k v (context_of w read) ≡ None → CanRead w n k v read
-can_read w n id k v None place table is at taken = record { fits = tt; vector = refl }
-can_read w n id k v (Some read) None table is at taken = absurd at
-can_read w n id k v (Some read) (Some place) table is at taken =
-    let other : Reading = record { key = k; vector = []; source = record { actor = 0; step = 0 } } in
-    let context : Reading = get_or w.contexts place other in
-    let there : slice_get w.contexts place ≡ Some context = slice_get-get_or w.contexts place other at.1 in
-    let pair = pair_first (IsRead w.told.history) w.told.looks w.contexts is.state.reads place context there in
-    can_read_at w n id k v read place table context pair.0 pair.1.1 (numbered_at w.contexts read place at.0 ∙ there) (numbered_at w.told.looks read place at.0 ∙ pair.1.0) taken
+pub can_read : (t : Told) (contexts : List Reading) (n id : ℕ) (k : Key) (v : ValueParts) (read : Option ℕ) (table : Table) → Pairwise (IsRead t.history) t.looks contexts
+    → (read ≡ None) ⊎ ((number : ℕ) × ((read ≡ Some number) × ((context : Reading) × (numbered contexts number ≡ Some context))))
+    → refusal_of_put table id k v (context_of contexts read) ≡ None → CanRead t contexts n k v read
+can_read t contexts n id k v None table reads there taken = record { fits = tt; vector = refl; named = tt }
+can_read t contexts n id k v (Some number) table reads (inl absent) taken = cc
+can_read t contexts n id k v (Some zero) table reads (inr (m, (is, (context, there)))) taken =
+    let same : zero ≡ m = cc in
+    let no : None ≡ Some context = subst (λ i. numbered contexts i ≡ Some context) (sym same) there in
+    cc
+can_read t contexts n id k v (Some (suc place)) table reads (inr (m, (is, (context, there)))) taken =
+    let same : suc place ≡ m = cc in
+    let here : slice_get contexts place ≡ Some context = subst (λ i. numbered contexts i ≡ Some context) (sym same) there in
+    let pair = pair_first (IsRead t.history) t.looks contexts reads place context here in
+    let key : context.key ≡ k = of_the_key table id k v context (subst (λ c. refusal_of_put table id k v c ≡ None) here taken) in
+    can_read_at t contexts n k v (suc place) pair.0 context pair.1.1 key here pair.1.0
 
--- the looks have that place too
-pub look_in : (w : World) (read place : Option ℕ) → IsWorld w → IsPlaceOf w read place → IfSome place (λ p. p < length w.told.looks)
-look_in w None place is at = subst (λ x. IfSome x (λ p. p < length w.told.looks)) (sym at) tt
-look_in w (Some read) None is at = tt
-look_in w (Some read) (Some place) is at =
-    let long : length w.told.looks ≡ length w.contexts = pair_length (IsRead w.told.history) w.told.looks w.contexts is.state.reads in
-    let low : place < length w.contexts = at.1 in
-    omega (arith, long, low)
+-- ---- the frame of a delivery
 
-pub context_in : (w : World) (read place : Option ℕ) → IsPlaceOf w read place → IfSome place (λ p. p < length w.contexts)
-context_in w None place at = subst (λ x. IfSome x (λ p. p < length w.contexts)) (sym at) tt
-context_in w (Some read) None at = tt
-context_in w (Some read) (Some place) at = at.1
+-- the frame that the bytes at a place spell is the one at that place
+pub frame_there : (frames : List Frame) (spellings : List (List ℕ)) → Pairwise Spells frames spellings → (place : ℕ) (bytes : List ℕ) (f : Frame)
+    → slice_get spellings place ≡ Some bytes → Spells f bytes → slice_get frames place ≡ Some f
+frame_there frames spellings spelled place bytes f there is =
+    let pair = pair_first Spells frames spellings spelled place bytes there in
+    pair.1.0 ∙ ap (λ g. Some g) (one_frame pair.0 f bytes pair.1.1 is)
 
--- the read that a write names is there
-pub put_names : (w : World) (n : ℕ) (k : Key) (v : ValueParts) (read place : Option ℕ) → IsWorld w → IsPlaceOf w read place → Names w.told (Put n k v read) None
-put_names w n k v None place is at = refl
-put_names w n k v (Some read) None is at = absurd at
-put_names w n k v (Some read) (Some place) is at =
-    let low : place < length w.told.looks = look_in w (Some read) (Some place) is at in
-    (refl, (get_or w.told.looks place 0, numbered_at w.told.looks read place at.0 ∙ slice_get-get_or w.told.looks place 0 low))
+-- the frame of that number was told so
+pub record IsToldAs (t : Told) (number : ℕ) (f : Frame) : Type 0 where
+  pub sending : Option ℕ
+  pub there : numbered t.sendings number ≡ Some sending
+  pub told : IsTold t.history f sending
+
+pub told_as : (frames : List Frame) (spellings : List (List ℕ)) (t : Told) → Pairwise Spells frames spellings → Pairwise (IsTold t.history) frames t.sendings
+    → (number : ℕ) (bytes : List ℕ) (f : Frame) → numbered spellings number ≡ Some bytes → Spells f bytes → IsToldAs t number f
+told_as frames spellings t spelled sendings zero bytes f there is = let no : None ≡ Some bytes = there in cc
+told_as frames spellings t spelled sendings (suc place) bytes f there is =
+    let pair = pair_second (IsTold t.history) frames t.sendings sendings place f (frame_there frames spellings spelled place bytes f there is) in
+    record { sending = pair.0; there = pair.1.0; told = pair.1.1 }
+
+pub not_both : {A : Type 0} (o : Option A) (x : A) → o ≡ None → o ≡ Some x → ⊥
+not_both o x none some = cc
+
+pub same_object : (o : Option (Key × List Entry)) (k l : Key) (a b : List Entry) → o ≡ Some (k, a) → o ≡ Some (l, b) → (l ≡ k) × (a ≡ b)
+same_object o k l a b one other =
+    let both : Some (k, a) ≡ Some (l, b) = sym one ∙ other in
+    let pair : (k, a) ≡ (l, b) = cc in
+    (ap (λ (p : Key × List Entry). p.0) (sym pair), ap (λ (p : Key × List Entry). p.1) pair)

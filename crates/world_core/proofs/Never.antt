@@ -1,39 +1,57 @@
 -- No event is ever refused with 21: what merges in a world shows a value.
-use Rattle.std.proofs.Common.{◌≡◌, ◌≢◌, ◌⊎◌, inl, inr, ℕ, zero, suc, ◌+◌, ◌<◌, Bool, true, false, not, cond, eqb, ltb, List, [], ◌∷◌, length, Option, Some, None, refl, sym, ap, subst, ◌∙◌, arith}
+use Rattle.std.proofs.Common.{◌≡◌, ◌≢◌, ◌⊎◌, inl, inr, ℕ, ◌<◌, Bool, true, false, not, cond, eqb, ltb, List, [], ◌∷◌, length, Option, Some, None, refl, sym, ap, subst, ◌∙◌}
+use Rattle.std.specs.Option.{option_map, unwrap_or}
+use Rattle.std.specs.Prelude.{nat_eq, nat_le, ◌||◌, is_none}
+use Rattle.meta_types.specs.First.{first_that_applies}
 use Rattle.meta_types.specs.Name.{Key}
 use Rattle.meta_types.specs.Value.{ValueParts}
-use Rattle.meta_types.specs.First.{first_that_applies}
 use Rattle.dvvset.specs.Object.{Entry}
 use Rattle.dvvset.specs.Clock.{descends, join, sync, sync_entry, sync_from, values_of}
 use Rattle.frame_fields.specs.Field.{has_value}
-use Rattle.meta_frame.specs.declared.fault.FrameFault.{FrameFault}
-use Rattle.meta_frame.specs.declared.fault.FrameFault.TheVariants as OfFrame
+use Rattle.meta_frame.specs.Frame.{Spells}
 use Rattle.meta_frame.specs.declared.message.Frame.{Frame}
+use Rattle.meta_frame.specs.declared.message.Message.{Message}
+use Rattle.meta_frame.specs.declared.message.Message.TheVariants.{Gossip, XObject}
 use Rattle.meta_store.specs.Context.{Reading}
 use Rattle.meta_store.specs.Table.{Table, is_small_enough, is_stale, most_merged, most_written, object_at}
 use Rattle.meta_store.specs.Step.{is_full_for, is_of_another_key, is_spent, merge_of, refusal_of_merge, refusal_of_put, object_after_put}
 use Rattle.meta_store.specs.declared.fault.StoreFault.{StoreFault}
 use Rattle.meta_store.specs.declared.fault.StoreFault.TheVariants as OfStore
 use Rattle.meta_store.proofs.Sizes.{has_value_from_values}
+use Rattle.node_events.specs.Fault.{of_store}
+use Rattle.node_events.specs.declared.event.NodeEvent.{NodeEvent}
+use Rattle.node_events.specs.declared.event.NodeEvent.TheVariants as OfNode
+use Rattle.node_events.specs.declared.fault.StepFault.{StepFault}
+use Rattle.node_events.specs.declared.fault.StepFault.TheVariants as OfStep
+use Rattle.node_parts.specs.Watches.{at_number, is_no_capacity, most_watches}
+use Rattle.node_core.specs.Leaving.{carried_object}
+use Rattle.node_core.specs.Node.{NodeParts, present, writer}
+use Rattle.node_core.specs.Rows.{Input, IsInput, Local, Received}
+use Rattle.node_core.specs.Step.{IsNoFrame, IsRefused, refusal_of, refusal_of_event, refusal_of_message}
 use Rattle.past_objects.specs.Objects.{held_object, sent_object}
 use Rattle.past_objects.proofs.Deliveries.{merged_shows}
 use Rattle.world_core.specs.declared.event.Event.{Event}
-use Rattle.world_core.specs.declared.event.Event.TheVariants.{Put, Get, PutOver, Send, Deliver, Junk, Keep, Restart}
+use Rattle.world_core.specs.declared.event.Event.TheVariants.{Put, Get, PutOver, Deliver, Junk, Tick, Join, PeerDown, Exchange, Keep, Watch, Changes, Hello, Leave, Restart}
 use Rattle.world_core.specs.declared.fault.WorldFault.{WorldFault}
-use Rattle.world_core.specs.declared.fault.WorldFault.TheVariants.{BadNode, IncarnationSpent, LooksLikeFrame, NoSuchFrame, NoSuchImage, NoSuchNode, NoSuchRead, NotAddressed, Store}
-use Rattle.world_core.specs.Fault.{of_frame}
-use Rattle.world_core.specs.Tells.{carried_object}
-use Rattle.world_core.specs.World.{World, IsWholeWorld, IsTold, IsWorld}
-use Rattle.world_core.specs.Refusal.{ByBytes, ByFrame, HasNoFrame, HasNoImage, HasNoLifeLeft, HasNoNode, HasNoRead, IsFrame, IsFrameOf, RefusesEvent, actor_at, by_store, context_of, first_cause, no_cause, present, refusal_of_object, table_of}
-use Rattle.world_core.proofs.Applying.{pair_second}
-use Rattle.world_core.proofs.Delivering.{frame_there, told_as}
+use Rattle.world_core.specs.declared.fault.WorldFault.TheVariants as OfWorld
+use Rattle.world_core.specs.Events.{node_of}
+use Rattle.world_core.specs.Fault.{of_step}
+use Rattle.world_core.specs.Refusal.{IsFrameAsJunk, IsFrameOf, NamesNoFrame, RefusesDoing, RefusesEvent, RefusesStep, doing_in, node_at, table_of}
+use Rattle.world_core.specs.Tells.{numbered}
+use Rattle.world_core.specs.World.{IsTold, IsWholeWorld, IsWorld, World}
+use Rattle.world_core.proofs.Named.{not_both, same_object}
 use Rattle.world_core.proofs.Outcomes.{world_of}
-use Rattle.world_core.proofs.Putting.{node_there, shown_is_held}
+use Rattle.world_core.proofs.Refusing.{node_is_there, some_by}
+use Rattle.world_core.proofs.Shown.{frame_told, stands}
+
+-- 21
+abbrev no_value : WorldFault
+no_value = OfWorld.Step (OfStep.Store OfStore.BadEntries)
 
 -- ---- what no store refuses
 
--- the refusal of a store, after its name in the world
-of_the_store : (refusal : Option StoreFault) → by_store refusal (Store OfStore.BadEntries) → refusal ≡ Some OfStore.BadEntries
+-- the refusal of a store, after its name in a node
+of_the_store : (refusal : Option StoreFault) → option_map of_store refusal ≡ Some (OfStep.Store OfStore.BadEntries) → refusal ≡ Some OfStore.BadEntries
 of_the_store None is = cc
 of_the_store (Some OfStore.CounterSpent) is = cc
 of_the_store (Some OfStore.BadEntries) is = refl
@@ -49,7 +67,7 @@ put_by false false true large e = cc
 put_by false false false true e = cc
 put_by false false false false e = cc
 
-put_never : (table : Table) (n : ℕ) (k : Key) (v : ValueParts) (context : Option Reading) → by_store (refusal_of_put table n k v context) (Store OfStore.BadEntries) → ⊥
+put_never : (table : Table) (n : ℕ) (k : Key) (v : ValueParts) (context : Option Reading) → option_map of_store (refusal_of_put table n k v context) ≡ Some (OfStep.Store OfStore.BadEntries) → ⊥
 put_never table n k v context is =
     put_by (is_of_another_key k context) (is_full_for table k) (is_spent table n k context) (not (is_small_enough most_written (object_after_put table n k v context))) (of_the_store (refusal_of_put table n k v context) is)
 
@@ -78,10 +96,11 @@ nothing_came (x ∷ xs) (y ∷ ys) e = absurd (some_entry (ltb y.id x.id) (eqb x
 then_stale : (mine came : List Entry) → sync mine came ≡ [] → descends (join mine) (join came) ≡ true
 then_stale mine came e = ap (λ c. descends (join mine) (join c)) (nothing_came mine came e)
 
-shows : (w : World) (n at : ℕ) (k : Key) → IsWorld w → n < length w.nodes → is_stale (table_of w n) k (join (sent_object w.told.history at k)) ≡ false → has_value (merge_of (table_of w n) k (sent_object w.told.history at k)) ≡ true
-shows w n at k is low fresh =
-    let hs = w.told.history in
-    let mine : object_at (table_of w n) k ≡ held_object hs n k = shown_is_held w n k is.telling.frames is.state low in
+shows : (w : World) (is : IsWorld w) (n at : ℕ) (k : Key) → n < length w.nodes → is_stale (table_of w n) k (join (sent_object is.told.history at k)) ≡ false
+    → has_value (merge_of (table_of w n) k (sent_object is.told.history at k)) ≡ true
+shows w is n at k low fresh =
+    let hs = is.told.history in
+    let mine : object_at (table_of w n) k ≡ held_object hs n k = (stands w is n low).holds k in
     has_value_from_values (merge_of (table_of w n) k (sent_object hs at k))
     (λ no_cause.
     merged_shows hs is.state.is_history n at k
@@ -91,75 +110,133 @@ shows w n at k is low fresh =
     cc)
     (ap (λ o. values_of (sync o (sent_object hs at k))) (sym mine) ∙ no_cause))
 
-merge_never : (w : World) (n at : ℕ) (k : Key) (came : List Entry) → IsWorld w → n < length w.nodes → came ≡ sent_object w.told.history at k → refusal_of_merge (table_of w n) k came ≡ Some OfStore.BadEntries → ⊥
-merge_never w n at k came is low sent refused =
-    let sent_refused : refusal_of_merge (table_of w n) k (sent_object w.told.history at k) ≡ Some OfStore.BadEntries = ap (refusal_of_merge (table_of w n) k) (sym sent) ∙ refused in
-    let o : List Entry = sent_object w.told.history at k in
+merge_never : (w : World) (is : IsWorld w) (n at : ℕ) (k : Key) (came : List Entry) → n < length w.nodes → came ≡ sent_object is.told.history at k
+    → refusal_of_merge (table_of w n) k came ≡ Some OfStore.BadEntries → ⊥
+merge_never w is n at k came low sent refused =
+    let o : List Entry = sent_object is.told.history at k in
+    let sent_refused : refusal_of_merge (table_of w n) k o ≡ Some OfStore.BadEntries = ap (refusal_of_merge (table_of w n) k) (sym sent) ∙ refused in
     let by : (is_stale (table_of w n) k (join o) ≡ false) × (has_value (merge_of (table_of w n) k o) ≡ false) =
     merge_by (is_stale (table_of w n) k (join o)) (has_value (merge_of (table_of w n) k o)) (is_full_for (table_of w n) k) (is_small_enough most_merged (merge_of (table_of w n) k o)) sent_refused in
-    let both : true ≡ false = sym (shows w n at k is low by.0) ∙ by.1 in
+    let both : true ≡ false = sym (shows w is n at k low by.0) ∙ by.1 in
     cc
 
--- ---- a frame
+-- ---- a frame that was sent
 
-object_never : (w : World) (p n : ℕ) (f : Frame) (object : Option (Key × List Entry)) → IsWorld w → n < length w.nodes → IsFrameOf w (p + 1) f → carried_object f.message ≡ object
-    → by_store (refusal_of_object (table_of w n) object) (Store OfStore.BadEntries) → ⊥
-object_never w p n f None is low of carries refused = cc
-object_never w p n f (Some (k, came)) is low of carries refused =
-    let pair = pair_second (IsTold w.told.history) is.telling.frames w.told.sendings is.state.sendings p f (frame_there w is p f of) in
-    let told = told_as w p f k came pair.0 pair.1.0 pair.1.1 carries in
-    merge_never w n told.0 k came is low told.1.object (of_the_store (refusal_of_merge (table_of w n) k came) refused)
+object_never : (w : World) (is : IsWorld w) (n : ℕ) (f : Frame) (k : Key) (came : List Entry) (entry : Option ℕ) → n < length w.nodes → IsTold is.told.history f entry
+    → carried_object f.message ≡ Some (k, came) → refusal_of_merge (table_of w n) k came ≡ Some OfStore.BadEntries → ⊥
+object_never w is n f k came None low told carries refused = not_both (carried_object f.message) (k, came) told carries
+object_never w is n f k came (Some at) low told carries refused =
+    let same : (told.key ≡ k) × (came ≡ sent_object is.told.history at told.key) = same_object (carried_object f.message) k told.key came (sent_object is.told.history at told.key) carries told.carries in
+    merge_never w is n at k came low (same.1 ∙ ap (sent_object is.told.history at) same.0) refused
 
-frame_never : (w : World) (number n : ℕ) → IsWorld w → n < length w.nodes → ByFrame w number n (Store OfStore.BadEntries) → ⊥
-frame_never w zero n is low by = let no : None ≡ Some by.is.bytes = by.is.there in cc
-frame_never w (suc p) n is low by =
-    let of : IsFrameOf w (p + 1) by.frame = subst (λ i. IsFrameOf w i by.frame) (let more : suc p ≡ p + 1 = omega arith in more) by.is in
-    elim by.refused [
-      | inl here ↦ let no : Store OfStore.BadEntries ≡ NotAddressed = here.1 in cc
-      | inr later ↦ object_never w p n by.frame (carried_object by.frame.message) is low of refl later.1
-    ]
+message_never : (w : World) (is : IsWorld w) (n number : ℕ) (f : Frame) (m : Message) → n < length w.nodes → IsFrameOf w number f → f.message ≡ m
+    → refusal_of_message m (node_at w n).state ≡ Some (OfStep.Store OfStore.BadEntries) → ⊥
+message_never w is n number f (Gossip round key object) low of carries refused =
+    let told = frame_told w is number f of in
+    object_never w is n f key object told.sending low told.told (ap carried_object carries) (of_the_store (refusal_of_merge (table_of w n) key object) refused)
+message_never w is n number f (XObject key object) low of carries refused =
+    let told = frame_told w is number f of in
+    object_never w is n f key object told.sending low told.told (ap carried_object carries) (of_the_store (refusal_of_merge (table_of w n) key object) refused)
+message_never w is n number f m low of carries refused = let no : None ≡ Some (OfStep.Store OfStore.BadEntries) = refused in cc
+
+addressed_by : (b : Bool) (rest : Option StepFault) → cond b rest (Some OfStep.NotAddressed) ≡ Some (OfStep.Store OfStore.BadEntries) → rest ≡ Some (OfStep.Store OfStore.BadEntries)
+addressed_by true rest e = e
+addressed_by false rest e = cc
+
+-- ---- what a node never refuses so
+
+first_never : (b : Bool) (fault : StepFault) → fault ≢ OfStep.Store OfStore.BadEntries → first_that_applies ((b, fault) ∷ []) ≡ Some (OfStep.Store OfStore.BadEntries) → ⊥
+first_never true fault other e = other (cc)
+first_never false fault other e = cc
+
+local_never : (s : NodeParts) (event : NodeEvent) → refusal_of_event event s ≡ Some (OfStep.Store OfStore.BadEntries) → ⊥
+local_never s (OfNode.Write k v context) e = put_never s.table (writer s) k v context e
+local_never s (OfNode.PutOver k v) e = put_never s.table (writer s) k v (Some (present k s)) e
+local_never s (OfNode.Join contact word) e = first_never (nat_eq contact s.node) OfStep.BadNode (λ is. cc) e
+local_never s (OfNode.PeerDown peer word) e = first_never (nat_eq peer s.node) OfStep.BadNode (λ is. cc) e
+local_never s (OfNode.Exchange peer) e = first_never (nat_eq peer s.node) OfStep.BadNode (λ is. cc) e
+local_never s (OfNode.Hello peer) e = first_never (nat_eq peer s.node) OfStep.BadNode (λ is. cc) e
+local_never s (OfNode.Watch prefix capacity) e = first_never (is_no_capacity capacity || nat_le most_watches (length s.watches)) OfStep.BadWatch (λ is. cc) e
+local_never s (OfNode.Changes number) e = first_never (is_none (at_number s.watches number)) OfStep.NoSuchWatch (λ is. cc) e
+local_never s event e = let no : None ≡ Some (OfStep.Store OfStore.BadEntries) = e in cc
+
+-- the step refused it, by its name in the world
+by_name : (by : StepFault) → no_value ≡ of_step by → by ≡ OfStep.Store OfStore.BadEntries
+by_name OfStep.Memory e = cc
+by_name OfStep.BadNode e = cc
+by_name (OfStep.Frame fault) e = cc
+by_name (OfStep.Store fault) e = cc
+by_name OfStep.BadWatch e = cc
+by_name OfStep.NoSuchWatch e = cc
+by_name OfStep.NotAddressed e = cc
+
+-- bytes that come are a frame that was sent, if they are one
+abbrev AreSent : World → List ℕ → Type 0
+AreSent w bytes = (f : Frame) → Spells f bytes → (number : ℕ) × IsFrameOf w number f
+
+abbrev BringsSent : World → NodeEvent → Type 0
+BringsSent w (OfNode.Take bytes word) = AreSent w bytes
+BringsSent w event = Unit {0}
+
+input_never : (w : World) (is : IsWorld w) (n : ℕ) → n < length w.nodes → (step : NodeEvent) → BringsSent w step → (input : Input) → IsInput step input
+    → refusal_of input (node_at w n).state ≡ Some (OfStep.Store OfStore.BadEntries) → ⊥
+input_never w is n low (OfNode.Take bytes word) sent (Received f i) of e =
+    let there = sent f of.0 in
+    message_never w is n there.0 f f.message low there.1 refl
+    (addressed_by (nat_eq f.to (node_at w n).state.node) (refusal_of_message f.message (node_at w n).state) e)
+input_never w is n low (OfNode.Take bytes word) sent (Local event) of e = of
+input_never w is n low step sent (Local event) of e = local_never (node_at w n).state event e
+input_never w is n low step sent (Received f i) of e = of
+
+step_never : (w : World) (is : IsWorld w) (n : ℕ) → n < length w.nodes → (step : NodeEvent) → BringsSent w step → RefusesStep (node_at w n).state step no_value → ⊥
+step_never w is n low step sent by = by_cause by.cause where
+  name : by.by_step ≡ OfStep.Store OfStore.BadEntries
+  name = by_name by.by_step by.is
+
+  no_frame_so : (event : NodeEvent) → IsNoFrame event (OfStep.Store OfStore.BadEntries) → ⊥
+  no_frame_so (OfNode.Take bytes word) none = none
+  no_frame_so event none = none
+
+  by_cause : IsNoFrame step by.by_step ⊎ IsRefused (node_at w n).state step by.by_step → ⊥
+  by_cause (inl none) = no_frame_so step (subst (IsNoFrame step) name none)
+  by_cause (inr refused) = input_never w is n low step sent refused.input refused.is_input (refused.first ∙ ap (λ f. Some f) name)
 
 -- ---- each event
 
--- another refusal, or what the rest says
-passed : (cause : Type 0) (refusal : WorldFault) (rest : WorldFault → Type 0) → Store OfStore.BadEntries ≢ refusal → (rest (Store OfStore.BadEntries) → ⊥) → first_cause cause refusal rest (Store OfStore.BadEntries) → ⊥
-passed cause refusal rest other never_later (inl here) = other here.1
-passed cause refusal rest other never_later (inr later) = never_later later.1
+sent_by : (w : World) (number : ℕ) (bytes : List ℕ) → numbered w.frames number ≡ Some bytes → AreSent w (unwrap_or (numbered w.frames number) [])
+sent_by w number bytes there f spelled =
+    (number, record { bytes = bytes; there = there; spelled = subst (Spells f) (ap (λ o. unwrap_or o []) there) spelled })
 
-delivery_never : (w : World) (number n word : ℕ) → IsWorld w → RefusesEvent w (Deliver number n word) (Store OfStore.BadEntries) → ⊥
-delivery_never w number n word is (inl here) = let no : Store OfStore.BadEntries ≡ NoSuchNode = here.1 in cc
-delivery_never w number n word is (inr later) =
-    passed (HasNoFrame w number) NoSuchFrame (ByFrame w number n) (λ e. cc) (frame_never w number n is (node_there w n later.0)) later.1
+last_never : (w : World) (is : IsWorld w) (event : Event) → node_of event < length w.nodes → (NamesNoFrame w event → ⊥) → (IsFrameAsJunk event → ⊥)
+    → RefusesDoing (node_at w (node_of event)).state (doing_in w event) no_value → ⊥
+last_never w is (Put n k v read) low frame junk by = step_never w is n low _ tt by
+last_never w is (Get n k) low frame junk by = step_never w is n low _ tt by
+last_never w is (PutOver n k v) low frame junk by = step_never w is n low _ tt by
+last_never w is (Deliver number n word) low frame junk by =
+    let there = some_by (numbered w.frames number) frame in
+    step_never w is n low _ (sent_by w number there.0 there.1) by
+last_never w is (Junk n bytes) low frame junk by =
+    step_never w is n low _ (λ f spelled. absurd (junk (record { frame = f; spelled = spelled }))) by
+last_never w is (Tick n word) low frame junk by = step_never w is n low _ tt by
+last_never w is (Join n contact word) low frame junk by = step_never w is n low _ tt by
+last_never w is (PeerDown n peer word) low frame junk by = step_never w is n low _ tt by
+last_never w is (Exchange n peer) low frame junk by = step_never w is n low _ tt by
+last_never w is (Keep n k) low frame junk by = step_never w is n low _ tt by
+last_never w is (Watch n prefix capacity) low frame junk by = step_never w is n low _ tt by
+last_never w is (Changes n number) low frame junk by = step_never w is n low _ tt by
+last_never w is (Hello n peer) low frame junk by = step_never w is n low _ tt by
+last_never w is (Leave n) low frame junk by = step_never w is n low _ tt by
+last_never w is (Restart n image) low frame junk by = by
 
-of_bytes : (fault : FrameFault) → of_frame fault ≢ Store OfStore.BadEntries
-of_bytes OfFrame.Short e = cc
-of_bytes OfFrame.BadMagic e = cc
-of_bytes OfFrame.BadVersion e = cc
-of_bytes OfFrame.BadKind e = cc
-of_bytes OfFrame.TooLong e = cc
-of_bytes (OfFrame.BadBody at) e = cc
-of_bytes OfFrame.LeftOver e = cc
-of_bytes OfFrame.Memory e = cc
+never : (w : World) (is : IsWorld w) (event : Event) → RefusesEvent w event no_value → ⊥
+never w is event (inl here) = let no : no_value ≡ OfWorld.NoSuchNode = here.1 in cc
+never w is event (inr (node, inl here)) = let no : no_value ≡ OfWorld.NoSuchFrame = here.1 in cc
+never w is event (inr (node, inr (frame, inl here))) = let no : no_value ≡ OfWorld.NoSuchRead = here.1 in cc
+never w is event (inr (node, inr (frame, inr (read, inl here)))) = let no : no_value ≡ OfWorld.NoSuchImage = here.1 in cc
+never w is event (inr (node, inr (frame, inr (read, inr (image, inl here))))) = let no : no_value ≡ OfWorld.IncarnationSpent = here.1 in cc
+never w is event (inr (node, inr (frame, inr (read, inr (image, inr (life, inl here)))))) = let no : no_value ≡ OfWorld.LooksLikeFrame = here.1 in cc
+never w is event (inr (node, inr (frame, inr (read, inr (image, inr (life, inr (junk, by))))))) =
+    last_never w is event (node_is_there w event node) frame junk by
 
-never : (w : World) (event : Event) → IsWorld w → RefusesEvent w event (Store OfStore.BadEntries) → ⊥
-never w (Put n k v read) is refused =
-    passed (HasNoNode w n) NoSuchNode (first_cause (HasNoRead w read) NoSuchRead (by_store (refusal_of_put (table_of w n) (actor_at w n) k v (context_of w read)))) (λ e. cc)
-    (passed (HasNoRead w read) NoSuchRead (by_store (refusal_of_put (table_of w n) (actor_at w n) k v (context_of w read))) (λ e. cc) (put_never (table_of w n) (actor_at w n) k v (context_of w read)))
-    refused
-never w (Get n k) is refused = passed (HasNoNode w n) NoSuchNode no_cause (λ e. cc) (λ no. no) refused
-never w (PutOver n k v) is refused =
-    passed (HasNoNode w n) NoSuchNode (by_store (refusal_of_put (table_of w n) (actor_at w n) k v (Some (present w n k)))) (λ e. cc) (put_never (table_of w n) (actor_at w n) k v (Some (present w n k))) refused
-never w (Send n k to) is refused = passed (HasNoNode w n ⊎ HasNoNode w to) NoSuchNode (first_cause (n ≡ to) BadNode no_cause) (λ e. cc) (passed (n ≡ to) BadNode no_cause (λ e. cc) (λ no. no)) refused
-never w (Deliver number n word) is refused = delivery_never w number n word is refused
-never w (Junk n bytes) is refused =
-    passed (HasNoNode w n) NoSuchNode (first_cause (IsFrame bytes) LooksLikeFrame (ByBytes bytes)) (λ e. cc)
-    (passed (IsFrame bytes) LooksLikeFrame (ByBytes bytes) (λ e. cc) (λ by. of_bytes by.of_bytes (sym by.is)))
-    refused
-never w (Keep n k) is refused = passed (HasNoNode w n) NoSuchNode no_cause (λ e. cc) (λ no. no) refused
-never w (Restart n image) is refused =
-    passed (HasNoNode w n) NoSuchNode (first_cause (HasNoImage w n image) NoSuchImage (first_cause (HasNoLifeLeft w n) IncarnationSpent no_cause)) (λ e. cc)
-    (passed (HasNoImage w n image) NoSuchImage (first_cause (HasNoLifeLeft w n) IncarnationSpent no_cause) (λ e. cc) (passed (HasNoLifeLeft w n) IncarnationSpent no_cause (λ e. cc) (λ no. no)))
-    refused
-
-pub never_of : (w : World) (event : Event) → IsWholeWorld w → RefusesEvent w event (Store OfStore.BadEntries) → ⊥
-never_of w event whole refused = never w event (world_of w whole) refused
+pub never_of : (w : World) (event : Event) → IsWholeWorld w → RefusesEvent w event no_value → ⊥
+never_of w event whole refused = never w (world_of w whole) event refused

@@ -1,61 +1,241 @@
--- Causes of refusals that don't apply.
-use Rattle.std.proofs.Common.{◌≡◌, ℕ, zero, suc, ◌+◌, ◌<◌, ◌≤◌, Bool, true, false, List, [], ◌∷◌, length, Option, Some, None, refl, sym, ap, ◌∙◌, arith, not}
-use Rattle.std.specs.Prelude.{slice_get, ◌⊎◌}
-use Rattle.std.proofs.Common.{inl, inr}
-use Rattle.std.specs.Option.{option_map}
-use Rattle.std.proofs.lemmas.Option.{slice_get_past}
-use Rattle.meta_types.specs.Name.{Key}
-use Rattle.meta_types.specs.Value.{ValueParts}
-use Rattle.meta_types.specs.First.{first_that_applies}
-use Rattle.meta_store.specs.Context.{Reading}
-use Rattle.meta_store.specs.Table.{Table, is_small_enough, most_written}
-use Rattle.meta_store.specs.Step.{is_full_for, is_spent, refusal_of_put, object_after_put}
-use Rattle.meta_store.specs.declared.fault.StoreFault.{StoreFault}
-use Rattle.meta_store.specs.declared.fault.StoreFault.TheVariants.{Memory, CounterSpent, StoreFull, WrongKey, ObjectTooLarge}
-use Rattle.past_model.specs.Sets.{key_eq}
-use Rattle.past_model.proofs.Keys.{key_eq-true}
+-- Which refusal an event meets, and that an accepted one meets none.
+use Rattle.std.proofs.Common.{◌≡◌, ℕ, ◌<◌, ◌≤◌, Bool, true, false, ltb, List, length, Option, Some, None, inl, inr, refl, sym, ap, subst, arith}
+use Rattle.std.proofs.lemmas.Bool.{ltb-true, ltb-false}
+use Rattle.meta_frame.specs.Frame.{RefusesBytes}
+use Rattle.meta_frame.specs.declared.fault.FrameFault.{FrameFault}
+use Rattle.meta_frame.specs.declared.fault.FrameFault.TheVariants as OfFrame
+use Rattle.meta_frame.proofs.Frames.{never_both}
+use Rattle.node_core.specs.declared.state.Stepped.{Stepped}
+use Rattle.node_core.specs.Node.{NodeParts}
+use Rattle.node_core.specs.Step.{CanComeOf, IsNodeStep}
+use Rattle.node_core.proofs.Outcomes.{no_cause}
+use Rattle.node_events.specs.Fault.{of_frame}
+use Rattle.node_events.specs.declared.event.NodeEvent.{NodeEvent}
+use Rattle.node_events.specs.declared.fault.StepFault.{StepFault}
+use Rattle.node_events.specs.declared.fault.StepFault.TheVariants as OfStep
+use Rattle.node_images.specs.Keeping.{most_incarnation}
+use Rattle.world_core.specs.declared.event.Event.{Event}
+use Rattle.world_core.specs.declared.event.Event.TheVariants.{Put, Deliver, Junk, Join, PeerDown, Exchange, Hello, Restart}
 use Rattle.world_core.specs.declared.fault.WorldFault.{WorldFault}
-use Rattle.world_core.specs.Fault.{of_store}
+use Rattle.world_core.specs.declared.fault.WorldFault.TheVariants.{IncarnationSpent, LooksLikeFrame, NoSuchFrame, NoSuchImage, NoSuchNode, NoSuchRead}
+use Rattle.world_core.specs.Events.{Step, node_of, other_node_of}
+use Rattle.world_core.specs.Fault.{of_step}
+use Rattle.world_core.specs.Refusal.{HasNoLifeLeft, HasNoNode, IsFrame, IsFrameAsJunk, NamesNoFrame, NamesNoImage, NamesNoNode, NamesNoRead, RefusesDoing, RefusesEvent, RefusesStep, doing_in, first_cause, node_at}
+use Rattle.world_core.specs.Steps.{HasNamed, IsOfStep, JunkFails, MayRefuse}
 use Rattle.world_core.specs.Tells.{numbered}
-use Rattle.world_core.specs.Refusal.{first_cause, no_cause, by_store}
+use Rattle.world_core.specs.World.{World}
+use Rattle.world_core.proofs.Happens.{IsNamed}
+
+-- ---- causes
 
 -- a cause that doesn't apply leaves it to the rest
-pub passes : (cause : Type 0) (refusal : WorldFault) (rest : WorldFault → Type 0) → (cause → ⊥) → ((fault : WorldFault) → rest fault → ⊥) → (fault : WorldFault) → first_cause cause refusal rest fault → ⊥
+passes : (cause : Type 0) (refusal : WorldFault) (rest : WorldFault → Type 0) → (cause → ⊥) → ((fault : WorldFault) → rest fault → ⊥) → (fault : WorldFault) → first_cause cause refusal rest fault → ⊥
 passes cause refusal rest not_so others fault (inl here) = not_so here.0
 passes cause refusal rest not_so others fault (inr later) = others fault later.1
 
-pub none_left : (fault : WorldFault) → no_cause fault → ⊥
-none_left fault is = is
+-- none of the causes before the step's own applies
+pub record AllThere (w : World) (event : Event) : Type 0 where
+  pub node : NamesNoNode w event → ⊥
+  pub frame : NamesNoFrame w event → ⊥
+  pub read : NamesNoRead w event → ⊥
+  pub image : NamesNoImage w event → ⊥
+  pub life : HasNoLifeLeft w event → ⊥
+  pub junk : IsFrameAsJunk event → ⊥
 
-pub store_takes : (refusal : Option StoreFault) → refusal ≡ None → (fault : WorldFault) → by_store refusal fault → ⊥
-store_takes refusal e fault is = let no : None ≡ Some fault = ap (option_map of_store) (sym e) ∙ is in cc
+pub no_refusal : (w : World) (event : Event) → AllThere w event → ((fault : WorldFault) → RefusesDoing (node_at w (node_of event)).state (doing_in w event) fault → ⊥)
+    → (fault : WorldFault) → RefusesEvent w event fault → ⊥
+no_refusal w event there rest =
+    passes (NamesNoNode w event) NoSuchNode _ there.node
+    (passes (NamesNoFrame w event) NoSuchFrame _ there.frame
+    (passes (NamesNoRead w event) NoSuchRead _ there.read
+    (passes (NamesNoImage w event) NoSuchImage _ there.image
+    (passes (HasNoLifeLeft w event) IncarnationSpent _ there.life
+    (passes (IsFrameAsJunk event) LooksLikeFrame _ there.junk rest)))))
 
--- a number from 1 names what stands one place before
-pub numbered_at : {A : Type 0} (xs : List A) (number place : ℕ) → number ≡ place + 1 → numbered xs number ≡ slice_get xs place
-numbered_at xs zero place e = absurd (omega (arith, e))
-numbered_at xs (suc before) place e = ap (slice_get xs) (let same : before ≡ place = omega (arith, e) in same)
+pub refuses_by_step : (w : World) (event : Event) → AllThere w event → (fault : WorldFault) → RefusesDoing (node_at w (node_of event)).state (doing_in w event) fault → RefusesEvent w event fault
+refuses_by_step w event there fault by =
+    inr (there.node, inr (there.frame, inr (there.read, inr (there.image, inr (there.life, inr (there.junk, by))))))
 
--- a number of none names nothing
-pub numbered_past : {A : Type 0} (xs : List A) (number : ℕ) → (number < 1) ⊎ (length xs < number) → numbered xs number ≡ None
-numbered_past xs zero past = refl
-numbered_past xs (suc before) (inl low) = absurd (omega (arith, low))
-numbered_past xs (suc before) (inr high) = slice_get_past xs before (let past : length xs ≤ before = omega (arith, high) in past)
+-- ---- what is named by a step is there
 
-of_the_key_by : (key : Key) (context : Reading) (rest : List (Bool × StoreFault)) (b : Bool) → key_eq context.key key ≡ b → first_that_applies ((not b, WrongKey) ∷ rest) ≡ None → context.key ≡ key
-of_the_key_by key context rest true e taken = key_eq-true context.key key e
-of_the_key_by key context rest false e taken = cc
+node_there : (w : World) (n : ℕ) → n < length w.nodes → HasNoNode w (Some n) → ⊥
+node_there w n low none = let past : length w.nodes ≤ n = none in absurd (omega (arith, low, past))
 
--- the context of a write that a store takes is of its key
-pub of_the_key : (table : Table) (id : ℕ) (key : Key) (v : ValueParts) (context : Reading) → refusal_of_put table id key v (Some context) ≡ None → context.key ≡ key
-of_the_key table id key v context taken =
-    of_the_key_by key context
-    ((is_full_for table key, StoreFull)
-    ∷ (is_spent table id key (Some context), CounterSpent)
-    ∷ (not (is_small_enough most_written (object_after_put table id key v (Some context))), ObjectTooLarge)
-    ∷ [])
-    (key_eq context.key key) refl taken
+other_there : (w : World) (event : Event) → HasNamed w event → HasNoNode w (other_node_of event) → ⊥
+other_there w (Join n contact word) named none = node_there w contact named none
+other_there w (PeerDown n peer word) named none = node_there w peer named none
+other_there w (Exchange n peer) named none = node_there w peer named none
+other_there w (Hello n peer) named none = node_there w peer named none
+other_there w event named none = none
 
--- a store that takes a write fails only for want of memory
-pub only_memory : (fault : StoreFault) (refusal : Option StoreFault) → (fault ≡ Memory) ⊎ (refusal ≡ Some fault) → refusal ≡ None → fault ≡ Memory
-only_memory fault refusal (inl is) taken = is
-only_memory fault refusal (inr is) taken = let both : None ≡ Some fault = sym taken ∙ is in cc
+both_there : (w : World) (event : Event) → node_of event < length w.nodes → (HasNoNode w (other_node_of event) → ⊥) → NamesNoNode w event → ⊥
+both_there w event low other (inl absent) = node_there w (node_of event) low absent
+both_there w event low other (inr absent) = other absent
+
+something : {A : Type 0} (o : Option A) (x : A) → o ≡ Some x → o ≡ None → ⊥
+something o x is none = cc
+
+frame_there : (w : World) (event : Event) → HasNamed w event → NamesNoFrame w event → ⊥
+frame_there w (Deliver frame n word) named none = something (numbered w.frames frame) named.0 named.1 none
+frame_there w event named none = none
+
+read_there : (w : World) (event : Event) → HasNamed w event → NamesNoRead w event → ⊥
+read_there w (Put n k v (Some read)) named none = something (numbered w.contexts read) named.0 named.1 none
+read_there w (Put n k v None) named none = none
+read_there w event named none = none
+
+no_image : (w : World) (event : Event) → IsOfStep event → NamesNoImage w event → ⊥
+no_image w (Restart n image) of none = of
+no_image w event of none = none
+
+no_life : (w : World) (event : Event) → IsOfStep event → HasNoLifeLeft w event → ⊥
+no_life w (Restart n image) of none = of
+no_life w event of none = none
+
+no_junk : (w : World) (event : Event) → HasNamed w event → IsFrameAsJunk event → ⊥
+no_junk w (Junk n bytes) named is = named
+no_junk w event named is = is
+
+pub all_there : (w : World) (event : Event) → IsOfStep event → node_of event < length w.nodes → HasNamed w event → AllThere w event
+all_there w event of low named = record {
+  node = both_there w event low (other_there w event named);
+  frame = frame_there w event named;
+  read = read_there w event named;
+  image = no_image w event of;
+  life = no_life w event of;
+  junk = no_junk w event named;
+}
+
+-- ---- a step
+
+not_refused : (s state : NodeParts) (step : NodeEvent) (given : Stepped) → IsNodeStep s step state given → (fault : WorldFault) → RefusesStep s step fault → ⊥
+not_refused s state step given makes fault by = no_cause by.by_step makes by.cause
+
+pub step_accepted : (w : World) (event : Event) (step : NodeEvent) (state : NodeParts) (given : Stepped) → AllThere w event → doing_in w event ≡ Step step
+    → IsNodeStep (node_at w (node_of event)).state step state given → (fault : WorldFault) → RefusesEvent w event fault → ⊥
+step_accepted w event step state given there doing makes =
+    no_refusal w event there
+    (λ fault by. not_refused (node_at w (node_of event)).state state step given makes fault
+    (subst (λ d. RefusesDoing (node_at w (node_of event)).state d fault) doing by))
+
+pub step_refused : (w : World) (event : Event) (step : NodeEvent) (by : StepFault) → AllThere w event → doing_in w event ≡ Step step
+    → CanComeOf (node_at w (node_of event)).state step by → MayRefuse w event (of_step by)
+step_refused w event step by there doing (inl memory) = inl (ap of_step memory)
+step_refused w event step by there doing (inr cause) =
+    inr (refuses_by_step w event there (of_step by)
+    (subst (λ d. RefusesDoing (node_at w (node_of event)).state d (of_step by)) (sym doing) (record { by_step = by; cause = cause; is = refl })))
+
+-- ---- what a step names isn't there
+
+pub no_node : (w : World) (event : Event) → length w.nodes ≤ node_of event → RefusesEvent w event NoSuchNode
+no_node w event past = inl (inl past, refl)
+
+pub no_other : (w : World) (event : Event) → HasNoNode w (other_node_of event) → RefusesEvent w event NoSuchNode
+no_other w event none = inl (inr none, refl)
+
+pub no_frame : (w : World) (frame n word : ℕ) → n < length w.nodes → numbered w.frames frame ≡ None → RefusesEvent w (Deliver frame n word) NoSuchFrame
+no_frame w frame n word low none = inr (both_there w (Deliver frame n word) low (λ never. never), inl (none, refl))
+
+pub no_read : (w : World) (event : Event) → node_of event < length w.nodes → (HasNoNode w (other_node_of event) → ⊥) → (NamesNoFrame w event → ⊥) → NamesNoRead w event
+    → RefusesEvent w event NoSuchRead
+no_read w event low other frame none = inr (both_there w event low other, inr (frame, inl (none, refl)))
+
+not_a_frame : (bytes : List ℕ) (fault : FrameFault) → RefusesBytes bytes fault → IsFrame bytes → ⊥
+not_a_frame bytes fault refuses is = never_both is.frame bytes fault is.spelled refuses
+
+-- junk: the causes before its own
+junk_there : (w : World) (n : ℕ) (bytes : List ℕ) → n < length w.nodes → (IsFrame bytes → ⊥) → AllThere w (Junk n bytes)
+junk_there w n bytes low none = record {
+  node = both_there w (Junk n bytes) low (λ never. never);
+  frame = λ never. never;
+  read = λ never. never;
+  image = λ never. never;
+  life = λ never. never;
+  junk = none;
+}
+
+by_bytes : (w : World) (n : ℕ) (bytes : List ℕ) (by : FrameFault) → AllThere w (Junk n bytes) → RefusesBytes bytes by → MayRefuse w (Junk n bytes) (of_step (of_frame by))
+by_bytes w n bytes OfFrame.Memory there refuses = inl refl
+by_bytes w n bytes OfFrame.Short there refuses = inr (refuses_by_step w (Junk n bytes) there _ (record { by_step = OfStep.Frame OfFrame.Short; cause = inl refuses; is = refl }))
+by_bytes w n bytes OfFrame.BadMagic there refuses = inr (refuses_by_step w (Junk n bytes) there _ (record { by_step = OfStep.Frame OfFrame.BadMagic; cause = inl refuses; is = refl }))
+by_bytes w n bytes OfFrame.BadVersion there refuses = inr (refuses_by_step w (Junk n bytes) there _ (record { by_step = OfStep.Frame OfFrame.BadVersion; cause = inl refuses; is = refl }))
+by_bytes w n bytes OfFrame.BadKind there refuses = inr (refuses_by_step w (Junk n bytes) there _ (record { by_step = OfStep.Frame OfFrame.BadKind; cause = inl refuses; is = refl }))
+by_bytes w n bytes OfFrame.TooLong there refuses = inr (refuses_by_step w (Junk n bytes) there _ (record { by_step = OfStep.Frame OfFrame.TooLong; cause = inl refuses; is = refl }))
+by_bytes w n bytes (OfFrame.BadBody at) there refuses = inr (refuses_by_step w (Junk n bytes) there _ (record { by_step = OfStep.Frame (OfFrame.BadBody at); cause = inl refuses; is = refl }))
+by_bytes w n bytes OfFrame.LeftOver there refuses = inr (refuses_by_step w (Junk n bytes) there _ (record { by_step = OfStep.Frame OfFrame.LeftOver; cause = inl refuses; is = refl }))
+
+pub junk_refused : (w : World) (n : ℕ) (bytes : List ℕ) (fault : WorldFault) → n < length w.nodes → JunkFails bytes fault → MayRefuse w (Junk n bytes) fault
+junk_refused w n bytes fault low (inl memory) = inl memory
+junk_refused w n bytes fault low (inr (inl frame)) =
+    inr (inr (both_there w (Junk n bytes) low (λ never. never), inr ((λ never. never), inr ((λ never. never), inr ((λ never. never), inr ((λ never. never), inl (frame.0, frame.1)))))))
+junk_refused w n bytes fault low (inr (inr (by, (refuses, is)))) =
+    subst (MayRefuse w (Junk n bytes)) (sym is) (by_bytes w n bytes by (junk_there w n bytes low (not_a_frame bytes by refuses)) refuses)
+
+-- ---- a restart
+
+restart_there : (w : World) (n image : ℕ) → n < length w.nodes → image ≤ length (node_at w n).images → (node_at w n).state.incarnation < most_incarnation → AllThere w (Restart n image)
+restart_there w n image low there left = record {
+  node = both_there w (Restart n image) low (λ never. never);
+  frame = λ never. never;
+  read = λ never. never;
+  image = λ none. let fewer : length (node_at w n).images < image = none in absurd (omega (arith, fewer, there));
+  life = λ none. let last : (node_at w n).state.incarnation ≡ most_incarnation = none in absurd (omega (arith, last, left));
+  junk = λ never. never;
+}
+
+pub restart_accepted : (w : World) (n image : ℕ) → n < length w.nodes → image ≤ length (node_at w n).images → (node_at w n).state.incarnation < most_incarnation
+    → (fault : WorldFault) → RefusesEvent w (Restart n image) fault → ⊥
+restart_accepted w n image low there left = no_refusal w (Restart n image) (restart_there w n image low there left) (λ fault never. never)
+
+pub no_image_refuses : (w : World) (n image : ℕ) → n < length w.nodes → length (node_at w n).images < image → RefusesEvent w (Restart n image) NoSuchImage
+no_image_refuses w n image low fewer = inr (both_there w (Restart n image) low (λ never. never), inr ((λ never. never), inr ((λ never. never), inl (fewer, refl))))
+
+pub spent_refuses : (w : World) (n image : ℕ) → n < length w.nodes → image ≤ length (node_at w n).images → (node_at w n).state.incarnation ≡ most_incarnation
+    → RefusesEvent w (Restart n image) IncarnationSpent
+spent_refuses w n image low there spent =
+    inr (
+      both_there w (Restart n image) low (λ never. never),
+      inr (
+        (λ never. never),
+        inr (
+          (λ never. never),
+          inr (
+            (λ none. let fewer : length (node_at w n).images < image = none in absurd (omega (arith, fewer, there))),
+            inl (spent, refl),
+          ),
+        ),
+      ),
+    )
+
+-- ---- what a step names, in the words of the lists
+
+pub named_of : (w : World) (event : Event) → HasNamed w event → IsNamed w.contexts w.frames event
+named_of w (Put n k v None) named = inl refl
+named_of w (Put n k v (Some read)) named = inr (read, (refl, named))
+named_of w (Deliver frame n word) named = named
+named_of w (Junk n bytes) named = named
+named_of w event named = tt
+
+-- ---- what an accepted event names is there
+
+there_by : (w : World) (event : Event) (b : Bool) → ltb (node_of event) (length w.nodes) ≡ b → ((fault : WorldFault) → RefusesEvent w event fault → ⊥) → node_of event < length w.nodes
+there_by w event true e accepted = ltb-true (node_of event) (length w.nodes) e
+there_by w event false e accepted = absurd (accepted NoSuchNode (no_node w event (ltb-false (node_of event) (length w.nodes) e)))
+
+pub has_node : (w : World) (event : Event) → ((fault : WorldFault) → RefusesEvent w event fault → ⊥) → node_of event < length w.nodes
+has_node w event accepted = there_by w event (ltb (node_of event) (length w.nodes)) refl accepted
+
+pub some_by : {A : Type 0} (o : Option A) → (o ≡ None → ⊥) → (x : A) × (o ≡ Some x)
+some_by None never = absurd (never refl)
+some_by (Some x) never = (x, refl)
+
+pub has_frame : (w : World) (frame n word : ℕ) → ((fault : WorldFault) → RefusesEvent w (Deliver frame n word) fault → ⊥) → (bytes : List ℕ) × (numbered w.frames frame ≡ Some bytes)
+has_frame w frame n word accepted =
+    some_by (numbered w.frames frame) (λ none. accepted NoSuchFrame (no_frame w frame n word (has_node w (Deliver frame n word) accepted) none))
+
+node_by : (w : World) (event : Event) (b : Bool) → ltb (node_of event) (length w.nodes) ≡ b → (NamesNoNode w event → ⊥) → node_of event < length w.nodes
+node_by w event true e named = ltb-true (node_of event) (length w.nodes) e
+node_by w event false e named = absurd (named (inl (ltb-false (node_of event) (length w.nodes) e)))
+
+pub node_is_there : (w : World) (event : Event) → (NamesNoNode w event → ⊥) → node_of event < length w.nodes
+node_is_there w event named = node_by w event (ltb (node_of event) (length w.nodes)) refl named

@@ -7,14 +7,15 @@ use Rattle.world_core.specs.World.{World, IsWholeWorld}
 use Rattle.world_core.specs.Outcome.{Outcome, Outcomes, Passes}
 use Rattle.world_core.proofs.Fresh.{fresh_of}
 use Rattle.world_core.proofs.Never.{never_of}
-use Rattle.world_core.proofs.Outcomes.{shows_of}
+use Rattle.world_core.proofs.Outcomes.{world_of}
+use Rattle.world_core.proofs.Shown.{shows_all}
 
 pub passes : (old : World) (event : Event) (outcome : Result Answer WorldFault) (new : World) → IsWholeWorld old → Outcome old event outcome new → IsWholeWorld new → Passes old event outcome new
 passes old event outcome new was comes is = record {
   comes = comes;
   fresh = fresh_of old event outcome new was comes;
   never = never_of old event was;
-  shows = shows_of new is;
+  shows = shows_all new (world_of new is);
 }
 
 pub outcomes_snoc : (old : World) (events : List Event) (outcomes : List (Result Answer WorldFault)) (mid : World) (event : Event) (outcome : Result Answer WorldFault) (new : World)

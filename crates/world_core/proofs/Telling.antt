@@ -1,95 +1,97 @@
--- What accepted events tell, with one more event and with more frames.
-use Rattle.std.proofs.Common.{◌≡◌, ℕ, zero, suc, ◌+◌, ◌<◌, ◌≤◌, List, [], ◌∷◌, ◌++◌, length, refl, sym, ap, subst, ◌∙◌, arith}
-use Rattle.std.specs.Prelude.{slice_get}
-use Rattle.std.proofs.lemmas.List.{append-nil, append_assoc}
+-- What accepted events tell, with one more event and with more frames; and that it is one.
+use Rattle.std.proofs.Common.{◌≡◌, ℕ, ◌+◌, ◌-◌, ◌≤◌, List, [], ◌∷◌, ◌++◌, length, refl, sym, ap, subst, ◌∙◌, arith}
+use Rattle.std.proofs.lemmas.List.{length-append}
+use Rattle.meta_frame.specs.Frame.{Spells}
 use Rattle.meta_frame.specs.declared.message.Frame.{Frame}
+use Rattle.meta_frame.proofs.Frames.{one_frame}
 use Rattle.world_core.specs.declared.answer.Accepted.{Accepted}
-use Rattle.world_core.specs.Tells.{Told, node_of_event, nothing_told, numbered, tell_accepted, tell_event, tell_frames, tell_numbered, tell_all, tell_each, numbers_from, sent_numbers, Names, EachNames}
+use Rattle.world_core.specs.Tells.{EachNames, NamesEarlier, Pairwise, SendInOrder, Tells, Told, next_read, nothing_told, tell_accepted, tell_all, tell_each, tell_event, tell_frames}
+use Rattle.world_core.proofs.Lists.{frames_at_end, frames_at_more, pairwise_append, pairwise_one}
 
-tell_each_append : (frames : List Frame) (accepted more : List Accepted) (t : Told) → tell_each frames (accepted ++ more) t ≡ tell_each frames more (tell_each frames accepted t)
+-- ---- one more event
+
+tell_each_append : (frames : List Frame) (later more : List Accepted) (t : Told) → tell_each frames (later ++ more) t ≡ tell_each frames more (tell_each frames later t)
 tell_each_append frames [] more t = refl
-tell_each_append frames (a ∷ accepted) more t = tell_each_append frames accepted more (tell_accepted frames a t)
+tell_each_append frames (a ∷ later) more t = tell_each_append frames later more (tell_accepted frames a t)
 
--- one more event
-pub tell_all_snoc : (frames : List Frame) (accepted : List Accepted) (a : Accepted) → tell_all frames (accepted ++ a ∷ []) ≡ tell_accepted frames a (tell_all frames accepted)
-tell_all_snoc frames accepted a = tell_each_append frames accepted (a ∷ []) nothing_told
+pub tell_each_snoc : (frames : List Frame) (later : List Accepted) (a : Accepted) (t : Told)
+    → tell_each frames (later ++ a ∷ []) t ≡ tell_accepted frames a (tell_each frames later t)
+tell_each_snoc frames later a t = tell_each_append frames later (a ∷ []) t
 
--- what stands in a list stands there too where more follows
-pub slice_get_more : {X : Type 0} (frames more : List X) (at : ℕ) → at < length frames → slice_get (frames ++ more) at ≡ slice_get frames at
-slice_get_more [] more at low = absurd (let no : at < 0 = low in omega (arith, no))
-slice_get_more (frame ∷ frames) more zero low = refl
-slice_get_more (frame ∷ frames) more (suc at) low = slice_get_more frames more at (omega (arith, low))
+pub in_order_snoc : (sent all : ℕ) (later : List Accepted) (a : Accepted) → SendInOrder sent later all → a.answer.sent.first ≡ all + 1
+    → SendInOrder sent (later ++ a ∷ []) (all + a.answer.sent.count)
+in_order_snoc sent all [] a order next = (next ∙ ap (λ n. n + 1) order, ap (λ n. n + a.answer.sent.count) order)
+in_order_snoc sent all (b ∷ later) a order next = (order.0, in_order_snoc (sent + b.answer.sent.count) all later a order.1 next)
 
-numbered_more : (frames more : List Frame) (number : ℕ) → number ≤ length frames → numbered (frames ++ more) number ≡ numbered frames number
-numbered_more frames more zero low = refl
-numbered_more frames more (suc before) low = slice_get_more frames more before (omega (arith, low))
-
--- ---- numbers
-
--- each number is at most this
-abbrev AreBelow : ℕ → List ℕ → Type 0
-AreBelow most [] = Unit {0}
-AreBelow most (number ∷ numbers) = (number ≤ most) × AreBelow most numbers
-
--- the numbers of one more
-pub numbers_snoc : {A : Type 0} (first_number : ℕ) (xs : List A) (x : A) → numbers_from first_number (xs ++ x ∷ []) ≡ numbers_from first_number xs ++ (first_number + length xs) ∷ []
-numbers_snoc n [] x = let same : n ≡ n + 0 = omega arith in ap (λ m. m ∷ []) same
-numbers_snoc n (y ∷ xs) x =
-    let same : (n + 1) + length xs ≡ n + length (y ∷ xs) = omega arith in
-    ap (λ ms. n ∷ ms) (numbers_snoc (n + 1) xs x ∙ ap (λ m. numbers_from (n + 1) xs ++ m ∷ []) same)
-
-numbers_below : {A : Type 0} (first most : ℕ) (xs : List A) → first + length xs ≤ most + 1 → AreBelow most (numbers_from first xs)
-numbers_below first most [] within = tt
-numbers_below first most (x ∷ xs) within =
-    let low : first ≤ most = omega (arith, within) in
-    let later : (first + 1) + length xs ≤ most + 1 = omega (arith, within) in
-    (low, numbers_below (first + 1) most xs later)
-
-below_both : (most : ℕ) (xs ys : List ℕ) → AreBelow most (xs ++ ys) → AreBelow most xs × AreBelow most ys
-below_both most [] ys below = (tt, below)
-below_both most (x ∷ xs) ys below =
-    let rest = below_both most xs ys below.1 in
-    ((below.0, rest.0), rest.1)
-
-pub sent_numbers_snoc : (accepted : List Accepted) (a : Accepted) → sent_numbers (accepted ++ a ∷ []) ≡ sent_numbers accepted ++ a.answer.sent
-sent_numbers_snoc [] a = append-nil a.answer.sent
-sent_numbers_snoc (b ∷ accepted) a = ap (λ xs. b.answer.sent ++ xs) (sent_numbers_snoc accepted a) ∙ sym (append_assoc b.answer.sent (sent_numbers accepted) a.answer.sent)
+pub each_names_snoc : (frames : List Frame) (later : List Accepted) (a : Accepted) (t : Told) → EachNames frames later t
+    → NamesEarlier (tell_each frames later t) a.event → a.answer.read ≡ next_read (tell_each frames later t) a.event → EachNames frames (later ++ a ∷ []) t
+each_names_snoc frames [] a t all named read = ((named, read), tt)
+each_names_snoc frames (b ∷ later) a t all named read = (all.0, each_names_snoc frames later a (tell_accepted frames b t) all.1 named read)
 
 -- ---- more frames
 
-tell_frames_more : (frames more : List Frame) (n : ℕ) (numbers : List ℕ) (t : Told) → AreBelow (length frames) numbers → tell_frames (frames ++ more) n numbers t ≡ tell_frames frames n numbers t
-tell_frames_more frames more n [] t below = refl
-tell_frames_more frames more n (number ∷ numbers) t below =
-    ap (λ frame. tell_frames (frames ++ more) n numbers (tell_numbered n frame t)) (numbered_more frames more number below.0)
-    ∙ tell_frames_more frames more n numbers (tell_numbered n (numbered frames number) t) below.1
+-- numbers only go up
+in_order_up : (sent all : ℕ) (later : List Accepted) → SendInOrder sent later all → sent ≤ all
+in_order_up sent all [] order = let same : all ≡ sent = order in omega (arith, same)
+in_order_up sent all (a ∷ later) order =
+    let later : sent + a.answer.sent.count ≤ all = in_order_up (sent + a.answer.sent.count) all later order.1 in
+    omega (arith, later)
 
-tell_each_more : (frames more : List Frame) (accepted : List Accepted) (t : Told) → AreBelow (length frames) (sent_numbers accepted) → tell_each (frames ++ more) accepted t ≡ tell_each frames accepted t
-tell_each_more frames more [] t below = refl
-tell_each_more frames more (a ∷ accepted) t below =
-    let both = below_both (length frames) a.answer.sent (sent_numbers accepted) below in
-    ap (tell_each (frames ++ more) accepted) (tell_frames_more frames more (node_of_event a.event) a.answer.sent (tell_event a.event t) both.0)
-    ∙ tell_each_more frames more accepted (tell_accepted frames a t) both.1
+-- the first event's frames are there
+pub first_within : (sent all : ℕ) (a : Accepted) (later : List Accepted) → SendInOrder sent (a ∷ later) all → (a.answer.sent.first - 1) + a.answer.sent.count ≤ all
+first_within sent all a later order =
+    let later : sent + a.answer.sent.count ≤ all = in_order_up (sent + a.answer.sent.count) all later order.1 in
+    let first : a.answer.sent.first ≡ sent + 1 = order.0 in
+    omega (arith, later, first)
+
+accepted_more : (frames more : List Frame) (a : Accepted) (t : Told) → (a.answer.sent.first - 1) + a.answer.sent.count ≤ length frames
+    → tell_accepted (frames ++ more) a t ≡ tell_accepted frames a t
+accepted_more frames more a t within = ap (λ fs. tell_frames fs (tell_event a.event t)) (frames_at_more a.answer.sent frames more within)
 
 -- more frames change nothing that earlier ones told
-pub tell_all_more : (frames more : List Frame) (accepted : List Accepted) → sent_numbers accepted ≡ numbers_from 1 frames → tell_all (frames ++ more) accepted ≡ tell_all frames accepted
-tell_all_more frames more accepted in_order =
-    tell_each_more frames more accepted nothing_told (subst (AreBelow (length frames)) (sym in_order) (numbers_below 1 (length frames) frames (omega arith)))
+pub tell_each_more : (frames more : List Frame) (sent : ℕ) (later : List Accepted) (t : Told) → SendInOrder sent later (length frames)
+    → tell_each (frames ++ more) later t ≡ tell_each frames later t
+tell_each_more frames more sent [] t order = refl
+tell_each_more frames more sent (a ∷ later) t order =
+    ap (tell_each (frames ++ more) later) (accepted_more frames more a t (first_within sent (length frames) a later order))
+    ∙ tell_each_more frames more (sent + a.answer.sent.count) later (tell_accepted frames a t) order.1
 
--- ---- what events name
+pub each_names_more : (frames more : List Frame) (sent : ℕ) (later : List Accepted) (t : Told) → SendInOrder sent later (length frames) → EachNames frames later t
+    → EachNames (frames ++ more) later t
+each_names_more frames more sent [] t order all = tt
+each_names_more frames more sent (a ∷ later) t order all = (
+  all.0,
+  subst (EachNames (frames ++ more) later) (sym (accepted_more frames more a t (first_within sent (length frames) a later order)))
+      (each_names_more frames more (sent + a.answer.sent.count) later (tell_accepted frames a t) order.1 all.1),
+)
 
-pub each_names_snoc : (frames : List Frame) (accepted : List Accepted) (a : Accepted) (t : Told) → EachNames frames accepted t → Names (tell_each frames accepted t) a.event a.answer.read → EachNames frames (accepted ++ a ∷ []) t
-each_names_snoc frames [] a t all now = (now, tt)
-each_names_snoc frames (b ∷ accepted) a t all now = (all.0, each_names_snoc frames accepted a (tell_accepted frames b t) all.1 now)
+-- ---- one more event, with its frames
 
-each_names_later : (frames more : List Frame) (accepted : List Accepted) (t : Told) → AreBelow (length frames) (sent_numbers accepted) → EachNames frames accepted t → EachNames (frames ++ more) accepted t
-each_names_later frames more [] t below all = tt
-each_names_later frames more (a ∷ accepted) t below all =
-    let both = below_both (length frames) a.answer.sent (sent_numbers accepted) below in (
-      all.0,
-      subst (EachNames (frames ++ more) accepted) (sym (tell_frames_more frames more (node_of_event a.event) a.answer.sent (tell_event a.event t) both.0))
-          (each_names_later frames more accepted (tell_accepted frames a t) both.1 all.1),
-    )
+unfoldable pub telling_more : (accepted : List Accepted) (spellings : List (List ℕ)) (t : Told) (is : Tells accepted spellings t) (a : Accepted) (frames : List Frame) (bytes : List (List ℕ))
+    → Pairwise Spells frames bytes → a.answer.sent ≡ record { first = length is.frames + 1; count = length frames }
+    → NamesEarlier t a.event → a.answer.read ≡ next_read t a.event
+    → Tells (accepted ++ a ∷ []) (spellings ++ bytes) (tell_frames frames (tell_event a.event t))
+telling_more accepted spellings t is a frames bytes spelled sent named read =
+    let all = is.frames ++ frames in
+    let long : length all ≡ length is.frames + length frames = length-append is.frames frames in
+    let told : tell_each all accepted nothing_told ≡ t = tell_each_more is.frames frames 0 accepted nothing_told is.in_order ∙ is.tells in
+    let next : a.answer.sent.first ≡ length is.frames + 1 = ap (λ n. n.first) sent in
+    let count : length is.frames + a.answer.sent.count ≡ length all = ap (λ n. length is.frames + n.count) sent ∙ sym long in
+    record {
+      frames = all;
+      spelled = pairwise_append Spells is.frames frames spellings bytes is.spelled spelled;
+      in_order = subst (SendInOrder 0 (accepted ++ a ∷ [])) count (in_order_snoc 0 (length is.frames) accepted a is.in_order next);
+      names = each_names_snoc all accepted a nothing_told (each_names_more is.frames frames 0 accepted nothing_told is.in_order is.names)
+          (subst (λ u. NamesEarlier u a.event) (sym told) named) (read ∙ ap (λ u. next_read u a.event) (sym told));
+      tells = tell_each_snoc all accepted a nothing_told ∙ ap (tell_accepted all a) told
+          ∙ ap (λ fs. tell_frames fs (tell_event a.event t)) (frames_at_end a.answer.sent is.frames frames sent);
+    }
 
-pub each_names_more : (frames more : List Frame) (accepted : List Accepted) → sent_numbers accepted ≡ numbers_from 1 frames → EachNames frames accepted nothing_told → EachNames (frames ++ more) accepted nothing_told
-each_names_more frames more accepted in_order all =
-    each_names_later frames more accepted nothing_told (subst (AreBelow (length frames)) (sym in_order) (numbers_below 1 (length frames) frames (omega arith))) all
+-- ---- what is told is one
+
+pub one_spelling : (fs gs : List Frame) (spellings : List (List ℕ)) → Pairwise Spells fs spellings → Pairwise Spells gs spellings → fs ≡ gs
+one_spelling fs gs spellings one other = pairwise_one Spells (λ f g bytes a b. one_frame f g bytes a b) fs gs spellings one other
+
+pub one_told : (accepted : List Accepted) (spellings : List (List ℕ)) (t u : Told) → Tells accepted spellings t → Tells accepted spellings u → t ≡ u
+one_told accepted spellings t u one other =
+    sym one.tells ∙ ap (λ fs. tell_all fs accepted) (one_spelling one.frames other.frames spellings one.spelled other.spelled) ∙ other.tells

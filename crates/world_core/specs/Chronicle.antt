@@ -1,26 +1,31 @@
 -- What a world keeps of what it has accepted, as a list each; the view of a world and private
 -- functions cite it.
-use Rattle.std.specs.Prelude.{◌≡◌, ◌+◌, ◌≤◌}
+use Rattle.std.specs.Prelude.{◌≡◌, ℕ, ◌+◌, ◌≤◌, List, [], ◌++◌}
+use Rattle.node_images.specs.Node.{ImagedNode}
 use Rattle.world_core.specs.declared.chronicle.Chronicle.{Chronicle}
-use Rattle.world_core.specs.Tells.{Told}
+use Rattle.world_core.specs.World.{World}
 
-abbrev pub told_so_far : Chronicle → Told
-told_so_far c = record { history = c.history.items; looks = c.looks.items; sendings = c.sendings.items }
+-- the frames of the last event come after all others
+abbrev pub frames_in : Chronicle → List (List ℕ)
+frames_in c = c.sent.items ++ c.last.items
+
+-- the world of these nodes
+abbrev pub world_in : List ImagedNode → Chronicle → World
+world_in nodes c = record {
+  nodes = nodes;
+  accepted = c.accepted.items;
+  frames = frames_in c;
+  contexts = c.contexts.items;
+}
 
 -- each list holds what it held
 pub record IsSame (old new : Chronicle) : Type 0 where
   pub accepted : new.accepted.items ≡ old.accepted.items
-  pub frames : new.frames.items ≡ old.frames.items
+  pub frames : frames_in new ≡ frames_in old
   pub contexts : new.contexts.items ≡ old.contexts.items
-  pub history : new.history.items ≡ old.history.items
-  pub looks : new.looks.items ≡ old.looks.items
-  pub sendings : new.sendings.items ≡ old.sendings.items
 
 -- each list takes what one event adds, without more memory
 pub record HasRoom (c : Chronicle) : Type 0 where
   pub accepted : c.accepted.len + 1 ≤ c.accepted.cap
-  pub frames : c.frames.len + 1 ≤ c.frames.cap
   pub contexts : c.contexts.len + 1 ≤ c.contexts.cap
-  pub history : c.history.len + 2 ≤ c.history.cap
-  pub looks : c.looks.len + 1 ≤ c.looks.cap
-  pub sendings : c.sendings.len + 1 ≤ c.sendings.cap
+  pub settled : c.last.items ≡ []

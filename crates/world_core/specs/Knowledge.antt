@@ -1,5 +1,5 @@
 -- What the nodes, the contexts, the frames and the replies of a world say, in the words of the
--- past. The rule is our own.
+-- past.
 use Rattle.std.specs.Prelude.{◌≡◌, ℕ, ◌<◌, List, length, Some, slice_get, ◌↔◌}
 use Rattle.meta_types.specs.Actor.{node_of_writer}
 use Rattle.meta_types.specs.Name.{Key}
@@ -7,19 +7,23 @@ use Rattle.dvvset.specs.Object.{Entry}
 use Rattle.dvvset.specs.Clock.{join, values_of}
 use Rattle.meta_store.specs.Context.{Reading}
 use Rattle.meta_store.specs.Table.{object_at}
+use Rattle.node_events.specs.declared.reply.Reply.{Reply}
+use Rattle.node_events.specs.declared.reply.Reply.TheVariants.{TookFresh, TookStale}
 use Rattle.past_model.specs.declared.happening.Happening.{Happening}
 use Rattle.past_model.specs.declared.happening.Happening.TheVariants.{Looked, Sent}
 use Rattle.past_model.specs.Sets.{IsSubset}
 use Rattle.past_model.specs.Past.{known, load, seen, writes}
 use Rattle.past_model.specs.Shown.{IsContext, IsObjectOf, Shows}
 use Rattle.world_core.specs.declared.answer.Answer.{Answer}
-use Rattle.world_core.specs.declared.answer.Reply.{Reply}
-use Rattle.world_core.specs.declared.answer.Reply.TheVariants.{TookFresh, TookStale}
 use Rattle.world_core.specs.declared.event.Event.{Event}
-use Rattle.world_core.specs.declared.event.Event.TheVariants.{Put, Get, PutOver, Send, Deliver, Junk, Keep, Restart}
-use Rattle.world_core.specs.Tells.{Told, numbered, sending_of}
+use Rattle.world_core.specs.declared.event.Event.TheVariants.{Deliver}
+use Rattle.world_core.specs.Tells.{Told, Tells, numbered, sending_of}
 use Rattle.world_core.specs.World.{World}
 use Rattle.world_core.specs.Refusal.{table_of}
+
+-- what holds of all that the accepted events of a world tell
+abbrev pub OfAllTold : World → (Told → Type 0) → Type 0
+OfAllTold w P = (t : Told) → Tells w.accepted w.frames t → P t
 
 -- the object shows what the node knows under the key by the history: the values are those of the
 -- writes that it knows and that no write it knows had read, and the vector counts all that it knows
@@ -29,14 +33,18 @@ pub record ShowsKnown (hs : List Happening) (n : ℕ) (key : Key) (object : List
 
 -- each node holds, under each key, the object of the writes that it knows there
 abbrev pub ShowWhatTheyKnow : World → Type 0
-ShowWhatTheyKnow w = (n : ℕ) (key : Key) → n < length w.nodes → IsObjectOf (writes w.told.history) key (known w.told.history n key) (object_at (table_of w n) key)
+ShowWhatTheyKnow w = OfAllTold w (λ t. (n : ℕ) (key : Key) → n < length w.nodes
+    → IsObjectOf (writes t.history) key (known t.history n key) (object_at (table_of w n) key))
 
--- the context of a read counts what its node knew under its key
+-- the context of a read counts what its node knew under its key, which was a closed set of writes
 pub record CountsSeen (t : Told) (read : ℕ) (context : Reading) : Type 0 where
   pub place : ℕ
   pub told_at : numbered t.looks read ≡ Some place
-  pub looked : slice_get t.history place ≡ Some (Looked (node_of_writer context.source.actor) context.key)
-  pub vector : IsContext (writes t.history) (seen t.history place context.key) context.vector
+  pub looked : slice_get t.history place
+      ≡ Some (Looked (node_of_writer context.source.actor) context.key)
+  pub object : List Entry
+  pub of_seen : IsObjectOf (writes t.history) context.key (seen t.history place context.key) object
+  pub vector : context.vector ≡ join object
 
 -- the object of a frame is that of what its sender knew under its key
 pub record CarriesLoad (t : Told) (number from : ℕ) (key : Key) (object : List Entry) : Type 0 where
@@ -47,19 +55,15 @@ pub record CarriesLoad (t : Told) (number from : ℕ) (key : Key) (object : List
 
 -- the reply to an object that was sent at the place: fresh exactly where the node didn't know all
 -- that was sent, and stale exactly where it did
-pub record IsFresh (hs : List Happening) (n place : ℕ) (key : Key) (reply : Reply) : Type 0 where
+pub record TellsFreshness (hs : List Happening) (n place : ℕ) (key : Key) (reply : Reply)
+    : Type 0 where
   pub fresh : (reply ≡ TookFresh) ↔ (IsSubset (load hs place key) (known hs n key) → ⊥)
   pub stale : (reply ≡ TookStale) ↔ IsSubset (load hs place key) (known hs n key)
 
 -- a delivery of a frame with an object is answered fresh or stale as that says; of other events
 -- nothing is said
 abbrev pub FreshExactly : World → Event → Answer → Type 0
-FreshExactly w (Put n k v read) answer = Unit {0}
-FreshExactly w (Get n k) answer = Unit {0}
-FreshExactly w (PutOver n k v) answer = Unit {0}
-FreshExactly w (Send n k to) answer = Unit {0}
-FreshExactly w (Deliver number n word) answer =
-    (place m : ℕ) (key : Key) → sending_of w.told number ≡ Some place → slice_get w.told.history place ≡ Some (Sent m key) → IsFresh w.told.history n place key answer.reply
-FreshExactly w (Junk n bytes) answer = Unit {0}
-FreshExactly w (Keep n k) answer = Unit {0}
-FreshExactly w (Restart n image) answer = Unit {0}
+FreshExactly w (Deliver number n word) answer = OfAllTold w (λ t. (place m : ℕ) (key : Key)
+    → sending_of t number ≡ Some place → slice_get t.history place ≡ Some (Sent m key)
+    → TellsFreshness t.history n place key answer.reply)
+FreshExactly w event answer = Unit {0}

@@ -1,5 +1,5 @@
--- What must be believed of the world, in the order in which to read it. names, values, clocks, the
--- past, frames, stores and images, which the contracts of this crate speak of too
+-- What must be believed of the world, in the order in which to read it: first names, values, clocks,
+-- the past, frames, stores, nodes and images, of which the contracts of this crate speak too
 pub use Rattle.meta_types.specs.Name
 pub use Rattle.meta_types.specs.Value
 pub use Rattle.dvvset.specs.Object
@@ -13,11 +13,18 @@ pub use Rattle.meta_frame.specs.Frame
 pub use Rattle.meta_store.specs.Table
 pub use Rattle.meta_store.specs.Step
 pub use Rattle.past_objects.specs.Objects
+pub use Rattle.node_core.specs.Step as NodeStep
+pub use Rattle.node_core.specs.Leaving
 pub use Rattle.node_images.specs.Images
+pub use Rattle.node_images.specs.Keeping
 pub use Rattle.node_images.specs.Node
 pub use Rattle.node_images.specs.Follows
 -- how accepted events tell a history
 pub mod Tells
+-- what an event is to its node
+pub mod Events
+-- the lives of a node
+pub mod Lives
 -- a world, and what it keeps to
 pub mod World
 -- the refusals
@@ -28,11 +35,7 @@ pub mod Refusal
 pub mod Knowledge
 -- what a world answers, and what it then is
 pub mod Outcome
--- lists of values compared
-pub mod Equal
--- what private functions alone cite: what the steps of an event hand on
-pub mod Steps
 -- what the view of a world and private functions cite: the lists of a world
 pub mod Chronicle
--- what private functions alone cite: what a write and a read leave
-pub mod Plan
+-- what private functions alone cite: that what an event names is there
+pub mod Steps

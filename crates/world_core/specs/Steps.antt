@@ -1,52 +1,50 @@
--- What the steps of an event hand on, which private functions alone cite.
-use Rattle.std.specs.Prelude.{◌≡◌, ◌≢◌, ℕ, ◌+◌, ◌<◌, ◌⊎◌, List, length, Option, Some, None}
-use Rattle.std.specs.FinMap.{find}
-use Rattle.meta_types.specs.Name.{Key}
-use Rattle.meta_types.specs.Order.{key_cmp}
-use Rattle.dvvset.specs.Object.{Entry}
-use Rattle.meta_frame.specs.Frame.{RefusesBytes, Spells}
+-- What private functions alone cite: that an event is a step, and that what it names is there.
+use Rattle.std.specs.Prelude.{◌≡◌, ℕ, ◌<◌, ◌⊎◌, List, length, Option, Some, None}
+use Rattle.meta_frame.specs.Frame.{RefusesBytes}
 use Rattle.meta_frame.specs.declared.fault.FrameFault.{FrameFault}
-use Rattle.meta_frame.specs.declared.fault.FrameFault.TheVariants.{Memory}
-use Rattle.meta_frame.specs.declared.message.Frame.{Frame}
-use Rattle.meta_frame.specs.declared.message.Message.TheVariants.{Gossip}
-use Rattle.world_core.specs.Tells.{carried_object}
+use Rattle.meta_store.specs.Context.{Reading}
+use Rattle.node_events.specs.Fault.{of_frame}
+use Rattle.world_core.specs.declared.event.Event.{Event}
+use Rattle.world_core.specs.declared.event.Event.TheVariants.{Put, Deliver, Junk, Join, PeerDown, Exchange, Hello, Restart}
+use Rattle.world_core.specs.declared.fault.WorldFault.{WorldFault}
+use Rattle.world_core.specs.declared.fault.WorldFault.TheVariants.{LooksLikeFrame, Memory}
+use Rattle.world_core.specs.Fault.{of_step}
+use Rattle.world_core.specs.Refusal.{IsFrame, RefusesEvent}
+use Rattle.world_core.specs.Tells.{numbered}
 use Rattle.world_core.specs.World.{World}
-use Rattle.world_core.specs.Refusal.{IsFrameOf, table_of}
 
--- the place, from 0, of the context of the read of this number, where one is named
-abbrev pub IsPlaceOf : World → Option ℕ → Option ℕ → Type 0
-IsPlaceOf w None place = place ≡ None
-IsPlaceOf w (Some read) None = ⊥
-IsPlaceOf w (Some read) (Some place) = (read ≡ place + 1) × (place < length w.contexts)
+-- any event but a restart
+abbrev pub IsOfStep : Event → Type 0
+IsOfStep (Restart n image) = ⊥
+IsOfStep event = Unit {0}
 
--- the bytes are a frame with this addressee and this object
-pub record IsArrival (bytes : List ℕ) (to : ℕ) (object : Option (Key × List Entry)) : Type 0 where
-  pub frame : Frame
-  pub spelled : Spells frame bytes
-  pub addressed : frame.to ≡ to
-  pub carries : carried_object frame.message ≡ object
+-- the read is there, if one is named
+abbrev pub HasRead : World → Option ℕ → Type 0
+HasRead w None = Unit {0}
+HasRead w (Some read) = (context : Reading) × (numbered w.contexts read ≡ Some context)
 
--- the bytes are no frame, or there is no memory to tell
-unfoldable pub IsNoFrame : List ℕ → FrameFault → Type 0
-IsNoFrame bytes fault = (fault ≡ Memory) ⊎ RefusesBytes bytes fault
+-- the read is named and isn't there
+abbrev pub HasNoRead : World → Option ℕ → Type 0
+HasNoRead w None = ⊥
+HasNoRead w (Some read) = numbered w.contexts read ≡ None
 
--- the frame of that number is addressed to the node of the world, and carries this object
-pub record Arrives (w : World) (number n : ℕ) (object : Option (Key × List Entry)) : Type 0 where
-  pub frame : Frame
-  pub is : IsFrameOf w number frame
-  pub addressed : frame.to ≡ n
-  pub carries : carried_object frame.message ≡ object
-  pub node : n < length w.nodes
+-- what a step names is there; junk is no step that can be made
+abbrev pub HasNamed : World → Event → Type 0
+HasNamed w (Put n k v read) = HasRead w read
+HasNamed w (Deliver frame n word) = (bytes : List ℕ) × (numbered w.frames frame ≡ Some bytes)
+HasNamed w (Junk n bytes) = ⊥
+HasNamed w (Join n contact word) = contact < length w.nodes
+HasNamed w (PeerDown n peer word) = peer < length w.nodes
+HasNamed w (Exchange n peer) = peer < length w.nodes
+HasNamed w (Hello n peer) = peer < length w.nodes
+HasNamed w event = Unit {0}
 
--- the bytes are the next frame of the world: what the node holds under the key, to another node
-pub record Sends (w : World) (n : ℕ) (k : Key) (to : ℕ) (bytes : List ℕ) : Type 0 where
-  pub object : List Entry
-  pub there : find key_cmp k (table_of w n) ≡ Some object
-  pub spelled : Spells (record { from = n; to = to; number = length w.frames + 1; message = Gossip 0 k object }) bytes
-  pub low : n < length w.nodes
-  pub addressee : to < length w.nodes
-  pub apart : n ≢ to
+-- memory ended, or this is the first cause
+abbrev pub MayRefuse : World → Event → WorldFault → Type 0
+MayRefuse w event fault = (fault ≡ Memory) ⊎ RefusesEvent w event fault
 
--- (one word, into which proofs do not look by themselves)
-unfoldable pub IsNextFrame : World → ℕ → Key → ℕ → List ℕ → Type 0
-IsNextFrame w n k to bytes = Sends w n k to bytes
+-- junk is refused as a frame, or as what is no frame for its first cause, or memory ended
+abbrev pub JunkFails : List ℕ → WorldFault → Type 0
+JunkFails bytes fault = (fault ≡ Memory) ⊎ ((IsFrame bytes × (fault ≡ LooksLikeFrame))
+    ⊎ ((by_bytes : FrameFault) × (RefusesBytes bytes by_bytes
+    × (fault ≡ of_step (of_frame by_bytes)))))

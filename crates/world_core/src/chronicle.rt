@@ -1,45 +1,45 @@
 //! What a world keeps of what it has accepted.
 
-ghost use Rattle.std.specs.Prelude.{◌≡◌, ◌∷◌, ◌++◌, [], OnOk, Some, length};
-ghost use Rattle.past_model.specs.declared.happening.Happening.TheVariants.{Sent, Wrote};
-ghost use Rattle.world_core.specs.Chronicle.{HasRoom, IsSame, told_so_far};
-ghost use Rattle.world_core.specs.Tells.{nothing_told, tell, tell_look};
+ghost use Rattle.std.specs.Prelude.{◌≡◌, ◌+◌, ◌≤◌, ◌∷◌, ◌++◌, [], None, OnOk, length};
+ghost use Rattle.std.specs.Option.{option_copied};
+ghost use Rattle.node_events.specs.declared.reply.Reply.TheVariants.{Done};
+ghost use Rattle.world_core.specs.Chronicle.{HasRoom, IsSame, frames_in};
+ghost use Rattle.world_core.specs.Outcome.{listed, read_after};
+ghost use Rattle.world_core.specs.Tells.{numbered};
+ghost use Rattle.world_core.specs.declared.event.Event.TheVariants.{Restart};
 
-use crate::answer::Accepted;
-use crate::write::Pair;
+use crate::answer::{Accepted, Answer, FrameNumbers};
+use crate::event::Event;
 use meta_store::Context;
-use meta_types::{ByteString, MetaKey, NodeId};
-use past_model::Happening;
+use meta_types::ByteString;
+use node_events::{Outbox, Reply};
+use node_images::ImagedStep;
 use std::alloc::{AllocError, Global};
+use std::mem::replace;
 
-/// What was accepted and sent, the contexts of the reads, and the history that all this tells: of
-/// each read the place of its `Looked`, and of each frame that of its `Sent`, or none where it
-/// carries no object.
-#[derive(Debug, Drop)]
+/// What was accepted and sent, and the contexts of the reads. The frames of the last event stand
+/// apart until there is room for them among the others: so what an event needs is known before it,
+/// however many frames it sends.
+#[derive(Drop)]
 pub(crate) struct Chronicle {
     pub(crate) accepted: Vec<Accepted>,
-    pub(crate) frames: Vec<ByteString>,
+    pub(crate) sent: Vec<ByteString>,
+    pub(crate) last: Vec<ByteString>,
     pub(crate) contexts: Vec<Context>,
-    pub(crate) history: Vec<Happening>,
-    pub(crate) looks: Vec<usize>,
-    pub(crate) sendings: Vec<Option<usize>>,
 }
 
 impl Chronicle {
     /// A chronicle of nothing.
     pub(crate) fn new(alloc: Global) -> Self
         ensures accepted { result.accepted.items ≡ [] }
-        ensures frames { result.frames.items ≡ [] }
+        ensures frames { frames_in result ≡ [] }
         ensures contexts { result.contexts.items ≡ [] }
-        ensures told { told_so_far result ≡ nothing_told }
     {
         Chronicle {
             accepted: Vec::new(alloc),
-            frames: Vec::new(alloc),
+            sent: Vec::new(alloc),
+            last: Vec::new(alloc),
             contexts: Vec::new(alloc),
-            history: Vec::new(alloc),
-            looks: Vec::new(alloc),
-            sendings: Vec::new(alloc),
         }
     }
 
@@ -48,98 +48,138 @@ impl Chronicle {
         ensures same { IsSame self.old self.new }
         ensures room { OnOk result (HasRoom self.new) }
     {
+        self.sent.append(&mut self.last)?;
         self.accepted.reserve(1)?;
-        self.frames.reserve(1)?;
-        self.contexts.reserve(1)?;
-        // a write over what stands is a read and a write
-        self.history.reserve(2)?;
-        self.looks.reserve(1)?;
-        self.sendings.reserve(1)
+        self.contexts.reserve(1)
     }
 
-    /// Adds an accepted event with its answer. There is room for it.
-    pub(crate) fn accept(&mut self, accepted: Accepted)
+    /// How many frames were sent.
+    pub(crate) fn frame_count(&self) -> u64
+        ensures { result ≡ length (frames_in self.now) }
+    {
+        self.sent.len() as u64 + self.last.len() as u64
+    }
+
+    /// The bytes of the frame of that number, if one has it.
+    pub(crate) fn frame(&self, number: u64) -> Option<&ByteString>
+        ensures { option_copied result ≡ numbered (frames_in self.now) number }
+    {
+        if number == 0 {
+            return None;
+        }
+        let place = number - 1;
+        let settled = self.sent.len() as u64;
+        if place < settled {
+            self.sent.get(place as usize)
+        } else {
+            self.last.get((place - settled) as usize)
+        }
+    }
+
+    /// Adds an event, with what its step gave. There is room for it.
+    pub(crate) fn accept(&mut self, event: Event, given: ImagedStep) -> Answer
         requires { HasRoom self.old }
-        ensures accepted { self.new.accepted.items ≡ self.old.accepted.items ++ accepted ∷ [] }
-        ensures frames { self.new.frames.items ≡ self.old.frames.items }
+        ensures accepted { self.new.accepted.items ≡ self.old.accepted.items
+            ++ (record {
+              event = event;
+              answer = record {
+                reply = given.reply;
+                read = read_after self.old.contexts.items given.context;
+                sent = record {
+                  first = length (frames_in self.old) + 1;
+                  count = length given.outbox;
+                };
+              };
+            }) ∷ [] }
+        ensures frames { frames_in self.new ≡ frames_in self.old ++ given.outbox }
+        ensures contexts { self.new.contexts.items
+            ≡ self.old.contexts.items ++ listed given.context }
+        ensures answer { result ≡ record {
+          reply = given.copy;
+          read = read_after self.old.contexts.items given.context;
+          sent = record {
+            first = length (frames_in self.old) + 1;
+            count = length given.outbox;
+          };
+        } }
+    {
+        let sent = self.send(given.outbox);
+        let read = self.look(given.context);
+        let answer = Answer {
+            reply: given.reply,
+            read,
+            sent,
+        };
+        self.accepted.push_reserved(Accepted { event, answer });
+        Answer {
+            reply: given.copy,
+            read,
+            sent,
+        }
+    }
+
+    /// Adds a restart. There is room for it.
+    pub(crate) fn accept_restart(&mut self, node: u64, image: u64) -> Answer
+        requires { HasRoom self.old }
+        ensures accepted { self.new.accepted.items ≡ self.old.accepted.items
+            ++ (record { event = Restart node image; answer = result }) ∷ [] }
+        ensures frames { frames_in self.new ≡ frames_in self.old }
         ensures contexts { self.new.contexts.items ≡ self.old.contexts.items }
-        ensures told { told_so_far self.new ≡ told_so_far self.old }
+        ensures answer { result ≡ record {
+          reply = Done;
+          read = None;
+          sent = record { first = length (frames_in self.old) + 1; count = 0 };
+        } }
     {
+        let sent = FrameNumbers {
+            first: self.frame_count() + 1,
+            count: 0,
+        };
+        let accepted = Accepted {
+            event: Event::Restart { node, image },
+            answer: done(sent),
+        };
         self.accepted.push_reserved(accepted);
+        done(sent)
     }
 
-    /// Adds what has happened, and the event that it comes of. There is room for both.
-    pub(crate) fn tell(&mut self, told: Happening, accepted: Accepted)
+    /// Adds the frames of a step. Answers their numbers.
+    fn send(&mut self, outbox: Outbox) -> FrameNumbers
         requires { HasRoom self.old }
-        ensures accepted { self.new.accepted.items ≡ self.old.accepted.items ++ accepted ∷ [] }
-        ensures frames { self.new.frames.items ≡ self.old.frames.items }
-        ensures contexts { self.new.contexts.items ≡ self.old.contexts.items }
-        ensures told { told_so_far self.new ≡ tell told (told_so_far self.old) }
+        ensures frames { frames_in self.new ≡ frames_in self.old ++ outbox }
+        ensures accepted { self.new.accepted ≡ self.old.accepted }
+        ensures contexts { self.new.contexts ≡ self.old.contexts }
+        ensures numbers { result
+            ≡ record { first = length (frames_in self.old) + 1; count = length outbox } }
     {
-        self.history.push_reserved(told);
-        self.accepted.push_reserved(accepted);
+        let first = self.frame_count() + 1;
+        let frames = outbox.into_vec();
+        let count = frames.len() as u64;
+        drop(replace(&mut self.last, frames));
+        FrameNumbers { first, count }
     }
 
-    /// Adds a read with its context, and the event that it comes of. There is room for all.
-    pub(crate) fn look(&mut self, node: NodeId, key: MetaKey, context: Context, accepted: Accepted)
-        requires { HasRoom self.old }
-        ensures accepted { self.new.accepted.items ≡ self.old.accepted.items ++ accepted ∷ [] }
-        ensures frames { self.new.frames.items ≡ self.old.frames.items }
-        ensures contexts { self.new.contexts.items ≡ self.old.contexts.items ++ context ∷ [] }
-        ensures told { told_so_far self.new ≡ tell_look node key (told_so_far self.old) }
+    /// Adds the context of a read, if there is one. Answers the number of the read.
+    fn look(&mut self, context: Option<Context>) -> Option<u64>
+        requires { self.old.contexts.len + 1 ≤ self.old.contexts.cap }
+        ensures contexts { self.new.contexts.items ≡ self.old.contexts.items ++ listed context }
+        ensures accepted { self.new.accepted ≡ self.old.accepted }
+        ensures frames { frames_in self.new ≡ frames_in self.old }
+        ensures number { result ≡ read_after self.old.contexts.items context }
     {
-        let place = self.history.len();
-        self.looks.push_reserved(place);
+        let context = context?;
         self.contexts.push_reserved(context);
-        self.history.push_reserved(Happening::Looked { node, key });
-        self.accepted.push_reserved(accepted);
+        Some(self.contexts.len() as u64)
     }
+}
 
-    /// Adds a read with its context, a write that has read it, and the event that both come of.
-    /// There is room for all.
-    pub(crate) fn look_and_tell(
-        &mut self,
-        node: NodeId,
-        key: MetaKey,
-        context: Context,
-        written: Pair,
-        accepted: Accepted,
-    )
-        requires { HasRoom self.old }
-        ensures accepted { self.new.accepted.items ≡ self.old.accepted.items ++ accepted ∷ [] }
-        ensures frames { self.new.frames.items ≡ self.old.frames.items }
-        ensures contexts { self.new.contexts.items ≡ self.old.contexts.items ++ context ∷ [] }
-        ensures told { told_so_far self.new
-            ≡ tell (Wrote node written.key written.value (Some (length self.old.history.items)))
-            (tell_look node key (told_so_far self.old)) }
-    {
-        let place = self.history.len();
-        self.looks.push_reserved(place);
-        self.contexts.push_reserved(context);
-        self.history.push_reserved(Happening::Looked { node, key });
-        self.history.push_reserved(written.wrote(node, Some(place)));
-        self.accepted.push_reserved(accepted);
-    }
-
-    /// Adds a frame with an object, and the event that it comes of. There is room for all.
-    pub(crate) fn send(&mut self, node: NodeId, key: MetaKey, bytes: ByteString, accepted: Accepted)
-        requires { HasRoom self.old }
-        ensures accepted { self.new.accepted.items ≡ self.old.accepted.items ++ accepted ∷ [] }
-        ensures frames { self.new.frames.items ≡ self.old.frames.items ++ bytes ∷ [] }
-        ensures contexts { self.new.contexts.items ≡ self.old.contexts.items }
-        ensures told { told_so_far self.new
-            ≡ record {
-              history = self.old.history.items
-                  ++ Sent node key ∷ [];
-              looks = self.old.looks.items;
-              sendings = self.old.sendings.items
-                  ++ Some (length self.old.history.items) ∷ [];
-            } }
-    {
-        let place = self.history.len();
-        self.frames.push_reserved(bytes);
-        self.sendings.push_reserved(Some(place));
-        self.history.push_reserved(Happening::Sent { node, key });
-        self.accepted.push_reserved(accepted);
+/// The answer to a restart.
+fn done(sent: FrameNumbers) -> Answer
+    ensures { result ≡ record { reply = Done; read = None; sent = sent } }
+{
+    Answer {
+        reply: Reply::Done,
+        read: None,
+        sent,
     }
 }

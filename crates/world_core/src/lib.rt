@@ -1,32 +1,34 @@
-//! The world: all nodes, their frames and their images under any schedule of writes, reads,
-//! sendings, deliveries, images kept and restarts, and the history that these tell. Nodes send
-//! nothing by themselves.
+//! The world: all nodes of a cluster in one value, with the frames that they sent and the images
+//! that they left, under any schedule of events, and the history that these tell. Nodes send by
+//! themselves; what they sent stays, and is delivered once, often, in any order, or never.
 //!
 //! ```
 //! let mut world = World::new(alloc, 2)?;
-//! world.apply(Event::Put { node: 0, key: key.copy()?, value: red, read: None })?;
-//! world.apply(Event::Send { node: 0, key: key.copy()?, to: 1 })?; // frame 1
-//! world.apply(Event::Deliver { frame: 1, node: 1, word: 0 })?; // node 1 shows red
+//! world.apply(Event::Join { node: 1, contact: 0, word: 0 })?; // frame 1: a JOIN
+//! world.apply(Event::Deliver { frame: 1, node: 0, word: 0 })?; // each is the other's neighbour
+//! let put = Event::Put { node: 0, key: key.copy()?, value: red, read: None };
+//! let answer = world.apply(put)?; // it sends a GOSSIP
+//! let frame = answer.sent.first;
+//! world.apply(Event::Deliver { frame, node: 1, word: 0 })?; // node 1 shows red
 //! ```
 //!
-//! Read `event`, `answer`, `fault`, `world`; then `apply` with a file for each event (`write`,
-//! `send`, `deliver`, `restart`), `chronicle` (what is told), and `laws`.
+//! Read `event`, `answer`, `fault`, `world`; then `apply`, `step` (events that are steps of a node)
+//! and `restart`; `chronicle` (what is kept of what was accepted), `history` (what that tells), and
+//! `laws`.
 #![tactic(auto)]
 
 pub mod answer;
-mod apply;
-mod both;
+pub mod apply;
 mod chronicle;
-mod deliver;
 pub mod event;
 pub mod fault;
+mod history;
 pub mod laws;
 mod restart;
-mod send;
+mod step;
 pub mod world;
-mod write;
 
-pub use answer::{Accepted, Answer, Reply};
+pub use answer::{Accepted, Answer, FrameNumbers};
 pub use event::Event;
 pub use fault::WorldFault;
 pub use world::World;

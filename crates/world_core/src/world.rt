@@ -1,58 +1,57 @@
 //! All nodes of a cluster, in one value.
 
-ghost use Rattle.std.specs.Prelude.{◌≡◌, ◌≤◌, ◌<◌, ◌⊎◌, ◌↔◌, ℕ, List, Some, length, replicate, IfOk, IfErr, OnOk, IfSome, IsNone};
+ghost use Rattle.std.specs.Prelude.{◌≡◌, ◌≤◌, ◌<◌, ◌⊎◌, ◌↔◌, ◌++◌, ℕ, List, Some, length, map, IfOk, IfErr, IfSome, IsNone};
+ghost use Rattle.std.specs.List.{range_with_len};
+ghost use Rattle.std.specs.Option.{option_copied};
 ghost use Rattle.meta_types.specs.Failing.{FailsWith};
 ghost use Rattle.meta_types.specs.Name.{Key};
-ghost use Rattle.meta_store.specs.Table.{object_at};
-ghost use Rattle.past_model.specs.Past.{image, known, past, writes};
-ghost use Rattle.past_model.specs.Shown.{ArePlaces, IsObjectOf};
-ghost use Rattle.node_images.specs.Images.{ChangeEarlier, holdings};
-ghost use Rattle.past_model.specs.History.{IsHistory};
-ghost use Rattle.node_images.specs.Node.{new_node};
 ghost use Rattle.dvvset.specs.Object.{Entry};
 ghost use Rattle.meta_frame.specs.declared.message.Frame.{Frame as F};
-ghost use Rattle.meta_store.specs.Context.{Reading};
-ghost use Rattle.world_core.specs.Tells.{Tells, carried_object, numbered};
-ghost use Rattle.world_core.specs.Refusal.{IsFrameOf, node_at, table_of};
-ghost use Rattle.world_core.specs.Knowledge.{CarriesLoad, CountsSeen, ShowsKnown};
-ghost use Rattle.world_core.specs.World.{new_world};
+ghost use Rattle.meta_store.specs.Table.{object_at};
+ghost use Rattle.past_model.specs.Past.{image, known, past, writes};
+ghost use Rattle.past_model.specs.Shown.{IsObjectOf};
+ghost use Rattle.node_core.specs.Leaving.{carried_object};
+ghost use Rattle.node_images.specs.Images.{ChangeEarlier, holdings};
+ghost use Rattle.node_images.specs.Node.{new_node};
+ghost use Rattle.world_core.specs.Knowledge.{CarriesLoad, OfAllTold, ShowsKnown};
+ghost use Rattle.world_core.specs.Refusal.{IsFrameOf, node_at};
+ghost use Rattle.world_core.specs.Tells.{numbered};
+ghost use Rattle.world_core.specs.World.{HasLived, new_world};
 ghost use Rattle.world_core.specs.declared.fault.WorldFault.TheVariants.{Memory, NoSuchNode};
 
 use crate::answer::Accepted;
 use crate::chronicle::Chronicle;
 use crate::fault::WorldFault;
-use meta_store::Store;
-use meta_types::{ByteString, MetaKey};
-use node_images::{Image, Node};
-use past_model::{Happening, Plain};
+use meta_types::{ByteString, NodeId};
+use node_core::NodeState;
+use node_images::{Image, ImagedNode};
 use std::alloc::{AllocError, Global};
 use std::marker::Model;
 
 /// The most nodes of a world.
 pub const MAX_NODES: u64 = 16;
 
-/// Nodes, with all that was accepted and sent, and the history that it tells. It keeps each of
-/// these whole.
-#[derive(Debug, Drop)]
+/// Nodes, with all that was accepted and sent, which tells a history.
+#[derive(Drop)]
 pub struct World {
-    pub(crate) nodes: Vec<Node>,
+    pub(crate) nodes: Vec<ImagedNode>,
     pub(crate) chronicle: Chronicle,
 }
 
 impl Model for World {
     ghost use Rattle.world_core.specs.World.{World as Parts, IsWholeWorld};
-    ghost use Rattle.world_core.specs.Chronicle.{told_so_far};
+    ghost use Rattle.world_core.specs.Chronicle.{world_in};
 
     ghost Value = { Parts };
 
-    ghost view = { λ w. record { nodes = w.nodes.items; accepted = w.chronicle.accepted.items; frames = w.chronicle.frames.items; contexts = w.chronicle.contexts.items; told = told_so_far w.chronicle } };
+    ghost view = { λ w. world_in w.nodes.items w.chronicle };
 
-    ghost invariant = { λ w. IsWholeWorld (record { nodes = w.nodes.items; accepted = w.chronicle.accepted.items; frames = w.chronicle.frames.items; contexts = w.chronicle.contexts.items; told = told_so_far w.chronicle }) };
+    ghost invariant = { λ w. IsWholeWorld (world_in w.nodes.items w.chronicle) };
 }
 
 impl World {
-    /// A world of `nodes` nodes, each of which holds nothing. Refused with 44 `NoSuchNode` for none
-    /// or more than 16, and with 99 `Memory`.
+    /// A world of `nodes` new nodes. Refused with 44 `NoSuchNode` for none or more than 16, and
+    /// with 99 `Memory`.
     pub fn new(alloc: Global, nodes: u64) -> Result<Self, WorldFault>
         ensures value { IfOk result (λ world. world ≡ new_world nodes) }
         ensures range { IfOk result (λ world. (1 ≤ nodes) × (nodes ≤ 16)) }
@@ -63,7 +62,7 @@ impl World {
             return Err(WorldFault::NoSuchNode);
         }
         Ok(World {
-            nodes: empty_nodes(alloc, nodes)?,
+            nodes: new_nodes(alloc, nodes as u16)?,
             chronicle: Chronicle::new(alloc),
         })
     }
@@ -79,56 +78,46 @@ impl World {
         self.chronicle.accepted.as_slice()
     }
 
-    /// The bytes of all frames that were sent, in the order of their numbers; the first has number
-    /// 1. The object of each is that of what its sender knew when it was sent.
-    pub fn frames(&self) -> &[ByteString]
-        ensures value { result.now ≡ self.now.frames }
+    /// The bytes of all frames that were sent, in the order of their numbers, the first of which
+    /// has number 1: in two parts, as a `VecDeque` gives its elements. The object of each frame is
+    /// that of what its sender knew when it was sent.
+    pub fn frames(&self) -> (&[ByteString], &[ByteString])
+        ensures value { result.0.now ++ result.1.now ≡ self.now.frames }
         ensures carries { (number : ℕ) (frame : F) (key : Key) (object : List Entry)
             → IsFrameOf self.now number frame → carried_object frame.message ≡ Some (key, object)
-            → CarriesLoad self.now.told number frame.from key object }
+            → OfAllTold self.now (λ t. CarriesLoad t number frame.from key object) }
     {
-        self.chronicle.frames.as_slice()
+        (
+            self.chronicle.sent.as_slice(),
+            self.chronicle.last.as_slice(),
+        )
     }
 
-    /// What has happened, as the accepted events tell it. The context of each read is that of what
-    /// its node knew then.
-    pub fn history(&self) -> &[Happening]
-        ensures value { result.now ≡ self.now.told.history }
-        ensures tells { Tells self.now.accepted self.now.frames self.now.told }
-        ensures is_history { IsHistory self.now.told.history }
-        ensures reads { (read : ℕ) (context : Reading)
-            → numbered self.now.contexts read ≡ Some context
-            → CountsSeen self.now.told read context }
+    /// The bytes of the frame of that number, if one has it.
+    pub fn frame(&self, number: u64) -> Option<&ByteString>
+        ensures { option_copied result ≡ numbered self.now.frames number }
     {
-        self.chronicle.history.as_slice()
+        self.chronicle.frame(number)
     }
 
-    /// The places, in `history`, of the writes that the node knows under the key, rising. Refused
-    /// with 44 `NoSuchNode` and 99 `Memory`. It is told from the history alone, by sets of places,
-    /// and takes memory and time with the square of the history's length.
-    pub fn known(&self, alloc: Global, node: u64, key: &MetaKey) -> Result<Vec<usize>, WorldFault>
-        ensures places { IfOk result
-            (λ places. ArePlaces (known self.now.told.history node key.now) places.items) }
-        ensures node { OnOk result (node < length self.now.nodes) }
-        ensures fault { FailsWith Memory (λ fault. (fault ≡ NoSuchNode)
-            × (length self.now.nodes ≤ node)) result }
+    /// How many frames were sent.
+    pub fn frame_count(&self) -> u64
+        ensures { result ≡ length self.now.frames }
     {
-        let id = self.node_id(node)?;
-        let plain = Plain::replay(alloc, self.history())?;
-        Ok(plain.known(alloc, id, key)?)
+        self.chronicle.frame_count()
     }
 
     /// The images of the node, but for image 0, which is empty; `None` for a node that the world
-    /// doesn't have, and only then. What one has under a key is read by `object_in`, and is the
-    /// object of the writes that the history has there.
+    /// doesn't have, and only then. What one has under a key is read by
+    /// `node_images::image::object_in`, and is the object of the writes that the history has there.
     pub fn images(&self, node: u64) -> Option<&[Image]>
         ensures node { IsNone result ↔ (length self.now.nodes ≤ node) }
         ensures lends { IfSome result (λ images. images.now ≡ (node_at self.now node).images) }
-        ensures number { IfSome result
-            (λ images. length images.now ≡ (past self.now.told.history).last node) }
-        ensures objects { IfSome result (λ images. (number : ℕ) → number ≤ length images.now
-            → (key : Key) → IsObjectOf (writes self.now.told.history) key
-            (image self.now.told.history node number key) (holdings images.now number key)) }
+        ensures number { IfSome result (λ images. OfAllTold self.now
+            (λ t. length images.now ≡ (past t.history).last node)) }
+        ensures objects { IfSome result (λ images. OfAllTold self.now (λ t. (number : ℕ)
+            → number ≤ length images.now → (key : Key) → IsObjectOf (writes t.history) key
+            (image t.history node number key) (holdings images.now number key))) }
         ensures earlier { IfSome result (λ images. ChangeEarlier images.now) }
     {
         match usize::try_from(node) {
@@ -137,31 +126,50 @@ impl World {
         }
     }
 
-    /// What the node holds; `None` for a node that the world doesn't have, and only then. Under
-    /// each key that is the object of the writes that the node knows, whose values are those of
-    /// them that none of them had read.
-    pub fn state(&self, node: u64) -> Option<&Store>
+    /// The node; `None` for one that the world doesn't have, and only then. Under each key it holds
+    /// the object of the writes that it knows, whose values are those of them that none of them had
+    /// read. What the accepted events were to it took it there from a new node, life after life.
+    pub fn state(&self, node: u64) -> Option<&NodeState>
         ensures node { IsNone result ↔ (length self.now.nodes ≤ node) }
-        ensures lends { IfSome result (λ store. store.now ≡ table_of self.now node) }
-        ensures shows { IfSome result (λ store. (key : Key)
-            → ShowsKnown self.now.told.history node key (object_at store.now key)) }
-        ensures objects { IfSome result (λ store. (key : Key) → IsObjectOf (writes self.now.told.history)
-            key (known self.now.told.history node key) (object_at store.now key)) }
+        ensures lends { IfSome result (λ state. state.now ≡ (node_at self.now node).state) }
+        ensures shows { IfSome result (λ state. OfAllTold self.now (λ t. (key : Key)
+            → ShowsKnown t.history node key (object_at state.now.table key))) }
+        ensures objects { IfSome result (λ state. OfAllTold self.now (λ t. (key : Key)
+            → IsObjectOf (writes t.history) key (known t.history node key)
+            (object_at state.now.table key))) }
+        ensures lived { IfSome result
+            (λ state. HasLived self.now node (node_at self.now node)) }
     {
         match usize::try_from(node) {
-            Ok(at) if at < self.nodes.len() => Some(self.nodes[at].store()),
+            Ok(at) if at < self.nodes.len() => Some(self.nodes[at].state()),
             _ => None,
         }
     }
+
+    /// The node of that number. Refused with 44 `NoSuchNode`.
+    pub(crate) fn node_id(&self, node: u64) -> Result<NodeId, WorldFault>
+        ensures value { IfOk result (λ id. (id ≡ node) × (node < length self.now.nodes)) }
+        ensures fault { IfErr result (λ fault. (fault ≡ NoSuchNode)
+            × (length self.now.nodes ≤ node)) }
+    {
+        if self.nodes.len() as u64 <= node {
+            return Err(WorldFault::NoSuchNode);
+        }
+        let number = u16::try_from(node).unwrap();
+        Ok(NodeId::new(number).unwrap())
+    }
 }
 
-/// `count` nodes that hold nothing.
-fn empty_nodes(alloc: Global, count: u64) -> Result<Vec<Node>, AllocError>
-    ensures { IfOk result (λ nodes. nodes.items ≡ replicate count new_node) }
+/// `count` new nodes, numbered from 0.
+fn new_nodes(alloc: Global, count: u16) -> Result<Vec<ImagedNode>, AllocError>
+    requires { count ≤ 16 }
+    ensures { IfOk result
+        (λ nodes. nodes.items ≡ map new_node (range_with_len 0 count)) }
 {
     let mut nodes = Vec::new(alloc);
-    for _ in 0..count {
-        nodes.push(Node::new(alloc))?;
+    for number in 0..count {
+        let number = NodeId::new(number).unwrap();
+        nodes.push(ImagedNode::new(alloc, number)?)?;
     }
     Ok(nodes)
 }

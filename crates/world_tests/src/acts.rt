@@ -1,4 +1,4 @@
-//! Events by numbers and letters, and what they give by a number.
+//! Events by numbers and letters, and what is looked at in a world.
 //!
 //! What takes memory here is asked for once more where it is refused, so that tests under refused
 //! memory get their events whichever single allocation is refused.
@@ -6,152 +6,155 @@
 use meta_types::{ByteString, FullPrefix, MetaKey, Value};
 use std::alloc::Global;
 use std::process::Abort;
-use world_core::{Answer, Event, Reply, World, WorldFault};
+use world_core::{Event, World};
 
-/// How many bytes a prefix, a sub-prefix, a key and the body of a value have.
-#[derive(Clone, Copy)]
-pub struct Sizes {
-    pub prefix: usize,
-    pub sub: usize,
-    pub key: usize,
-    pub body: usize,
-}
-
-pub const SHORT: Sizes = Sizes {
-    prefix: 1,
-    sub: 1,
-    key: 1,
-    body: 1,
-};
-
-pub const LONGEST: Sizes = Sizes {
-    prefix: 64,
-    sub: 64,
-    key: 256,
-    body: 1_024,
-};
-
-/// The number of the key that most events are about.
-pub const K: u16 = 107;
-
-/// That of another key.
-pub const L: u16 = 108;
-
-/// An event by its numbers and letters. A key is told by its number, the body of a value by its
-/// letter.
+/// An event with word 0, or what is looked at. The first number is that of the node. A key is told
+/// by its letter, under p/s where that is a small one, and otherwise under p/t; the body of a value
+/// by its letter, where `~` is a tombstone.
 #[derive(Clone, Copy)]
 pub enum Act {
-    /// The node, the key, the value, and the number of the read, if there is one.
-    Put(u64, u16, u8, Option<u64>),
-    Get(u64, u16),
-    PutOver(u64, u16, u8),
-    /// The sender, the key, the addressee.
-    Send(u64, u16, u64),
-    /// The frame, the node.
+    /// A blind write.
+    Put(u64, u8, u8),
+    /// A write that has read what the read of this number showed.
+    PutRead(u64, u8, u8, u64),
+    Get(u64, u8),
+    PutOver(u64, u8, u8),
+    /// The node takes the frame of this number.
     Deliver(u64, u64),
     Junk(u64, &'static [u8]),
-    Keep(u64, u16),
-    /// The node, the image.
+    Tick(u64),
+    Join(u64, u64),
+    PeerDown(u64, u64),
+    Exchange(u64, u64),
+    Keep(u64, u8),
+    /// A watch of p/s, of this capacity.
+    Watch(u64, usize),
+    Changes(u64, u64),
+    Hello(u64, u64),
+    Leave(u64),
+    /// The node restarts from the image of this number.
     Restart(u64, u64),
+    /// Each frame from this number on goes to its addressee, until none is left: their kinds.
+    DeliverAll(u64),
+    /// What the node holds under the key.
+    Shows(u64, u8),
+    /// Its neighbours, and which of them are eager and lazy.
+    Peers(u64),
+    /// How many images it has.
+    Images(u64),
+    /// Whether its root is that of the other node.
+    Roots(u64, u64),
 }
 
-/// The letter, so many times.
-fn text(rt: &impl Abort, alloc: Global, letter: u8, len: usize) -> Vec<u8> {
-    match vec![in alloc; letter; len] {
-        Ok(text) => text,
-        Err(_) => vec![in alloc; letter; len].expect(rt, "memory"),
-    }
-}
-
-fn bytes(rt: &impl Abort, alloc: Global, bytes: &[u8]) -> ByteString {
+/// A copy of the bytes.
+pub fn bytes(rt: &impl Abort, alloc: Global, bytes: &[u8]) -> Vec<u8> {
     match bytes.to_vec(alloc) {
-        Ok(bytes) => ByteString::new(bytes),
-        Err(_) => ByteString::new(bytes.to_vec(alloc).expect(rt, "memory")),
+        Ok(bytes) => bytes,
+        Err(_) => bytes.to_vec(alloc).expect(rt, "memory once more"),
     }
 }
 
-/// The key of that number, whose high byte fills the sub-prefix, and whose low byte fills the key.
-pub fn key(rt: &impl Abort, alloc: Global, sizes: Sizes, name: u16) -> MetaKey {
-    let [high, low] = name.to_be_bytes();
-    let prefix = text(rt, alloc, b'a', sizes.prefix);
-    let sub = text(rt, alloc, high, sizes.sub);
-    let prefix = FullPrefix::new(prefix, sub).expect(rt, "a prefix");
-    let key = text(rt, alloc, low, sizes.key);
-    MetaKey::new(prefix, key).expect(rt, "a key")
+/// The full prefix p/s, or another one of p.
+fn prefix(rt: &impl Abort, alloc: Global, sub: &[u8]) -> FullPrefix {
+    let prefix = bytes(rt, alloc, b"p");
+    FullPrefix::new(prefix, bytes(rt, alloc, sub)).expect(rt, "a prefix")
 }
 
-pub fn value(rt: &impl Abort, alloc: Global, sizes: Sizes, letter: u8) -> Value {
-    let body = text(rt, alloc, letter, sizes.body);
-    Value::new(0, Some(body)).expect(rt, "a value")
+/// The key of this letter.
+pub fn key(rt: &impl Abort, alloc: Global, letter: u8) -> MetaKey {
+    let sub: &[u8] = if letter.is_ascii_uppercase() {
+        b"t"
+    } else {
+        b"s"
+    };
+    let prefix = prefix(rt, alloc, sub);
+    MetaKey::new(prefix, bytes(rt, alloc, &[letter])).expect(rt, "a key")
 }
 
-/// The event that is meant.
-pub fn event(rt: &impl Abort, alloc: Global, sizes: Sizes, act: Act) -> Event {
+/// The value of this letter.
+pub fn value(rt: &impl Abort, alloc: Global, letter: u8) -> Value {
+    let body = if letter == b'~' {
+        None
+    } else {
+        Some(bytes(rt, alloc, &[letter]))
+    };
+    Value::new(0, body).expect(rt, "a value")
+}
+
+/// A write that has read what the read of that number showed, or a blind one.
+fn put(
+    rt: &impl Abort,
+    alloc: Global,
+    node: u64,
+    letter: u8,
+    body: u8,
+    read: Option<u64>,
+) -> Event {
+    Event::Put {
+        node,
+        key: key(rt, alloc, letter),
+        value: value(rt, alloc, body),
+        read,
+    }
+}
+
+/// The event that is meant, with this word where it has one.
+pub fn event(rt: &impl Abort, alloc: Global, act: Act, word: u64) -> Event {
     match act {
-        Act::Put(node, name, letter, read) => Event::Put {
+        Act::Put(node, letter, body) => put(rt, alloc, node, letter, body, None),
+        Act::PutRead(node, letter, body, read) => put(rt, alloc, node, letter, body, Some(read)),
+        Act::Get(node, letter) => Event::Get {
             node,
-            key: key(rt, alloc, sizes, name),
-            value: value(rt, alloc, sizes, letter),
-            read,
+            key: key(rt, alloc, letter),
         },
-        Act::Get(node, name) => Event::Get {
+        Act::PutOver(node, letter, body) => Event::PutOver {
             node,
-            key: key(rt, alloc, sizes, name),
-        },
-        Act::PutOver(node, name, letter) => Event::PutOver {
-            node,
-            key: key(rt, alloc, sizes, name),
-            value: value(rt, alloc, sizes, letter),
-        },
-        Act::Send(node, name, to) => Event::Send {
-            node,
-            key: key(rt, alloc, sizes, name),
-            to,
-        },
-        Act::Deliver(frame, node) => Event::Deliver {
-            frame,
-            node,
-            word: 0,
+            key: key(rt, alloc, letter),
+            value: value(rt, alloc, body),
         },
         Act::Junk(node, junk) => Event::Junk {
             node,
-            bytes: bytes(rt, alloc, junk),
+            bytes: ByteString::new(bytes(rt, alloc, junk)),
         },
-        Act::Keep(node, name) => Event::Keep {
+        Act::Keep(node, letter) => Event::Keep {
             node,
-            key: key(rt, alloc, sizes, name),
+            key: key(rt, alloc, letter),
         },
+        Act::Watch(node, capacity) => Event::Watch {
+            node,
+            prefix: prefix(rt, alloc, b"s"),
+            capacity,
+        },
+        act => small_event(act, word),
+    }
+}
+
+/// The same, of an event that is made of numbers alone; a tick of node 0 stands for any other.
+fn small_event(act: Act, word: u64) -> Event {
+    match act {
+        Act::Deliver(node, frame) => Event::Deliver { frame, node, word },
+        Act::Tick(node) => Event::Tick { node, word },
+        Act::Join(node, contact) => Event::Join {
+            node,
+            contact,
+            word,
+        },
+        Act::PeerDown(node, peer) => Event::PeerDown { node, peer, word },
+        Act::Exchange(node, peer) => Event::Exchange { node, peer },
+        Act::Changes(node, number) => Event::Changes { node, number },
+        Act::Hello(node, peer) => Event::Hello { node, peer },
+        Act::Leave(node) => Event::Leave { node },
         Act::Restart(node, image) => Event::Restart { node, image },
+        _ => Event::Tick { node: 0, word },
     }
 }
 
-/// Accepted.
-pub const DONE: u16 = 0;
-
-/// Accepted: an object was taken that has a write which the node didn't know.
-pub const FRESH: u16 = 1;
-
-/// Accepted: an object was taken all of whose writes the node knew.
-pub const STALE: u16 = 2;
-
-/// Refused for want of memory.
-pub const MEMORY: u16 = 99;
-
-/// What an event gave: one of the numbers above, or that of the refusal.
-pub fn number(outcome: &Result<Answer, WorldFault>) -> u16 {
-    match outcome {
-        Ok(answer) => match answer.reply {
-            Reply::TookFresh => FRESH,
-            Reply::TookStale => STALE,
-            _ => DONE,
-        },
-        Err(fault) => fault.code(),
+/// The addressee of the frame of this number, whose low byte stands there; 0 where there is none.
+pub fn addressee(world: &World, number: u64) -> u64 {
+    match world.frame(number) {
+        Some(frame) => frame.as_slice().get(7).map_or(0, |byte| u64::from(*byte)),
+        None => 0,
     }
-}
-
-/// Applies the event, and answers the number of what it gives.
-pub fn gives(rt: &impl Abort, alloc: Global, sizes: Sizes, world: &mut World, act: Act) -> u16 {
-    number(&world.apply(event(rt, alloc, sizes, act)))
 }
 
 /// A world of so many nodes.

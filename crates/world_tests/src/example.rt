@@ -30,7 +30,7 @@ fn is_text(value: &Value, text: &str) -> bool {
 
 /// Returns whether node 1 shows these values under the key, in this order.
 fn shows(rt: &impl Abort, world: &World, key: &MetaKey, texts: &[&str]) -> bool {
-    let store = world.state(1).expect(rt, "a node");
+    let store = world.state(1).expect(rt, "a node").store();
     let (values, _) = store.get(key).expect(rt, "memory");
     values.len() == texts.len()
         && values
@@ -47,7 +47,7 @@ fn is_first_write(node: usize, counter: &Counter) -> bool {
 
 /// Returns whether the context that node 1 shows counts a write of each node.
 fn counts_one_of_each(rt: &impl Abort, world: &World, key: &MetaKey) -> bool {
-    let store = world.state(1).expect(rt, "a node");
+    let store = world.state(1).expect(rt, "a node").store();
     let (_, context) = store.get(key).expect(rt, "memory");
     let counters = context.counters();
     counters.len() == 2
@@ -57,8 +57,24 @@ fn counts_one_of_each(rt: &impl Abort, world: &World, key: &MetaKey) -> bool {
             .all(|(node, counter)| is_first_write(node, counter))
 }
 
+fn join(world: &mut World) -> Result<(), WorldFault> {
+    // Node 1 joins the cluster through node 0, by frame 1: a JOIN.
+    world.apply(Event::Join {
+        node: 1,
+        contact: 0,
+        word: 0,
+    })?;
+    world.apply(Event::Deliver {
+        frame: 1,
+        node: 0,
+        word: 0,
+    })?;
+    Ok(())
+}
+
 fn write(world: &mut World, key: &MetaKey, red: Value, blue: Value) -> Result<(), WorldFault> {
-    // Both nodes write under app/flags/colour, neither knowing of the other's write.
+    // Both nodes write under app/flags/colour, neither knowing of the other's write. Each sends
+    // what it holds to the other, as frames 2 and 3: GOSSIP.
     world.apply(Event::Put {
         node: 0,
         key: key.copy()?,
@@ -74,15 +90,10 @@ fn write(world: &mut World, key: &MetaKey, red: Value, blue: Value) -> Result<()
     Ok(())
 }
 
-fn send_and_deliver(world: &mut World, key: &MetaKey) -> Result<(), WorldFault> {
-    // Node 0 sends what it holds, as frame 1: a GOSSIP. Frames may be lost, repeated and reordered.
-    world.apply(Event::Send {
-        node: 0,
-        key: key.copy()?,
-        to: 1,
-    })?;
+fn deliver(world: &mut World) -> Result<(), WorldFault> {
+    // Frames may be lost, repeated and reordered. Node 1 takes frame 2.
     world.apply(Event::Deliver {
-        frame: 1,
+        frame: 2,
         node: 1,
         word: 0,
     })?;
@@ -106,13 +117,14 @@ fn replace(world: &mut World, key: &MetaKey, green: Value) -> Result<(), WorldFa
 }
 
 #[test]
-fn two_nodes_write_send_and_deliver(rt: HostRuntime) {
+fn two_nodes_join_write_and_deliver(rt: HostRuntime) {
     let alloc = rt.alloc();
     let key = colour(&rt, alloc);
     let (red, blue) = (value(&rt, alloc, "red"), value(&rt, alloc, "blue"));
     let mut world = World::new(alloc, 2).expect(&rt, "a world");
+    join(&mut world).expect(&rt, "a join");
     write(&mut world, &key, red, blue).expect(&rt, "two writes");
-    send_and_deliver(&mut world, &key).expect(&rt, "a frame");
+    deliver(&mut world).expect(&rt, "a frame");
     assert!(rt; shows(&rt, &world, &key, &["red", "blue"]));
     assert!(rt; counts_one_of_each(&rt, &world, &key));
     replace(&mut world, &key, value(&rt, alloc, "green")).expect(&rt, "a write");

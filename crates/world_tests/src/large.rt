@@ -1,150 +1,134 @@
-//! Each kind of event with ample memory, at sizes where a refusal could hide.
+//! Events at the largest sizes, where a refusal could hide.
 
-use crate::acts::{
-    Act, DONE, FRESH, K, L, LONGEST, SHORT, STALE, event, gives, key, new_world, number,
-};
+use crate::acts::{Act, addressee, event, new_world};
+use crate::alike::state;
+use meta_types::{FullPrefix, MetaKey, Value};
 use std::alloc::Global;
 use std::process::Abort;
-use world_core::{Accepted, Answer, Event, World, WorldFault};
+use world_core::{Event, World};
 
-/// An event, and what it gives.
-type Row = (Act, u16);
+/// How many nodes there are: as many as may be.
+const NODES: u64 = 16;
 
-/// The value of each node.
-const LETTERS: [u8; 16] = *b"ABCDEFGHIJKLMNOP";
-
-/// What comes once node 15 holds 4 values of each of the 16 nodes.
-const LAST: [Row; 13] = [
-    (Act::Get(15, K), DONE),
-    (Act::Send(15, K, 0), DONE),
-    (Act::Deliver(16, 0), FRESH),
-    (Act::Deliver(16, 0), STALE),
-    (Act::Deliver(16, 15), 40),
-    (Act::Junk(0, b"PT"), 10),
-    (Act::Send(15, L, 0), DONE),
-    (Act::Keep(0, K), DONE),
-    (Act::Restart(0, 5), DONE),
-    (Act::Put(0, K, b'x', Some(1)), DONE),
-    (Act::PutOver(0, K, b'y'), DONE),
-    (Act::Put(0, K, b'z', None), DONE),
-    (Act::Restart(0, 8), DONE),
-];
-
-/// What comes once node 15 holds 64 values of each of the 16 nodes, more bytes than a write may
-/// leave.
-const TOO_LARGE: [Row; 2] = [
-    (Act::Put(15, K, b'x', None), 27),
-    (Act::PutOver(15, K, b'x'), DONE),
-];
-
-fn push(rt: &impl Abort, rows: &mut Vec<Row>, act: Act, number: u16) {
-    rows.push((act, number)).expect(rt, "memory");
+fn text(rt: &impl Abort, alloc: Global, letter: u8, len: usize) -> Vec<u8> {
+    vec![in alloc; letter; len].expect(rt, "memory")
 }
 
-/// Of each node so many blind writes, and what it then holds on its way to node 15; and then what
-/// comes last.
-fn rows(rt: &impl Abort, alloc: Global, writes: usize, last: &[Row]) -> Vec<Row> {
-    let mut rows = Vec::new(alloc);
-    for (node, letter) in LETTERS.iter().enumerate() {
+/// The longest key.
+fn key(rt: &impl Abort, alloc: Global) -> MetaKey {
+    let (prefix, sub) = (text(rt, alloc, b'p', 64), text(rt, alloc, b's', 64));
+    let prefix = FullPrefix::new(prefix, sub).expect(rt, "a prefix");
+    MetaKey::new(prefix, text(rt, alloc, b'k', 256)).expect(rt, "a key")
+}
+
+/// The longest value.
+fn value(rt: &impl Abort, alloc: Global) -> Value {
+    Value::new(0, Some(text(rt, alloc, b'v', 1_024))).expect(rt, "a value")
+}
+
+fn put(rt: &impl Abort, alloc: Global, node: u64, read: Option<u64>) -> Event {
+    Event::Put {
+        node,
+        key: key(rt, alloc),
+        value: value(rt, alloc),
+        read,
+    }
+}
+
+fn put_over(rt: &impl Abort, alloc: Global, node: u64) -> Event {
+    Event::PutOver {
+        node,
+        key: key(rt, alloc),
+        value: value(rt, alloc),
+    }
+}
+
+/// The number of what an event gives: that of its refusal, or 0.
+fn number(world: &mut World, event: Event) -> u16 {
+    match world.apply(event) {
+        Ok(_) => 0,
+        Err(fault) => fault.code(),
+    }
+}
+
+/// Each frame from this number on goes to its addressee.
+fn deliver(rt: &impl Abort, alloc: Global, world: &mut World, first: u64) {
+    for number in first..first.saturating_add(100) {
+        if number <= world.frame_count() {
+            let act = Act::Deliver(addressee(world, number), number);
+            assert!(rt; world.apply(event(rt, alloc, act, 0)).is_ok());
+        }
+    }
+}
+
+/// An exchange of a node with node 0.
+fn exchange(rt: &impl Abort, alloc: Global, world: &mut World, node: u64) {
+    let first = world.frame_count().saturating_add(1);
+    let begin = event(rt, alloc, Act::Exchange(node, 0), 0);
+    assert_eq!(rt; number(world, begin), 0);
+    deliver(rt, alloc, world, first);
+}
+
+/// Each node writes so many values blindly; then node 0 exchanges with each of the others.
+fn write_and_exchange(rt: &impl Abort, alloc: Global, world: &mut World, writes: u64) {
+    for node in 0..NODES {
         for _ in 0..writes {
-            push(rt, &mut rows, Act::Put(node as u64, K, *letter, None), DONE);
+            assert_eq!(rt; number(world, put(rt, alloc, node, None)), 0);
         }
     }
-    for node in 0..15 {
-        push(rt, &mut rows, Act::Send(node, K, 15), DONE);
-        push(rt, &mut rows, Act::Deliver(node + 1, 15), FRESH);
+    for node in 1..NODES {
+        exchange(rt, alloc, world, node);
     }
-    for (act, number) in last {
-        push(rt, &mut rows, *act, *number);
-    }
-    rows
 }
 
-fn events(rt: &impl Abort, alloc: Global, rows: &[Row]) -> Vec<Event> {
-    let mut events = Vec::new(alloc);
-    for (act, _) in rows {
-        events
-            .push(event(rt, alloc, LONGEST, *act))
-            .expect(rt, "memory");
-    }
-    events
+/// What node 0 gives to a keeping and to a read.
+fn keep_and_get(rt: &impl Abort, alloc: Global, world: &mut World) -> [u16; 2] {
+    let keep = Event::Keep {
+        node: 0,
+        key: key(rt, alloc),
+    };
+    let get = Event::Get {
+        node: 0,
+        key: key(rt, alloc),
+    };
+    [number(world, keep), number(world, get)]
 }
 
-/// The number of the first row, from 1, that gives something else; 0 where there is none.
-fn first_other(outcomes: &[Result<Answer, WorldFault>], rows: &[Row]) -> usize {
-    for (at, (outcome, row)) in outcomes.iter().zip(rows).enumerate() {
-        if number(outcome) != row.1 {
-            return at + 1;
-        }
-    }
-    0
+/// How many accepted events and their answers are copied as they are.
+fn copied(world: &World) -> usize {
+    world
+        .accepted()
+        .iter()
+        .filter(|accepted| {
+            matches!(accepted.answer.copy(), Ok(copy) if copy == accepted.answer)
+                && matches!(accepted.event.copy(), Ok(copy) if copy == accepted.event)
+        })
+        .count()
 }
 
-/// How many values the node shows, how many writers their context counts, and how many writes the
-/// node knows.
-fn sizes(rt: &impl Abort, alloc: Global, world: &World, node: u64) -> [usize; 3] {
-    let key = key(rt, alloc, LONGEST, K);
-    let store = world.state(node).expect(rt, "a node");
-    let (values, vector) = store.get(&key).expect(rt, "memory");
-    let known = world.known(alloc, node, &key).expect(rt, "memory");
-    [values.len(), vector.counters().len(), known.len()]
-}
-
-fn is_copied(accepted: &Accepted) -> bool {
-    matches!(accepted.answer.copy(), Ok(copy) if copy == accepted.answer)
-}
-
-/// The number of the first row, from 1, that a run goes another way at; 0 where there is none.
-fn first_wrong(rt: &impl Abort, alloc: Global, world: &mut World, rows: &[Row]) -> usize {
-    let events = events(rt, alloc, rows);
-    let outcomes = world.run(alloc, events.as_slice()).expect(rt, "memory");
-    if outcomes.len() != rows.len() {
-        return rows.len();
-    }
-    first_other(outcomes.as_slice(), rows)
+/// How many values the node shows, and how many writers their context counts.
+fn sizes(rt: &impl Abort, alloc: Global, world: &World, node: u64) -> [usize; 2] {
+    let store = state(rt, world, node).store();
+    let (values, vector) = store.get(&key(rt, alloc)).expect(rt, "memory");
+    [values.len(), vector.counters().len()]
 }
 
 #[test]
-fn each_kind_of_event_is_accepted_at_the_largest_sizes(rt: HostRuntime) {
+fn each_kind_of_write_succeeds_at_the_largest_sizes(rt: HostRuntime) {
     let alloc = rt.alloc();
-    let mut world = World::new(alloc, 16).expect(&rt, "a world");
-    let rows = rows(&rt, alloc, 4, &LAST);
-    assert_eq!(rt; first_wrong(&rt, alloc, &mut world, rows.as_slice()), 0);
-    assert_eq!(rt; sizes(&rt, alloc, &world, 15), [64, 16, 64]);
-    // Node 0 is in its third life, and has written in two of them.
-    assert_eq!(rt; sizes(&rt, alloc, &world, 0), [2, 17, 67]);
-    assert!(rt; world.accepted().iter().all(is_copied));
-}
-
-#[test]
-fn a_write_that_leaves_too_many_bytes_is_refused(rt: HostRuntime) {
-    let alloc = rt.alloc();
-    let mut world = new_world(&rt, alloc, 16);
-    let rows = rows(&rt, alloc, 64, &TOO_LARGE);
-    assert_eq!(rt; first_wrong(&rt, alloc, &mut world, rows.as_slice()), 0);
-}
-
-/// What comes once node 0 holds as many keys as a store may.
-const FULL: [Row; 6] = [
-    (Act::Put(0, 8_192, b'x', None), 25),
-    (Act::PutOver(0, 8_192, b'x'), 25),
-    (Act::Put(1, 8_192, b'x', None), DONE),
-    (Act::Send(1, 8_192, 0), DONE),
-    (Act::Deliver(1, 0), 25),
-    (Act::Put(0, 8_191, b'y', None), DONE),
-];
-
-#[test]
-fn a_full_store_takes_no_further_key(rt: HostRuntime) {
-    let alloc = rt.alloc();
-    let mut world = new_world(&rt, alloc, 2);
-    for name in 0..8_192 {
-        assert_eq!(rt;
-            gives(&rt, alloc, SHORT, &mut world, Act::Put(0, name, b'x', None)),
-            DONE
-        );
-    }
-    for (act, number) in FULL {
-        assert_eq!(rt; gives(&rt, alloc, SHORT, &mut world, act), number);
-    }
+    let mut world = new_world(&rt, alloc, NODES);
+    write_and_exchange(&rt, alloc, &mut world, 4);
+    assert_eq!(rt; sizes(&rt, alloc, &world, 0), [64, 16]);
+    assert_eq!(rt; keep_and_get(&rt, alloc, &mut world), [0, 0]);
+    let restart = event(&rt, alloc, Act::Restart(0, 5), 0);
+    assert_eq!(rt; number(&mut world, restart), 0);
+    assert_eq!(rt; sizes(&rt, alloc, &world, 0), [64, 16]);
+    // Blind: a writer of the second life stands behind the others.
+    assert_eq!(rt; number(&mut world, put(&rt, alloc, 0, None)), 0);
+    assert_eq!(rt; sizes(&rt, alloc, &world, 0), [65, 17]);
+    assert_eq!(rt; number(&mut world, put(&rt, alloc, 0, Some(1))), 0);
+    assert_eq!(rt; sizes(&rt, alloc, &world, 0), [2, 17]);
+    assert_eq!(rt; number(&mut world, put_over(&rt, alloc, 0)), 0);
+    assert_eq!(rt; sizes(&rt, alloc, &world, 0), [1, 17]);
+    assert_eq!(rt; copied(&world), world.accepted().len());
 }

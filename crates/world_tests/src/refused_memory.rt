@@ -1,139 +1,112 @@
 //! Whichever single allocation is refused: an event that is refused memory changes nothing, and
-//! applied once more it gives what it should.
+//! applied once more it gives what it should. The first event of a world makes room for what it
+//! keeps. Each test holds whichever single allocation is refused.
 
-use crate::acts::{
-    Act, DONE, FRESH, K, L, MEMORY, SHORT, STALE, event, gives, key, new_world, number,
-};
-use crate::schedules::{NOTHING, PRUNE, Row, first_wrong};
+use crate::acts::{Act, event, key, new_world};
+use crate::rows::{Row, follow, play_under_refused_memory as play};
 use std::alloc::Global;
 use std::process::Abort;
 use world_core::{Answer, Event, World, WorldFault};
 
-// Each table holds whichever single allocation is refused. The first event of a world makes room
-// for what it keeps, and so does the fifth, so each kind of event is the first or the fifth once.
+static WRITING: [Row; 4] = [
+    (Act::Put(0, b'k', b'x'), "wrote ctx 0.1:1", &[]),
+    (Act::Get(0, b'k'), "looked ctx 0.1:1 values x read 1", &[]),
+    (Act::PutRead(0, b'k', b'y', 1), "wrote ctx 0.1:2", &[]),
+    (Act::Shows(0, b'k'), "ctx 0.1:2 values y", &[]),
+];
 
-const A_WRITE_FIRST: [Row; 3] = [
-    (Act::Put(0, K, b'x', None), DONE, (*b"x..", [1, 0]), NOTHING),
-    (Act::Get(0, K), DONE, (*b"x..", [1, 0]), NOTHING),
+// Allocates at most 142 times.
+#[test]
+fn a_node_writes_again_under_refused_memory(rt: HostRuntime) {
+    play(&rt, rt.alloc(), &WRITING, &[]);
+}
+
+static WRITING_OVER: [Row; 3] = [
+    (Act::PutOver(0, b'k', b'x'), "wrote ctx 0.1:1 read 1", &[]),
+    (Act::Keep(0, b'k'), "done", &[]),
+    (Act::Restart(0, 2), "done", &[]),
+];
+
+static RESTORED: [Row; 2] = [
+    (Act::Images(0), "2", &[]),
+    (Act::Shows(0, b'k'), "ctx 0.1:1 values x", &[]),
+];
+
+// Allocates at most 118 times.
+#[test]
+fn a_node_restarts_again_under_refused_memory(rt: HostRuntime) {
+    play(&rt, rt.alloc(), &WRITING_OVER, &RESTORED);
+}
+
+static TELLING: [Row; 4] = [
+    (Act::Join(0, 1), "done", &["JOIN from 0 to 1 number 1"]),
     (
-        Act::Put(0, K, b'y', Some(1)),
-        DONE,
-        (*b"y..", [2, 0]),
-        NOTHING,
+        Act::Put(0, b'k', b'x'),
+        "wrote ctx 0.1:1",
+        &["GOSSIP from 0 to 1 number 2 round 0 key p/s/k ctx 0.1:1 values x"],
     ),
+    (Act::Deliver(1, 2), "took fresh", &[]),
+    (Act::Shows(1, b'k'), "ctx 0.1:1 values x", &[]),
 ];
 
-// Allocates at most 89 times.
+// Allocates at most 160 times.
 #[test]
-fn writes_and_reads_are_made_again_under_refused_memory(rt: HostRuntime) {
-    assert_eq!(rt; first_wrong(&rt, rt.alloc(), &A_WRITE_FIRST), 0);
+fn frames_are_sent_and_taken_again_under_refused_memory(rt: HostRuntime) {
+    play(&rt, rt.alloc(), &TELLING, &[]);
 }
 
-const A_READ_FIRST: [Row; 2] = [
-    (Act::Get(1, K), DONE, NOTHING, NOTHING),
+static WATCHING: [Row; 3] = [
+    (Act::Watch(0, 1), "watching 1", &[]),
+    (Act::Put(0, b'k', b'x'), "wrote ctx 0.1:1", &[]),
+    (Act::Changes(0, 1), "missed 0 p/s/k 0.1:1", &[]),
+];
+
+static GREETING: [Row; 3] = [
     (
-        Act::Put(0, K, b'x', Some(1)),
-        DONE,
-        (*b"x..", [1, 0]),
-        NOTHING,
-    ),
-];
-
-// Allocates at most 74 times.
-#[test]
-fn a_read_of_nothing_is_made_again_under_refused_memory(rt: HostRuntime) {
-    assert_eq!(rt; first_wrong(&rt, rt.alloc(), &A_READ_FIRST), 0);
-}
-
-const A_WRITE_OVER_FIRST: [Row; 2] = [
-    (Act::PutOver(0, K, b'x'), DONE, (*b"x..", [1, 0]), NOTHING),
-    (Act::PutOver(0, K, b'y'), DONE, (*b"y..", [2, 0]), NOTHING),
-];
-
-// Allocates at most 74 times.
-#[test]
-fn writes_over_what_stands_are_made_again_under_refused_memory(rt: HostRuntime) {
-    assert_eq!(rt; first_wrong(&rt, rt.alloc(), &A_WRITE_OVER_FIRST), 0);
-}
-
-const A_RESTART_FIRST: [Row; 6] = [
-    (Act::Restart(1, 0), DONE, NOTHING, NOTHING),
-    (Act::Put(0, K, b'x', None), DONE, (*b"x..", [1, 0]), NOTHING),
-    (Act::Restart(1, 0), DONE, (*b"x..", [1, 0]), NOTHING),
-    (Act::Restart(1, 0), DONE, (*b"x..", [1, 0]), NOTHING),
-    (Act::Send(0, K, 1), DONE, (*b"x..", [1, 0]), NOTHING),
-    (
-        Act::Deliver(1, 1),
-        FRESH,
-        (*b"x..", [1, 0]),
-        (*b"x..", [1, 0]),
-    ),
-];
-
-// Allocates at most 74 times.
-#[test]
-fn restarts_and_sendings_are_made_again_under_refused_memory(rt: HostRuntime) {
-    assert_eq!(rt; first_wrong(&rt, rt.alloc(), &A_RESTART_FIRST), 0);
-}
-
-const A_SENDING_OF_NOTHING_FIRST: [Row; 6] = [
-    (Act::Send(0, K, 1), DONE, NOTHING, NOTHING),
-    (Act::Put(0, K, b'x', None), DONE, (*b"x..", [1, 0]), NOTHING),
-    (Act::Send(0, K, 1), DONE, (*b"x..", [1, 0]), NOTHING),
-    (Act::Restart(0, 1), DONE, (*b"x..", [1, 0]), NOTHING),
-    (
-        Act::Deliver(1, 1),
-        FRESH,
-        (*b"x..", [1, 0]),
-        (*b"x..", [1, 0]),
+        Act::Hello(0, 1),
+        "done",
+        &["HELLO from 0 to 1 number 1 life 1"],
     ),
     (
-        Act::Deliver(1, 1),
-        STALE,
-        (*b"x..", [1, 0]),
-        (*b"x..", [1, 0]),
+        Act::Exchange(0, 1),
+        "done",
+        &["XROOT from 0 to 1 number 2 root .."],
     ),
+    (Act::Junk(0, b"PT"), "10 Short", &[]),
 ];
 
-// Allocates at most 89 times.
+// Allocates at most 140 times.
 #[test]
-fn sendings_and_deliveries_are_made_again_under_refused_memory(rt: HostRuntime) {
-    assert_eq!(rt;
-        first_wrong(&rt, rt.alloc(), &A_SENDING_OF_NOTHING_FIRST),
-        0
-    );
+fn changes_are_handed_out_again_under_refused_memory(rt: HostRuntime) {
+    play(&rt, rt.alloc(), &WATCHING, &[]);
 }
 
-const A_KEEPING_FIRST: [Row; 6] = [
-    (Act::Keep(0, L), DONE, NOTHING, NOTHING),
-    (Act::Junk(1, PRUNE), 45, NOTHING, NOTHING),
-    (Act::Put(0, K, b'x', None), DONE, (*b"x..", [1, 0]), NOTHING),
-    (Act::Keep(0, K), DONE, (*b"x..", [1, 0]), NOTHING),
-    (Act::Restart(0, 2), DONE, (*b"x..", [1, 0]), NOTHING),
-    (Act::Keep(0, L), DONE, (*b"x..", [1, 0]), NOTHING),
-];
-
-// Allocates at most 74 times.
+// Allocates at most 120 times.
 #[test]
-fn images_are_kept_again_under_refused_memory(rt: HostRuntime) {
-    assert_eq!(rt; first_wrong(&rt, rt.alloc(), &A_KEEPING_FIRST), 0);
-}
-
-/// How many of the events were refused; they are run once more where there was no memory for the
-/// outcomes: then none was applied.
-fn refused(rt: &impl Abort, alloc: Global, world: &mut World, events: &[Event]) -> usize {
-    let outcomes = match world.run(alloc, events) {
-        Ok(outcomes) => outcomes,
-        Err(_) => world.run(alloc, events).expect(rt, "memory once more"),
-    };
-    count_refused(outcomes.as_slice())
+fn peers_are_greeted_again_under_refused_memory(rt: HostRuntime) {
+    play(&rt, rt.alloc(), &GREETING, &[]);
 }
 
 fn count_refused(outcomes: &[Result<Answer, WorldFault>]) -> usize {
     outcomes
         .iter()
-        .filter(|outcome| number(outcome) == MEMORY)
+        .filter(|outcome| matches!(outcome, Err(WorldFault::Memory)))
         .count()
+}
+
+/// How many of the events were refused. They are run once more where there was no memory for the
+/// outcomes: then none was applied.
+fn refused(rt: &impl Abort, alloc: Global, world: &mut World, events: &[Event]) -> usize {
+    let outcomes = match world.run(alloc, events) {
+        Ok(outcomes) => outcomes,
+        Err(_) => {
+            assert!(rt; world.accepted().is_empty());
+            assert_eq!(rt; world.frame_count(), 0);
+            world.run(alloc, events).expect(rt, "memory once more")
+        }
+    };
+    assert_eq!(rt; outcomes.len(), events.len());
+    count_refused(outcomes.as_slice())
 }
 
 // A refused event stands among the outcomes, and the run goes on after it. Allocates at most 89
@@ -142,19 +115,20 @@ fn count_refused(outcomes: &[Result<Answer, WorldFault>]) -> usize {
 fn a_run_goes_on_under_refused_memory(rt: HostRuntime) {
     let alloc = rt.alloc();
     let events = [
-        event(&rt, alloc, SHORT, Act::Put(0, K, b'x', None)),
-        event(&rt, alloc, SHORT, Act::Restart(1, 0)),
-        event(&rt, alloc, SHORT, Act::Get(1, K)),
+        event(&rt, alloc, Act::Join(0, 1), 0),
+        event(&rt, alloc, Act::Put(0, b'k', b'x'), 0),
+        event(&rt, alloc, Act::Restart(1, 0), 0),
+        event(&rt, alloc, Act::Get(1, b'k'), 0),
     ];
     let mut world = new_world(&rt, alloc, 2);
     let refused = refused(&rt, alloc, &mut world, &events);
     assert!(rt; refused <= 1);
-    assert_eq!(rt; world.accepted().len() + refused, 3);
+    assert_eq!(rt; world.accepted().len().saturating_add(refused), 4);
 }
 
-/// How many writes the node knows under K, asked once more where memory was refused.
+/// How many writes the node knows under k, asked once more where memory was refused.
 fn known(rt: &impl Abort, alloc: Global, world: &World, node: u64) -> usize {
-    let key = key(rt, alloc, SHORT, K);
+    let key = key(rt, alloc, b'k');
     match world.known(alloc, node, &key) {
         Ok(places) => places.len(),
         Err(_) => world
@@ -164,14 +138,15 @@ fn known(rt: &impl Abort, alloc: Global, world: &World, node: u64) -> usize {
     }
 }
 
-// Allocates at most 89 times.
+static ONE_WRITE: [Row; 1] = [(Act::Put(0, b'k', b'x'), "wrote ctx 0.1:1", &[])];
+
+// Allocates at most 71 times.
 #[test]
 fn what_is_known_is_told_again_under_refused_memory(rt: HostRuntime) {
     let alloc = rt.alloc();
     let mut world = new_world(&rt, alloc, 2);
-    let put = Act::Put(0, K, b'x', None);
-    if gives(&rt, alloc, SHORT, &mut world, put) == MEMORY {
-        assert_eq!(rt; gives(&rt, alloc, SHORT, &mut world, put), DONE);
-    }
+    let refused = follow(&rt, alloc, &mut world, &ONE_WRITE);
+    assert!(rt; refused <= 1);
     assert_eq!(rt; known(&rt, alloc, &world, 0), 1);
+    assert_eq!(rt; known(&rt, alloc, &world, 1), 0);
 }

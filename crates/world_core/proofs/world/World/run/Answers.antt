@@ -10,9 +10,9 @@ loop-event-preserved c =
     let item : get_or c.args.events.now c.loop-event.event-index c.event-item.result ≡ c.event-item.result = search rules in
     let events : take (c.loop-event.event-index + 1) c.args.events.now ≡ take c.loop-event.event-index c.args.events.now ++ c.event-item.result ∷ [] =
     take_more c.args.events.now c.loop-event.event-index c.event-item.result low ∙ ap (λ e. take c.loop-event.event-index c.args.events.now ++ e ∷ []) item in
-    let items : c.push.new.self.items ≡ c.loop-event.outcomes.items ++ c.pass.result ∷ [] = search rules in
-    let ran = outcomes_snoc c.args.self.now (take c.loop-event.event-index c.args.events.now) c.loop-event.outcomes.items c.loop-event.self c.event-item.result c.pass.result c.pass.new.self c.loop-event.invariant.0 c.pass.ensures in (
-      subst (λ es. Outcomes c.args.self.now es c.push.new.self.items c.pass.new.self) (sym events)
-          (subst (λ os. Outcomes c.args.self.now (take c.loop-event.event-index c.args.events.now ++ c.event-item.result ∷ []) os c.pass.new.self) (sym items) ran),
+    let items : c.push.new.self.items ≡ c.loop-event.outcomes.items ++ c.apply_copy.result ∷ [] = search rules in
+    let ran = outcomes_snoc c.args.self.now (take c.loop-event.event-index c.args.events.now) c.loop-event.outcomes.items c.loop-event.self c.event-item.result c.apply_copy.result c.apply_copy.new.self c.loop-event.invariant.0 c.apply_copy.ensures in (
+      subst (λ es. Outcomes c.args.self.now es c.push.new.self.items c.apply_copy.new.self) (sym events)
+          (subst (λ os. Outcomes c.args.self.now (take c.loop-event.event-index c.args.events.now ++ c.event-item.result ∷ []) os c.apply_copy.new.self) (sym items) ran),
       search rules,
     )

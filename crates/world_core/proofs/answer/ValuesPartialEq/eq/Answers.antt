@@ -1,9 +1,0 @@
-use Rattle.std.proofs.Common.{rules, ◌≡◌, sym, ◌∙◌}
-use Rattle.dvvset.specs.Equal.{values_eq, values_eq-Decides}
-use Rattle.world_core.proofs.answer.ValuesPartialEq.eq.Goals as goal
-
-pub returns-clause-same : goal.returns-clause-same
-returns-clause-same c =
-    let is : c.eq.result ≡ values_eq c.args.self.now c.args.other.now = search rules in
-    let decides = values_eq-Decides c.args.self.now c.args.other.now in
-    ((λ yes. decides.0 (sym is ∙ yes)), (λ same. is ∙ decides.1 same))

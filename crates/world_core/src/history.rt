@@ -1,0 +1,295 @@
+//! The history that accepted events tell.
+
+ghost use Rattle.std.specs.Prelude.{◌≡◌, ◌+◌, ◌<◌, ◌≤◌, ℕ, List, Some, length, IfOk, OnOk};
+ghost use Rattle.std.specs.Option.{option_copied};
+ghost use Rattle.meta_types.specs.Failing.{FailsWith};
+ghost use Rattle.meta_frame.specs.Frame.{Spells};
+ghost use Rattle.meta_frame.specs.declared.fault.FrameFault.TheVariants as OfFrame;
+ghost use Rattle.meta_frame.specs.declared.message.Frame.{Frame as F};
+ghost use Rattle.meta_store.specs.Context.{Reading};
+ghost use Rattle.node_core.specs.Leaving.{carried_object};
+ghost use Rattle.past_model.specs.History.{IsHistory};
+ghost use Rattle.past_model.specs.declared.happening.Happening.TheVariants.{Kept, Wrote};
+ghost use Rattle.past_model.specs.Past.{known};
+ghost use Rattle.past_model.specs.Shown.{ArePlaces};
+ghost use Rattle.world_core.specs.Events.{node_of};
+ghost use Rattle.world_core.specs.Knowledge.{CountsSeen, OfAllTold};
+ghost use Rattle.world_core.specs.Refusal.{IsFrameOf};
+ghost use Rattle.world_core.specs.Tells.{Pairwise, Tells, Told, frames_at, look_of, nothing_told, numbered};
+ghost use Rattle.world_core.specs.Tells.{sending_of, tell, tell_event, tell_frames, tell_got, tell_look, tell_sending};
+ghost use Rattle.world_core.specs.declared.fault.WorldFault.TheVariants.{Memory, NoSuchNode};
+
+use crate::answer::FrameNumbers;
+use crate::event::Event;
+use crate::fault::WorldFault;
+use crate::world::World;
+use meta_frame::{Frame, FrameFault, Message, decode};
+use meta_types::{MetaKey, NodeId, Value};
+use past_model::{Happening, Plain};
+use std::alloc::{AllocError, Global};
+use std::marker::Model;
+
+/// What was told so far: the history, the place of the `Looked` of each read, and that of the
+/// `Sent` of each frame that carries an object.
+#[derive(Drop)]
+struct Telling {
+    history: Vec<Happening>,
+    looks: Vec<usize>,
+    sendings: Vec<Option<usize>>,
+}
+
+impl Model for Telling {
+    ghost use Rattle.world_core.specs.Tells.{Told};
+
+    ghost Value = { Told };
+
+    ghost view = { λ t. record {
+      history = t.history.items;
+      looks = t.looks.items;
+      sendings = t.sendings.items;
+    } };
+}
+
+impl Telling {
+    fn new(alloc: Global) -> Self
+        ensures { result ≡ nothing_told }
+    {
+        Telling {
+            history: Vec::new(alloc),
+            looks: Vec::new(alloc),
+            sendings: Vec::new(alloc),
+        }
+    }
+
+    fn into_history(self) -> Vec<Happening>
+        ensures { result.items ≡ self.history }
+    {
+        self.history
+    }
+
+    fn tell(&mut self, happening: Happening) -> Result<(), AllocError>
+        ensures { OnOk result (self.new ≡ tell happening self.old) }
+    {
+        Ok(self.history.push(happening)?)
+    }
+
+    /// A read, which has the next read number.
+    fn look(&mut self, node: NodeId, key: &MetaKey) -> Result<(), AllocError>
+        ensures { OnOk result (self.new ≡ tell_look node key.now self.old) }
+    {
+        let key = key.copy()?;
+        self.looks.push(self.history.len())?;
+        self.tell(Happening::Looked { node, key })
+    }
+
+    /// The place of the `Looked` that a read number names.
+    fn look_of(&self, read: Option<u64>) -> Option<usize>
+        ensures { result ≡ look_of self.now read }
+    {
+        numbered(self.looks.as_slice(), read?)
+    }
+
+    /// What an event tells, before what it sends.
+    fn event(&mut self, event: &Event) -> Result<(), AllocError>
+        requires { node_of event.now < 16 }
+        ensures { OnOk result (self.new ≡ tell_event event.now self.old) }
+    {
+        let node = NodeId::new(event.node() as u16).unwrap();
+        match event {
+            Event::Put {
+                key,
+                value,
+                read,
+                ..
+            } => self.write(node, key, value, self.look_of(*read)),
+            Event::Get { key, .. } => self.look(node, key),
+            Event::PutOver { key, value, .. } => self.put_over(node, key, value),
+            Event::Deliver { frame, .. } => self.got(node, *frame),
+            Event::Keep { key, .. } => self.keep(node, key),
+            Event::Restart { image, .. } => self.tell(Happening::Restarted {
+                node,
+                image: *image as usize,
+            }),
+            _ => Ok(()),
+        }
+    }
+
+    fn write(
+        &mut self,
+        node: NodeId,
+        key: &MetaKey,
+        value: &Value,
+        seen: Option<usize>,
+    ) -> Result<(), AllocError>
+        ensures { OnOk result (self.new ≡ tell (Wrote node key.now value.now seen) self.old) }
+    {
+        let (key, value) = (key.copy()?, value.copy()?);
+        self.tell(Happening::Wrote {
+            node,
+            key,
+            value,
+            seen,
+        })
+    }
+
+    /// A read, and a write that has read it.
+    fn put_over(&mut self, node: NodeId, key: &MetaKey, value: &Value) -> Result<(), AllocError>
+        ensures { OnOk result (self.new
+            ≡ tell (Wrote node key.now value.now (Some (length self.old.history)))
+            (tell_look node key.now self.old)) }
+    {
+        let place = self.history.len();
+        self.look(node, key)?;
+        self.write(node, key, value, Some(place))
+    }
+
+    fn keep(&mut self, node: NodeId, key: &MetaKey) -> Result<(), AllocError>
+        ensures { OnOk result (self.new ≡ tell (Kept node key.now) self.old) }
+    {
+        let key = key.copy()?;
+        self.tell(Happening::Kept { node, key })
+    }
+
+    /// A delivery of the frame of that number, which tells something where it carries an object.
+    fn got(&mut self, node: NodeId, frame: u64) -> Result<(), AllocError>
+        ensures { OnOk result
+            (self.new ≡ tell_got node (sending_of self.old frame) self.old) }
+    {
+        match numbered(self.sendings.as_slice(), frame) {
+            Some(Some(sent)) => self.tell(Happening::Got { node, sent }),
+            _ => Ok(()),
+        }
+    }
+
+    /// A frame: a `Sent`, where it carries an object.
+    fn frame(&mut self, frame: &Frame) -> Result<(), AllocError>
+        ensures { OnOk result (self.new
+            ≡ tell_sending frame.now.from (carried_object frame.now.message) self.old) }
+    {
+        match &frame.message {
+            Message::Gossip { key, .. } | Message::XObject { key, .. } => {
+                let key = key.copy()?;
+                self.sendings.push(Some(self.history.len()))?;
+                self.tell(Happening::Sent {
+                    node: frame.from,
+                    key,
+                })
+            }
+            _ => Ok(self.sendings.push(None)?),
+        }
+    }
+}
+
+/// What has this number, from 1, if anything has.
+fn numbered<T: Copy>(list: &[T], number: u64) -> Option<T>
+    ensures { result ≡ numbered list.now number }
+{
+    match usize::try_from(number) {
+        Ok(number) if number > 0 => list.get(number - 1).copied(),
+        _ => None,
+    }
+}
+
+/// Why a frame that was sent can't be read: there is no other cause.
+fn want_of_memory(fault: FrameFault) -> AllocError
+    requires { fault ≡ OfFrame.Memory }
+{
+    drop(fault);
+    AllocError
+}
+
+impl World {
+    /// What has happened, as the accepted events tell it: a history. The context of each read is
+    /// that of what its node knew then. Fails only when memory runs out; it takes time with the
+    /// number of events and frames.
+    pub fn history(&self, alloc: Global) -> Result<Vec<Happening>, AllocError>
+        ensures value { IfOk result (λ happenings. OfAllTold self.now
+            (λ t. happenings.items ≡ t.history)) }
+        ensures replays { IfOk result (λ happenings. IsHistory happenings.items) }
+        ensures tells { (t : Told) × Tells self.now.accepted self.now.frames t }
+        ensures is_history { OfAllTold self.now (λ t. IsHistory t.history) }
+        ensures reads { (read : ℕ) (context : Reading)
+            → numbered self.now.contexts read ≡ Some context
+            → OfAllTold self.now (λ t. CountsSeen t read context) }
+    {
+        // Read for what it tells: this is a world.
+        let _ = self.nodes.len();
+        self.told(alloc)
+    }
+
+    /// What the accepted events tell, one after the other.
+    fn told(&self, alloc: Global) -> Result<Vec<Happening>, AllocError>
+        ensures { IfOk result (λ happenings. OfAllTold self.now
+            (λ t. happenings.items ≡ t.history)) }
+    {
+        let mut told = Telling::new(alloc);
+        for accepted in self.chronicle.accepted.as_slice() {
+            told.event(&accepted.event)?;
+            self.tell_frames(&mut told, alloc, accepted.answer.sent)?;
+        }
+        Ok(told.into_history())
+    }
+
+    /// Tells of the frames of these numbers.
+    fn tell_frames(
+        &self,
+        told: &mut Telling,
+        alloc: Global,
+        numbers: FrameNumbers,
+    ) -> Result<(), AllocError>
+        requires first { 1 ≤ numbers.first }
+        requires there { numbers.first + numbers.count ≤ length self.now.frames + 1 }
+        ensures { OnOk result ((frames : List F) → Pairwise Spells frames self.now.frames
+            → told.new ≡ tell_frames (frames_at numbers frames) told.old) }
+    {
+        // Read for what it tells: each frame has a number of 64 bits.
+        let _ = self.chronicle.frame_count();
+        for offset in 0..numbers.count {
+            self.tell_frame(told, alloc, numbers.first + offset)?;
+        }
+        Ok(())
+    }
+
+    /// Tells of the frame of that number, which was sent.
+    fn tell_frame(&self, told: &mut Telling, alloc: Global, number: u64) -> Result<(), AllocError>
+        requires first { 1 ≤ number }
+        requires there { number ≤ length self.now.frames }
+        ensures { OnOk result ((frame : F) × (IsFrameOf self.now number frame
+            × (told.new ≡ tell_sending frame.from (carried_object frame.message) told.old))) }
+    {
+        let frame = self.sent_frame(alloc, number)?;
+        let outcome = told.frame(&frame);
+        // Dropped by a call: no case of the proof then takes it apart.
+        drop(frame);
+        outcome
+    }
+
+    /// The frame of that number, which was sent.
+    fn sent_frame(&self, alloc: Global, number: u64) -> Result<Frame, AllocError>
+        requires first { 1 ≤ number }
+        requires there { number ≤ length self.now.frames }
+        ensures { IfOk result (IsFrameOf self.now number) }
+    {
+        let bytes = self.chronicle.frame(number).unwrap();
+        match decode(alloc, bytes.as_slice()) {
+            Ok(frame) => Ok(frame),
+            Err(fault) => Err(want_of_memory(fault)),
+        }
+    }
+
+    /// The places, in `history`, of the writes that the node knows under the key, rising. Refused
+    /// with 44 `NoSuchNode` and 99 `Memory`. It is told from the history alone, by sets of places,
+    /// and takes memory and time with the square of the history's length.
+    pub fn known(&self, alloc: Global, node: u64, key: &MetaKey) -> Result<Vec<usize>, WorldFault>
+        ensures places { IfOk result (λ places. OfAllTold self.now
+            (λ t. ArePlaces (known t.history node key.now) places.items)) }
+        ensures node { OnOk result (node < length self.now.nodes) }
+        ensures fault { FailsWith Memory (λ fault. (fault ≡ NoSuchNode)
+            × (length self.now.nodes ≤ node)) result }
+    {
+        let id = self.node_id(node)?;
+        let history = self.history(alloc)?;
+        let plain = Plain::replay(alloc, history.as_slice())?;
+        Ok(plain.known(alloc, id, key)?)
+    }
+}

@@ -1,0 +1,185 @@
+//! Events that are steps of a node.
+
+ghost use Rattle.std.specs.Prelude.{◌≡◌, ◌<◌, ℕ, List, None, Some, Err, length, IfOk, IfErr, OnOk};
+ghost use Rattle.std.specs.Option.{option_copied};
+ghost use Rattle.meta_types.specs.Failing.{FailsWith};
+ghost use Rattle.node_events.specs.declared.event.NodeEvent.TheVariants.{Take, Write};
+ghost use Rattle.world_core.specs.Events.{Step, context_of, node_of};
+ghost use Rattle.world_core.specs.Outcome.{Outcome};
+ghost use Rattle.world_core.specs.Refusal.{doing_in};
+ghost use Rattle.world_core.specs.Steps.{HasNamed, HasNoRead, HasRead, IsOfStep, JunkFails, MayRefuse};
+ghost use Rattle.world_core.specs.Tells.{numbered};
+ghost use Rattle.world_core.specs.declared.fault.WorldFault.TheVariants.{Memory, NoSuchFrame, NoSuchRead};
+
+use crate::answer::Answer;
+use crate::event::Event;
+use crate::fault::WorldFault;
+use crate::world::World;
+use meta_frame::decode;
+use meta_store::Context;
+use meta_types::{ByteString, MetaKey, Value};
+use node_events::{NodeEvent, StepFault};
+use std::alloc::Global;
+
+impl World {
+    /// The step that an event is at its node.
+    pub(crate) fn step(&mut self, event: Event) -> Result<Answer, WorldFault>
+        requires { IsOfStep event }
+        ensures { Outcome self.old event result self.new }
+    {
+        let (place, step) = match self.step_at(&event) {
+            Ok(found) => found,
+            Err(fault) => return refuse(event, fault),
+        };
+        if self.chronicle.reserve().is_err() {
+            drop(step);
+            return refuse(event, WorldFault::Memory);
+        }
+        match self.nodes[place].step(step) {
+            Ok(given) => Ok(self.chronicle.accept(event, given)),
+            Err(fault) => refuse(event, WorldFault::from(fault)),
+        }
+    }
+
+    /// The place of the event's node, and the step that it is there. Refused where what it names
+    /// isn't there.
+    fn step_at(&self, event: &Event) -> Result<(usize, NodeEvent), WorldFault>
+        requires { IsOfStep event.now }
+        ensures place { IfOk result
+            (λ found. (found.0 ≡ node_of event.now) × (found.0 < length self.now.nodes)) }
+        ensures step { IfOk result (λ found. doing_in self.now event.now ≡ Step found.1) }
+        ensures named { OnOk result (HasNamed self.now event.now) }
+        ensures refused { IfErr result (MayRefuse self.now event.now) }
+    {
+        let node = self.node_id(event.node())?;
+        let step = self.step_of(event)?;
+        Ok((usize::from(node.number()), step))
+    }
+
+    /// The step, with what it names: a copy. Refused where that isn't there.
+    fn step_of(&self, event: &Event) -> Result<NodeEvent, WorldFault>
+        requires of_step { IsOfStep event.now }
+        requires node { node_of event.now < length self.now.nodes }
+        ensures step { IfOk result (λ step. doing_in self.now event.now ≡ Step step) }
+        ensures named { OnOk result (HasNamed self.now event.now) }
+        ensures refused { IfErr result (MayRefuse self.now event.now) }
+    {
+        match event {
+            Event::Put {
+                key,
+                value,
+                read,
+                ..
+            } => self.write_of(key, value, *read),
+            Event::Get { key, .. } => Ok(NodeEvent::Read { key: key.copy()? }),
+            Event::PutOver { key, value, .. } => Ok(NodeEvent::PutOver {
+                key: key.copy()?,
+                value: value.copy()?,
+            }),
+            Event::Deliver { frame, word, .. } => self.delivery_of(*frame, *word),
+            Event::Junk { bytes, .. } => Err(junk_fault(self.alloc(), bytes)),
+            Event::Tick { word, .. } => Ok(NodeEvent::Tick { word: *word }),
+            Event::Join { contact, word, .. } => Ok(NodeEvent::Join {
+                contact: self.node_id(*contact)?,
+                word: *word,
+            }),
+            Event::PeerDown { peer, word, .. } => Ok(NodeEvent::PeerDown {
+                peer: self.node_id(*peer)?,
+                word: *word,
+            }),
+            Event::Exchange { peer, .. } => Ok(NodeEvent::Exchange {
+                peer: self.node_id(*peer)?,
+            }),
+            Event::Keep { key, .. } => Ok(NodeEvent::Keep { key: key.copy()? }),
+            Event::Watch {
+                prefix,
+                capacity,
+                ..
+            } => Ok(NodeEvent::Watch {
+                prefix: prefix.copy()?,
+                capacity: *capacity,
+            }),
+            Event::Changes { number, .. } => Ok(NodeEvent::Changes { number: *number }),
+            Event::Hello { peer, .. } => Ok(NodeEvent::Hello {
+                peer: self.node_id(*peer)?,
+            }),
+            Event::Leave { .. } => Ok(NodeEvent::Leave),
+            Event::Restart { .. } => unreachable!(),
+        }
+    }
+
+    /// A write, with the context of the read of that number, or blind.
+    fn write_of(
+        &self,
+        key: &MetaKey,
+        value: &Value,
+        read: Option<u64>,
+    ) -> Result<NodeEvent, WorldFault>
+        ensures step { IfOk result
+            (λ step. step ≡ Write key.now value.now (context_of self.now.contexts read)) }
+        ensures there { OnOk result (HasRead self.now read) }
+        ensures refused { FailsWith Memory
+            (λ fault. (fault ≡ NoSuchRead) × HasNoRead self.now read) result }
+    {
+        let context = match read {
+            None => None,
+            Some(read) => match self.context(read) {
+                None => return Err(WorldFault::NoSuchRead),
+                Some(context) => Some(context.copy()?),
+            },
+        };
+        let (key, value) = (key.copy()?, value.copy()?);
+        Ok(NodeEvent::Write {
+            key,
+            value,
+            context,
+        })
+    }
+
+    /// The context of the read of that number, if one has it.
+    fn context(&self, read: u64) -> Option<&Context>
+        ensures { option_copied result ≡ numbered self.now.contexts read }
+    {
+        if read == 0 {
+            return None;
+        }
+        self.chronicle.contexts.get((read - 1) as usize)
+    }
+
+    /// The frame of that number, as bytes that come.
+    fn delivery_of(&self, frame: u64, word: u64) -> Result<NodeEvent, WorldFault>
+        ensures step { IfOk result (λ step. (bytes : List ℕ)
+            × ((step ≡ Take bytes word) × (numbered self.now.frames frame ≡ Some bytes))) }
+        ensures refused { FailsWith Memory (λ fault. (fault ≡ NoSuchFrame)
+            × (numbered self.now.frames frame ≡ None)) result }
+    {
+        match self.chronicle.frame(frame) {
+            None => Err(WorldFault::NoSuchFrame),
+            Some(bytes) => Ok(NodeEvent::Take {
+                frame: bytes.copy()?,
+                word,
+            }),
+        }
+    }
+}
+
+/// Refuses an event, which is dropped by a call: no case of a proof then takes it apart.
+fn refuse(event: Event, fault: WorldFault) -> Result<Answer, WorldFault>
+    ensures { result ≡ Err fault }
+{
+    drop(event);
+    Err(fault)
+}
+
+/// Why junk is refused: it is a frame, or no frame for its first cause.
+fn junk_fault(alloc: Global, bytes: &ByteString) -> WorldFault
+    ensures { JunkFails bytes.now result }
+{
+    match decode(alloc, bytes.as_slice()) {
+        Ok(frame) => {
+            drop(frame);
+            WorldFault::LooksLikeFrame
+        }
+        Err(fault) => WorldFault::from(StepFault::from(fault)),
+    }
+}
