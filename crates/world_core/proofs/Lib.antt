@@ -16,6 +16,8 @@ pub mod Worlds
 pub mod Refusing
 -- outcomes
 pub mod Outcomes
+-- of each event there is one outcome
+pub mod Deciding
 -- steps and restarts that are accepted
 pub mod Accepting
 -- a chronicle after one more event

@@ -1,6 +1,8 @@
 -- The history is told anew from what was accepted: one event and one frame after the other.
-use Rattle.std.proofs.Common.{◌≡◌, ℕ, zero, suc, ◌+◌, ◌-◌, ◌<◌, ◌≤◌, List, [], ◌∷◌, ◌++◌, length, take, drop, get_or, Some, Result, Ok, Err, refl, sym, ap, subst, ◌∙◌, arith}
-use Rattle.std.specs.Prelude.{slice_get, IfOk, OnOk}
+use Rattle.std.proofs.Common.{◌≡◌, ℕ, zero, suc, ◌+◌, ◌-◌, ◌<◌, ◌≤◌, List, [], ◌∷◌, ◌++◌, length, take, drop, get_or, Option, None, Some, Result, Ok, Err, refl, sym, ap, subst, ◌∙◌, arith}
+use Rattle.std.specs.Prelude.{slice_get, IfOk, IfSome, OnOk}
+use Rattle.std.specs.Borrow.{Bor}
+use Rattle.std.specs.Option.{option_copied}
 use Rattle.std.proofs.lemmas.List.{get_or-drop, length-drop, take_more}
 use Rattle.std.proofs.Math.Seq.{take-length}
 use Rattle.std.proofs.lemmas.List.Elements.{All-get_or}
@@ -66,6 +68,16 @@ sent w is (suc place) first there =
     let here : slice_get w.frames place ≡ Some bytes = slice_get-get_or w.frames place [] (omega (arith, there)) in
     let found = pair_first Spells frames w.frames is.telling.spelled place bytes here in
     record { bytes = bytes; frame = found.0; there = here; spelled = found.1.1 }
+
+-- the bytes of a frame spell one
+pub spelled : (w : World) → IsWorld w → (number : ℕ) (bytes : List ℕ) → numbered w.frames number ≡ Some bytes → (f : Frame) × Spells f bytes
+spelled w is zero bytes there = let no : None ≡ Some bytes = there in absurd (cc)
+spelled w is (suc place) bytes there =
+    let found = pair_first Spells is.telling.frames w.frames is.telling.spelled place bytes there in (found.0, found.1.1)
+
+pub lent_spells : (w : World) → IsWorld w → (number : ℕ) (lent : Option (Bor (List ℕ))) → option_copied lent ≡ numbered w.frames number → IfSome lent (λ bytes. (f : Frame) × Spells f bytes.now)
+lent_spells w is number None at = tt
+lent_spells w is number (Some bytes) at = spelled w is number bytes.now (sym at)
 
 -- so no other cause than memory stands against it
 pub never_refused : (w : World) (number : ℕ) → IsSent w number → (bytes : List ℕ) → numbered w.frames number ≡ Some bytes → (fault : FrameFault) → RefusesBytes bytes fault → ⊥

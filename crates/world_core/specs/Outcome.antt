@@ -1,5 +1,5 @@
 -- What a world answers to an event, and what it then is.
-use Rattle.std.specs.Prelude.{◌≡◌, ℕ, ◌+◌, List, [], ◌∷◌, ◌++◌, length, slice_set, Option, Some, None, Result, Ok, Err, ◌⊎◌, IfOk}
+use Rattle.std.specs.Prelude.{◌≡◌, ◌≢◌, ℕ, ◌+◌, List, [], ◌∷◌, ◌++◌, length, slice_set, Option, Some, None, Result, Ok, Err, ◌⊎◌, IfOk}
 use Rattle.meta_store.specs.Context.{Reading}
 use Rattle.meta_store.specs.declared.fault.StoreFault.TheVariants.{BadEntries}
 use Rattle.node_core.specs.declared.state.Stepped.{Stepped}
@@ -106,3 +106,11 @@ Outcomes old [] (o ∷ os) new = ⊥
 Outcomes old (e ∷ es) [] new = ⊥
 Outcomes old (e ∷ es) (o ∷ os) new =
     (between : World) × (Passes old e o between × Outcomes between es os new)
+
+-- what a world was and the event determine its outcome and the world that is left, but that memory
+-- may be wanting at any time
+abbrev pub OneOutcomeForEachEvent : Type 0
+OneOutcomeForEachEvent = (old new other : World) (event : Event)
+    (outcome also : Result Answer WorldFault) → Outcome old event outcome new
+    → Outcome old event also other → outcome ≢ Err Memory → also ≢ Err Memory
+    → (outcome ≡ also) × (new ≡ other)

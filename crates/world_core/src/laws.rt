@@ -1,4 +1,4 @@
-//! The laws of telling, of equal knowledge and of faults. The contract of a function is the law;
+//! The laws of telling, of outcomes, of equal knowledge and of faults. The contract of a function is the law;
 //! its body does nothing, or compares.
 
 ghost use Rattle.std.specs.Prelude.{◌≡◌, ◌↔◌, ◌<◌, ℕ, List, length, IsTrue};
@@ -8,6 +8,7 @@ ghost use Rattle.meta_store.specs.Table.{object_at};
 ghost use Rattle.past_model.specs.Past.{known};
 ghost use Rattle.world_core.specs.declared.answer.Accepted.{Accepted};
 ghost use Rattle.world_core.specs.Knowledge.{OfAllTold};
+ghost use Rattle.world_core.specs.Outcome.{OneOutcomeForEachEvent};
 ghost use Rattle.world_core.specs.Refusal.{table_of};
 ghost use Rattle.world_core.specs.Tells.{Told, Tells};
 
@@ -18,6 +19,12 @@ use crate::world::World;
 pub fn one_history_is_told()
     ensures { (accepted : List Accepted) (frames : List (List ℕ)) (t u : Told)
         → Tells accepted frames t → Tells accepted frames u → t ≡ u }
+{}
+
+/// What a world was and the event determine its outcome and the world that is left, but that memory
+/// may be wanting at any time.
+pub fn one_outcome_for_each_event()
+    ensures { OneOutcomeForEachEvent }
 {}
 
 /// Nodes that know the same writes under a key hold equal objects there, and so show equal values

@@ -6,6 +6,7 @@ ghost use Rattle.std.specs.Option.{option_copied};
 ghost use Rattle.meta_types.specs.Failing.{FailsWith};
 ghost use Rattle.meta_types.specs.Name.{Key};
 ghost use Rattle.dvvset.specs.Object.{Entry};
+ghost use Rattle.meta_frame.specs.Frame.{Spells};
 ghost use Rattle.meta_frame.specs.declared.message.Frame.{Frame as F};
 ghost use Rattle.meta_store.specs.Table.{object_at};
 ghost use Rattle.past_model.specs.Past.{image, known, past, writes};
@@ -93,10 +94,13 @@ impl World {
         )
     }
 
-    /// The bytes of the frame of that number, if one has it.
+    /// The bytes of the frame of that number, if one has it. They spell a frame.
     pub fn frame(&self, number: u64) -> Option<&ByteString>
-        ensures { option_copied result ≡ numbered self.now.frames number }
+        ensures value { option_copied result ≡ numbered self.now.frames number }
+        ensures spelled { IfSome result (λ bytes. (frame : F) × Spells frame bytes.now) }
     {
+        // Read for what it tells: this is a world.
+        let _ = self.nodes.len();
         self.chronicle.frame(number)
     }
 
