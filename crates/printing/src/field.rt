@@ -1,6 +1,6 @@
 //! Numbers, names and values.
 
-ghost use Rattle.std.specs.Prelude.{◌≡◌, ◌++◌, OnOk, decimal};
+ghost use Rattle.std.specs.Prelude.{◌≡◌, ◌++◌, OnErr, OnOk, decimal};
 ghost use Rattle.printing.specs.Field.{actor_text, is_plain, are_plain, bytes_text, prefix_text, key_text, stamp_text, value_text};
 
 use itoa::Buffer;
@@ -9,7 +9,8 @@ use std::alloc::AllocError;
 
 /// Adds a number in decimal digits.
 pub(crate) fn add_number(out: &mut Vec<u8>, number: u64) -> Result<(), AllocError>
-    ensures { OnOk result (out.new.items ≡ out.old.items ++ decimal number) }
+    ensures ok { OnOk result (out.new.items ≡ out.old.items ++ decimal number) }
+    ensures err { OnErr result (out.new.items ≡ out.old.items) }
 {
     let mut buffer = Buffer::new();
     out.extend_from_slice(buffer.format(number).as_bytes())
@@ -38,8 +39,9 @@ fn is_plain(byte: u8) -> bool
     matches!(byte, b'A'..=b'Z' | b'a'..=b'z' | b'0'..=b'9' | b'.' | b'_' | b'-')
 }
 
-/// Returns whether bytes stand as they are.
-fn are_plain(bytes: &[u8]) -> bool
+/// Returns whether bytes stand as they are when they are printed: there is at least one, and all
+/// are letters, digits, `.`, `_` or `-`.
+pub fn are_plain(bytes: &[u8]) -> bool
     ensures { result ≡ are_plain bytes.now }
 {
     !bytes.is_empty() && bytes.iter().all(|byte| is_plain(*byte))

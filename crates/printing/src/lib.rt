@@ -18,6 +18,8 @@ mod list;
 mod print;
 mod row;
 
+pub use field::are_plain;
 pub use print::{
-    print_frame, print_frame_fault, print_key, print_object, print_value, print_vector,
+    print_digest, print_frame, print_frame_fault, print_key, print_name, print_nodes, print_number,
+    print_object, print_value, print_values, print_vector,
 };

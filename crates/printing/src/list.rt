@@ -3,7 +3,7 @@
 ghost use Rattle.std.specs.Prelude.{◌≡◌, ◌++◌, ◌∷◌, [], true, map, OnOk, IfOk, if◌then◌else◌};
 ghost use Rattle.dvvset.specs.Clock.{values_of};
 ghost use Rattle.printing.specs.Field.{value_text};
-ghost use Rattle.printing.specs.Joined.{separated, AddsTexts};
+ghost use Rattle.printing.specs.Joined.{joined, separated, AddsTexts};
 ghost use Rattle.printing.specs.Object.{counter_text, vector_text, values_text, object_text};
 
 use crate::field::{add_actor, add_number, add_value};
@@ -68,6 +68,17 @@ fn add_values(out: &mut Vec<u8>, values: &[Value], first: bool) -> Result<bool, 
         first = false;
     }
     Ok(first)
+}
+
+/// Adds values, as `y,x`, or `-` for none.
+pub(crate) fn add_value_list(out: &mut Vec<u8>, values: &[Value]) -> Result<(), AllocError>
+    ensures { OnOk result (out.new.items ≡ out.old.items ++ joined (map value_text values.now)) }
+{
+    if values.is_empty() {
+        return out.extend_from_slice(b"-");
+    }
+    add_values(out, values, true)?;
+    Ok(())
 }
 
 /// Adds the values of entries, as `add_values` does.

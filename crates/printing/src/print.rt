@@ -1,21 +1,44 @@
 //! The public calls. Each adds its text at the end of bytes; where memory is refused it adds
 //! nothing.
 
-ghost use Rattle.std.specs.Prelude.{◌≡◌, ◌++◌, OnOk, OnErr};
-ghost use Rattle.printing.specs.Field.{key_text, value_text};
+ghost use Rattle.std.specs.Prelude.{◌≡◌, ◌++◌, OnOk, OnErr, decimal, map};
+ghost use Rattle.printing.specs.Field.{are_plain, bytes_text, key_text, value_text};
 ghost use Rattle.printing.specs.Frame.{frame_text, frame_fault_text};
+ghost use Rattle.printing.specs.Joined.{joined};
 ghost use Rattle.printing.specs.Object.{vector_text, object_text};
+ghost use Rattle.printing.specs.Row.{digest_text, nodes_text};
 
-use crate::field::{add_key, add_value};
+use crate::field::{add_bytes, add_key, add_number, add_value};
 use crate::frame::{add_frame, add_frame_fault};
-use crate::list::{add_object, add_vector};
+use crate::list::{add_object, add_value_list, add_vector};
+use crate::row::{add_digest, add_node_list};
 use dvvset::{Entries, Vector};
+use frame_fields::Digest;
 use meta_frame::{Frame, FrameFault};
-use meta_types::{MetaKey, Value};
+use meta_types::{MetaKey, NodeId, Value};
 use std::alloc::AllocError;
 
 /// A line of text in most cases has no more bytes.
 const LINE_LEN: usize = 128;
+
+/// Adds a number in decimal digits.
+pub fn print_number(out: &mut Vec<u8>, number: u64) -> Result<(), AllocError>
+    ensures ok { OnOk result (out.new.items ≡ out.old.items ++ decimal number) }
+    ensures err { OnErr result (out.new.items ≡ out.old.items) }
+{
+    add_number(out, number)
+}
+
+/// Adds the bytes of a name: as they are where there is at least one and all are letters, digits,
+/// `.`, `_` or `-`, otherwise `hex:` and their digits in lower case.
+pub fn print_name(out: &mut Vec<u8>, bytes: &[u8]) -> Result<(), AllocError>
+    ensures ok { OnOk result (out.new.items ≡ out.old.items ++ bytes_text bytes.now) }
+    ensures err { OnErr result (out.new.items ≡ out.old.items) }
+{
+    let mut text = Vec::with_capacity(*out.allocator(), LINE_LEN)?;
+    add_bytes(&mut text, bytes)?;
+    out.extend_from_slice(text.as_slice())
+}
 
 /// Adds a key, as `a/b/k`: each part as it is where it has at least one byte and all are letters,
 /// digits, `.`, `_` or `-`, otherwise `hex:` and its digits in lower case.
@@ -37,6 +60,35 @@ pub fn print_value(out: &mut Vec<u8>, value: &Value) -> Result<(), AllocError>
     let mut text = Vec::with_capacity(*out.allocator(), LINE_LEN)?;
     add_value(&mut text, value)?;
     out.extend_from_slice(text.as_slice())
+}
+
+/// Adds values, as `y,x`, or `-` for none.
+pub fn print_values(out: &mut Vec<u8>, values: &[Value]) -> Result<(), AllocError>
+    ensures ok { OnOk result
+        (out.new.items ≡ out.old.items ++ joined (map value_text values.now)) }
+    ensures err { OnErr result (out.new.items ≡ out.old.items) }
+{
+    let mut text = Vec::with_capacity(*out.allocator(), LINE_LEN)?;
+    add_value_list(&mut text, values)?;
+    out.extend_from_slice(text.as_slice())
+}
+
+/// Adds node numbers, as `2,3`, or `-` for none.
+pub fn print_nodes(out: &mut Vec<u8>, nodes: &[NodeId]) -> Result<(), AllocError>
+    ensures ok { OnOk result (out.new.items ≡ out.old.items ++ nodes_text nodes.now) }
+    ensures err { OnErr result (out.new.items ≡ out.old.items) }
+{
+    let mut text = Vec::with_capacity(*out.allocator(), LINE_LEN)?;
+    add_node_list(&mut text, nodes)?;
+    out.extend_from_slice(text.as_slice())
+}
+
+/// Adds a digest: 64 digits in lower case.
+pub fn print_digest(out: &mut Vec<u8>, digest: &Digest) -> Result<(), AllocError>
+    ensures ok { OnOk result (out.new.items ≡ out.old.items ++ digest_text digest.now) }
+    ensures err { OnErr result (out.new.items ≡ out.old.items) }
+{
+    add_digest(out, digest)
 }
 
 /// Adds a context, as `0.1:2,1.1:1`, or `-` for the one that has read nothing.

@@ -1,6 +1,6 @@
 //! Node numbers, digests, and rows of prefixes and keys, joined by commas.
 
-ghost use Rattle.std.specs.Prelude.{◌≡◌, ◌++◌, true, map, OnOk, decimal};
+ghost use Rattle.std.specs.Prelude.{◌≡◌, ◌++◌, true, map, OnErr, OnOk, decimal};
 ghost use Rattle.printing.specs.Joined.{separated};
 ghost use Rattle.printing.specs.Row.{nodes_text, digest_text, digests_text, prefix_row_text, prefixes_text, key_row_text, keys_text};
 
@@ -24,18 +24,26 @@ fn add_each_node(out: &mut Vec<u8>, nodes: &[NodeId]) -> Result<(), AllocError>
 }
 
 /// Adds node numbers, as `2,3`, or `-` for none.
+pub(crate) fn add_node_list(out: &mut Vec<u8>, nodes: &[NodeId]) -> Result<(), AllocError>
+    ensures { OnOk result (out.new.items ≡ out.old.items ++ nodes_text nodes.now) }
+{
+    if nodes.is_empty() {
+        return out.extend_from_slice(b"-");
+    }
+    add_each_node(out, nodes)
+}
+
+/// Adds the node numbers of a frame, as `add_node_list` does.
 pub(crate) fn add_nodes(out: &mut Vec<u8>, nodes: &Nodes) -> Result<(), AllocError>
     ensures { OnOk result (out.new.items ≡ out.old.items ++ nodes_text nodes.now) }
 {
-    if nodes.as_slice().is_empty() {
-        return out.extend_from_slice(b"-");
-    }
-    add_each_node(out, nodes.as_slice())
+    add_node_list(out, nodes.as_slice())
 }
 
 /// Adds a digest: 64 digits in lower case.
 pub(crate) fn add_digest(out: &mut Vec<u8>, digest: &Digest) -> Result<(), AllocError>
-    ensures { OnOk result (out.new.items ≡ out.old.items ++ digest_text digest.now) }
+    ensures ok { OnOk result (out.new.items ≡ out.old.items ++ digest_text digest.now) }
+    ensures err { OnErr result (out.new.items ≡ out.old.items) }
 {
     let mut digits = [0; 64];
     hex::encode_to_slice(digest.bytes(), &mut digits).unwrap();
