@@ -1,28 +1,31 @@
 //! What the arguments ask for.
 
 use clap::error::ErrorKind;
-use clap::{Command, Error};
+use clap::{Arg, ArgAction, Command, Error};
 use std::alloc::{AllocError, Global};
 use std::io;
 use streams::{StreamFault, write_fault};
 
 /// What the arguments ask for.
-#[derive(Drop)]
-pub enum Asked {
+#[derive(Clone, Copy)]
+pub enum Asked<'a> {
     /// Nothing more, and this exit status: help or a usage fault was printed.
     Nothing(u8),
     Frame,
+    /// A scenario, of the file of this path, or of standard input.
+    Run(Option<&'a str>),
 }
 
 /// The exit status of wrong arguments.
-const USAGE: u8 = 2;
+pub const USAGE: u8 = 2;
 
 const VERSION: &str = "0.1.0";
 
 /// What a wrong argument of `frame` is told besides.
 const NO_FILE: &str = "tip: frame reads standard input, as in 'plumctl frame <FILE'";
 
-const HELP: &str = "Example:
+const HELP: &str = "Examples:
+  plumctl run siblings.scenario
   plumctl frame <frames.hex";
 
 const FRAME_HELP: &str =
@@ -40,21 +43,57 @@ the frame the field at fault begins. No line number is printed: line N of the ou
 Exit status: 0 each line was a frame, 1 a line was refused or the input is longer than
 67,108,864 bytes, 2 wrong arguments, 3 reading or writing failed, 4 want of memory.";
 
+const RUN_HELP: &str =
+    "The first command says how many nodes there are, as `nodes 2`; each other is one of
+  put N KEY VALUE [stamp S] [read R]    del N KEY [stamp S] [read R]
+  over N KEY VALUE [stamp S]            read N KEY          show N KEY
+  resolve N KEY lww|largest             deliver F [N] [word W]
+  tick N [word W]    join N C [word W]  down N P [word W]   exchange N P
+  hello N P          leave N            restart N I         keep N
+  watch N PREFIX CAP                    changes N W         list N PREFIX
+  root N             images N           views N             settle
+  junk N HEX
+An empty line is skipped, and so is one that begins with #. Each command prints a line, and a line
+for each frame that it sent. Where a line is no command, error 70 BadLine and its number is all that
+is printed.
+
+Example:
+  printf 'nodes 1\nput 0 a/b/k x\nshow 0 a/b/k\n' | plumctl run
+prints
+  ok
+  wrote ctx 0.1:1
+  ctx 0.1:1 values x
+
+Exit status: 0 done, 1 a line is no command, a settle would deliver more than 100,000 frames or the
+input is longer than 67,108,864 bytes, 2 wrong arguments, 3 reading or writing failed, 4 want of
+memory.";
+
+/// The name of the argument of `run`.
+const FILE: &str = "FILE";
+
 /// The command line, with its help.
 fn command<'a>(alloc: Global) -> Result<Command<'a>, AllocError> {
     let frame = Command::new(alloc, "frame")
         .about("Print the frames that lines of hexadecimal digits at standard input spell")
         .after_help(FRAME_HELP);
+    let file = Arg::new(alloc, FILE)
+        .help("The scenario; standard input if there is none, or for -")
+        .action(ArgAction::Set);
+    let run = Command::new(alloc, "run")
+        .about("Run a scenario over the nodes of a new cluster")
+        .after_help(RUN_HELP)
+        .arg(file)?;
     Command::new(alloc, "plumctl")
         .about("The commands of Zomtagi, a cluster metadata store")
         .version(VERSION)
         .after_help(HELP)
         .subcommand_required(true)
-        .subcommand(frame)
+        .subcommand(frame)?
+        .subcommand(run)
 }
 
-/// The arguments of the program, its name among them.
-fn words(rt: &HostRuntime) -> Result<Option<Vec<String>>, StreamFault> {
+/// The arguments of the program, its name among them; `None` where one is no text.
+pub fn read_words(rt: &HostRuntime) -> Result<Option<Vec<String>>, StreamFault> {
     match std::env::args(rt) {
         Ok(args) => Ok(Some(args.collect(rt.alloc())?)),
         Err(error) if error.kind() == io::ErrorKind::OutOfMemory => Err(StreamFault::Memory),
@@ -81,21 +120,26 @@ fn is_of_frame(words: &[String], error: &Error) -> bool {
         && words.get(1).is_some_and(|word| word.as_str() == "frame")
 }
 
+/// The path of a file that isn't `-`, which stands for standard input.
+fn path(file: Option<&str>) -> Option<&str> {
+    match file {
+        Some("-") => None,
+        file => file,
+    }
+}
+
 /// What the arguments ask for.
-pub fn read_arguments(rt: &HostRuntime) -> Result<Asked, StreamFault> {
-    let Some(words) = words(rt)? else {
-        let _ = eprintln!(rt; "error: the arguments are not text");
-        return Ok(Asked::Nothing(USAGE));
-    };
-    match command(rt.alloc())?.try_get_matches_from(words.as_slice()) {
+pub fn read_arguments<'a>(rt: &HostRuntime, words: &'a [String]) -> Result<Asked<'a>, StreamFault> {
+    match command(rt.alloc())?.try_get_matches_from(words) {
         Ok(matches) => match matches.subcommand() {
             Some(("frame", _)) => Ok(Asked::Frame),
+            Some(("run", matches)) => Ok(Asked::Run(path(matches.get_str(FILE)))),
             _ => Ok(Asked::Nothing(USAGE)),
         },
         Err(error) if error.kind() == ErrorKind::OutOfMemory => Err(StreamFault::Memory),
         Err(error) => {
             let status = print(rt, &error)?;
-            if is_of_frame(words.as_slice(), &error) {
+            if is_of_frame(words, &error) {
                 let _ = eprintln!(rt; "{NO_FILE}");
             }
             Ok(Asked::Nothing(status))

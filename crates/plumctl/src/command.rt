@@ -2,9 +2,11 @@
 
 ghost use Rattle.std.specs.Prelude.{◌≢◌};
 
-use plumctl_core::{run_frame, tell};
-use std::io::BufWriter;
-use streams::{MayFail, StreamFault};
+use plumctl_core::{run_frame, run_scenario, tell};
+use resolvers::{Largest, Lww, Resolver};
+use std::fs;
+use std::io::{BufWriter, ErrorKind};
+use streams::{MayFail, Source, StreamFault};
 
 /// The most bytes of one write.
 const OUTPUT_LEN: usize = 65_536;
@@ -20,4 +22,46 @@ pub fn frame(rt: &HostRuntime) -> u8
     };
     let mut reader = MayFail(rt.stdin());
     run_frame(rt.alloc(), &mut reader, &mut MayFail(buffered), &mut errors)
+}
+
+/// `run`, of the file of this path, or of standard input, to standard output. Returns the exit
+/// status, which is never that of wrong arguments: a file that can't be opened can't be read.
+pub fn run(rt: &HostRuntime, file: Option<&str>) -> u8
+    ensures { result ≢ 2 }
+{
+    let Some(path) = file else {
+        return run_from(rt, &mut MayFail(rt.stdin()));
+    };
+    match fs::open(rt, path) {
+        Ok(file) => run_from(rt, &mut MayFail(file)),
+        Err(error) => tell(&mut MayFail(rt.stderr()), fault_of_opening(error.kind())),
+    }
+}
+
+/// Why a file can't be opened: want of memory, or that it can't be read.
+fn fault_of_opening(kind: ErrorKind) -> StreamFault {
+    match kind {
+        ErrorKind::OutOfMemory => StreamFault::Memory,
+        _ => StreamFault::Read,
+    }
+}
+
+/// Runs the scenario of a reader, to standard output. The resolvers stand in the order of their
+/// words: `lww` and `largest`.
+fn run_from<R: Source>(rt: &HostRuntime, reader: &mut R) -> u8
+    ensures { result ≢ 2 }
+{
+    let mut errors = MayFail(rt.stderr());
+    let Ok(buffered) = BufWriter::with_capacity(rt.alloc(), OUTPUT_LEN, rt.stdout()) else {
+        return tell(&mut errors, StreamFault::Memory);
+    };
+    let Ok(lww) = Box::new(rt.alloc(), Lww) else {
+        return tell(&mut errors, StreamFault::Memory);
+    };
+    let Ok(largest) = Box::new(rt.alloc(), Largest) else {
+        return tell(&mut errors, StreamFault::Memory);
+    };
+    let resolvers: [Box<dyn Resolver>; 2] = [lww, largest];
+    let mut writer = MayFail(buffered);
+    run_scenario(rt.alloc(), reader, &mut writer, &mut errors, &resolvers)
 }

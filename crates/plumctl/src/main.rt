@@ -5,15 +5,27 @@
 mod arguments;
 mod command;
 
-use arguments::{Asked, read_arguments};
+use arguments::{Asked, USAGE, read_arguments, read_words};
 use plumctl_core::tell;
 use std::process::ExitCode;
-use streams::MayFail;
+use streams::{MayFail, StreamFault};
 
 fn main(rt: HostRuntime) -> ExitCode {
-    ExitCode::from(match read_arguments(&rt) {
-        Ok(Asked::Frame) => command::frame(&rt),
-        Ok(Asked::Nothing(status)) => status,
+    ExitCode::from(match run(&rt) {
+        Ok(status) => status,
         Err(fault) => tell(&mut MayFail(rt.stderr()), fault),
+    })
+}
+
+/// Does what the arguments ask for, and returns the exit status.
+fn run(rt: &HostRuntime) -> Result<u8, StreamFault> {
+    let Some(words) = read_words(rt)? else {
+        let _ = eprintln!(rt; "error: the arguments are not text");
+        return Ok(USAGE);
+    };
+    Ok(match read_arguments(rt, words.as_slice())? {
+        Asked::Frame => command::frame(rt),
+        Asked::Run(file) => command::run(rt, file),
+        Asked::Nothing(status) => status,
     })
 }

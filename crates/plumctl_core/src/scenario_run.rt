@@ -1,0 +1,48 @@
+//! The command `run`.
+
+ghost use Rattle.std.specs.Prelude.{◌≡◌, ◌≢◌, ◌⊎◌, map};
+ghost use Rattle.std.specs.Io.KnownBytes.{Keeps};
+ghost use Rattle.scenario.specs.declared.fault.ScenarioFault.{ScenarioFault as Fault};
+ghost use Rattle.scenario.specs.Run.{EndsEarly, PrintsAll};
+ghost use Rattle.plumctl_core.specs.Scenario.{TellsScenario, status_of_scenario};
+
+use crate::status::tell;
+use resolvers::Resolver;
+use scenario::{ScenarioFault, run_over};
+use std::alloc::Global;
+use streams::{Sink, Source};
+
+/// Runs a scenario as `run_over` does, tells a fault of reading, writing or memory at `errors`, and
+/// returns the exit status: 0 where it was run to its end, 1 where a line breaks a rule, a settling
+/// would go on past its limit or the input is too long, 3 where reading or writing failed, 4 where
+/// memory was refused.
+pub fn run_scenario<R: Source, W: Sink, E: Sink>(
+    alloc: Global,
+    reader: &mut R,
+    writer: &mut W,
+    errors: &mut E,
+    resolvers: &[Box<dyn Resolver>],
+) -> u8
+    ensures run { result ≢ 2 }
+    ensures ends { ((result ≡ 0)
+        × Keeps (E.contents errors.old) (E.contents errors.new)
+        × PrintsAll (map (λ r. choice r) resolvers.now)
+        (R.read_failed reader.old) (R.read_failed reader.new)
+        (W.failed writer.old) (W.failed writer.new) (W.passed_on writer.new)
+        (R.remaining reader.old) (R.remaining reader.new)
+        (W.contents writer.old) (W.contents writer.new))
+        ⊎ ((fault : Fault) × (result ≡ status_of_scenario fault)
+        × TellsScenario (E.failed errors.old) (E.failed errors.new)
+        (E.contents errors.old) (E.contents errors.new) fault
+        × EndsEarly (map (λ r. choice r) resolvers.now)
+        (R.read_failed reader.old) (R.read_failed reader.new)
+        (W.failed writer.old) (W.failed writer.new) (W.passed_on writer.new)
+        (R.remaining reader.old) (R.remaining reader.new)
+        (W.contents writer.old) (W.contents writer.new) fault) }
+{
+    match run_over(alloc, reader, writer, resolvers) {
+        Ok(()) => 0,
+        Err(ScenarioFault::Stream(fault)) => tell(errors, fault),
+        Err(ScenarioFault::BadLine { .. } | ScenarioFault::Limit) => 1,
+    }
+}

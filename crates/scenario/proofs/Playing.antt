@@ -1,0 +1,416 @@
+-- Playing a scenario, command by command, and the fronts of its output.
+use Rattle.std.proofs.Common.{◌≡◌, ℕ, List, [], ◌∷◌, ◌++◌, length, Option, Some, None, ◌⊎◌, inl, inr, refl, sym, ap, subst, ◌∙◌, append_assoc}
+use Rattle.std.specs.Prelude.{codes}
+use Rattle.std.proofs.lemmas.List.{append-nil}
+use Rattle.std.specs.Io.KnownBytes.{Appends, Keeps}
+use Rattle.std.specs.declared.io.ErrorKind.{ErrorKind}
+use Rattle.std.specs.declared.io.ErrorKind.TheVariants as kinds
+use Rattle.streams.specs.declared.fault.StreamFault.{StreamFault}
+use Rattle.streams.specs.declared.fault.StreamFault.TheVariants.{Read, InputTooLong, Write, BrokenPipe, Memory}
+use Rattle.streams.specs.Fault.{Failed, FailsNoMore, IsWriteFault, IsWriterFault, fault_of_kind}
+use Rattle.streams.specs.Written.{AppendsFront}
+use Rattle.streams.proofs.Failing.{FailsNoMore-self, FailsNoMore-then, write_fault_then}
+use Rattle.streams.proofs.Sent.{Appends-kept, Appends-nil, Appends-then}
+use Rattle.scenario_text.specs.Commands.{Command}
+use Rattle.scenario_text.specs.Script.{Scenario, commands_of, first_bad, scenario_of}
+use Rattle.scenario.specs.Coded.{end_line}
+use Rattle.scenario.specs.Obeying.{Choices, Obeys, PassesLimit, Stage, opening}
+use Rattle.scenario.specs.Output.{BeginsNext, IsFrontOfOutput, IsFrontOfPlay, IsOutput, ObeyAll, Plays, PlaysOrNothing, PlaysUnless, Runs, RunsFront}
+use Rattle.scenario.specs.Printed.{bad_line, limit_line, line}
+use Rattle.scenario.specs.Run.{EndsBefore, EndsCommand, EndsCommands, EndsLine, EndsPlay, EndsText, PlaysAll, PlaysToLimit, Prints, StopsAtLimit, StopsPrinting, WritesAll, WritesCommand, WritesEnd, WritesOutput}
+use Rattle.scenario.specs.declared.fault.ScenarioFault.{ScenarioFault}
+use Rattle.scenario.specs.declared.fault.ScenarioFault.TheVariants.{BadLine, Limit, Stream}
+use Rattle.scenario.proofs.OneOutput.{obeys_within, one_obeys}
+
+-- ---- faults of writing
+
+-- an error of the writer is no fault of reading
+never_read : (kind : ErrorKind) → Read ≡ fault_of_kind kind → ⊥
+never_read kinds.BrokenPipe e = cc
+never_read kinds.OutOfMemory e = cc
+never_read kind e = cc
+
+never_too_long : (kind : ErrorKind) → InputTooLong ≡ fault_of_kind kind → ⊥
+never_too_long kinds.BrokenPipe e = cc
+never_too_long kinds.OutOfMemory e = cc
+never_too_long kind e = cc
+
+pub cause_of_writer : (old new : Failed) (fault : StreamFault) → IsWriterFault old new fault → IsWriteFault old new fault
+cause_of_writer old new Read cause = absurd (never_read cause.kind cause.fault_is)
+cause_of_writer old new InputTooLong cause = absurd (never_too_long cause.kind cause.fault_is)
+cause_of_writer old new Write cause = cause
+cause_of_writer old new BrokenPipe cause = cause
+cause_of_writer old new Memory cause = (tt, inr cause)
+
+pub want_of_memory : (failed : Failed) (fault : StreamFault) → fault ≡ Memory → IsWriteFault failed failed fault
+want_of_memory failed fault e = subst (IsWriteFault failed failed) (sym e) (tt, inl (FailsNoMore-self failed))
+
+-- ---- commands
+
+obey_more : (choices : Choices) (old stage new : Stage) (done : List Command) (command : Command) (text added : List ℕ) → ObeyAll choices old done text stage → Obeys choices stage command added new
+    → ObeyAll choices old (done ++ command ∷ []) (text ++ added) new
+obey_more choices old stage new [] command text added (text_is, same) obeys =
+    let e : text ++ added ≡ added ++ [] = ap (λ (xs : List ℕ). xs ++ added) text_is ∙ sym (append-nil added) in
+    (added, [], new, subst (λ (s : Stage). Obeys choices s command added new) same obeys, (refl, refl), e)
+obey_more choices old stage new (first ∷ done) command text added (begun, rest, between, here, others, text_is) obeys =
+    let e : text ++ added ≡ begun ++ (rest ++ added) = ap (λ (xs : List ℕ). xs ++ added) text_is ∙ append_assoc begun rest added in
+    (begun, rest ++ added, between, here, obey_more choices between stage new done command rest added others obeys, e)
+
+-- a run after the commands that were obeyed
+after_done : (choices : Choices) (old stage : Stage) (done left : List Command) (printed whole : List ℕ) (ended : Option ScenarioFault) → ObeyAll choices old done printed stage → Runs choices old (done ++ left) whole ended
+    → (rest : List ℕ) × Runs choices stage left rest ended × (whole ≡ printed ++ rest)
+after_done choices old stage [] left printed whole ended (printed_is, same) runs =
+    (whole, subst (λ (s : Stage). Runs choices s left whole ended) (sym same) runs, ap (λ (xs : List ℕ). xs ++ whole) (sym printed_is))
+after_done choices old stage (command ∷ done) left printed whole ended (first, others, between, obeys, rest, printed_is) (inl (limit, whole_is, ended_is)) = absurd (obeys_within choices old between command first obeys limit)
+after_done choices old stage (command ∷ done) left printed whole ended (first, others, between, obeys, rest, printed_is) (inr (begun, more, behind, also, again, whole_is)) =
+    let same = one_obeys choices old behind between command begun first also obeys in
+    let later = after_done choices between stage done left others more ended rest (subst (λ (s : Stage). Runs choices s (done ++ left) more ended) same.1 again) in (
+      later.0,
+      later.1,
+      whole_is ∙ ap (λ (xs : List ℕ). xs ++ more) same.0 ∙ ap (λ (xs : List ℕ). first ++ xs) later.2 ∙ sym (append_assoc first others later.0)
+          ∙ ap (λ (xs : List ℕ). xs ++ later.0) (sym printed_is),
+    )
+
+front_of_next : (choices : Choices) (stage : Stage) (left : List Command) (begun rest : List ℕ) (ended : Option ScenarioFault) → BeginsNext choices stage left begun → Runs choices stage left rest ended
+    → (more : List ℕ) × (rest ≡ begun ++ more)
+front_of_next choices stage [] begun rest ended none runs = (rest, ap (λ (xs : List ℕ). xs ++ rest) (sym none))
+front_of_next choices stage (next ∷ later) begun rest ended (inl none) runs = (rest, ap (λ (xs : List ℕ). xs ++ rest) (sym none))
+front_of_next choices stage (next ∷ later) begun rest ended (inr (inl (text, more, new, obeys, text_is))) (inl (limit, rest_is, ended_is)) = absurd (obeys_within choices stage new next text obeys limit)
+front_of_next choices stage (next ∷ later) begun rest ended (inr (inl (text, more, new, obeys, text_is))) (inr (first, others, between, also, runs, rest_is)) =
+    let same = one_obeys choices stage between new next first text also obeys in (
+      more ++ others,
+      rest_is ∙ ap (λ (xs : List ℕ). xs ++ others) (same.0 ∙ text_is) ∙ append_assoc begun more others,
+    )
+front_of_next choices stage (next ∷ later) begun rest ended (inr (inr (more, limit, line_is))) (inl (also, rest_is, ended_is)) = (more, rest_is ∙ line_is)
+front_of_next choices stage (next ∷ later) begun rest ended (inr (inr (more, limit, line_is))) (inr (first, others, between, obeys, runs, rest_is)) = absurd (obeys_within choices stage between next first obeys limit)
+
+-- what was printed of a run begins each whole output of it
+front_of_run : (choices : Choices) (old : Stage) (commands : List Command) (text whole : List ℕ) (ended : Option ScenarioFault) → RunsFront choices old commands text → Runs choices old commands whole ended
+    → (more : List ℕ) × (whole ≡ text ++ more)
+front_of_run choices old commands text whole ended f runs =
+    let later = after_done choices old f.stage f.done f.left f.printed whole ended f.obeyed (subst (λ (cs : List Command). Runs choices old cs whole ended) f.commands_are runs) in
+    let more = front_of_next choices f.stage f.left f.begun later.0 ended f.begins later.1 in (
+      more.0,
+      later.2 ∙ ap (λ (xs : List ℕ). f.printed ++ xs) more.1 ∙ sym (append_assoc f.printed f.begun more.0) ∙ ap (λ (xs : List ℕ). xs ++ more.0) (sym f.text_is),
+    )
+
+-- ---- a run so far
+
+-- these commands were obeyed, those are left
+pub record Playing (choices : Choices) (old : Stage) (all : List Command) (stage : Stage) (left : List Command) (w v : Option (List ℕ)) : Type 0 where
+  pub done : List Command
+  pub commands_are : all ≡ done ++ left
+  pub text : List ℕ
+  pub obeyed : ObeyAll choices old done text stage
+  pub appended : Appends w v text
+
+pub playing_none : (choices : Choices) (old : Stage) (all : List Command) (w : Option (List ℕ)) → Playing choices old all old all w w
+playing_none choices old all w = record { done = []; commands_are = refl; text = []; obeyed = (refl, refl); appended = Appends-nil w }
+
+pub playing_more : (choices : Choices) (old stage new : Stage) (all before left : List Command) (command : Command) (w v u : Option (List ℕ))
+    → Playing choices old all stage before w v → before ≡ command ∷ left → WritesCommand choices stage command v u new → Playing choices old all new left w u
+playing_more choices old stage new all before left command w v u so_far next writes = record {
+  done = so_far.done ++ command ∷ [];
+  commands_are = so_far.commands_are ∙ ap (λ (cs : List Command). so_far.done ++ cs) next ∙ sym (append_assoc so_far.done (command ∷ []) left);
+  text = so_far.text ++ writes.added;
+  obeyed = obey_more choices old stage new so_far.done command so_far.text writes.added so_far.obeyed writes.obeys;
+  appended = Appends-then w v u so_far.text writes.added so_far.appended writes.appended;
+}
+
+pub playing_ends : (choices : Choices) (failed_old failed_now failed_new : Failed) (old stage : Stage) (all before left : List Command) (command : Command) (w v u : Option (List ℕ)) (fault : ScenarioFault)
+    → Playing choices old all stage before w v → before ≡ command ∷ left → FailsNoMore failed_old failed_now → EndsCommand choices failed_now failed_new stage command v u fault
+    → EndsCommands choices failed_old failed_new old all w u fault
+playing_ends choices failed_old failed_now failed_new old stage all before left command w v u (BadLine number) so_far next kept ends = absurd ends
+playing_ends choices failed_old failed_now failed_new old stage all before left command w v u Limit so_far next kept ends = (
+  record {
+    done = so_far.done;
+    last = command;
+    left = left;
+    commands_are = so_far.commands_are ∙ ap (λ (cs : List Command). so_far.done ++ cs) next;
+    text = so_far.text;
+    stage = stage;
+    obeyed = so_far.obeyed;
+    limit = ends.0;
+    appended = subst (Appends w u) (append-nil so_far.text) (Appends-then w v u so_far.text [] so_far.appended ends.1);
+  },
+  FailsNoMore-then failed_old failed_now failed_new kept ends.2,
+)
+playing_ends choices failed_old failed_now failed_new old stage all before left command w v u (Stream fault) so_far next kept ends = record {
+  text = so_far.text ++ ends.begun;
+  front = record {
+    done = so_far.done;
+    left = command ∷ left;
+    commands_are = so_far.commands_are ∙ ap (λ (cs : List Command). so_far.done ++ cs) next;
+    printed = so_far.text;
+    stage = stage;
+    obeyed = so_far.obeyed;
+    begun = ends.begun;
+    begins = ends.begins;
+    text_is = refl;
+  };
+  appended = Appends-then w v u so_far.text ends.begun so_far.appended ends.appended;
+  cause = write_fault_then failed_old failed_now failed_new fault kept ends.cause;
+}
+
+-- ---- one command
+
+-- memory was wanting, or the limit was passed: nothing was written
+pub ends_unwritten : (choices : Choices) (failed : Failed) (old : Stage) (command : Command) (w : Option (List ℕ)) (fault : ScenarioFault) → ((fault ≡ Limit) × PassesLimit old command) ⊎ (fault ≡ Stream Memory)
+    → EndsCommand choices failed failed old command w w fault
+ends_unwritten choices failed old command w fault (inl (is, limit)) = subst (EndsCommand choices failed failed old command w w) (sym is) (limit, Appends-nil w, FailsNoMore-self failed)
+ends_unwritten choices failed old command w fault (inr is) =
+    subst (EndsCommand choices failed failed old command w w) (sym is)
+    (record { begun = []; begins = inl refl; appended = Appends-nil w; cause = want_of_memory failed Memory refl })
+
+-- a front was written
+pub ends_writing : (choices : Choices) (failed_old failed_new : Failed) (old new : Stage) (command : Command) (added : List ℕ) (w v : Option (List ℕ)) (fault : StreamFault)
+    → Obeys choices old command added new → AppendsFront w v added → IsWriterFault failed_old failed_new fault → EndsCommand choices failed_old failed_new old command w v (Stream fault)
+ends_writing choices failed_old failed_new old new command added w v fault obeys f cause = record {
+  begun = f.front;
+  begins = inr (inl (added, f.rest, new, obeys, f.parts));
+  appended = f.appended;
+  cause = cause_of_writer failed_old failed_new fault cause;
+}
+
+-- ---- a scenario
+
+abbrev ok_line : List ℕ
+ok_line = line (codes "ok")
+
+pub plays_all : (choices : Choices) (scenario : Scenario) (stage : Stage) (w v u : Option (List ℕ)) → stage ≡ opening scenario.nodes → Appends w v ok_line → WritesAll choices stage scenario.commands v u → PlaysAll choices scenario w u
+plays_all choices scenario stage w v u opens ok writes = record {
+  text = writes.text;
+  stage = writes.new;
+  obeyed = subst (λ (s : Stage). ObeyAll choices s scenario.commands writes.text writes.new) opens writes.obeyed;
+  appended = Appends-then w v u ok_line writes.text ok writes.appended;
+}
+
+pub plays_nothing : (choices : Choices) (failed_old failed_new : Failed) (scenario : Scenario) (w v : Option (List ℕ)) (fault : StreamFault) → EndsLine failed_old failed_new ok_line w v fault → EndsPlay choices failed_old failed_new scenario w v (Stream fault)
+plays_nothing choices failed_old failed_new scenario w v fault ends = record {
+  text = ends.appended.front;
+  front = inl (ends.appended.rest, ends.appended.parts);
+  appended = ends.appended.appended;
+  cause = ends.cause;
+}
+
+pub plays_unopened : (choices : Choices) (failed : Failed) (scenario : Scenario) (w : Option (List ℕ)) (fault : ScenarioFault) → fault ≡ Stream Memory → EndsPlay choices failed failed scenario w w fault
+plays_unopened choices failed scenario w fault is =
+    subst (EndsPlay choices failed failed scenario w w) (sym is)
+    (record { text = []; front = inl (ok_line, refl); appended = Appends-nil w; cause = want_of_memory failed Memory refl })
+
+pub ends_play : (choices : Choices) (failed_old failed_now failed_new : Failed) (scenario : Scenario) (stage : Stage) (w v u : Option (List ℕ)) (fault : ScenarioFault) → stage ≡ opening scenario.nodes → Appends w v ok_line
+    → FailsNoMore failed_old failed_now → EndsCommands choices failed_now failed_new stage scenario.commands v u fault → EndsPlay choices failed_old failed_new scenario w u fault
+ends_play choices failed_old failed_now failed_new scenario stage w v u (BadLine number) opens ok kept ends = absurd ends
+ends_play choices failed_old failed_now failed_new scenario stage w v u Limit opens ok kept ends =
+    let writes = ends.0 in (
+      record {
+        done = writes.done;
+        last = writes.last;
+        left = writes.left;
+        commands_are = writes.commands_are;
+        text = writes.text;
+        stage = writes.stage;
+        obeyed = subst (λ (s : Stage). ObeyAll choices s writes.done writes.text writes.stage) opens writes.obeyed;
+        limit = writes.limit;
+        appended = Appends-then w v u ok_line writes.text ok writes.appended;
+      },
+      FailsNoMore-then failed_old failed_now failed_new kept ends.1,
+    )
+ends_play choices failed_old failed_now failed_new scenario stage w v u (Stream fault) opens ok kept ends = record {
+  text = ok_line ++ ends.text;
+  front = inr (ends.text, subst (λ (s : Stage). RunsFront choices s scenario.commands ends.text) opens ends.front, refl);
+  appended = Appends-then w v u ok_line ends.text ok ends.appended;
+  cause = write_fault_then failed_old failed_now failed_new fault kept ends.cause;
+}
+
+-- ---- a text
+
+-- the output of a text that is a scenario is what the scenario plays
+played : (choices : Choices) (text output : List ℕ) (scenario : Scenario) (ended : Option ScenarioFault) → first_bad (length choices) text ≡ None → scenario_of (commands_of (length choices) text) ≡ Some scenario
+    → IsOutput choices text output ended → Plays choices scenario output ended
+played choices text output scenario ended none_bad scenario_is is =
+    subst (λ (s : Option Scenario). PlaysOrNothing choices s output ended) scenario_is (subst (λ (bad : Option ℕ). PlaysUnless bad choices text output ended) none_bad is)
+
+is_played : (choices : Choices) (text output : List ℕ) (scenario : Scenario) (ended : Option ScenarioFault) → first_bad (length choices) text ≡ None → scenario_of (commands_of (length choices) text) ≡ Some scenario
+    → Plays choices scenario output ended → IsOutput choices text output ended
+is_played choices text output scenario ended none_bad scenario_is plays =
+    subst (λ (bad : Option ℕ). PlaysUnless bad choices text output ended) (sym none_bad) (subst (λ (s : Option Scenario). PlaysOrNothing choices s output ended) (sym scenario_is) plays)
+
+front_of_play : (choices : Choices) (scenario : Scenario) (front output : List ℕ) (ended : Option ScenarioFault) → IsFrontOfPlay choices scenario front → Plays choices scenario output ended → (more : List ℕ) × (output ≡ front ++ more)
+front_of_play choices scenario front output ended (inl (more, is)) plays = (
+  more ++ plays.rest,
+  plays.output_is ∙ ap (λ (xs : List ℕ). xs ++ plays.rest) is ∙ append_assoc front more plays.rest,
+)
+front_of_play choices scenario front output ended (inr (rest, runs, is)) plays =
+    let more = front_of_run choices (opening scenario.nodes) scenario.commands rest plays.rest ended runs plays.runs in (
+      more.0,
+      plays.output_is ∙ ap (λ (xs : List ℕ). ok_line ++ xs) more.1 ∙ sym (append_assoc ok_line rest more.0) ∙ ap (λ (xs : List ℕ). xs ++ more.0) (sym is),
+    )
+
+-- the output begins with what was printed of it
+pub begins_with_front : (choices : Choices) (text front output : List ℕ) (ended : Option ScenarioFault) → IsFrontOfOutput choices text front → IsOutput choices text output ended → (more : List ℕ) × (output ≡ front ++ more)
+begins_with_front choices text front output ended (inl none) is = (output, ap (λ (xs : List ℕ). xs ++ output) (sym none))
+begins_with_front choices text front output ended (inr (inl (number, more, bad, line_is))) is =
+    let told = subst (λ (b : Option ℕ). PlaysUnless b choices text output ended) bad is in (more, told.0 ∙ line_is)
+begins_with_front choices text front output ended (inr (inr (scenario, none_bad, scenario_is, begins))) is =
+    front_of_play choices scenario front output ended begins (played choices text output scenario ended none_bad scenario_is is)
+
+runs_all : (choices : Choices) (old new : Stage) (commands : List Command) (text : List ℕ) → ObeyAll choices old commands text new → Runs choices old commands text None
+runs_all choices old new [] text (text_is, same) = (text_is, refl)
+runs_all choices old new (command ∷ commands) text (first, rest, between, obeys, others, text_is) = inr (first, rest, between, obeys, runs_all choices between new commands rest others, text_is)
+
+runs_to_limit : (choices : Choices) (old stage : Stage) (done : List Command) (last : Command) (left : List Command) (printed : List ℕ) → ObeyAll choices old done printed stage → PassesLimit stage last
+    → Runs choices old (done ++ last ∷ left) (printed ++ limit_line) (Some Limit)
+runs_to_limit choices old stage [] last left printed (text_is, same) limit =
+    inl (subst (λ (s : Stage). PassesLimit s last) same limit, ap (λ (xs : List ℕ). xs ++ limit_line) text_is, refl)
+runs_to_limit choices old stage (command ∷ done) last left printed (first, rest, between, obeys, others, text_is) limit =
+    inr (first, rest ++ limit_line, between, obeys, runs_to_limit choices between stage done last left rest others limit, ap (λ (xs : List ℕ). xs ++ limit_line) text_is ∙ append_assoc first rest limit_line)
+
+-- all that a scenario prints
+whole_front : (choices : Choices) (scenario : Scenario) (stage : Stage) (text : List ℕ) → ObeyAll choices (opening scenario.nodes) scenario.commands text stage → IsFrontOfPlay choices scenario (ok_line ++ text)
+whole_front choices scenario stage text obeyed =
+    inr (
+      text,
+      record {
+        done = scenario.commands;
+        left = [];
+        commands_are = sym (append-nil scenario.commands);
+        printed = text;
+        stage = stage;
+        obeyed = obeyed;
+        begun = [];
+        begins = refl;
+        text_is = sym (append-nil text);
+      },
+      refl,
+    )
+
+-- the scenario of a text was played
+pub writes_scenario : (choices : Choices) (text : List ℕ) (scenario : Scenario) (w v : Option (List ℕ)) → first_bad (length choices) text ≡ None → scenario_of (commands_of (length choices) text) ≡ Some scenario
+    → PlaysAll choices scenario w v → WritesOutput choices text w v
+writes_scenario choices text scenario w v none_bad scenario_is plays = record {
+  output = ok_line ++ plays.text;
+  output_is =
+      is_played choices text (ok_line ++ plays.text) scenario None none_bad scenario_is
+      (record { rest = plays.text; runs = runs_all choices (opening scenario.nodes) plays.stage scenario.commands plays.text plays.obeyed; output_is = refl });
+  front = inr (inr (scenario, none_bad, scenario_is, whole_front choices scenario plays.stage plays.text plays.obeyed));
+  appended = plays.appended;
+}
+
+pub ends_scenario : (choices : Choices) (failed_old failed_new : Failed) (text : List ℕ) (scenario : Scenario) (w v : Option (List ℕ)) (fault : ScenarioFault) → first_bad (length choices) text ≡ None
+    → scenario_of (commands_of (length choices) text) ≡ Some scenario → EndsPlay choices failed_old failed_new scenario w v fault → EndsBefore choices failed_old failed_new text w v fault
+ends_scenario choices failed_old failed_new text scenario w v (BadLine number) none_bad scenario_is ends = absurd ends
+ends_scenario choices failed_old failed_new text scenario w v Limit none_bad scenario_is ends = (record { scenario = scenario; none_bad = none_bad; scenario_is = scenario_is; plays = ends.0 }, ends.1)
+ends_scenario choices failed_old failed_new text scenario w v (Stream fault) none_bad scenario_is ends = record {
+  output = ends.text;
+  front = inr (inr (scenario, none_bad, scenario_is, ends.front));
+  appended = ends.appended;
+  cause = ends.cause;
+}
+
+-- ---- the end of a text
+
+-- passing on failed
+pub stops_passing : (choices : Choices) (failed_old failed_now failed_new : Failed) (text : List ℕ) (w v u : Option (List ℕ)) (fault : StreamFault) → WritesOutput choices text w v → FailsNoMore failed_old failed_now → Keeps v u
+    → IsWriterFault failed_now failed_new fault → StopsPrinting choices failed_old failed_new text w u fault
+stops_passing choices failed_old failed_now failed_new text w v u fault writes kept keeps cause = record {
+  output = writes.output;
+  front = writes.front;
+  appended = Appends-kept w v u writes.output writes.appended keeps;
+  cause = write_fault_then failed_old failed_now failed_new fault kept (cause_of_writer failed_now failed_new fault cause);
+}
+
+bad_output : (choices : Choices) (text : List ℕ) (number : ℕ) → first_bad (length choices) text ≡ Some number → IsOutput choices text (bad_line number) (Some (BadLine number))
+bad_output choices text number is = subst (λ (bad : Option ℕ). PlaysUnless bad choices text (bad_line number) (Some (BadLine number))) (sym is) (refl, refl)
+
+limit_output : (choices : Choices) (text : List ℕ) (scenario : Scenario) (w v : Option (List ℕ)) → first_bad (length choices) text ≡ None → scenario_of (commands_of (length choices) text) ≡ Some scenario
+    → (plays : PlaysToLimit choices scenario w v) → IsOutput choices text ((ok_line ++ plays.text) ++ limit_line) (Some Limit)
+limit_output choices text scenario w v none_bad scenario_is plays =
+    is_played choices text ((ok_line ++ plays.text) ++ limit_line) scenario (Some Limit) none_bad scenario_is
+    (record {
+      rest = plays.text ++ limit_line;
+      runs =
+          subst (λ (cs : List Command). Runs choices (opening scenario.nodes) cs (plays.text ++ limit_line) (Some Limit)) (sym plays.commands_are)
+          (runs_to_limit choices (opening scenario.nodes) plays.stage plays.done plays.last plays.left plays.text plays.obeyed plays.limit);
+      output_is = append_assoc ok_line plays.text limit_line;
+    })
+
+-- the line of a bad line, or of the limit, was written
+pub prints_bad : (choices : Choices) (failed_old failed_now failed_new : Failed) (passed : Type 0) (text : List ℕ) (number : ℕ) (w v u : Option (List ℕ)) → first_bad (length choices) text ≡ Some number → Appends w v []
+    → FailsNoMore failed_old failed_now → WritesEnd failed_now failed_new passed (bad_line number) v u → Prints choices failed_old failed_new passed text w u (Some (BadLine number))
+prints_bad choices failed_old failed_now failed_new passed text number w v u is before kept writes = record {
+  output = bad_line number;
+  output_is = bad_output choices text number is;
+  appended = Appends-then w v u [] (bad_line number) before writes.appended;
+  passed = writes.passed;
+  sound = FailsNoMore-then failed_old failed_now failed_new kept writes.sound;
+}
+
+pub prints_limit : (choices : Choices) (failed_old failed_now failed_new : Failed) (passed : Type 0) (text : List ℕ) (w v u : Option (List ℕ)) → StopsAtLimit choices text w v → FailsNoMore failed_old failed_now
+    → WritesEnd failed_now failed_new passed limit_line v u → Prints choices failed_old failed_new passed text w u (Some Limit)
+prints_limit choices failed_old failed_now failed_new passed text w v u stops kept writes = record {
+  output = (ok_line ++ stops.plays.text) ++ limit_line;
+  output_is = limit_output choices text stops.scenario w v stops.none_bad stops.scenario_is stops.plays;
+  appended = Appends-then w v u (ok_line ++ stops.plays.text) limit_line stops.plays.appended writes.appended;
+  passed = writes.passed;
+  sound = FailsNoMore-then failed_old failed_now failed_new kept writes.sound;
+}
+
+-- or a front of it
+pub stops_bad : (choices : Choices) (failed_old failed_now failed_new : Failed) (text : List ℕ) (number : ℕ) (w v u : Option (List ℕ)) (fault : StreamFault) → first_bad (length choices) text ≡ Some number → Appends w v []
+    → EndsLine failed_now failed_new (bad_line number) v u fault → FailsNoMore failed_old failed_now → StopsPrinting choices failed_old failed_new text w u fault
+stops_bad choices failed_old failed_now failed_new text number w v u fault is before ends kept = record {
+  output = ends.appended.front;
+  front = inr (inl (number, ends.appended.rest, is, ends.appended.parts));
+  appended = Appends-then w v u [] ends.appended.front before ends.appended.appended;
+  cause = write_fault_then failed_old failed_now failed_new fault kept ends.cause;
+}
+
+pub stops_limit : (choices : Choices) (failed_old failed_now failed_new : Failed) (text : List ℕ) (w v u : Option (List ℕ)) (fault : StreamFault) → StopsAtLimit choices text w v → EndsLine failed_now failed_new limit_line v u fault
+    → FailsNoMore failed_old failed_now → StopsPrinting choices failed_old failed_new text w u fault
+stops_limit choices failed_old failed_now failed_new text w v u fault stops ends kept =
+    let plays = stops.plays in
+    let front = ends.appended.front in
+    record {
+      output = (ok_line ++ plays.text) ++ front;
+      front = inr (inr (
+        stops.scenario,
+        stops.none_bad,
+        stops.scenario_is,
+        inr (
+          plays.text ++ front,
+          record {
+            done = plays.done;
+            left = plays.last ∷ plays.left;
+            commands_are = plays.commands_are;
+            printed = plays.text;
+            stage = plays.stage;
+            obeyed = plays.obeyed;
+            begun = front;
+            begins = inr (inr (ends.appended.rest, plays.limit, ends.appended.parts));
+            text_is = refl;
+          },
+          append_assoc ok_line plays.text front,
+        ),
+      ));
+      appended = Appends-then w v u (ok_line ++ plays.text) front plays.appended ends.appended.appended;
+      cause = write_fault_then failed_old failed_now failed_new fault kept ends.cause;
+    }
+
+-- how the line of a fault ends
+abbrev pub EndsBy : (failed_old failed_new : Failed) (passed : Type 0) (fault : ScenarioFault) (v u : Option (List ℕ)) (result : ScenarioFault) → Type 0
+EndsBy failed_old failed_new passed fault v u result =
+    ((result ≡ fault) × WritesEnd failed_old failed_new passed (end_line fault) v u)
+    ⊎ ((by_stream : StreamFault) × (result ≡ Stream by_stream) × EndsLine failed_old failed_new (end_line fault) v u by_stream)
+
+pub ends_text : (choices : Choices) (failed_old failed_now failed_new : Failed) (passed : Type 0) (text : List ℕ) (w v u : Option (List ℕ)) (fault result : ScenarioFault) → ((f : StreamFault) → fault ≡ Stream f → ⊥)
+    → EndsBefore choices failed_old failed_now text w v fault → EndsBy failed_now failed_new passed fault v u result → EndsText choices failed_old failed_new passed text w u result
+ends_text choices failed_old failed_now failed_new passed text w v u (BadLine number) result other before (inl (is, writes)) =
+    subst (EndsText choices failed_old failed_new passed text w u) (sym is) (prints_bad choices failed_old failed_now failed_new passed text number w v u before.0 before.1 before.2 writes)
+ends_text choices failed_old failed_now failed_new passed text w v u (BadLine number) result other before (inr (by_stream, is, ends)) =
+    subst (EndsText choices failed_old failed_new passed text w u) (sym is) (stops_bad choices failed_old failed_now failed_new text number w v u by_stream before.0 before.1 ends before.2)
+ends_text choices failed_old failed_now failed_new passed text w v u Limit result other before (inl (is, writes)) =
+    subst (EndsText choices failed_old failed_new passed text w u) (sym is) (prints_limit choices failed_old failed_now failed_new passed text w v u before.0 before.1 writes)
+ends_text choices failed_old failed_now failed_new passed text w v u Limit result other before (inr (by_stream, is, ends)) =
+    subst (EndsText choices failed_old failed_new passed text w u) (sym is) (stops_limit choices failed_old failed_now failed_new text w v u by_stream before.0 ends before.1)
+ends_text choices failed_old failed_now failed_new passed text w v u (Stream f) result other before ends = absurd (other f refl)

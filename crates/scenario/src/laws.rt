@@ -1,0 +1,21 @@
+//! Laws of what scenarios print. Each function does nothing: its contract is the law.
+
+ghost use Rattle.std.specs.Prelude.{◌≡◌, ◌++◌, ℕ, List, Option};
+ghost use Rattle.scenario.specs.Obeying.{Choices};
+ghost use Rattle.scenario.specs.Output.{IsFrontOfOutput, IsOutput};
+ghost use Rattle.scenario.specs.declared.fault.ScenarioFault.{ScenarioFault as Fault};
+
+/// A text has one output at most, and one way to end, by what the resolvers choose.
+pub fn one_output_for_a_text()
+    ensures { (choices : Choices) (text one other : List ℕ) (ended ending : Option Fault)
+        → IsOutput choices text one ended → IsOutput choices text other ending
+        → (one ≡ other) × (ended ≡ ending) }
+{}
+
+/// The output of a text begins with what was printed of it until a fault of writing or want of
+/// memory ended the run.
+pub fn the_output_begins_with_its_front()
+    ensures { (choices : Choices) (text front output : List ℕ) (ended : Option Fault)
+        → IsFrontOfOutput choices text front → IsOutput choices text output ended
+        → (more : List ℕ) × (output ≡ front ++ more) }
+{}

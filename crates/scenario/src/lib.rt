@@ -1,0 +1,32 @@
+//! Scenarios: texts of commands to the nodes of a world, and what each gives. A text is read whole;
+//! the first line that breaks a rule is all that is told of it. Otherwise its commands are run over
+//! a new world, one after the other, and each prints a result line and a line for each frame that
+//! it sent.
+//!
+//! ```
+//! let text = b"nodes 2\nput 0 a/b/k x\nshow 0 a/b/k\n";
+//! let mut output = Vec::new(alloc);
+//! run_over(alloc, &mut text.as_slice(), &mut output, &[])?;
+//! // ok
+//! // wrote ctx 0.1:1
+//! // ctx 0.1:1 values x
+//! ```
+//!
+//! The language itself is the crate `scenario_text`. Read `stage`, `event`, `deliver`, `look`,
+//! `write`, `print` (what a command does and prints), then `run` with `input`; `fault` and `laws`.
+#![tactic(auto)]
+
+mod deliver;
+mod event;
+pub mod fault;
+mod input;
+pub mod laws;
+mod look;
+mod print;
+mod run;
+mod stage;
+mod write;
+
+pub use fault::ScenarioFault;
+pub use run::run_over;
+pub use scenario_text::{BadLine, Script, parse};

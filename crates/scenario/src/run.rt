@@ -1,0 +1,200 @@
+//! A scenario, run over a reader and a writer.
+
+ghost use Rattle.std.specs.Prelude.{◌≡◌, ◌⊎◌, OnOk, IfErr, None, codes, map};
+ghost use Rattle.std.specs.Io.KnownBytes.{Appends};
+ghost use Rattle.streams.specs.declared.fault.StreamFault.{StreamFault as ByStream};
+ghost use Rattle.streams.specs.Fault.{FailsNoMore};
+ghost use Rattle.scenario.specs.Coded.{end_line};
+ghost use Rattle.scenario.specs.Printed.{line};
+ghost use Rattle.scenario.specs.Run.{EndsBefore, EndsCommand, EndsCommands, EndsLine, EndsEarly, EndsPlay, EndsText, PlaysAll, Prints, PrintsAll, WritesAll, WritesCommand, WritesEnd, WritesOutput};
+ghost use Rattle.scenario.specs.declared.fault.ScenarioFault.TheVariants.{Stream};
+ghost use Rattle.scenario_text.specs.Coded.{command_word};
+
+use crate::fault::ScenarioFault;
+use crate::input::read_text;
+use crate::print::{print_end, print_line};
+use crate::stage::Stage;
+use resolvers::Resolver;
+use scenario_text::{Command, Script, parse};
+use std::alloc::Global;
+use streams::{Sink, Source, StreamFault, flush, write_whole};
+
+/// Does what a command says, and writes what that prints. `text` is where that is put first.
+fn play_command<W: Sink>(
+    stage: &mut Stage,
+    command: &Command<'_>,
+    resolvers: &[Box<dyn Resolver>],
+    text: &mut Vec<u8>,
+    writer: &mut W,
+) -> Result<(), ScenarioFault>
+    ensures ok { OnOk result (WritesCommand (map (λ r. choice r) resolvers.now) stage.old
+        (command_word command.now) (W.contents writer.old) (W.contents writer.new) stage.new) }
+    ensures err { IfErr result (EndsCommand (map (λ r. choice r) resolvers.now)
+        (W.failed writer.old) (W.failed writer.new) stage.old (command_word command.now)
+        (W.contents writer.old) (W.contents writer.new)) }
+    ensures sound { OnOk result (FailsNoMore (W.failed writer.old) (W.failed writer.new)) }
+{
+    text.clear();
+    stage.obey(command, resolvers, text)?;
+    write_whole(writer, text.as_slice())?;
+    Ok(())
+}
+
+/// Does what the commands of a script say, and writes what each prints.
+fn play_commands<W: Sink>(
+    alloc: Global,
+    stage: &mut Stage,
+    script: &mut Script<'_>,
+    resolvers: &[Box<dyn Resolver>],
+    writer: &mut W,
+) -> Result<(), ScenarioFault>
+    ensures ok { OnOk result (WritesAll (map (λ r. choice r) resolvers.now) stage.old
+        script.old.commands (W.contents writer.old) (W.contents writer.new)) }
+    ensures err { IfErr result (EndsCommands (map (λ r. choice r) resolvers.now)
+        (W.failed writer.old) (W.failed writer.new) stage.old script.old.commands
+        (W.contents writer.old) (W.contents writer.new)) }
+    ensures sound { OnOk result (FailsNoMore (W.failed writer.old) (W.failed writer.new)) }
+{
+    let mut text = Vec::new(alloc);
+    while let Some(command) = script.next() {
+        play_command(stage, &command, resolvers, &mut text, writer)?;
+    }
+    Ok(())
+}
+
+/// Writes that the nodes are there.
+fn write_ok<W: Sink>(alloc: Global, writer: &mut W) -> Result<(), StreamFault>
+    ensures ok { OnOk result
+        (Appends (W.contents writer.old) (W.contents writer.new) (line (codes "ok"))) }
+    ensures err { IfErr result (EndsLine (W.failed writer.old) (W.failed writer.new)
+        (line (codes "ok")) (W.contents writer.old) (W.contents writer.new)) }
+    ensures sound { OnOk result (FailsNoMore (W.failed writer.old) (W.failed writer.new)) }
+{
+    let mut text = Vec::new(alloc);
+    print_line(&mut text, "ok")?;
+    write_whole(writer, text.as_slice())
+}
+
+/// Runs a script over a new world, and writes what it prints.
+fn play<W: Sink>(
+    alloc: Global,
+    script: &mut Script<'_>,
+    resolvers: &[Box<dyn Resolver>],
+    writer: &mut W,
+) -> Result<(), ScenarioFault>
+    ensures ok { OnOk result (PlaysAll (map (λ r. choice r) resolvers.now) script.old
+        (W.contents writer.old) (W.contents writer.new)) }
+    ensures err { IfErr result (EndsPlay (map (λ r. choice r) resolvers.now) (W.failed writer.old)
+        (W.failed writer.new) script.old (W.contents writer.old) (W.contents writer.new)) }
+    ensures sound { OnOk result (FailsNoMore (W.failed writer.old) (W.failed writer.new)) }
+{
+    let mut stage = Stage::new(alloc, script.nodes())?;
+    write_ok(alloc, writer)?;
+    play_commands(alloc, &mut stage, script, resolvers, writer)
+}
+
+/// Runs a text, and writes what it prints, but for the line of a fault that ends it.
+fn play_text<W: Sink>(
+    alloc: Global,
+    text: &[u8],
+    resolvers: &[Box<dyn Resolver>],
+    writer: &mut W,
+) -> Result<(), ScenarioFault>
+    ensures ok { OnOk result (WritesOutput (map (λ r. choice r) resolvers.now) text.now
+        (W.contents writer.old) (W.contents writer.new)) }
+    ensures err { IfErr result (EndsBefore (map (λ r. choice r) resolvers.now)
+        (W.failed writer.old) (W.failed writer.new) text.now
+        (W.contents writer.old) (W.contents writer.new)) }
+    ensures sound { OnOk result (FailsNoMore (W.failed writer.old) (W.failed writer.new)) }
+{
+    match parse(text, resolvers.len())? {
+        Some(mut script) => play(alloc, &mut script, resolvers, writer),
+        None => Ok(()),
+    }
+}
+
+/// Writes the line of the fault that ends a scenario.
+fn write_end<W: Sink>(
+    alloc: Global,
+    writer: &mut W,
+    fault: ScenarioFault,
+) -> Result<(), StreamFault>
+    ensures ok { OnOk result (WritesEnd (W.failed writer.old) (W.failed writer.new)
+        (W.passed_on writer.new) (end_line fault)
+        (W.contents writer.old) (W.contents writer.new)) }
+    ensures err { IfErr result (EndsLine (W.failed writer.old) (W.failed writer.new)
+        (end_line fault) (W.contents writer.old) (W.contents writer.new)) }
+{
+    let mut text = Vec::new(alloc);
+    print_end(&mut text, fault)?;
+    write_whole(writer, text.as_slice())?;
+    flush(writer)
+}
+
+/// Writes the line of the fault that ends a scenario, and answers that fault, or the one that the
+/// writing meets.
+fn end<W: Sink>(alloc: Global, writer: &mut W, fault: ScenarioFault) -> ScenarioFault
+    ensures { ((result ≡ fault) × WritesEnd (W.failed writer.old) (W.failed writer.new)
+        (W.passed_on writer.new) (end_line fault)
+        (W.contents writer.old) (W.contents writer.new))
+        ⊎ ((by_stream : ByStream) × (result ≡ Stream by_stream)
+        × EndsLine (W.failed writer.old) (W.failed writer.new) (end_line fault)
+        (W.contents writer.old) (W.contents writer.new) by_stream) }
+{
+    match write_end(alloc, writer, fault) {
+        Ok(()) => fault,
+        Err(other) => ScenarioFault::Stream(other),
+    }
+}
+
+/// Runs a text, as `run_over` does. A writer that failed is left as it is.
+fn run_text<W: Sink>(
+    alloc: Global,
+    text: &[u8],
+    writer: &mut W,
+    resolvers: &[Box<dyn Resolver>],
+) -> Result<(), ScenarioFault>
+    ensures ok { OnOk result (Prints (map (λ r. choice r) resolvers.now)
+        (W.failed writer.old) (W.failed writer.new) (W.passed_on writer.new) text.now
+        (W.contents writer.old) (W.contents writer.new) None) }
+    ensures err { IfErr result (EndsText (map (λ r. choice r) resolvers.now) (W.failed writer.old)
+        (W.failed writer.new) (W.passed_on writer.new) text.now
+        (W.contents writer.old) (W.contents writer.new)) }
+{
+    match play_text(alloc, text, resolvers, writer) {
+        Ok(()) => Ok(flush(writer)?),
+        Err(fault) => match fault {
+            ScenarioFault::Stream(_) => Err(fault),
+            _ => Err(end(alloc, writer, fault)),
+        },
+    }
+}
+
+/// Reads a text to its end, runs it over a new world, and writes what it prints. The whole text is
+/// read first: where a line breaks a rule, `error 70 BadLine` and its number is all that is
+/// written, and the call ends with that fault. It ends with 71 `Limit`, which is written too, where
+/// a `settle` would deliver more than 100,000 frames. It ends with 7 `Read` at the first error of
+/// the reader, an interruption too, and with 8 `InputTooLong` past 67,108,864 bytes, and then
+/// nothing was written; with `Write` or `BrokenPipe` where the writer fails, and with 99 `Memory`,
+/// and then a front of the output was written. It takes memory for the text, for what one command
+/// prints, and for the world.
+pub fn run_over<R: Source, W: Sink>(
+    alloc: Global,
+    reader: &mut R,
+    writer: &mut W,
+    resolvers: &[Box<dyn Resolver>],
+) -> Result<(), ScenarioFault>
+    ensures ok { OnOk result (PrintsAll (map (λ r. choice r) resolvers.now)
+        (R.read_failed reader.old) (R.read_failed reader.new)
+        (W.failed writer.old) (W.failed writer.new) (W.passed_on writer.new)
+        (R.remaining reader.old) (R.remaining reader.new)
+        (W.contents writer.old) (W.contents writer.new)) }
+    ensures err { IfErr result (EndsEarly (map (λ r. choice r) resolvers.now)
+        (R.read_failed reader.old) (R.read_failed reader.new)
+        (W.failed writer.old) (W.failed writer.new) (W.passed_on writer.new)
+        (R.remaining reader.old) (R.remaining reader.new)
+        (W.contents writer.old) (W.contents writer.new)) }
+{
+    let text = read_text(alloc, reader)?;
+    run_text(alloc, text.as_slice(), writer, resolvers)
+}

@@ -1,0 +1,152 @@
+-- The commands of a scenario, and the table of their words: a row for each.
+use Rattle.std.specs.Prelude.{ℕ, nat_le, Bool, ◌&&◌, if◌then◌else◌, List, [], ◌∷◌, length, Option, Some, None, codes, bytes_eq}
+use Rattle.meta_types.specs.Name.{Prefix, Key}
+use Rattle.meta_types.specs.declared.fault.TypeFault.{TypeFault}
+use Rattle.meta_types.specs.declared.fault.TypeFault.TheVariants.{BadName, ValueTooLong}
+use Rattle.scenario_text.specs.Word.{Word, number_of, prefix_of, key_of, value_of, junk_of, choice_of, below, within}
+use Rattle.scenario_text.specs.Reading.{Reads, just, one, number_or_none, labelled, labelled_or_zero, whole, ◌and◌}
+
+pub data Command : Type 0 where
+  -- so many nodes: the first command, and only that
+  Nodes : ℕ → Command
+  -- writes, of a node: the key, the value, its stamp, and the number of the read that it has read
+  Put : ℕ → Key → List ℕ → ℕ → Option ℕ → Command
+  Del : ℕ → Key → ℕ → Option ℕ → Command
+  Over : ℕ → Key → List ℕ → ℕ → Command
+  -- what a node shows under a key, with and without a read number
+  Read : ℕ → Key → Command
+  Show : ℕ → Key → Command
+  -- siblings are resolved, by the resolver at this place
+  Resolve : ℕ → Key → ℕ → Command
+  -- a frame, the node that it is handed to if one is named, and a random word
+  Deliver : ℕ → Option ℕ → ℕ → Command
+  Junk : ℕ → List ℕ → Command
+  Tick : ℕ → ℕ → Command
+  Join : ℕ → ℕ → ℕ → Command
+  Down : ℕ → ℕ → ℕ → Command
+  Exchange : ℕ → ℕ → Command
+  Hello : ℕ → ℕ → Command
+  Leave : ℕ → Command
+  Restart : ℕ → ℕ → Command
+  Keep : ℕ → Command
+  Watch : ℕ → Prefix → ℕ → Command
+  Changes : ℕ → ℕ → Command
+  -- looking only
+  Keys : ℕ → Prefix → Command
+  Root : ℕ → Command
+  Images : ℕ → Command
+  Views : ℕ → Command
+  -- all frames on their way are delivered
+  Settle : Command
+
+-- ---- words
+
+abbrev pub number : Reads ℕ
+number = one number_of
+
+abbrev pub key : Reads Key
+key = one key_of
+
+abbrev pub prefix : Reads Prefix
+prefix = one prefix_of
+
+abbrev pub value : Reads (List ℕ)
+value = one value_of
+
+abbrev pub junk : Reads (List ℕ)
+junk = one junk_of
+
+-- 1 to 16
+abbrev pub node_count : Reads ℕ
+node_count = one (λ word. within 1 16 (number_of word))
+
+-- `stamp S`, or nothing for stamp 0
+abbrev pub stamp : Reads ℕ
+stamp = labelled_or_zero (codes "stamp")
+
+-- `read R`, or nothing
+abbrev pub read : Reads (Option ℕ)
+read = labelled (codes "read")
+
+-- `word W`, or nothing for word 0
+abbrev pub random : Reads ℕ
+random = labelled_or_zero (codes "word")
+
+-- `lww` or `largest`, where there are as many resolvers
+abbrev pub resolver : ℕ → Reads ℕ
+resolver resolvers =
+    one (λ word. below resolvers (choice_of (codes "lww") (codes "largest") word))
+
+-- the table: the name of a command, and what stands behind it, in this order
+abbrev pub rows : ℕ → List (Word × Reads Command)
+rows resolvers =
+    (codes "nodes", just Nodes and node_count)
+    ∷ (codes "put", just Put and number and key and value and stamp and read)
+    ∷ (codes "del", just Del and number and key and stamp and read)
+    ∷ (codes "over", just Over and number and key and value and stamp)
+    ∷ (codes "read", just Read and number and key)
+    ∷ (codes "show", just Show and number and key)
+    ∷ (codes "resolve", just Resolve and number and key and resolver resolvers)
+    ∷ (codes "deliver", just Deliver and number and number_or_none and random)
+    ∷ (codes "junk", just Junk and number and junk)
+    ∷ (codes "tick", just Tick and number and random)
+    ∷ (codes "join", just Join and number and number and random)
+    ∷ (codes "down", just Down and number and number and random)
+    ∷ (codes "exchange", just Exchange and number and number)
+    ∷ (codes "hello", just Hello and number and number)
+    ∷ (codes "leave", just Leave and number)
+    ∷ (codes "restart", just Restart and number and number)
+    ∷ (codes "keep", just Keep and number)
+    ∷ (codes "watch", just Watch and number and prefix and number)
+    ∷ (codes "changes", just Changes and number and number)
+    ∷ (codes "list", just Keys and number and prefix)
+    ∷ (codes "root", just Root and number)
+    ∷ (codes "images", just Images and number)
+    ∷ (codes "views", just Views and number)
+    ∷ (codes "settle", just Settle)
+    ∷ []
+
+-- what stands behind this name, by these rows
+abbrev pub reads_behind : Word → List (Word × Reads Command) → Reads Command
+reads_behind name [] = λ words. None
+reads_behind name (row ∷ rows) = if bytes_eq name row.0 then row.1 else reads_behind name rows
+
+-- the command that words are, if they are one, where there are so many resolvers
+abbrev pub command_of : ℕ → List Word → Option Command
+command_of resolvers [] = None
+command_of resolvers (name ∷ words) = whole (reads_behind name (rows resolvers)) words
+
+-- ---- out of range
+
+-- a part of a name has a length in range; no part that a text has is empty
+abbrev is_part : ℕ → List ℕ → Bool
+is_part most bytes = nat_le 1 (length bytes) && nat_le (length bytes) most
+
+abbrev pub is_prefix : Prefix → Bool
+is_prefix p = is_part 64 p.prefix && is_part 64 p.sub
+
+abbrev pub is_key : Key → Bool
+is_key k = is_prefix k.prefix && is_part 256 k.key
+
+abbrev fault_of_prefix : Prefix → Option TypeFault
+fault_of_prefix p = if is_prefix p then None else Some BadName
+
+abbrev fault_of_key : Key → Option TypeFault
+fault_of_key k = if is_key k then None else Some BadName
+
+abbrev pub fault_of_write : Key → List ℕ → Option TypeFault
+fault_of_write k v =
+    if is_key k then (if nat_le (length v) 1024 then None else Some ValueTooLong) else Some BadName
+
+-- what no world takes: the length of a part of a name is out of range, or a value is too long; of
+-- all refusals these come first
+abbrev pub fault_in : Command → Option TypeFault
+fault_in (Put n k v s r) = fault_of_write k v
+fault_in (Del n k s r) = fault_of_key k
+fault_in (Over n k v s) = fault_of_write k v
+fault_in (Read n k) = fault_of_key k
+fault_in (Show n k) = fault_of_key k
+fault_in (Resolve n k by) = fault_of_key k
+fault_in (Watch n p capacity) = fault_of_prefix p
+fault_in (Keys n p) = fault_of_prefix p
+fault_in command = None

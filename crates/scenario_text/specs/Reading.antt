@@ -1,0 +1,76 @@
+-- Words that are read one after the other. A reading takes words from the front and gives what they
+-- stand for, with the words that are left; it gives nothing where they don't stand for what it
+-- wants.
+use Rattle.std.specs.Prelude.{ℕ, if◌then◌else◌, List, [], ◌∷◌, Option, Some, None, bytes_eq}
+use Rattle.scenario_text.specs.Word.{Word, number_of}
+
+abbrev pub Reads : Type 0 → Type 0
+Reads A = List Word → Option (A × List Word)
+
+infixl 10 ◌and◌
+-- what needs no word
+abbrev pub just : {A : Type 0} → A → Reads A
+just x words = Some (x, words)
+
+-- what was read, and what is left
+abbrev pub given : {A : Type 0} → List Word → Option A → Option (A × List Word)
+given left None = None
+given left (Some x) = Some (x, left)
+
+-- one word, that stands for something by the rule
+abbrev pub one : {A : Type 0} → (Word → Option A) → Reads A
+one rule [] = None
+one rule (word ∷ words) = given words (rule word)
+
+-- a number where the first word is one, and otherwise none, for which no word is read
+abbrev pub number_or_none : Reads (Option ℕ)
+number_or_none [] = Some (None, [])
+number_or_none (word ∷ words) = elim (number_of word) [
+  | None ↦ Some (None, word ∷ words)
+  | Some n ↦ Some (Some n, words)
+]
+
+-- what a number is behind its label
+abbrev pub some_of : Option (ℕ × List Word) → Option (Option ℕ × List Word)
+some_of None = None
+some_of (Some read) = Some (Some read.0, read.1)
+
+-- a number behind this label, where it stands, as `stamp 5`; otherwise none, for which no word is
+-- read
+abbrev pub labelled : Word → Reads (Option ℕ)
+labelled label [] = Some (None, [])
+labelled label (word ∷ words) =
+    if bytes_eq word label then some_of (one number_of words) else Some (None, word ∷ words)
+
+-- the same, where none is 0
+abbrev pub or_zero : Option (Option ℕ × List Word) → Option (ℕ × List Word)
+or_zero None = None
+or_zero (Some (None, words)) = Some (0, words)
+or_zero (Some (Some n, words)) = Some (n, words)
+
+abbrev pub labelled_or_zero : Word → Reads ℕ
+labelled_or_zero label words = or_zero (labelled label words)
+
+-- ---- one reading after another
+
+abbrev pub applied : {A B : Type 0} → (A → B) → Option (A × List Word) → Option (B × List Word)
+applied f None = None
+applied f (Some read) = Some (f read.0, read.1)
+
+abbrev pub and_then : {A B : Type 0} → Reads A → Option ((A → B) × List Word)
+    → Option (B × List Word)
+and_then next None = None
+and_then next (Some read) = applied read.0 (next read.1)
+
+-- what the first reading gives, of what the second gives from the words that the first left
+abbrev pub ◌and◌ : {A B : Type 0} → Reads (A → B) → Reads A → Reads B
+first and second = λ words. and_then second (first words)
+
+abbrev pub whole_of : {A : Type 0} → Option (A × List Word) → Option A
+whole_of None = None
+whole_of (Some (x, [])) = Some x
+whole_of (Some (x, word ∷ words)) = None
+
+-- what the words stand for where none is left over
+abbrev pub whole : {A : Type 0} → Reads A → List Word → Option A
+whole reads words = whole_of (reads words)

@@ -1,0 +1,93 @@
+//! Bytes as they stand in a line: plain ones as they are, others as hexadecimal digits.
+
+ghost use Rattle.std.specs.Prelude.{◌≡◌, ◌≤◌, ◌↔◌, length, IfOk, IsSome, IsTrue};
+ghost use Rattle.std.specs.Option.{option_map};
+ghost use Rattle.scenario_text.specs.Word.{bytes_of_digits, junk_of, value_of};
+
+use meta_types::ByteString;
+use printing::are_plain;
+use std::alloc::{AllocError, Global};
+
+/// The most bytes of a value.
+const MAX_VALUE_LEN: usize = 1024;
+
+/// The bytes of a word: its own, or those that its digits stand for.
+#[derive(Clone, Copy)]
+pub struct BytesWord<'a> {
+    digits: bool,
+    text: &'a [u8],
+    ghost stands: { IsTrue digits → IsSome (bytes_of_digits text.now) },
+}
+
+/// Whether digits stand for bytes: an even number of them.
+fn are_digits(text: &[u8]) -> bool
+    ensures { IsTrue result ↔ IsSome (bytes_of_digits text.now) }
+{
+    text.len() % 2 == 0 && text.iter().all(|byte| byte.is_ascii_hexdigit())
+}
+
+impl<'a> BytesWord<'a> {
+    ghost use Rattle.scenario_text.specs.Coded.{bytes_word};
+
+    /// The bytes of a value: plain, or `hex:` and digits.
+    pub(crate) fn of_value(word: &'a [u8]) -> Option<Self>
+        ensures { option_map bytes_word result ≡ value_of word.now }
+    {
+        if are_plain(word) {
+            return Some(BytesWord {
+                digits: false,
+                text: word,
+            });
+        }
+        let text = word.strip_prefix(b"hex:")?;
+        if are_digits(text) {
+            Some(BytesWord { digits: true, text })
+        } else {
+            None
+        }
+    }
+
+    /// The bytes of junk: digits, two at least.
+    pub(crate) fn of_junk(word: &'a [u8]) -> Option<Self>
+        ensures { option_map bytes_word result ≡ junk_of word.now }
+    {
+        if word.is_empty() || !are_digits(word) {
+            return None;
+        }
+        Some(BytesWord {
+            digits: true,
+            text: word,
+        })
+    }
+
+    /// How many bytes they are.
+    pub fn len(&self) -> usize
+        ensures { result ≡ length (bytes_word self.now) }
+    {
+        if self.digits {
+            self.text.len() / 2
+        } else {
+            self.text.len()
+        }
+    }
+
+    /// Whether they are few enough for a value.
+    pub(crate) fn is_value(&self) -> bool
+        ensures { IsTrue result ↔ (length (bytes_word self.now) ≤ 1024) }
+    {
+        self.len() <= MAX_VALUE_LEN
+    }
+
+    /// The bytes. Fails only when memory runs out.
+    pub fn to_bytes(&self, alloc: Global) -> Result<ByteString, AllocError>
+        ensures { IfOk result (λ bytes. bytes ≡ bytes_word self.now) }
+    {
+        if !self.digits {
+            return Ok(ByteString::new(self.text.to_vec(alloc)?));
+        }
+        match hex::decode(alloc, self.text) {
+            Ok(bytes) => Ok(ByteString::new(bytes)),
+            Err(_) => Err(AllocError),
+        }
+    }
+}

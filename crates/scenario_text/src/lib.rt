@@ -1,0 +1,32 @@
+//! The language of scenarios: texts of commands to the nodes of a world. A text is read whole; the
+//! first line that breaks a rule is all that is told of it.
+//!
+//! ```
+//! let text = b"nodes 2\nput 0 a/b/k x\n";
+//! if let Some(mut script) = parse(text, 0)? {
+//!     script.nodes(); // 2
+//!     script.next(); // Some(Command::Put { node: 0, .. })
+//! }
+//! ```
+//!
+//! Read `command`, `verb` and `table` (which words are which command), `number`, `name`, `bytes`
+//! and `words` (what words stand for) with `split`, `line`, then `script` (a text) with `fault`.
+#![tactic(auto)]
+
+pub mod bytes;
+pub mod command;
+pub mod fault;
+mod line;
+pub mod name;
+mod number;
+pub mod script;
+mod split;
+mod table;
+mod verb;
+mod words;
+
+pub use bytes::BytesWord;
+pub use command::Command;
+pub use fault::BadLine;
+pub use name::{KeyWord, PrefixWord};
+pub use script::{Script, parse};

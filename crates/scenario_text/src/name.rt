@@ -1,0 +1,103 @@
+//! Names as they stand in a line: parts of letters, digits, `.`, `_` and `-`, joined by `/`. A part
+//! may be longer than a name may be: that is refused when the command is run.
+
+ghost use Rattle.std.specs.Prelude.{◌≡◌, IfOk, IsTrue, ◌↔◌};
+ghost use Rattle.std.specs.Option.{option_map};
+ghost use Rattle.meta_types.specs.Name.{IsFullPrefix, IsKey, IsName};
+ghost use Rattle.scenario_text.specs.Coded.{key_word, prefix_word};
+ghost use Rattle.scenario_text.specs.Word.{key_of, prefix_of};
+
+use crate::split::split_once;
+use meta_types::{FullPrefix, MetaKey};
+use printing::are_plain;
+use std::alloc::{AllocError, Global};
+
+/// The most bytes of a part of a full prefix, and of a key's own part.
+const MAX_PREFIX_LEN: usize = 64;
+
+const MAX_KEY_LEN: usize = 256;
+
+/// A full prefix, as `a/b`.
+#[derive(Clone, Copy)]
+pub struct PrefixWord<'a> {
+    pub prefix: &'a [u8],
+    pub sub: &'a [u8],
+}
+
+/// A key, as `a/b/k`.
+#[derive(Clone, Copy)]
+pub struct KeyWord<'a> {
+    pub prefix: PrefixWord<'a>,
+    pub key: &'a [u8],
+}
+
+/// Whether a part is one of a name: it isn't empty, and has no more bytes than this.
+fn is_part(bytes: &[u8], most: usize) -> bool
+    ensures { IsTrue result ↔ IsName most bytes.now }
+{
+    !bytes.is_empty() && bytes.len() <= most
+}
+
+/// The full prefix that a word is.
+pub(crate) fn prefix_word(word: &[u8]) -> Option<PrefixWord<'_>>
+    ensures { option_map prefix_word result ≡ prefix_of word.now }
+{
+    let (prefix, sub) = split_once(word, b'/')?;
+    if are_plain(prefix) && are_plain(sub) {
+        Some(PrefixWord { prefix, sub })
+    } else {
+        None
+    }
+}
+
+/// The key that a word is.
+pub(crate) fn key_word(word: &[u8]) -> Option<KeyWord<'_>>
+    ensures { option_map key_word result ≡ key_of word.now }
+{
+    let (prefix, rest) = split_once(word, b'/')?;
+    let (sub, key) = split_once(rest, b'/')?;
+    if are_plain(prefix) && are_plain(sub) && are_plain(key) {
+        let prefix = PrefixWord { prefix, sub };
+        Some(KeyWord { prefix, key })
+    } else {
+        None
+    }
+}
+
+impl<'a> PrefixWord<'a> {
+    /// Whether no part is too long. None is empty.
+    pub(crate) fn is_name(&self) -> bool
+        ensures { IsTrue result ↔ IsFullPrefix (prefix_word self.now) }
+    {
+        is_part(self.prefix, MAX_PREFIX_LEN) && is_part(self.sub, MAX_PREFIX_LEN)
+    }
+
+    /// The full prefix. Fails only when memory runs out.
+    pub fn to_prefix(&self, alloc: Global) -> Result<FullPrefix, AllocError>
+        requires { IsFullPrefix (prefix_word self.now) }
+        ensures { IfOk result (λ prefix. prefix ≡ prefix_word self.now) }
+    {
+        let prefix = self.prefix.to_vec(alloc)?;
+        let sub = self.sub.to_vec(alloc)?;
+        Ok(FullPrefix::new(prefix, sub).unwrap())
+    }
+}
+
+impl<'a> KeyWord<'a> {
+    /// Whether no part is too long. None is empty.
+    pub(crate) fn is_name(&self) -> bool
+        ensures { IsTrue result ↔ IsKey (key_word self.now) }
+    {
+        self.prefix.is_name() && is_part(self.key, MAX_KEY_LEN)
+    }
+
+    /// The key. Fails only when memory runs out.
+    pub fn to_key(&self, alloc: Global) -> Result<MetaKey, AllocError>
+        requires { IsKey (key_word self.now) }
+        ensures { IfOk result (λ key. key ≡ key_word self.now) }
+    {
+        let prefix = self.prefix.to_prefix(alloc)?;
+        let key = self.key.to_vec(alloc)?;
+        Ok(MetaKey::new(prefix, key).unwrap())
+    }
+}

@@ -1,0 +1,192 @@
+//! The words of a line, read one after the other.
+
+ghost use Rattle.std.specs.Prelude.{◌≡◌, ◌↔◌, [], Some, IsTrue, slice_get};
+ghost use Rattle.std.specs.Option.{option_copied, option_map};
+ghost use Rattle.scenario_text.specs.Coded.{BeginsNoSpace, Gives, SplitsWord, Takes, bytes_word, key_word, prefix_word};
+ghost use Rattle.scenario_text.specs.Commands as forms;
+ghost use Rattle.scenario_text.specs.Reading.{labelled, labelled_or_zero, number_or_none};
+ghost use Rattle.scenario_text.specs.Word.{words_of};
+
+use crate::bytes::BytesWord;
+use crate::name::{KeyWord, PrefixWord, key_word, prefix_word};
+use crate::number::number;
+use crate::split::split_once;
+use std::marker::Model;
+
+/// The words of a line that were not read yet.
+#[derive(Drop)]
+pub(crate) struct Words<'a> {
+    left: &'a [u8],
+}
+
+impl<'a> Model for Words<'a> {
+    ghost use Rattle.std.specs.Prelude.{List};
+    ghost use Rattle.scenario_text.specs.Word.{Word, words_of};
+
+    ghost Value = { List Word };
+
+    ghost view = { λ w. words_of w.left.now };
+}
+
+/// The bytes without the spaces in front of them.
+fn without_spaces(bytes: &[u8]) -> &[u8]
+    ensures words { words_of result.now ≡ words_of bytes.now }
+    ensures front { BeginsNoSpace result.now }
+{
+    let mut rest = bytes;
+    while let [b' ', behind @ ..] = rest {
+        rest = behind;
+    }
+    rest
+}
+
+/// The first word of a line and what stands behind it, if there is a word.
+fn split_word(line: &[u8]) -> Option<(&[u8], &[u8])>
+    ensures { SplitsWord line.now result }
+{
+    let bytes = without_spaces(line);
+    if bytes.is_empty() {
+        return None;
+    }
+    match split_once(bytes, b' ') {
+        None => Some((bytes, &[])),
+        halves => halves,
+    }
+}
+
+impl<'a> Words<'a> {
+    /// The words of a line.
+    pub(crate) fn of(line: &'a [u8]) -> Self
+        ensures { result ≡ words_of line.now }
+    {
+        Words { left: line }
+    }
+
+    /// The next word, which stays.
+    pub(crate) fn peek(&self) -> Option<&'a [u8]>
+        ensures { option_copied result ≡ slice_get self.now 0 }
+    {
+        let (word, _) = split_word(self.left)?;
+        Some(word)
+    }
+
+    /// The next word.
+    pub(crate) fn next(&mut self) -> Option<&'a [u8]>
+        ensures { Takes self.old result self.new }
+    {
+        let (word, rest) = split_word(self.left)?;
+        self.left = rest;
+        Some(word)
+    }
+
+    /// Whether no word is left.
+    pub(crate) fn are_over(&self) -> bool
+        ensures { IsTrue result ↔ (self.now ≡ []) }
+    {
+        self.peek().is_none()
+    }
+
+    pub(crate) fn number(&mut self) -> Option<u64>
+        ensures { Gives forms.number self.old result self.new }
+    {
+        number(self.next()?)
+    }
+
+    pub(crate) fn key(&mut self) -> Option<KeyWord<'a>>
+        ensures { Gives forms.key self.old (option_map key_word result) self.new }
+    {
+        key_word(self.next()?)
+    }
+
+    pub(crate) fn prefix(&mut self) -> Option<PrefixWord<'a>>
+        ensures { Gives forms.prefix self.old (option_map prefix_word result) self.new }
+    {
+        prefix_word(self.next()?)
+    }
+
+    pub(crate) fn value(&mut self) -> Option<BytesWord<'a>>
+        ensures { Gives forms.value self.old (option_map bytes_word result) self.new }
+    {
+        BytesWord::of_value(self.next()?)
+    }
+
+    pub(crate) fn junk(&mut self) -> Option<BytesWord<'a>>
+        ensures { Gives forms.junk self.old (option_map bytes_word result) self.new }
+    {
+        BytesWord::of_junk(self.next()?)
+    }
+
+    /// A number from 1 to 16.
+    pub(crate) fn node_count(&mut self) -> Option<u64>
+        ensures { Gives forms.node_count self.old result self.new }
+    {
+        let count = self.number()?;
+        if (1..=16).contains(&count) {
+            Some(count)
+        } else {
+            None
+        }
+    }
+
+    /// The place of the resolver that the next word names, if there are so many.
+    pub(crate) fn resolver(&mut self, resolvers: usize) -> Option<usize>
+        ensures { Gives (forms.resolver resolvers) self.old result self.new }
+    {
+        let place = match self.next()? {
+            b"lww" => 0,
+            b"largest" => 1,
+            _ => return None,
+        };
+        if place < resolvers { Some(place) } else { None }
+    }
+
+    /// The number that the next word is, or none, and then no word is read.
+    pub(crate) fn number_or_none(&mut self) -> Option<u64>
+        ensures { Gives number_or_none self.old (Some result) self.new }
+    {
+        let found = number(self.peek()?)?;
+        self.next()?;
+        Some(found)
+    }
+
+    /// The number behind this label, where the next word is the label; none where it isn't, and
+    /// then no word is read.
+    pub(crate) fn labelled(&mut self, label: &[u8]) -> Option<Option<u64>>
+        ensures { Gives (labelled label.now) self.old result self.new }
+    {
+        match self.peek() {
+            Some(word) if word == label => {}
+            _ => return Some(None),
+        }
+        self.next()?;
+        Some(Some(self.number()?))
+    }
+
+    /// The same, where none is 0.
+    pub(crate) fn labelled_or_zero(&mut self, label: &[u8]) -> Option<u64>
+        ensures { Gives (labelled_or_zero label.now) self.old result self.new }
+    {
+        Some(self.labelled(label)?.unwrap_or(0))
+    }
+
+    /// `stamp S`, or nothing for stamp 0.
+    pub(crate) fn stamp(&mut self) -> Option<u64>
+        ensures { Gives forms.stamp self.old result self.new }
+    {
+        self.labelled_or_zero(b"stamp")
+    }
+
+    /// `read R`, or nothing.
+    pub(crate) fn read(&mut self) -> Option<Option<u64>>
+        ensures { Gives forms.read self.old result self.new }
+    {
+        self.labelled(b"read")
+    }
+
+    /// `word W`, or nothing for word 0.
+    pub(crate) fn random(&mut self) -> Option<u64>
+        ensures { Gives forms.random self.old result self.new }
+    {
+        self.labelled_or_zero(b"word")
+    }
+}
