@@ -13,7 +13,11 @@ pub enum Asked<'a> {
     Nothing(u8),
     Frame,
     /// A scenario, of the file of this path, or of standard input.
-    Run(Option<&'a str>),
+    Run {
+        file: Option<&'a str>,
+        /// Whether each command is explained.
+        explain: bool,
+    },
 }
 
 /// The exit status of wrong arguments.
@@ -68,8 +72,10 @@ Exit status: 0 done, 1 a line is no command, a settle would deliver more than 10
 input is longer than 67,108,864 bytes, 2 wrong arguments, 3 reading or writing failed, 4 want of
 memory.";
 
-/// The name of the argument of `run`.
+/// The names of the arguments of `run`.
 const FILE: &str = "FILE";
+
+const EXPLAIN: &str = "explain";
 
 /// The command line, with its help.
 fn command<'a>(alloc: Global) -> Result<Command<'a>, AllocError> {
@@ -79,10 +85,15 @@ fn command<'a>(alloc: Global) -> Result<Command<'a>, AllocError> {
     let file = Arg::new(alloc, FILE)
         .help("The scenario; standard input if there is none, or for -")
         .action(ArgAction::Set);
+    let explain = Arg::new(alloc, EXPLAIN)
+        .long("explain")
+        .help("After each command, tell what is on its way and what nodes show anew")
+        .action(ArgAction::SetTrue);
     let run = Command::new(alloc, "run")
         .about("Run a scenario over the nodes of a new cluster")
         .after_help(RUN_HELP)
-        .arg(file)?;
+        .arg(file)?
+        .arg(explain)?;
     Command::new(alloc, "plumctl")
         .about("The commands of Zomtagi, a cluster metadata store")
         .version(VERSION)
@@ -133,7 +144,10 @@ pub fn read_arguments<'a>(rt: &HostRuntime, words: &'a [String]) -> Result<Asked
     match command(rt.alloc())?.try_get_matches_from(words) {
         Ok(matches) => match matches.subcommand() {
             Some(("frame", _)) => Ok(Asked::Frame),
-            Some(("run", matches)) => Ok(Asked::Run(path(matches.get_str(FILE)))),
+            Some(("run", matches)) => Ok(Asked::Run {
+                file: path(matches.get_str(FILE)),
+                explain: matches.get_flag(EXPLAIN),
+            }),
             _ => Ok(Asked::Nothing(USAGE)),
         },
         Err(error) if error.kind() == ErrorKind::OutOfMemory => Err(StreamFault::Memory),

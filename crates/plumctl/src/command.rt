@@ -2,7 +2,7 @@
 
 ghost use Rattle.std.specs.Prelude.{◌≢◌};
 
-use plumctl_core::{run_frame, run_scenario, tell};
+use plumctl_core::{explain_scenario, run_frame, run_scenario, tell};
 use resolvers::{Largest, Lww, Resolver};
 use std::fs;
 use std::io::{BufWriter, ErrorKind};
@@ -24,16 +24,17 @@ pub fn frame(rt: &HostRuntime) -> u8
     run_frame(rt.alloc(), &mut reader, &mut MayFail(buffered), &mut errors)
 }
 
-/// `run`, of the file of this path, or of standard input, to standard output. Returns the exit
-/// status, which is never that of wrong arguments: a file that can't be opened can't be read.
-pub fn run(rt: &HostRuntime, file: Option<&str>) -> u8
+/// `run`, of the file of this path, or of standard input, to standard output; explained, if that is
+/// asked for. Returns the exit status, which is never that of wrong arguments: a file that can't be
+/// opened can't be read.
+pub fn run(rt: &HostRuntime, file: Option<&str>, explain: bool) -> u8
     ensures { result ≢ 2 }
 {
     let Some(path) = file else {
-        return run_from(rt, &mut MayFail(rt.stdin()));
+        return run_from(rt, &mut MayFail(rt.stdin()), explain);
     };
     match fs::open(rt, path) {
-        Ok(file) => run_from(rt, &mut MayFail(file)),
+        Ok(file) => run_from(rt, &mut MayFail(file), explain),
         Err(error) => tell(&mut MayFail(rt.stderr()), fault_of_opening(error.kind())),
     }
 }
@@ -48,7 +49,7 @@ fn fault_of_opening(kind: ErrorKind) -> StreamFault {
 
 /// Runs the scenario of a reader, to standard output. The resolvers stand in the order of their
 /// words: `lww` and `largest`.
-fn run_from<R: Source>(rt: &HostRuntime, reader: &mut R) -> u8
+fn run_from<R: Source>(rt: &HostRuntime, reader: &mut R, explain: bool) -> u8
     ensures { result ≢ 2 }
 {
     let mut errors = MayFail(rt.stderr());
@@ -63,5 +64,9 @@ fn run_from<R: Source>(rt: &HostRuntime, reader: &mut R) -> u8
     };
     let resolvers: [Box<dyn Resolver>; 2] = [lww, largest];
     let mut writer = MayFail(buffered);
-    run_scenario(rt.alloc(), reader, &mut writer, &mut errors, &resolvers)
+    if explain {
+        explain_scenario(rt.alloc(), reader, &mut writer, &mut errors, &resolvers)
+    } else {
+        run_scenario(rt.alloc(), reader, &mut writer, &mut errors, &resolvers)
+    }
 }

@@ -25,7 +25,7 @@ fn run(rt: &HostRuntime) -> Result<u8, StreamFault> {
     };
     Ok(match read_arguments(rt, words.as_slice())? {
         Asked::Frame => command::frame(rt),
-        Asked::Run(file) => command::run(rt, file),
+        Asked::Run { file, explain } => command::run(rt, file, explain),
         Asked::Nothing(status) => status,
     })
 }

@@ -4,3 +4,5 @@ pub mod LinesOf
 pub mod Texts
 -- a run of `frame`, line by line
 pub mod Going
+-- how a run ended, and the exit status that says so
+pub mod Ending

@@ -4,6 +4,7 @@
 //! ```
 //! let status = run_frame(alloc, &mut reader, &mut writer, &mut errors);
 //! let status = run_scenario(alloc, &mut reader, &mut writer, &mut errors, &[lww, largest]);
+//! let status = explain_scenario(alloc, &mut reader, &mut writer, &mut errors, &[lww, largest]);
 //! ```
 //!
 //! Read `status` (`run_frame`), `frame` (`frame_lines`), `line`, `scenario_run`, then `laws`.
@@ -16,5 +17,5 @@ mod scenario_run;
 mod status;
 
 pub use frame::{Ended, frame_lines};
-pub use scenario_run::run_scenario;
+pub use scenario_run::{explain_scenario, run_scenario};
 pub use status::{run_frame, status_of_fault, tell};

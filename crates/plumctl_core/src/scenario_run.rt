@@ -1,6 +1,6 @@
 //! The command `run`.
 
-ghost use Rattle.std.specs.Prelude.{◌≡◌, ◌≢◌, ◌⊎◌, map};
+ghost use Rattle.std.specs.Prelude.{◌≡◌, ◌≢◌, ◌⊎◌, OnOk, IfErr, map};
 ghost use Rattle.std.specs.Io.KnownBytes.{Keeps};
 ghost use Rattle.scenario.specs.declared.fault.ScenarioFault.{ScenarioFault as Fault};
 ghost use Rattle.scenario.specs.Run.{EndsEarly, PrintsAll};
@@ -9,8 +9,25 @@ ghost use Rattle.plumctl_core.specs.Scenario.{TellsScenario, status_of_scenario}
 use crate::status::tell;
 use resolvers::Resolver;
 use scenario::{ScenarioFault, run_over};
+use scenario_explain::explain_over;
 use std::alloc::Global;
 use streams::{Sink, Source};
+
+/// Tells a fault of reading, writing or memory at `errors`, and returns the exit status.
+fn end_status<E: Sink>(errors: &mut E, ended: Result<(), ScenarioFault>) -> u8
+    ensures run { result ≢ 2 }
+    ensures done { OnOk ended ((result ≡ 0)
+        × Keeps (E.contents errors.old) (E.contents errors.new)) }
+    ensures fault { IfErr ended (λ fault. (result ≡ status_of_scenario fault)
+        × TellsScenario (E.failed errors.old) (E.failed errors.new)
+        (E.contents errors.old) (E.contents errors.new) fault) }
+{
+    match ended {
+        Ok(()) => 0,
+        Err(ScenarioFault::Stream(fault)) => tell(errors, fault),
+        Err(ScenarioFault::BadLine { .. } | ScenarioFault::Limit) => 1,
+    }
+}
 
 /// Runs a scenario as `run_over` does, tells a fault of reading, writing or memory at `errors`, and
 /// returns the exit status: 0 where it was run to its end, 1 where a line breaks a rule, a settling
@@ -40,9 +57,24 @@ pub fn run_scenario<R: Source, W: Sink, E: Sink>(
         (R.remaining reader.old) (R.remaining reader.new)
         (W.contents writer.old) (W.contents writer.new) fault) }
 {
-    match run_over(alloc, reader, writer, resolvers) {
-        Ok(()) => 0,
-        Err(ScenarioFault::Stream(fault)) => tell(errors, fault),
-        Err(ScenarioFault::BadLine { .. } | ScenarioFault::Limit) => 1,
-    }
+    let ended = run_over(alloc, reader, writer, resolvers);
+    end_status(errors, ended)
+}
+
+/// The same, explained as `explain_over` does; the exit status is that of `run_scenario`.
+pub fn explain_scenario<R: Source, W: Sink, E: Sink>(
+    alloc: Global,
+    reader: &mut R,
+    writer: &mut W,
+    errors: &mut E,
+    resolvers: &[Box<dyn Resolver>],
+) -> u8
+    ensures run { result ≢ 2 }
+    ensures ends { ((result ≡ 0) × Keeps (E.contents errors.old) (E.contents errors.new))
+        ⊎ ((fault : Fault) × (result ≡ status_of_scenario fault)
+        × TellsScenario (E.failed errors.old) (E.failed errors.new)
+        (E.contents errors.old) (E.contents errors.new) fault) }
+{
+    let ended = explain_over(alloc, reader, writer, resolvers);
+    end_status(errors, ended)
 }

@@ -1,20 +1,6 @@
--- results and tests
-pub mod Results
--- marks of frames
-pub mod Marks
--- what events make of a world
-pub mod Passing
--- one text and one stage left, of each command, and so one output
+-- one output for a text
 pub mod OneOutput
 -- a text that is read in pieces
 pub mod Reading
 -- playing a scenario, command by command, and the fronts of its output
 pub mod Playing
--- lines of frames that were sent
-pub mod Sending
--- what a stage is after an event, and after several
-pub mod Staging
--- the keys of a store
-pub mod Listing
--- what a command is, and acting on it
-pub mod Acting

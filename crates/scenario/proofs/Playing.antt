@@ -1,5 +1,5 @@
 -- Playing a scenario, command by command, and the fronts of its output.
-use Rattle.std.proofs.Common.{◌≡◌, ℕ, List, [], ◌∷◌, ◌++◌, length, Option, Some, None, ◌⊎◌, inl, inr, refl, sym, ap, subst, ◌∙◌, append_assoc}
+use Rattle.std.proofs.Common.{◌≡◌, ℕ, List, [], ◌∷◌, ◌++◌, length, Option, Some, None, Err, ◌⊎◌, inl, inr, refl, sym, ap, subst, ◌∙◌, append_assoc}
 use Rattle.std.specs.Prelude.{codes}
 use Rattle.std.proofs.lemmas.List.{append-nil}
 use Rattle.std.specs.Io.KnownBytes.{Appends, Keeps}
@@ -13,14 +13,18 @@ use Rattle.streams.proofs.Failing.{FailsNoMore-self, FailsNoMore-then, write_fau
 use Rattle.streams.proofs.Sent.{Appends-kept, Appends-nil, Appends-then}
 use Rattle.scenario_text.specs.Commands.{Command}
 use Rattle.scenario_text.specs.Script.{Scenario, commands_of, first_bad, scenario_of}
-use Rattle.scenario.specs.Coded.{end_line}
-use Rattle.scenario.specs.Obeying.{Choices, Obeys, PassesLimit, Stage, opening}
+use Rattle.scenario.specs.Ending.{end_line}
+use Rattle.scenario_stage.specs.Obeying.{Choices, Does, Obeys, PassesLimit, Stage, opening}
+use Rattle.scenario_stage.specs.declared.fault.StageFault.{StageFault}
+use Rattle.scenario_stage.specs.declared.fault.StageFault.TheVariants as stages
+use Rattle.scenario.specs.Fault.{of_stage}
 use Rattle.scenario.specs.Output.{BeginsNext, IsFrontOfOutput, IsFrontOfPlay, IsOutput, ObeyAll, Plays, PlaysOrNothing, PlaysUnless, Runs, RunsFront}
-use Rattle.scenario.specs.Printed.{bad_line, limit_line, line}
+use Rattle.scenario_stage.specs.Printed.{line}
+use Rattle.scenario.specs.Ending.{bad_line, limit_line}
 use Rattle.scenario.specs.Run.{EndsBefore, EndsCommand, EndsCommands, EndsLine, EndsPlay, EndsText, PlaysAll, PlaysToLimit, Prints, StopsAtLimit, StopsPrinting, WritesAll, WritesCommand, WritesEnd, WritesOutput}
 use Rattle.scenario.specs.declared.fault.ScenarioFault.{ScenarioFault}
 use Rattle.scenario.specs.declared.fault.ScenarioFault.TheVariants.{BadLine, Limit, Stream}
-use Rattle.scenario.proofs.OneOutput.{obeys_within, one_obeys}
+use Rattle.scenario_stage.proofs.OneStage.{obeys_within, one_obeys}
 
 -- ---- faults of writing
 
@@ -154,13 +158,12 @@ playing_ends choices failed_old failed_now failed_new old stage all before left 
 
 -- ---- one command
 
--- memory was wanting, or the limit was passed: nothing was written
-pub ends_unwritten : (choices : Choices) (failed : Failed) (old : Stage) (command : Command) (w : Option (List ℕ)) (fault : ScenarioFault) → ((fault ≡ Limit) × PassesLimit old command) ⊎ (fault ≡ Stream Memory)
-    → EndsCommand choices failed failed old command w w fault
-ends_unwritten choices failed old command w fault (inl (is, limit)) = subst (EndsCommand choices failed failed old command w w) (sym is) (limit, Appends-nil w, FailsNoMore-self failed)
-ends_unwritten choices failed old command w fault (inr is) =
-    subst (EndsCommand choices failed failed old command w w) (sym is)
-    (record { begun = []; begins = inl refl; appended = Appends-nil w; cause = want_of_memory failed Memory refl })
+-- nothing was written of a command that was not obeyed
+pub ends_unwritten : (choices : Choices) (failed : Failed) (old new : Stage) (command : Command) (text_old text_new : List ℕ) (w : Option (List ℕ)) (fault : StageFault)
+    → Does choices old command text_old text_new new (Err fault) → EndsCommand choices failed failed old command w w (of_stage fault)
+ends_unwritten choices failed old new command text_old text_new w stages.Limit limit = (limit, Appends-nil w, FailsNoMore-self failed)
+ends_unwritten choices failed old new command text_old text_new w stages.Memory does =
+    record { begun = []; begins = inl refl; appended = Appends-nil w; cause = want_of_memory failed Memory refl }
 
 -- a front was written
 pub ends_writing : (choices : Choices) (failed_old failed_new : Failed) (old new : Stage) (command : Command) (added : List ℕ) (w v : Option (List ℕ)) (fault : StreamFault)

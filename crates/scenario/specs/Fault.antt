@@ -1,6 +1,9 @@
 -- Why a run did not go through to its end.
 use Rattle.std.specs.Prelude.{ℕ, List, Option, Some, codes}
 use Rattle.streams.specs.Fault as stream
+use Rattle.streams.specs.declared.fault.StreamFault.TheVariants as stream_faults
+use Rattle.scenario_stage.specs.declared.fault.StageFault.{StageFault}
+use Rattle.scenario_stage.specs.declared.fault.StageFault.TheVariants as stages
 use Rattle.scenario.specs.declared.fault.ScenarioFault.{ScenarioFault}
 use Rattle.scenario.specs.declared.fault.ScenarioFault.TheVariants.{BadLine, Limit, Stream}
 
@@ -16,6 +19,7 @@ fault_name (BadLine line) = codes "BadLine"
 fault_name Limit = codes "Limit"
 fault_name (Stream fault) = stream.fault_name fault
 
--- the most deliveries of one settling
-abbrev pub most_deliveries : ℕ
-most_deliveries = 100000
+-- the fault of a scenario in which a command ended with this one
+abbrev pub of_stage : StageFault → ScenarioFault
+of_stage stages.Limit = Limit
+of_stage stages.Memory = Stream stream_faults.Memory

@@ -1,25 +1,17 @@
 -- What must be believed of scenarios, in the order in which to read it.
--- lines and printed forms, worlds and what they answer, which the definitions here speak of
+-- lines and how they are written
 pub use Rattle.streams.specs.Line
 pub use Rattle.streams.specs.Written
 pub use Rattle.streams.specs.Fault as StreamFaults
-pub use Rattle.printing.specs.Frame
-pub use Rattle.world_core.specs.Events
-pub use Rattle.world_core.specs.Outcome
 -- the language: which text is which scenario
-pub use Rattle.scenario_text.specs.Commands
 pub use Rattle.scenario_text.specs.Script
--- what a command is to the world, and its result line
-pub mod Meaning
+-- what a command prints, and what it leaves
+pub use Rattle.scenario_stage.specs.Obeying
 -- how a scenario stops early
 pub mod Fault
--- what is printed
-pub mod Printed
--- what a command prints, and what it leaves
-pub mod Obeying
+-- the line that is printed of that
+pub mod Ending
 -- a whole run, and the output for a text
 pub mod Output
 -- how a run over a reader and a writer ends
 pub mod Run
--- what private functions alone cite: the types of the code, as what they stand for
-pub mod Coded

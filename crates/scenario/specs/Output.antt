@@ -4,8 +4,9 @@ use Rattle.std.specs.Prelude.{◌≡◌, ℕ, ◌⊎◌, List, [], ◌∷◌, �
 use Rattle.scenario.specs.declared.fault.ScenarioFault.{ScenarioFault}
 use Rattle.scenario.specs.declared.fault.ScenarioFault.TheVariants.{BadLine, Limit}
 use Rattle.scenario_text.specs.Commands.{Command}
-use Rattle.scenario.specs.Obeying.{Choices, Obeys, PassesLimit, Stage, opening}
-use Rattle.scenario.specs.Printed.{bad_line, limit_line, line}
+use Rattle.scenario_stage.specs.Obeying.{Choices, Obeys, PassesLimit, Stage, opening}
+use Rattle.scenario_stage.specs.Printed.{line}
+use Rattle.scenario.specs.Ending.{bad_line, limit_line}
 use Rattle.scenario_text.specs.Script.{Scenario, commands_of, first_bad, scenario_of}
 
 -- commands are obeyed in their order, up to this stage, and print this text

@@ -8,9 +8,9 @@ use Rattle.streams.specs.Written.{AppendsFront}
 use Rattle.scenario.specs.declared.fault.ScenarioFault.{ScenarioFault}
 use Rattle.scenario.specs.declared.fault.ScenarioFault.TheVariants.{BadLine, Limit, Stream}
 use Rattle.scenario_text.specs.Commands.{Command}
-use Rattle.scenario.specs.Obeying.{Choices, Obeys, PassesLimit, Stage, opening}
+use Rattle.scenario_stage.specs.Obeying.{Choices, Obeys, PassesLimit, Stage, opening}
 use Rattle.scenario.specs.Output.{BeginsNext, IsFrontOfOutput, IsFrontOfPlay, IsOutput, ObeyAll, RunsFront}
-use Rattle.scenario.specs.Printed.{line}
+use Rattle.scenario_stage.specs.Printed.{line}
 use Rattle.scenario_text.specs.Script.{Scenario, commands_of, first_bad, scenario_of}
 
 -- ---- of a text

@@ -1,8 +1,9 @@
 ghost use Rattle.std.specs.Prelude.{◌≡◌};
-ghost use Rattle.scenario.specs.Fault.{code_of, fault_name};
+ghost use Rattle.scenario.specs.Fault.{code_of, fault_name, of_stage};
 ghost use Rattle.scenario.specs.declared.fault.ScenarioFault.TheVariants as faults;
 ghost use Rattle.streams.specs.declared.fault.StreamFault.TheVariants as streams;
 
+use scenario_stage::StageFault;
 use scenario_text::BadLine;
 use std::alloc::{AllocError, AllocFailed};
 use streams::StreamFault;
@@ -66,6 +67,18 @@ impl From<BadLine> for ScenarioFault {
 
     fn from(fault: BadLine) -> ScenarioFault {
         ScenarioFault::BadLine { line: fault.line }
+    }
+}
+
+/// A command was not obeyed to its end.
+impl From<StageFault> for ScenarioFault {
+    ghost from_gives = { λ stage fault. fault ≡ of_stage stage };
+
+    fn from(fault: StageFault) -> ScenarioFault {
+        match fault {
+            StageFault::Limit => ScenarioFault::Limit,
+            StageFault::Memory => ScenarioFault::Stream(StreamFault::Memory),
+        }
     }
 }
 

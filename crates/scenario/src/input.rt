@@ -13,7 +13,7 @@ const PIECE_LEN: usize = 65_536;
 /// Reads to the end of the input. Ends with 7 `Read` at the first error of the reader, an
 /// interruption too, with 8 `InputTooLong` once more than 67,108,864 bytes were read, and with 99
 /// `Memory`.
-pub(crate) fn read_text<R: Source>(alloc: Global, reader: &mut R) -> Result<Vec<u8>, StreamFault>
+pub fn read_text<R: Source>(alloc: Global, reader: &mut R) -> Result<Vec<u8>, StreamFault>
     ensures ok { IfOk result (λ text. ReadsAll (R.read_failed reader.old)
         (R.read_failed reader.new) (R.remaining reader.old) (R.remaining reader.new) text.items) }
     ensures err { IfErr result (λ fault. StopsReading (R.read_failed reader.old)

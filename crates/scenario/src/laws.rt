@@ -1,7 +1,7 @@
 //! Laws of what scenarios print. Each function does nothing: its contract is the law.
 
 ghost use Rattle.std.specs.Prelude.{◌≡◌, ◌++◌, ℕ, List, Option};
-ghost use Rattle.scenario.specs.Obeying.{Choices};
+ghost use Rattle.scenario_stage.specs.Obeying.{Choices};
 ghost use Rattle.scenario.specs.Output.{IsFrontOfOutput, IsOutput};
 ghost use Rattle.scenario.specs.declared.fault.ScenarioFault.{ScenarioFault as Fault};
 

@@ -12,21 +12,16 @@
 //! // ctx 0.1:1 values x
 //! ```
 //!
-//! The language itself is the crate `scenario_text`. Read `stage`, `event`, `deliver`, `look`,
-//! `write`, `print` (what a command does and prints), then `run` with `input`; `fault` and `laws`.
+//! The language itself is the crate `scenario_text`, and what a command does and prints the crate
+//! `scenario_stage`. Read `run` with `input`, then `fault` and `laws`.
 #![tactic(auto)]
 
-mod deliver;
-mod event;
 pub mod fault;
 mod input;
 pub mod laws;
-mod look;
-mod print;
 mod run;
-mod stage;
-mod write;
 
 pub use fault::ScenarioFault;
-pub use run::run_over;
+pub use input::read_text;
+pub use run::{end_run, run_over};
 pub use scenario_text::{BadLine, Script, parse};

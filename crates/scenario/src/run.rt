@@ -1,22 +1,21 @@
 //! A scenario, run over a reader and a writer.
 
-ghost use Rattle.std.specs.Prelude.{◌≡◌, ◌⊎◌, OnOk, IfErr, None, codes, map};
+ghost use Rattle.std.specs.Prelude.{◌≡◌, ◌⊎◌, ◌++◌, OnOk, IfErr, None, codes, map};
 ghost use Rattle.std.specs.Io.KnownBytes.{Appends};
 ghost use Rattle.streams.specs.declared.fault.StreamFault.{StreamFault as ByStream};
 ghost use Rattle.streams.specs.Fault.{FailsNoMore};
-ghost use Rattle.scenario.specs.Coded.{end_line};
-ghost use Rattle.scenario.specs.Printed.{line};
+ghost use Rattle.scenario.specs.Ending.{end_line};
+ghost use Rattle.scenario_stage.specs.Printed.{line};
 ghost use Rattle.scenario.specs.Run.{EndsBefore, EndsCommand, EndsCommands, EndsLine, EndsEarly, EndsPlay, EndsText, PlaysAll, Prints, PrintsAll, WritesAll, WritesCommand, WritesEnd, WritesOutput};
 ghost use Rattle.scenario.specs.declared.fault.ScenarioFault.TheVariants.{Stream};
 ghost use Rattle.scenario_text.specs.Coded.{command_word};
 
 use crate::fault::ScenarioFault;
 use crate::input::read_text;
-use crate::print::{print_end, print_line};
-use crate::stage::Stage;
 use resolvers::Resolver;
+use scenario_stage::{Stage, print_count, print_line};
 use scenario_text::{Command, Script, parse};
-use std::alloc::Global;
+use std::alloc::{AllocError, Global};
 use streams::{Sink, Source, StreamFault, flush, write_whole};
 
 /// Does what a command says, and writes what that prints. `text` is where that is put first.
@@ -113,6 +112,17 @@ fn play_text<W: Sink>(
     }
 }
 
+/// Adds the line of the fault that ended a scenario: `error 70 BadLine 2` or `error 71 Limit`.
+fn print_end(out: &mut Vec<u8>, fault: ScenarioFault) -> Result<(), AllocError>
+    ensures { OnOk result (out.new.items ≡ out.old.items ++ end_line fault) }
+{
+    match fault {
+        ScenarioFault::BadLine { line } => print_count(out, "error 70 BadLine ", line),
+        ScenarioFault::Limit => print_line(out, "error 71 Limit"),
+        ScenarioFault::Stream(_) => Ok(()),
+    }
+}
+
 /// Writes the line of the fault that ends a scenario.
 fn write_end<W: Sink>(
     alloc: Global,
@@ -133,7 +143,7 @@ fn write_end<W: Sink>(
 
 /// Writes the line of the fault that ends a scenario, and answers that fault, or the one that the
 /// writing meets.
-fn end<W: Sink>(alloc: Global, writer: &mut W, fault: ScenarioFault) -> ScenarioFault
+pub fn end_run<W: Sink>(alloc: Global, writer: &mut W, fault: ScenarioFault) -> ScenarioFault
     ensures { ((result ≡ fault) × WritesEnd (W.failed writer.old) (W.failed writer.new)
         (W.passed_on writer.new) (end_line fault)
         (W.contents writer.old) (W.contents writer.new))
@@ -165,7 +175,7 @@ fn run_text<W: Sink>(
         Ok(()) => Ok(flush(writer)?),
         Err(fault) => match fault {
             ScenarioFault::Stream(_) => Err(fault),
-            _ => Err(end(alloc, writer, fault)),
+            _ => Err(end_run(alloc, writer, fault)),
         },
     }
 }

@@ -2,12 +2,14 @@
 //! of it, and at standard output whether each gave that. The gate compares that with the stored
 //! text, so rows cost no proof.
 //!
-//! Read `rows`, then `row` and `difference`.
+//! Read `rows`, then `row` and `difference`, `schedule` and `past`.
 #![tactic(auto)]
 
 mod difference;
+mod past;
 mod row;
 mod rows;
+mod schedule;
 
 use resolvers::{Largest, Lww, Resolver};
 use rows::told;

@@ -1,47 +1,59 @@
-//! Runs of events.
+//! Runs of events, and worlds of each size.
 
-use crate::acts::{Act, event, new_world};
+use crate::events::{CODES, code, event, events, new_world, put};
 use std::alloc::Global;
 use std::process::Abort;
-use world_core::{Answer, Event, WorldFault};
+use world_core::{Answer, World, WorldFault};
 
-/// Events with the number of the refusal of each, or 0.
-static EVENTS: [(Act, u16); 6] = [
-    (Act::Put(0, b'k', b'x'), 0),
-    (Act::Put(2, b'k', b'y'), 44),
-    (Act::Deliver(1, 9), 42),
-    (Act::Get(0, b'k'), 0),
-    (Act::PutRead(0, b'l', b'y', 1), 26),
-    (Act::Get(1, b'k'), 0),
-];
-
-fn events(rt: &impl Abort, alloc: Global) -> Vec<Event> {
-    let mut events = Vec::with_capacity(alloc, EVENTS.len()).expect(rt, "memory");
-    for (act, _) in EVENTS {
-        events.push(event(rt, alloc, act, 0)).expect(rt, "room");
-    }
-    events
+/// How many accepted events and their answers are copied as they are.
+fn copied(world: &World) -> usize {
+    world
+        .accepted()
+        .iter()
+        .filter(|accepted| {
+            matches!(accepted.answer.copy(), Ok(copy) if copy == accepted.answer)
+                && matches!(accepted.event.copy(), Ok(copy) if copy == accepted.event)
+        })
+        .count()
 }
 
-/// The number of a refusal, or 0.
-fn code(outcome: &Result<Answer, WorldFault>) -> u16 {
-    match outcome {
-        Ok(_) => 0,
-        Err(fault) => fault.code(),
+/// Applies the events one after the other, a refused one among them. Returns whether each gives
+/// what the run gave.
+fn are_applied(
+    rt: &impl Abort,
+    alloc: Global,
+    world: &mut World,
+    outcomes: &[Result<Answer, WorldFault>],
+) -> bool {
+    let mut same = outcomes.len() == CODES.len();
+    for (place, (outcome, wanted)) in outcomes.iter().zip(CODES).enumerate() {
+        same &= code(&world.apply(put(rt, alloc, 2, None))) == 44;
+        same &= *outcome == world.apply(event(rt, alloc, place)) && code(outcome) == wanted;
     }
+    same
 }
 
 #[test]
-fn a_run_goes_on_after_each_refusal(rt: HostRuntime) {
+fn a_run_answers_as_one_event_after_the_other(rt: HostRuntime) {
     let alloc = rt.alloc();
-    let (mut ran, mut applied) = (new_world(&rt, alloc, 2), new_world(&rt, alloc, 2));
-    let outcomes = ran
-        .run(alloc, events(&rt, alloc).as_slice())
-        .expect(&rt, "memory");
-    assert_eq!(rt; outcomes.len(), EVENTS.len());
-    for (outcome, (act, wanted)) in outcomes.iter().zip(EVENTS) {
-        assert_eq!(rt; code(outcome), wanted);
-        assert!(rt; *outcome == applied.apply(event(&rt, alloc, act, 0)));
+    let (mut ran, mut applied) = (new_world(&rt, alloc), new_world(&rt, alloc));
+    let events = events(&rt, alloc);
+    let outcomes = ran.run(alloc, events.as_slice()).expect(&rt, "memory");
+    assert!(rt; are_applied(&rt, alloc, &mut applied, outcomes.as_slice()));
+    assert_eq!(rt; copied(&ran), 15);
+    assert_eq!(rt; ran.frame_count(), applied.frame_count());
+}
+
+fn is_refused(alloc: Global, nodes: u64) -> bool {
+    matches!(World::new(alloc, nodes), Err(WorldFault::NoSuchNode))
+}
+
+#[test]
+fn a_world_has_1_to_16_nodes(rt: HostRuntime) {
+    for nodes in [0, 17, 65_537, 18_446_744_073_709_551_615] {
+        assert!(rt; is_refused(rt.alloc(), nodes), "at {nodes}");
     }
-    assert_eq!(rt; ran.accepted().len(), 3);
+    for nodes in [1, 16] {
+        assert!(rt; !is_refused(rt.alloc(), nodes), "at {nodes}");
+    }
 }

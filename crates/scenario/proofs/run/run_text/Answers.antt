@@ -10,5 +10,5 @@ returns-in_err-flush-in-Ok-clause-err g c =
 pub returns-in_default : goal.returns-in_default
 returns-in_default g c = record {
   ok = tt;
-  err = ends_text _ _ _ _ _ c.args.text.now _ _ _ c.in-Err.fault c.end.result c.in_default.not-Stream c.in-Err.ensures.err c.end.ensures;
+  err = ends_text _ _ _ _ _ c.args.text.now _ _ _ c.in-Err.fault c.end_run.result c.in_default.not-Stream c.in-Err.ensures.err c.end_run.ensures;
 }

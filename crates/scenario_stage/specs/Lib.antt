@@ -1,0 +1,17 @@
+-- What must be believed of a stage, in the order in which to read it.
+-- printed forms, worlds and what they answer, which the definitions here speak of
+pub use Rattle.printing.specs.Frame
+pub use Rattle.world_core.specs.Events
+pub use Rattle.world_core.specs.Outcome
+-- the language: which words are which command
+pub use Rattle.scenario_text.specs.Commands
+-- what a command is to the world, and its result line
+pub mod Meaning
+-- why a command is not obeyed to its end
+pub mod Fault
+-- what is printed
+pub mod Printed
+-- what a command prints, and what it leaves
+pub mod Obeying
+-- what private functions alone cite: the types of the code, as what they stand for
+pub mod Coded

@@ -1,0 +1,133 @@
+//! An event of each kind.
+//!
+//! What takes memory here is asked for once more where it is refused, so that tests under refused
+//! memory get their events whichever single allocation is refused.
+
+use meta_types::{ByteString, FullPrefix, MetaKey, Value};
+use std::alloc::Global;
+use std::process::Abort;
+use world_core::{Answer, Event, World, WorldFault};
+
+/// How many events there are.
+pub const COUNT: usize = 16;
+
+/// Of each event the number of its refusal, or 0: two bytes are no frame.
+pub static CODES: [u16; COUNT] = [0, 0, 0, 0, 0, 0, 0, 0, 0, 0, 0, 0, 0, 0, 0, 10];
+
+fn bytes(rt: &impl Abort, alloc: Global, text: &[u8]) -> Vec<u8> {
+    match text.to_vec(alloc) {
+        Ok(bytes) => bytes,
+        Err(_) => text.to_vec(alloc).expect(rt, "memory once more"),
+    }
+}
+
+fn prefix(rt: &impl Abort, alloc: Global) -> FullPrefix {
+    let first = bytes(rt, alloc, b"p");
+    FullPrefix::new(first, bytes(rt, alloc, b"s")).expect(rt, "a prefix")
+}
+
+/// The key p/s/k.
+pub fn key(rt: &impl Abort, alloc: Global) -> MetaKey {
+    let prefix = prefix(rt, alloc);
+    MetaKey::new(prefix, bytes(rt, alloc, b"k")).expect(rt, "a key")
+}
+
+fn value(rt: &impl Abort, alloc: Global, body: &[u8]) -> Value {
+    Value::new(0, Some(bytes(rt, alloc, body))).expect(rt, "a value")
+}
+
+/// A write of x.
+pub fn put(rt: &impl Abort, alloc: Global, node: u64, read: Option<u64>) -> Event {
+    Event::Put {
+        node,
+        key: key(rt, alloc),
+        value: value(rt, alloc, b"x"),
+        read,
+    }
+}
+
+/// The event of that place: in a new world of two nodes they can all happen, in this order.
+pub fn event(rt: &impl Abort, alloc: Global, place: usize) -> Event {
+    match place {
+        2 => put(rt, alloc, 0, None),
+        3 => Event::Get {
+            node: 0,
+            key: key(rt, alloc),
+        },
+        4 => put(rt, alloc, 1, Some(1)),
+        5 => Event::PutOver {
+            node: 0,
+            key: key(rt, alloc),
+            value: value(rt, alloc, b"y"),
+        },
+        6 => Event::Keep {
+            node: 0,
+            key: key(rt, alloc),
+        },
+        7 => Event::Watch {
+            node: 0,
+            prefix: prefix(rt, alloc),
+            capacity: 1,
+        },
+        15 => Event::Junk {
+            node: 0,
+            bytes: ByteString::new(bytes(rt, alloc, b"PT")),
+        },
+        place => small_event(place),
+    }
+}
+
+/// The same, of an event that is made of numbers alone.
+fn small_event(place: usize) -> Event {
+    match place {
+        0 => Event::Join {
+            node: 1,
+            contact: 0,
+            word: 0,
+        },
+        1 => Event::Deliver {
+            frame: 1,
+            node: 0,
+            word: 0,
+        },
+        8 => Event::Changes { node: 0, number: 1 },
+        9 => Event::Tick { node: 0, word: 0 },
+        10 => Event::Exchange { node: 0, peer: 1 },
+        11 => Event::Hello { node: 0, peer: 1 },
+        12 => Event::PeerDown {
+            node: 1,
+            peer: 0,
+            word: 0,
+        },
+        13 => Event::Leave { node: 0 },
+        _ => Event::Restart { node: 0, image: 1 },
+    }
+}
+
+/// All of them.
+pub fn events(rt: &impl Abort, alloc: Global) -> Vec<Event> {
+    let mut events = match Vec::with_capacity(alloc, COUNT) {
+        Ok(events) => events,
+        Err(_) => Vec::with_capacity(alloc, COUNT).expect(rt, "memory once more"),
+    };
+    for place in 0..COUNT {
+        events.push(event(rt, alloc, place)).expect(rt, "room");
+    }
+    events
+}
+
+/// A world of two nodes.
+pub fn new_world(rt: &impl Abort, alloc: Global) -> World {
+    match World::new(alloc, 2) {
+        Ok(world) => world,
+        Err(_) => World::new(alloc, 2).expect(rt, "memory once more"),
+    }
+}
+
+/// The number of a refusal, or 0.
+pub fn code(outcome: &Result<Answer, WorldFault>) -> u16 {
+    match outcome {
+        Ok(_) => 0,
+        Err(fault) => fault.code(),
+    }
+}
