@@ -61,7 +61,8 @@ pub fn run_scenario<R: Source, W: Sink, E: Sink>(
     end_status(errors, ended)
 }
 
-/// The same, explained as `explain_over` does; the exit status is that of `run_scenario`.
+/// Runs a scenario and explains it as `explain_over` does, and tells and returns as `run_scenario`
+/// how that ended. Nothing is stated of what it reads and writes, and so of which fault it is.
 pub fn explain_scenario<R: Source, W: Sink, E: Sink>(
     alloc: Global,
     reader: &mut R,

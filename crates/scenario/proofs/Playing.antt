@@ -14,7 +14,7 @@ use Rattle.streams.proofs.Sent.{Appends-kept, Appends-nil, Appends-then}
 use Rattle.scenario_text.specs.Commands.{Command}
 use Rattle.scenario_text.specs.Script.{Scenario, commands_of, first_bad, scenario_of}
 use Rattle.scenario.specs.Ending.{end_line}
-use Rattle.scenario_stage.specs.Obeying.{Choices, Does, Obeys, PassesLimit, Stage, opening}
+use Rattle.scenario_stage.specs.Obeying.{Choices, ObeysOrEnds, Obeys, PassesLimit, Stage, opening}
 use Rattle.scenario_stage.specs.declared.fault.StageFault.{StageFault}
 use Rattle.scenario_stage.specs.declared.fault.StageFault.TheVariants as stages
 use Rattle.scenario.specs.Fault.{of_stage}
@@ -160,7 +160,7 @@ playing_ends choices failed_old failed_now failed_new old stage all before left 
 
 -- nothing was written of a command that was not obeyed
 pub ends_unwritten : (choices : Choices) (failed : Failed) (old new : Stage) (command : Command) (text_old text_new : List ℕ) (w : Option (List ℕ)) (fault : StageFault)
-    → Does choices old command text_old text_new new (Err fault) → EndsCommand choices failed failed old command w w (of_stage fault)
+    → ObeysOrEnds choices old command text_old text_new new (Err fault) → EndsCommand choices failed failed old command w w (of_stage fault)
 ends_unwritten choices failed old new command text_old text_new w stages.Limit limit = (limit, Appends-nil w, FailsNoMore-self failed)
 ends_unwritten choices failed old new command text_old text_new w stages.Memory does =
     record { begun = []; begins = inl refl; appended = Appends-nil w; cause = want_of_memory failed Memory refl }

@@ -39,7 +39,7 @@ abbrev pub PlaysOrNothing : Choices → Option Scenario → List ℕ → Option 
 PlaysOrNothing choices None output ended = (output ≡ []) × (ended ≡ None)
 PlaysOrNothing choices (Some scenario) output ended = Plays choices scenario output ended
 
--- the number of the first bad line is all that is printed, or the scenario is played
+-- the line that tells the first bad line is all that is printed, or the scenario is played
 abbrev pub PlaysUnless : Option ℕ → Choices → List ℕ → List ℕ → Option ScenarioFault → Type 0
 PlaysUnless (Some number) choices text output ended =
     (output ≡ bad_line number) × (ended ≡ Some (BadLine number))

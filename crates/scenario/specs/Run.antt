@@ -102,6 +102,21 @@ pub record PrintsAll (choices : Choices) (read_failed_old read_failed_new : Type
   pub reads : ReadsAll read_failed_old read_failed_new reader_old reader_new text
   pub prints : Prints choices failed_old failed_new passed_on text writer_old writer_new None
 
+-- ---- of the line of a fault
+
+-- a front of a line was written, and the fault has its cause
+pub record EndsLine (failed_old failed_new : Failed) (text : List ℕ)
+    (writer_old writer_new : Option (List ℕ)) (fault : StreamFault) : Type 0 where
+  pub appended : AppendsFront writer_old writer_new text
+  pub cause : IsWriteFault failed_old failed_new fault
+
+-- a whole line was written and passed on
+pub record WritesEnd (failed_old failed_new : Failed) (passed_on : Type 0) (text : List ℕ)
+    (writer_old writer_new : Option (List ℕ)) : Type 0 where
+  pub appended : Appends writer_old writer_new text
+  pub passed : passed_on
+  pub sound : FailsNoMore failed_old failed_new
+
 -- ---- what private functions cite
 
 -- one read gave some bytes, which were added within the limit, or the reader is at its end
@@ -249,16 +264,3 @@ EndsBefore choices failed_old failed_new text writer_old writer_new Limit =
     StopsAtLimit choices text writer_old writer_new × FailsNoMore failed_old failed_new
 EndsBefore choices failed_old failed_new text writer_old writer_new (Stream fault) =
     StopsPrinting choices failed_old failed_new text writer_old writer_new fault
-
--- a front of a line was written
-pub record EndsLine (failed_old failed_new : Failed) (text : List ℕ)
-    (writer_old writer_new : Option (List ℕ)) (fault : StreamFault) : Type 0 where
-  pub appended : AppendsFront writer_old writer_new text
-  pub cause : IsWriteFault failed_old failed_new fault
-
--- a whole line was written and passed on
-pub record WritesEnd (failed_old failed_new : Failed) (passed_on : Type 0) (text : List ℕ)
-    (writer_old writer_new : Option (List ℕ)) : Type 0 where
-  pub appended : Appends writer_old writer_new text
-  pub passed : passed_on
-  pub sound : FailsNoMore failed_old failed_new

@@ -16,7 +16,7 @@ use Rattle.world_core.specs.World.{World}
 use Rattle.world_core.proofs.Deciding.{one_outcome}
 use Rattle.scenario_text.specs.Commands.{Command, Keep, Resolve, Settle, fault_in}
 use Rattle.scenario_stage.specs.Meaning.{Look, addressee, event_of, look_of}
-use Rattle.scenario_stage.specs.Obeying.{Acts, ActsOrLooks, ActsUnless, Answers, AreSent, Choices, Comes, GoesOn, HandsOn, HandsOnEach, Happens, IsNoNode, Keeps, KeepsAll, Obeys, PassesLimit, Resolves, Settles, Stage, given_by, outcome_line, waiting, with_given, with_new}
+use Rattle.scenario_stage.specs.Obeying.{Acts, ActsOrLooks, ActsUnless, Answers, AreSent, Choices, Comes, GoesOn, HandsOn, HandsOnEach, Happens, IsNoNode, KeepsHeld, KeepsAll, Obeys, PassesLimit, Resolves, Settles, Stage, given_by, outcome_line, waiting, with_given, with_new}
 use Rattle.scenario_stage.specs.Printed.{AreFrameLines, frame_line, line}
 
 -- one text, and one stage left
@@ -74,10 +74,10 @@ one_keeping node (key ∷ keys) old new left (answer, between, comes, rest) (als
     let same : between ≡ behind = (one_comes old between behind (events.Keep node key) (Ok answer) (Ok also) comes again).1 in
     one_keeping node keys behind new left (subst (λ (s : Stage). KeepsAll s node keys new) same rest) others
 
-one_keeps : (node : ℕ) (old new left : Stage) (text other : List ℕ) → Keeps old node text new → Keeps old node other left → AreOne text other new left
+one_keeps : (node : ℕ) (old new left : Stage) (text other : List ℕ) → KeepsHeld old node text new → KeepsHeld old node other left → AreOne text other new left
 one_keeps node old new left text other a b = (a.text_is ∙ sym b.text_is, one_keeping node _ old new left a.keeps b.keeps)
 
-one_keeps_or_not : (node : ℕ) (old new left : Stage) (text other : List ℕ) → Keeps old node text new ⊎ IsNoNode old node text new → Keeps old node other left ⊎ IsNoNode old node other left → AreOne text other new left
+one_keeps_or_not : (node : ℕ) (old new left : Stage) (text other : List ℕ) → KeepsHeld old node text new ⊎ IsNoNode old node text new → KeepsHeld old node other left ⊎ IsNoNode old node other left → AreOne text other new left
 one_keeps_or_not node old new left text other (inl a) (inl b) = one_keeps node old new left text other a b
 one_keeps_or_not node old new left text other (inl a) (inr b) = absurd (omega (arith, a.there, b.0))
 one_keeps_or_not node old new left text other (inr a) (inl b) = absurd (omega (arith, b.there, a.0))

@@ -20,7 +20,7 @@ use Rattle.world_core.specs.Tells.{numbered}
 use Rattle.world_core.specs.World.{World}
 use Rattle.world_core.proofs.Refusing.{has_frame, some_by}
 use Rattle.scenario_stage.specs.Coded.{AreThere, CanBeMarked, HasSent}
-use Rattle.scenario_stage.specs.Obeying.{is_given, stays_waiting}
+use Rattle.scenario_stage.specs.Obeying.{counts_as_given, changes_no_mark}
 
 -- ---- what an accepted event adds
 
@@ -79,12 +79,12 @@ within_numbered xs zero x e = let no : None ≡ Some x = e in absurd (cc)
 within_numbered xs (suc before) x e = let low : before < length xs = slice_get_within xs before x e in (omega arith, omega (arith, low))
 
 -- a frame that is refused, but so that it was given, is there
-refused_there : (w : World) (frame n word : ℕ) (fault : WorldFault) → RefusesEvent w (Deliver frame n word) fault → not (stays_waiting fault) ≡ true → (bytes : List ℕ) × (numbered w.frames frame ≡ Some bytes)
-refused_there w frame n word fault (inl no_node) given = let e = ap (λ f. not (stays_waiting f)) no_node.1 in let no : false ≡ true = sym e ∙ given in absurd (cc)
-refused_there w frame n word fault (inr (there, inl no_frame)) given = let e = ap (λ f. not (stays_waiting f)) no_frame.1 in let no : false ≡ true = sym e ∙ given in absurd (cc)
+refused_there : (w : World) (frame n word : ℕ) (fault : WorldFault) → RefusesEvent w (Deliver frame n word) fault → not (changes_no_mark fault) ≡ true → (bytes : List ℕ) × (numbered w.frames frame ≡ Some bytes)
+refused_there w frame n word fault (inl no_node) given = let e = ap (λ f. not (changes_no_mark f)) no_node.1 in let no : false ≡ true = sym e ∙ given in absurd (cc)
+refused_there w frame n word fault (inr (there, inl no_frame)) given = let e = ap (λ f. not (changes_no_mark f)) no_frame.1 in let no : false ≡ true = sym e ∙ given in absurd (cc)
 refused_there w frame n word fault (inr (there, inr (sent, others))) given = some_by (numbered w.frames frame) sent
 
-marked_there : (old new : World) (frame n word : ℕ) (outcome : Result Answer WorldFault) → Outcome old (Deliver frame n word) outcome new → outcome ≢ Err Memory → is_given outcome ≡ true
+marked_there : (old new : World) (frame n word : ℕ) (outcome : Result Answer WorldFault) → Outcome old (Deliver frame n word) outcome new → outcome ≢ Err Memory → counts_as_given outcome ≡ true
     → (bytes : List ℕ) × (numbered old.frames frame ≡ Some bytes)
 unfolding Outcome
 marked_there old new frame n word (Ok answer) accepts had given = has_frame old frame n word accepts.no_refusal
@@ -94,7 +94,7 @@ marked_there old new frame n word (Err fault) rejects had given = elim rejects.c
 ]
 
 -- a frame that was given was there before, so that it has a mark
-pub frame_there : (old new : World) (frame n word : ℕ) (outcome : Result Answer WorldFault) → Outcome old (Deliver frame n word) outcome new → outcome ≢ Err Memory → is_given outcome ≡ true
+pub frame_there : (old new : World) (frame n word : ℕ) (outcome : Result Answer WorldFault) → Outcome old (Deliver frame n word) outcome new → outcome ≢ Err Memory → counts_as_given outcome ≡ true
     → (1 ≤ frame) × (frame ≤ length old.frames)
 frame_there old new frame n word outcome comes had given =
     let found = marked_there old new frame n word outcome comes had given in

@@ -10,7 +10,7 @@ use Rattle.world_core.specs.Outcome.{Outcome}
 use Rattle.world_core.specs.World.{World}
 use Rattle.scenario_stage.specs.Coded.{HandsOnUpTo, IsNoDelivery, PrintsOutcome}
 use Rattle.scenario_stage.specs.Meaning.{addressee}
-use Rattle.scenario_stage.specs.Obeying.{Comes, GoesOn, HandsOn, HandsOnEach, Happens, KeepsAll, Stage, given_by, is_given, outcome_line, waiting, with_given, with_new}
+use Rattle.scenario_stage.specs.Obeying.{Comes, GoesOn, HandsOn, HandsOnEach, Happens, KeepsAll, Stage, given_by, counts_as_given, outcome_line, waiting, with_given, with_new}
 use Rattle.scenario_stage.proofs.Marks.{given_then_new, given_twice, waits_within}
 use Rattle.scenario_stage.proofs.OneStage.{one_stage}
 use Rattle.scenario_stage.proofs.Passing.{frame_there, keep_is_accepted}
@@ -45,17 +45,17 @@ marks_after false n frame marks there = refl
 
 pub comes_delivery : (old between new : Stage) (frame node word : ℕ) (outcome : Result Answer WorldFault) → Outcome old.world (events.Deliver frame node word) outcome between.world → outcome ≢ Err Memory
     → between.given ≡ with_new (length between.world.frames) old.given → length old.given ≡ length old.world.frames → new.world ≡ between.world
-    → new.given ≡ (if is_given outcome then with_given frame between.given else between.given) → Comes old (events.Deliver frame node word) outcome new
+    → new.given ≡ (if counts_as_given outcome then with_given frame between.given else between.given) → Comes old (events.Deliver frame node word) outcome new
 comes_delivery old between new frame node word outcome is had room marks world given =
     let n = length between.world.frames in
-    let there : is_given outcome ≡ true → (1 ≤ frame) × (frame ≤ length old.given) =
+    let there : counts_as_given outcome ≡ true → (1 ≤ frame) × (frame ≤ length old.given) =
     λ yes. let here = frame_there old.world between.world frame node word outcome is had yes in (here.0, omega (arith, here.1, marks)) in
     record {
       outcome_is = subst (Outcome old.world (events.Deliver frame node word) outcome) (sym world) is;
       had_memory = had;
       given =
-          given ∙ ap (λ (m : List Bool). if is_given outcome then with_given frame m else m) room ∙ marks_after (is_given outcome) n frame old.given there
-          ∙ ap (λ (w : World). with_new (length w.frames) (if is_given outcome then with_given frame old.given else old.given)) (sym world);
+          given ∙ ap (λ (m : List Bool). if counts_as_given outcome then with_given frame m else m) room ∙ marks_after (counts_as_given outcome) n frame old.given there
+          ∙ ap (λ (w : World). with_new (length w.frames) (if counts_as_given outcome then with_given frame old.given else old.given)) (sym world);
     }
 
 -- ---- handing on
@@ -72,10 +72,10 @@ pub hands_on : (old between new : Stage) (frame node : ℕ) (outcome : Result An
 hands_on old between new frame node outcome to waits is had room world given =
     let there = waits_within 1 frame old.given waits in
     let n = length between.world.frames in
-    let marked : List Bool = with_new n (if is_given outcome then with_given frame old.given else old.given) in
+    let marked : List Bool = with_new n (if counts_as_given outcome then with_given frame old.given else old.given) in
     let told : Stage = record { world = between.world; given = marked } in
     let set : with_given frame between.given ≡ with_given frame marked =
-    ap (with_given frame) room ∙ marks_set (is_given outcome) n frame old.given (there.0, omega (arith, there.1)) in
+    ap (with_given frame) room ∙ marks_set (counts_as_given outcome) n frame old.given (there.0, omega (arith, there.1)) in
     record {
       outcome = outcome;
       between = told;

@@ -17,7 +17,7 @@ use Rattle.scenario_text.specs.Commands as spoken
 use Rattle.scenario_text.specs.Commands.{Command}
 use Rattle.scenario_stage.specs.Meaning.{Look, addressee, event_of, look_of}
 use Rattle.scenario_stage.specs.Fault.{most_deliveries}
-use Rattle.scenario_stage.specs.Obeying.{Acts, ActsOrLooks, AreSent, Choices, GoesOn, HandsOnEach, Happens, IsNoNode, Keeps, Looks, Resolves, Settles, Stage, chosen_as, is_given, outcome_line, waiting}
+use Rattle.scenario_stage.specs.Obeying.{Acts, ActsOrLooks, AreSent, Choices, GoesOn, HandsOnEach, Happens, IsNoNode, KeepsHeld, Looks, Resolves, Settles, Stage, chosen_as, counts_as_given, outcome_line, waiting}
 use Rattle.scenario_stage.specs.declared.fault.StageFault.{StageFault}
 use Rattle.scenario_stage.specs.declared.fault.StageFault.TheVariants.{Limit, Memory}
 
@@ -72,7 +72,7 @@ LooksAt old command text_old text_new =
 -- of keeping
 abbrev pub KeepsOrNot : Stage → ℕ → (text_old text_new : List ℕ) → Stage → Type 0
 KeepsOrNot old node text_old text_new new = (added : List ℕ)
-    × (Keeps old node added new ⊎ IsNoNode old node added new)
+    × (KeepsHeld old node added new ⊎ IsNoNode old node added new)
     × (text_new ≡ text_old ++ added)
 
 -- of resolving, by what a resolver chooses
@@ -96,7 +96,7 @@ pub record HandsOnUpTo (old : Stage) (delivered : ℕ) (new : Stage) : Type 0 wh
 
 -- a frame that was delivered with this outcome, and was given, is there
 abbrev pub CanBeMarked : World → ℕ → Result Answer WorldFault → Type 0
-CanBeMarked w frame outcome = (outcome ≢ Err worlds.Memory) → (is_given outcome ≡ true)
+CanBeMarked w frame outcome = (outcome ≢ Err worlds.Memory) → (counts_as_given outcome ≡ true)
     → (1 ≤ frame) × (frame ≤ length w.frames)
 
 -- a command that is no settling

@@ -13,5 +13,5 @@ pub mod Fault
 pub mod Printed
 -- what a command prints, and what it leaves
 pub mod Obeying
--- what private functions alone cite: the types of the code, as what they stand for
+-- what private functions alone cite: what a command does, with the text that it adds
 pub mod Coded

@@ -47,12 +47,12 @@ abbrev pub AreSent : World → Result Answer WorldFault → List ℕ → Type 0
 AreSent w (Ok answer) text = AreLinesOf w answer.sent text
 AreSent w (Err fault) text = text ≡ []
 
--- 44, 42 and 40: after these the frame counts as not given
-abbrev pub stays_waiting : WorldFault → Bool
-stays_waiting NoSuchNode = true
-stays_waiting NoSuchFrame = true
-stays_waiting (Step OfStep.NotAddressed) = true
-stays_waiting fault = false
+-- 44, 42 and 40: after these the frame is as it was, given or not
+abbrev pub changes_no_mark : WorldFault → Bool
+changes_no_mark NoSuchNode = true
+changes_no_mark NoSuchFrame = true
+changes_no_mark (Step OfStep.NotAddressed) = true
+changes_no_mark fault = false
 
 -- the marks of so many frames; a new one was not given
 abbrev pub with_new : ℕ → List Bool → List Bool
@@ -62,20 +62,20 @@ with_new frames given = given ++ replicate (frames - length given) false
 abbrev pub with_given : ℕ → List Bool → List Bool
 with_given frame given = slice_set given (frame - 1) true
 
--- whether it was
+-- whether the frame of that number was given; not where there is none
 abbrev pub was_given : ℕ → List Bool → Bool
 was_given zero given = false
 was_given (suc place) given = unwrap_or (slice_get given place) false
 
 -- a frame that was delivered with this outcome was given
-abbrev pub is_given : Result Answer WorldFault → Bool
-is_given (Ok answer) = true
-is_given (Err fault) = not (stays_waiting fault)
+abbrev pub counts_as_given : Result Answer WorldFault → Bool
+counts_as_given (Ok answer) = true
+counts_as_given (Err fault) = not (changes_no_mark fault)
 
 -- which frames are given after an event with this outcome
 abbrev pub given_by : Event → Result Answer WorldFault → List Bool → List Bool
 given_by (events.Deliver frame n word) outcome given =
-    if is_given outcome then with_given frame given else given
+    if counts_as_given outcome then with_given frame given else given
 given_by event outcome given = given
 
 -- an event has this outcome, and the marks follow
@@ -116,7 +116,7 @@ KeepsAll old node (key ∷ keys) new = (answer : Answer) × (between : Stage)
     × Comes old (events.Keep node key) (Ok answer) between × KeepsAll between node keys new
 
 -- all that it holds
-pub record Keeps (old : Stage) (node : ℕ) (text : List ℕ) (new : Stage) : Type 0 where
+pub record KeepsHeld (old : Stage) (node : ℕ) (text : List ℕ) (new : Stage) : Type 0 where
   pub there : node < length old.world.nodes
   pub keeps : KeepsAll old node (map (λ row. row.0) (table_of old.world node)) new
   pub text_is : text ≡ line (codes "ok")
@@ -147,7 +147,7 @@ abbrev pub waiting : Stage → Option ℕ
 waiting s = first_waiting 1 s.given
 
 -- a frame is delivered to its addressee, with word 0; then it counts as given, whatever came of
--- that
+-- that: 44, 42 and 40 can't come, since the frame and its addressee are there
 pub record HandsOn (old : Stage) (frame : ℕ) (new : Stage) : Type 0 where
   pub outcome : Result Answer WorldFault
   pub between : Stage
@@ -188,7 +188,7 @@ ActsOrLooks old None (Some look) text new = Looks old look text new
 ActsOrLooks old None None text new = (text ≡ []) × (new ≡ old)
 
 abbrev pub Acts : Choices → Stage → Command → (text : List ℕ) → Stage → Type 0
-Acts choices old (Keep node) text new = Keeps old node text new ⊎ IsNoNode old node text new
+Acts choices old (Keep node) text new = KeepsHeld old node text new ⊎ IsNoNode old node text new
 Acts choices old (Resolve node key by) text new = Resolves old node key
     (chosen_by choices by (values_of (object_at (table_of old.world node) key))) text new
 Acts choices old Settle text new = Settles old text new
@@ -211,10 +211,10 @@ PassesLimit old Settle = GoesOn old
 PassesLimit old command = ⊥
 
 -- a command was obeyed, and the text that it prints was added behind what stood there; or it
--- passes the limit, or memory was wanting
-abbrev pub Does : Choices → Stage → Command → (text_old text_new : List ℕ) → Stage
+-- passes the limit, or memory was wanting, and then nothing is said of text and stage
+abbrev pub ObeysOrEnds : Choices → Stage → Command → (text_old text_new : List ℕ) → Stage
     → Result Unit StageFault → Type 0
-Does choices old command text_old text_new new (Ok done) = (added : List ℕ)
+ObeysOrEnds choices old command text_old text_new new (Ok done) = (added : List ℕ)
     × Obeys choices old command added new × (text_new ≡ text_old ++ added)
-Does choices old command text_old text_new new (Err stages.Limit) = PassesLimit old command
-Does choices old command text_old text_new new (Err stages.Memory) = Unit {0}
+ObeysOrEnds choices old command text_old text_new new (Err stages.Limit) = PassesLimit old command
+ObeysOrEnds choices old command text_old text_new new (Err stages.Memory) = Unit {0}

@@ -4,7 +4,7 @@ ghost use Rattle.std.specs.Prelude.{◌≡◌, ◌<◌, ◌≤◌, Some, length,
 ghost use Rattle.meta_frame.specs.Frame.{to_in};
 ghost use Rattle.scenario_stage.specs.Coded.{CanBeMarked, Delivers, HandsOnUpTo, HasSent, PrintsOutcome, SettlesOrPasses};
 ghost use Rattle.scenario_stage.specs.Meaning.{addressee};
-ghost use Rattle.scenario_stage.specs.Obeying.{HandsOn, is_given, stays_waiting, waiting, with_given, with_new};
+ghost use Rattle.scenario_stage.specs.Obeying.{HandsOn, counts_as_given, changes_no_mark, waiting, with_given, with_new};
 
 use crate::fault::StageFault;
 use crate::print::{lacks_memory, print_count, print_outcome};
@@ -18,8 +18,8 @@ const MAX_DELIVERIES: u64 = 100_000;
 
 /// Whether a frame that was refused so stays one that was not given: no node, or no frame, or
 /// another node was named.
-fn stays_waiting(fault: &WorldFault) -> bool
-    ensures { result ≡ stays_waiting fault.now }
+fn changes_no_mark(fault: &WorldFault) -> bool
+    ensures { result ≡ changes_no_mark fault.now }
 {
     matches!(
         fault,
@@ -28,12 +28,12 @@ fn stays_waiting(fault: &WorldFault) -> bool
 }
 
 /// Whether a frame that was delivered with this outcome was given.
-fn is_given(outcome: &Result<Answer, WorldFault>) -> bool
-    ensures { result ≡ is_given outcome.now }
+fn counts_as_given(outcome: &Result<Answer, WorldFault>) -> bool
+    ensures { result ≡ counts_as_given outcome.now }
 {
     match outcome {
         Ok(_) => true,
-        Err(fault) => !stays_waiting(fault),
+        Err(fault) => !changes_no_mark(fault),
     }
 }
 
@@ -123,12 +123,12 @@ impl Stage {
         requires there { CanBeMarked self.old.world frame outcome.now }
         ensures world { self.new.world ≡ self.old.world }
         ensures given { OnOk result (self.new.given ≡
-            (if is_given outcome.now then with_given frame self.old.given else self.old.given)) }
+            (if counts_as_given outcome.now then with_given frame self.old.given else self.old.given)) }
         ensures told { OnOk result (PrintsOutcome self.old.world outcome.now
             text.old.items text.new.items) }
     {
         print_outcome(self.alloc, text, &self.world, outcome)?;
-        if is_given(outcome) {
+        if counts_as_given(outcome) {
             return self.mark(frame);
         }
         Ok(())

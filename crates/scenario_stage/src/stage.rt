@@ -4,7 +4,7 @@ ghost use Rattle.std.specs.Prelude.{◌≡◌, ◌≤◌, ℕ, List, ◌++◌, N
 ghost use Rattle.scenario_stage.specs.Coded.{ActsAs, ActsOrLooksAs, IsActOrLook, IsAtOnce, IsNoDelivery};
 ghost use Rattle.scenario_text.specs.Coded.{command_word};
 ghost use Rattle.scenario_text.specs.Commands.{fault_in};
-ghost use Rattle.scenario_stage.specs.Obeying.{Does, Happens, opening, was_given, with_new};
+ghost use Rattle.scenario_stage.specs.Obeying.{ObeysOrEnds, Happens, opening, was_given, with_new};
 ghost use Rattle.world_core.specs.Outcome.{Passes};
 
 use crate::event::event_of;
@@ -17,7 +17,7 @@ use std::marker::Model;
 use world_core::{Answer, Event, World, WorldFault};
 
 /// A world, and which of its frames were given to their addressee: there are marks for a front of
-/// them, and those behind were not given. So many marks at the front all say so: a settling begins
+/// them, and those behind were not given. The first `settled` marks all say so: a settling begins
 /// behind them, and looks at no frame twice.
 #[derive(Drop)]
 pub struct Stage {
@@ -86,7 +86,7 @@ impl Stage {
         resolvers: &[Box<dyn Resolver>],
         text: &mut Vec<u8>,
     ) -> Result<(), StageFault>
-        ensures { Does (map (λ r. choice r) resolvers.now) self.old (command_word command.now)
+        ensures { ObeysOrEnds (map (λ r. choice r) resolvers.now) self.old (command_word command.now)
             text.old.items text.new.items self.new result }
     {
         match command.fault() {
@@ -103,7 +103,7 @@ impl Stage {
         text: &mut Vec<u8>,
     ) -> Result<(), StageFault>
         requires lawful { fault_in (command_word command.now) ≡ None }
-        ensures { Does (map (λ r. choice r) resolvers.now) self.old (command_word command.now)
+        ensures { ObeysOrEnds (map (λ r. choice r) resolvers.now) self.old (command_word command.now)
             text.old.items text.new.items self.new result }
     {
         match command {
