@@ -7,13 +7,9 @@
 // So where memory is wanting a test ends on the spot, by `expect`, which drops nothing.
 
 #[cfg(test)]
-mod clocks;
-#[cfg(test)]
-mod examples;
+mod example;
 #[cfg(test)]
 mod images;
-#[cfg(test)]
-mod listing;
 #[cfg(test)]
 mod names;
 #[cfg(test)]
