@@ -1,50 +1,31 @@
 //! The example of `dvvset`, with letters for values.
 
-use crate::parts::{actor, object, value};
-use dvvset::{Entries, Vector, join, sync, update, values};
+use crate::parts::{actor, is_object, value};
+use dvvset::{Entries, Vector, join, sync, update};
 use std::alloc::Global;
 use std::process::Abort;
 
-/// What a write makes of an object, of which it has read all, or nothing.
-fn write(
-    rt: &impl Abort,
-    alloc: Global,
-    object: &Entries,
-    has_read: bool,
-    id: u16,
-    letter: u8,
-) -> Entries {
-    let read = match has_read {
-        true => join(alloc, object)
-            .or(join(alloc, object))
-            .expect(rt, "memory"),
-        false => Vector::empty(alloc),
-    };
-    let (once, again) = (value(rt, alloc, letter, 1), value(rt, alloc, letter, 1));
-    let id = actor(rt, id, 1);
-    update(alloc, &read, object, id, once)
-        .or(update(alloc, &read, object, id, again))
-        .expect(rt, "a write")
+/// Two writes that know nothing of each other, merged.
+fn both(rt: &impl Abort, alloc: Global) -> Entries {
+    let (blind, absent) = (Vector::empty(alloc), Entries::empty(alloc));
+    let red = value(rt, alloc, b'r', 1);
+    let here = update(alloc, &blind, &absent, actor(rt, 0, 1), red).expect(rt, "a write");
+    let blue = value(rt, alloc, b'b', 1);
+    let there = update(alloc, &blind, &absent, actor(rt, 1, 1), blue).expect(rt, "a write");
+    sync(alloc, &here, &there).expect(rt, "memory")
 }
 
-// Holds whichever single allocation is refused: a call that was refused memory succeeds when it is
-// made again. Allocates at most 60 times.
+/// A write over all that an object shows.
+fn after(rt: &impl Abort, alloc: Global, both: &Entries) -> Entries {
+    let read = join(alloc, both).expect(rt, "memory");
+    let green = value(rt, alloc, b'g', 1);
+    update(alloc, &read, both, actor(rt, 1, 1), green).expect(rt, "a write")
+}
+
 #[test]
-fn siblings_stand_until_a_write_has_read_them_under_refused_memory(rt: HostRuntime) {
-    let alloc = rt.alloc();
-    let absent = Entries::empty(alloc);
-    let here = write(&rt, alloc, &absent, false, 0, b'r');
-    let there = write(&rt, alloc, &absent, false, 1, b'b');
-    let both = sync(alloc, &here, &there)
-        .or(sync(alloc, &here, &there))
-        .expect(&rt, "memory");
-    assert!(rt; both == object(&rt, alloc, &[(0, 1, 1, b"r"), (1, 1, 1, b"b")]));
-    let shown = values(alloc, &both)
-        .or(values(alloc, &both))
-        .expect(&rt, "memory");
-    assert!(rt;
-        shown.as_slice() == [value(&rt, alloc, b'r', 1), value(&rt, alloc, b'b', 1)].as_slice()
-    );
-    let after = write(&rt, alloc, &both, true, 1, b'g');
-    assert!(rt; after == object(&rt, alloc, &[(0, 1, 1, b""), (1, 1, 2, b"g")]));
+fn siblings_stand_until_a_write_has_read_them(rt: HostRuntime) {
+    let both = both(&rt, rt.alloc());
+    assert!(rt; is_object(&rt, rt.alloc(), &both, &[(0, 1, 1, b"r"), (1, 1, 1, b"b")]));
+    let after = after(&rt, rt.alloc(), &both);
+    assert!(rt; is_object(&rt, rt.alloc(), &after, &[(0, 1, 1, b""), (1, 1, 2, b"g")]));
 }
