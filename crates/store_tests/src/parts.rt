@@ -1,8 +1,7 @@
 //! Names, values and objects, by letters and numbers.
 //!
-//! What takes memory is asked for twice here and in the tests, by `or`, and what was given first
-//! counts. So a test passes whichever single allocation is refused, as long as what was refused is
-//! given when it is asked for once more.
+//! What takes memory is asked for once more where it is refused, here and in the tests. So a test
+//! passes whichever single allocation is refused, as long as it is given then.
 
 use dvvset::{Entries, Entry};
 use meta_types::{Actor, FullPrefix, MetaKey, NodeId, Value};
@@ -15,9 +14,10 @@ pub type Part = (u16, u32, u64, &'static [u8]);
 
 /// A list with room for so many.
 pub fn room<T: Drop>(rt: &impl Abort, alloc: Global, many: usize) -> Vec<T> {
-    Vec::with_capacity(alloc, many)
-        .or(Vec::with_capacity(alloc, many))
-        .expect(rt, "memory")
+    match Vec::with_capacity(alloc, many) {
+        Ok(room) => room,
+        Err(_) => Vec::with_capacity(alloc, many).expect(rt, "memory once more"),
+    }
 }
 
 pub fn actor(rt: &impl Abort, node: u16, life: u32) -> Actor {
@@ -26,9 +26,10 @@ pub fn actor(rt: &impl Abort, node: u16, life: u32) -> Actor {
 
 /// The letter, so many times.
 fn text(rt: &impl Abort, alloc: Global, letter: u8, len: usize) -> Vec<u8> {
-    vec![in alloc; letter; len]
-        .or(vec![in alloc; letter; len])
-        .expect(rt, "memory")
+    match vec![in alloc; letter; len] {
+        Ok(text) => text,
+        Err(_) => vec![in alloc; letter; len].expect(rt, "memory once more"),
+    }
 }
 
 /// A key of so many letters, under a full prefix of the longest names.

@@ -304,7 +304,7 @@ fn objects_are_held_by_the_rules_and_up_to_the_limits(rt: HostRuntime) {
 
 // Holds whichever single allocation is refused: a call that was refused memory answers `Memory` and
 // leaves the store as it was, so that it succeeds when it is made again.
-// Allocates at most 60 times.
+// Allocates at most 55 times.
 #[test]
 fn writes_merges_and_reads_succeed_again_under_refused_memory(rt: HostRuntime) {
     assert!(rt; is_played(&rt, rt.alloc(), &EACH_CALL));
