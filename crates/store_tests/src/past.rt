@@ -46,7 +46,7 @@ fn history(rt: &impl Abort, alloc: Global) -> Vec<Happening> {
     history
 }
 
-// Each of the next three is asked once more where memory was refused.
+// Each of the next three is asked twice, and one of the answers may be a refusal.
 
 fn knows(
     rt: &impl Abort,
@@ -87,23 +87,21 @@ fn shows(
     shown.expect(rt, "memory").as_slice() == values(rt, alloc, letters, 1, 1).as_slice()
 }
 
-/// One write of each writer.
-fn counters(rt: &impl Abort) -> [Counter; 3] {
-    [
-        Counter::new(actor(rt, 0, 1), 1),
-        Counter::new(actor(rt, 1, 1), 1),
-        Counter::new(actor(rt, 1, 2), 1),
-    ]
-}
-
 /// Whether node 1 knows both of its writes and what they had read.
 fn is_told(rt: &impl Abort, alloc: Global, plain: &Plain) -> bool {
     let (node, key) = (actor(rt, 1, 1).node(), key(rt, alloc, b'k', 1));
+    let counters = [
+        Counter::new(actor(rt, 0, 1), 1),
+        Counter::new(actor(rt, 1, 1), 1),
+        Counter::new(actor(rt, 1, 2), 1),
+    ];
     knows(rt, alloc, plain, (node, &key), &[0, 2, 4])
-        && counts(rt, alloc, plain, (node, &key), &counters(rt))
+        && counts(rt, alloc, plain, (node, &key), &counters)
         && shows(rt, alloc, plain, (node, &key), b"yz")
 }
 
+/// Whether that is told of the history; where memory was refused, whether its account can then be
+/// made.
 fn are_told(rt: &impl Abort, alloc: Global, history: &[Happening]) -> bool {
     assert!(rt; fits(history));
     match Plain::replay(alloc, history) {
