@@ -1,19 +1,12 @@
-//! The tests of `meta_types`, `dvvset`, `past_model`, `meta_store` and `node_images`, over their
-//! public calls and apart from them: a crate is proved once more with its tests. No crate uses this
-//! one.
+//! The tests of `meta_types`, `dvvset`, `past_model` and `meta_store`, over their public calls and
+//! apart from them: a crate is proved once more with its tests. No crate uses this one.
 #![tactic(auto)]
 
 // What is proved of a function grows with the places at which it may end while it owns something.
 // So where memory is wanting a test ends on the spot, by `expect`, which drops nothing.
 
 #[cfg(test)]
-mod clocks;
-#[cfg(test)]
-mod examples;
-#[cfg(test)]
-mod images;
-#[cfg(test)]
-mod listing;
+mod example;
 #[cfg(test)]
 mod names;
 #[cfg(test)]
