@@ -9,10 +9,10 @@ use std::process::Abort;
 use world_core::{Answer, Event, World, WorldFault};
 
 /// How many events there are.
-pub const COUNT: usize = 16;
+pub const COUNT: usize = 17;
 
-/// Of each event the number of its refusal, or 0: two bytes are no frame.
-pub static CODES: [u16; COUNT] = [0, 0, 0, 0, 0, 0, 0, 0, 0, 0, 0, 0, 0, 0, 0, 10];
+/// Of each event the number of its refusal, or 0: there is no node 2, and two bytes are no frame.
+pub static CODES: [u16; COUNT] = [0, 44, 0, 0, 0, 0, 0, 0, 0, 0, 0, 0, 0, 0, 0, 0, 10];
 
 fn bytes(rt: &impl Abort, alloc: Global, text: &[u8]) -> Vec<u8> {
     match text.to_vec(alloc) {
@@ -49,27 +49,28 @@ pub fn put(rt: &impl Abort, alloc: Global, node: u64, read: Option<u64>) -> Even
 /// The event of that place: in a new world of two nodes they can all happen, in this order.
 pub fn event(rt: &impl Abort, alloc: Global, place: usize) -> Event {
     match place {
-        2 => put(rt, alloc, 0, None),
-        3 => Event::Get {
+        1 => put(rt, alloc, 2, None),
+        3 => put(rt, alloc, 0, None),
+        4 => Event::Get {
             node: 0,
             key: key(rt, alloc),
         },
-        4 => put(rt, alloc, 1, Some(1)),
-        5 => Event::PutOver {
+        5 => put(rt, alloc, 1, Some(1)),
+        6 => Event::PutOver {
             node: 0,
             key: key(rt, alloc),
             value: value(rt, alloc, b"y"),
         },
-        6 => Event::Keep {
+        7 => Event::Keep {
             node: 0,
             key: key(rt, alloc),
         },
-        7 => Event::Watch {
+        8 => Event::Watch {
             node: 0,
             prefix: prefix(rt, alloc),
             capacity: 1,
         },
-        15 => Event::Junk {
+        16 => Event::Junk {
             node: 0,
             bytes: ByteString::new(bytes(rt, alloc, b"PT")),
         },
@@ -85,21 +86,21 @@ fn small_event(place: usize) -> Event {
             contact: 0,
             word: 0,
         },
-        1 => Event::Deliver {
+        2 => Event::Deliver {
             frame: 1,
             node: 0,
             word: 0,
         },
-        8 => Event::Changes { node: 0, number: 1 },
-        9 => Event::Tick { node: 0, word: 0 },
-        10 => Event::Exchange { node: 0, peer: 1 },
-        11 => Event::Hello { node: 0, peer: 1 },
-        12 => Event::PeerDown {
+        9 => Event::Changes { node: 0, number: 1 },
+        10 => Event::Tick { node: 0, word: 0 },
+        11 => Event::Exchange { node: 0, peer: 1 },
+        12 => Event::Hello { node: 0, peer: 1 },
+        13 => Event::PeerDown {
             node: 1,
             peer: 0,
             word: 0,
         },
-        13 => Event::Leave { node: 0 },
+        14 => Event::Leave { node: 0 },
         _ => Event::Restart { node: 0, image: 1 },
     }
 }
@@ -130,4 +131,12 @@ pub fn code(outcome: &Result<Answer, WorldFault>) -> u16 {
         Ok(_) => 0,
         Err(fault) => fault.code(),
     }
+}
+
+/// Applies an event, and returns the number of its refusal, or 0.
+pub fn apply(world: &mut World, event: Event) -> u16 {
+    let outcome = world.apply(event);
+    let code = code(&outcome);
+    drop(outcome);
+    code
 }

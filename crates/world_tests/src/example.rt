@@ -4,7 +4,7 @@ use dvvset::Counter;
 use meta_types::{FullPrefix, MetaKey, Value};
 use std::alloc::Global;
 use std::process::Abort;
-use world_core::{Event, World, WorldFault};
+use world_core::{Event, World};
 
 fn bytes(rt: &impl Abort, alloc: Global, text: &str) -> Vec<u8> {
     text.as_bytes().to_vec(alloc).expect(rt, "memory")
@@ -57,76 +57,70 @@ fn counts_one_of_each(rt: &impl Abort, world: &World, key: &MetaKey) -> bool {
             .all(|(node, counter)| is_first_write(node, counter))
 }
 
-fn join(world: &mut World) -> Result<(), WorldFault> {
-    // Node 1 joins the cluster through node 0, by frame 1: a JOIN.
-    world.apply(Event::Join {
+fn apply(rt: &impl Abort, world: &mut World, event: Event) {
+    let answer = world.apply(event).expect(rt, "an event");
+    drop(answer);
+}
+
+fn put(
+    rt: &impl Abort,
+    alloc: Global,
+    world: &mut World,
+    node: u64,
+    text: &str,
+    read: Option<u64>,
+) {
+    let (key, value) = (colour(rt, alloc), value(rt, alloc, text));
+    let event = Event::Put {
+        node,
+        key,
+        value,
+        read,
+    };
+    apply(rt, world, event);
+}
+
+/// Node 1 joins the cluster through node 0, by frame 1: a JOIN.
+fn join(rt: &impl Abort, world: &mut World) {
+    let join = Event::Join {
         node: 1,
         contact: 0,
         word: 0,
-    })?;
-    world.apply(Event::Deliver {
-        frame: 1,
-        node: 0,
+    };
+    apply(rt, world, join);
+    deliver(rt, world, 1, 0);
+}
+
+/// Frames may be lost, repeated and reordered.
+fn deliver(rt: &impl Abort, world: &mut World, frame: u64, node: u64) {
+    let deliver = Event::Deliver {
+        frame,
+        node,
         word: 0,
-    })?;
-    Ok(())
-}
-
-fn write(world: &mut World, key: &MetaKey, red: Value, blue: Value) -> Result<(), WorldFault> {
-    // Both nodes write under app/flags/colour, neither knowing of the other's write. Each sends
-    // what it holds to the other, as frames 2 and 3: GOSSIP.
-    world.apply(Event::Put {
-        node: 0,
-        key: key.copy()?,
-        value: red,
-        read: None,
-    })?;
-    world.apply(Event::Put {
-        node: 1,
-        key: key.copy()?,
-        value: blue,
-        read: None,
-    })?;
-    Ok(())
-}
-
-fn deliver(world: &mut World) -> Result<(), WorldFault> {
-    // Frames may be lost, repeated and reordered. Node 1 takes frame 2.
-    world.apply(Event::Deliver {
-        frame: 2,
-        node: 1,
-        word: 0,
-    })?;
-    Ok(())
-}
-
-fn replace(world: &mut World, key: &MetaKey, green: Value) -> Result<(), WorldFault> {
-    // Node 1 shows red and blue, and the context 0.1:1,1.1:1. A write with that context replaces
-    // both.
-    world.apply(Event::Get {
-        node: 1,
-        key: key.copy()?,
-    })?;
-    world.apply(Event::Put {
-        node: 1,
-        key: key.copy()?,
-        value: green,
-        read: Some(1),
-    })?;
-    Ok(())
+    };
+    apply(rt, world, deliver);
 }
 
 #[test]
 fn two_nodes_join_write_and_deliver(rt: HostRuntime) {
     let alloc = rt.alloc();
     let key = colour(&rt, alloc);
-    let (red, blue) = (value(&rt, alloc, "red"), value(&rt, alloc, "blue"));
     let mut world = World::new(alloc, 2).expect(&rt, "a world");
-    join(&mut world).expect(&rt, "a join");
-    write(&mut world, &key, red, blue).expect(&rt, "two writes");
-    deliver(&mut world).expect(&rt, "a frame");
+    join(&rt, &mut world);
+    // Both nodes write under app/flags/colour, neither knowing of the other's write. Each sends
+    // what it holds to the other, as frames 2 and 3: GOSSIP. Node 1 takes frame 2.
+    put(&rt, alloc, &mut world, 0, "red", None);
+    put(&rt, alloc, &mut world, 1, "blue", None);
+    deliver(&rt, &mut world, 2, 1);
+    // Node 1 shows red and blue, and the context 0.1:1,1.1:1. A write with that context replaces
+    // both.
     assert!(rt; shows(&rt, &world, &key, &["red", "blue"]));
     assert!(rt; counts_one_of_each(&rt, &world, &key));
-    replace(&mut world, &key, value(&rt, alloc, "green")).expect(&rt, "a write");
+    let get = Event::Get {
+        node: 1,
+        key: colour(&rt, alloc),
+    };
+    apply(&rt, &mut world, get);
+    put(&rt, alloc, &mut world, 1, "green", Some(1));
     assert!(rt; shows(&rt, &world, &key, &["green"]));
 }

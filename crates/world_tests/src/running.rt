@@ -1,47 +1,21 @@
 //! Runs of events, and worlds of each size.
 
-use crate::events::{CODES, code, event, events, new_world, put};
+use crate::events::{CODES, code, events, new_world};
 use std::alloc::Global;
-use std::process::Abort;
-use world_core::{Answer, World, WorldFault};
+use world_core::{World, WorldFault};
 
-/// How many accepted events and their answers are copied as they are.
-fn copied(world: &World) -> usize {
-    world
-        .accepted()
-        .iter()
-        .filter(|accepted| {
-            matches!(accepted.answer.copy(), Ok(copy) if copy == accepted.answer)
-                && matches!(accepted.event.copy(), Ok(copy) if copy == accepted.event)
-        })
-        .count()
-}
-
-/// Applies the events one after the other, a refused one among them. Returns whether each gives
-/// what the run gave.
-fn are_applied(
-    rt: &impl Abort,
-    alloc: Global,
-    world: &mut World,
-    outcomes: &[Result<Answer, WorldFault>],
-) -> bool {
-    let mut same = outcomes.len() == CODES.len();
-    for (place, (outcome, wanted)) in outcomes.iter().zip(CODES).enumerate() {
-        same &= code(&world.apply(put(rt, alloc, 2, None))) == 44;
-        same &= *outcome == world.apply(event(rt, alloc, place)) && code(outcome) == wanted;
-    }
-    same
-}
-
+/// A run goes on after a refused event.
 #[test]
-fn a_run_answers_as_one_event_after_the_other(rt: HostRuntime) {
+fn each_kind_of_event_happens_in_a_run(rt: HostRuntime) {
     let alloc = rt.alloc();
-    let (mut ran, mut applied) = (new_world(&rt, alloc), new_world(&rt, alloc));
+    let mut world = new_world(&rt, alloc);
     let events = events(&rt, alloc);
-    let outcomes = ran.run(alloc, events.as_slice()).expect(&rt, "memory");
-    assert!(rt; are_applied(&rt, alloc, &mut applied, outcomes.as_slice()));
-    assert_eq!(rt; copied(&ran), 15);
-    assert_eq!(rt; ran.frame_count(), applied.frame_count());
+    let outcomes = world.run(alloc, events.as_slice()).expect(&rt, "memory");
+    assert_eq!(rt; outcomes.len(), CODES.len());
+    for (place, (outcome, wanted)) in outcomes.iter().zip(CODES).enumerate() {
+        assert_eq!(rt; code(outcome), wanted, "at {place}");
+    }
+    assert_eq!(rt; world.accepted().len(), 15);
 }
 
 fn is_refused(alloc: Global, nodes: u64) -> bool {
