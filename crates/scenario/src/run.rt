@@ -141,8 +141,8 @@ fn write_end<W: Sink>(
     flush(writer)
 }
 
-/// Writes the line of the fault that ends a scenario, if it has one, and passes on what was written;
-/// answers that fault, or the one that the writing meets.
+/// Writes the line of the fault that ends a scenario, if it has one, and passes on what was
+/// written. Answers that fault, or the one that the writing meets.
 pub fn end_run<W: Sink>(alloc: Global, writer: &mut W, fault: ScenarioFault) -> ScenarioFault
     ensures { ((result ≡ fault) × WritesEnd (W.failed writer.old) (W.failed writer.new)
         (W.passed_on writer.new) (end_line fault)

@@ -1,10 +1,10 @@
-//! A schedule: commands to four nodes, after each of which the nodes are compared with the past by
-//! sets.
+//! A schedule: commands to four nodes, which are compared with the past by sets meanwhile.
 
 use crate::past::{add_alike, is_right, keys};
 use crate::row::{Row, text_of};
 use crate::rows::print_line;
 use meta_types::MetaKey;
+use printing::print_number;
 use resolvers::Resolver;
 use scenario_stage::{Stage, StageFault};
 use scenario_text::parse;
@@ -34,8 +34,8 @@ pub fn tell_schedule(
     text.extend_from_slice(lacking.as_slice())
 }
 
-/// Adds the lines of what is wanted, as `least 25 deliver fresh`, of which the log has less, and `ends
-/// alike`, where it doesn't.
+/// Adds the lines of what is wanted, as `least 25 deliver fresh`, of which the log has less, and
+/// `ends alike`, where it doesn't.
 fn add_lacking(log: &str, wanted: &str, lacking: &mut Vec<u8>) -> Result<(), AllocError> {
     for line in wanted.lines() {
         if !has_least(log, line) {
@@ -154,7 +154,7 @@ fn add_delivery(text: &mut Vec<u8>, rest: &str, frames: u64) -> Result<(), Alloc
     let back = back.parse::<u64>().unwrap_or(1);
     let number = frames.saturating_add(1).saturating_sub(back);
     text.extend_from_slice(b"deliver ")?;
-    printing::print_number(text, number)?;
+    print_number(text, number)?;
     print_line(text, " ", more)
 }
 

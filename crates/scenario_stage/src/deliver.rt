@@ -122,8 +122,8 @@ impl Stage {
         requires sent { HasSent self.old.world outcome.now }
         requires there { CanBeMarked self.old.world frame outcome.now }
         ensures world { self.new.world ≡ self.old.world }
-        ensures given { OnOk result (self.new.given ≡
-            (if counts_as_given outcome.now then with_given frame self.old.given else self.old.given)) }
+        ensures given { OnOk result (self.new.given ≡ (if counts_as_given outcome.now
+            then with_given frame self.old.given else self.old.given)) }
         ensures told { OnOk result (PrintsOutcome self.old.world outcome.now
             text.old.items text.new.items) }
     {

@@ -86,8 +86,8 @@ impl Stage {
         resolvers: &[Box<dyn Resolver>],
         text: &mut Vec<u8>,
     ) -> Result<(), StageFault>
-        ensures { ObeysOrEnds (map (λ r. choice r) resolvers.now) self.old (command_word command.now)
-            text.old.items text.new.items self.new result }
+        ensures { ObeysOrEnds (map (λ r. choice r) resolvers.now) self.old
+            (command_word command.now) text.old.items text.new.items self.new result }
     {
         match command.fault() {
             Some(fault) => Ok(print_name_fault(text, &fault)?),
@@ -103,8 +103,8 @@ impl Stage {
         text: &mut Vec<u8>,
     ) -> Result<(), StageFault>
         requires lawful { fault_in (command_word command.now) ≡ None }
-        ensures { ObeysOrEnds (map (λ r. choice r) resolvers.now) self.old (command_word command.now)
-            text.old.items text.new.items self.new result }
+        ensures { ObeysOrEnds (map (λ r. choice r) resolvers.now) self.old
+            (command_word command.now) text.old.items text.new.items self.new result }
     {
         match command {
             Command::Settle => self.settle(text),

@@ -42,8 +42,8 @@ fn each_kind_of_event_happens_again_under_refused_memory(rt: HostRuntime) {
     assert_eq!(rt; known(&rt, alloc, &world, 1, &key), 2);
 }
 
-/// What comes of the events. They are run once more where there was no memory for the outcomes: then
-/// none was applied.
+/// What comes of the events. They are run once more where there was no memory for the outcomes:
+/// then none was applied.
 fn outcomes(
     rt: &impl Abort,
     alloc: Global,
