@@ -1,7 +1,7 @@
 //! The example of README.md.
 
-use dvvset::Counter;
 use meta_types::{FullPrefix, MetaKey, Value};
+use printing::print_object;
 use std::alloc::Global;
 use std::process::Abort;
 use world_core::{Event, World};
@@ -21,40 +21,13 @@ fn value(rt: &impl Abort, alloc: Global, text: &str) -> Value {
     Value::new(0, Some(bytes(rt, alloc, text))).expect(rt, "a value")
 }
 
-fn is_text(value: &Value, text: &str) -> bool {
-    match value.body() {
-        Some(body) => body == text.as_bytes(),
-        None => false,
-    }
-}
-
-/// Returns whether node 1 shows these values under the key, in this order.
-fn shows(rt: &impl Abort, world: &World, key: &MetaKey, texts: &[&str]) -> bool {
+/// What node 1 shows under the key, as it is printed.
+fn shown(rt: &impl Abort, alloc: Global, world: &World, key: &MetaKey) -> Vec<u8> {
     let store = world.state(1).expect(rt, "a node").store();
-    let (values, _) = store.get(key).expect(rt, "memory");
-    values.len() == texts.len()
-        && values
-            .iter()
-            .zip(texts)
-            .all(|(value, text)| is_text(value, text))
-}
-
-/// Returns whether it counts one write of the node in its first life.
-fn is_first_write(node: usize, counter: &Counter) -> bool {
-    let writer = counter.id();
-    usize::from(writer.node().number()) == node && writer.incarnation() == 1 && counter.count() == 1
-}
-
-/// Returns whether the context that node 1 shows counts a write of each node.
-fn counts_one_of_each(rt: &impl Abort, world: &World, key: &MetaKey) -> bool {
-    let store = world.state(1).expect(rt, "a node").store();
-    let (_, context) = store.get(key).expect(rt, "memory");
-    let counters = context.counters();
-    counters.len() == 2
-        && counters
-            .iter()
-            .enumerate()
-            .all(|(node, counter)| is_first_write(node, counter))
+    let object = store.object(key).expect(rt, "an object");
+    let mut text = Vec::new(alloc);
+    print_object(&mut text, object).expect(rt, "memory");
+    text
 }
 
 fn apply(rt: &impl Abort, world: &mut World, event: Event) {
@@ -114,13 +87,17 @@ fn two_nodes_join_write_and_deliver(rt: HostRuntime) {
     deliver(&rt, &mut world, 2, 1);
     // Node 1 shows red and blue, and the context 0.1:1,1.1:1. A write with that context replaces
     // both.
-    assert!(rt; shows(&rt, &world, &key, &["red", "blue"]));
-    assert!(rt; counts_one_of_each(&rt, &world, &key));
+    let both = shown(&rt, alloc, &world, &key);
+    assert_eq!(rt;
+        both.as_slice(),
+        b"ctx 0.1:1,1.1:1 values red,blue".as_slice()
+    );
     let get = Event::Get {
         node: 1,
         key: colour(&rt, alloc),
     };
     apply(&rt, &mut world, get);
     put(&rt, alloc, &mut world, 1, "green", Some(1));
-    assert!(rt; shows(&rt, &world, &key, &["green"]));
+    let one = shown(&rt, alloc, &world, &key);
+    assert_eq!(rt; one.as_slice(), b"ctx 0.1:1,1.1:2 values green".as_slice());
 }

@@ -1,8 +1,20 @@
 //! Runs of events, and worlds of each size.
 
-use crate::events::{CODES, code, events, new_world};
+use crate::events::{CODES, COUNT, code, events, key, new_world};
 use std::alloc::Global;
-use world_core::{World, WorldFault};
+use std::process::Abort;
+use world_core::{Answer, World, WorldFault};
+
+/// How many writes the node knows under the key.
+fn known(rt: &impl Abort, alloc: Global, world: &World, node: u64) -> usize {
+    let places = world.known(alloc, node, &key(rt, alloc));
+    places.expect(rt, "memory").len()
+}
+
+/// The number of the refusal at that place, or 0.
+fn code_at(rt: &impl Abort, outcomes: &[Result<Answer, WorldFault>], place: usize) -> u16 {
+    code(outcomes.get(place).expect(rt, "an outcome"))
+}
 
 /// A run goes on after a refused event.
 #[test]
@@ -11,11 +23,15 @@ fn each_kind_of_event_happens_in_a_run(rt: HostRuntime) {
     let mut world = new_world(&rt, alloc);
     let events = events(&rt, alloc);
     let outcomes = world.run(alloc, events.as_slice()).expect(&rt, "memory");
-    assert_eq!(rt; outcomes.len(), CODES.len());
-    for (place, (outcome, wanted)) in outcomes.iter().zip(CODES).enumerate() {
-        assert_eq!(rt; code(outcome), wanted, "at {place}");
+    assert_eq!(rt; outcomes.len(), COUNT);
+    for place in 0..COUNT {
+        let code = code_at(&rt, outcomes.as_slice(), place);
+        assert_eq!(rt; Some(&code), CODES.get(place), "at {place}");
     }
     assert_eq!(rt; world.accepted().len(), 15);
+    // Node 0 restarted from its first image; node 1 has read that write, and written another.
+    assert_eq!(rt; known(&rt, alloc, &world, 0), 1);
+    assert_eq!(rt; known(&rt, alloc, &world, 1), 2);
 }
 
 fn is_refused(alloc: Global, nodes: u64) -> bool {
