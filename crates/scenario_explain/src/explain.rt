@@ -49,8 +49,8 @@ fn explain_text<W: Sink>(
 /// indented by two spaces, a line for each frame that is on its way, which is one that was never
 /// given to its addressee, in the order of their numbers; and a line for each key under which a
 /// node shows other siblings or another context than before, `ctx - values -` where a restart has
-/// taken them away. It ends as `run_over` does, and for the same faults. It takes memory besides for a
-/// copy of what each node holds.
+/// taken them away. It ends as `run_over` does, and for the same faults. It takes memory besides
+/// for a copy of what each node holds. No contract states any of this.
 pub fn explain_over<R: Source, W: Sink>(
     alloc: Global,
     reader: &mut R,
