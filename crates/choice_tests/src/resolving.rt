@@ -5,24 +5,38 @@ use resolvers::{Largest, Lww, Resolver};
 use std::alloc::Global;
 use std::process::Abort;
 
-/// A value as a row writes it: `~` is a tombstone, and all else is a body.
-#[derive(Clone, Copy)]
-struct Sibling {
-    text: &'static str,
-    stamp: u64,
-}
+/// A body and a stamp; `~` is a tombstone.
+type Sibling = (&'static str, u64);
 
-const fn stamped(text: &'static str, stamp: u64) -> Sibling {
-    Sibling { text, stamp }
-}
+/// Siblings, and the place of the one that is chosen.
+type Row = (&'static [Sibling], usize);
+
+static LAST_WRITERS: [Row; 6] = [
+    (&[("~", 0), ("w", 0)], 1),
+    (&[("x", 5), ("y", 4)], 0),
+    (&[("~", 0), ("", 0)], 1),
+    (&[("x", 0), ("x", 0)], 0),
+    (&[("~", 9), ("x", 5)], 0),
+    (&[("a", 1), ("c", 2), ("b", 2)], 1),
+];
+
+static LARGEST: [Row; 5] = [
+    (&[("x", 5), ("y", 4)], 1),
+    (&[("x", 1), ("x", 5)], 1),
+    (&[("~", 9), ("x", 0)], 1),
+    (&[("ab", 0), ("b", 0), ("a", 0)], 1),
+    (&[("~", 1), ("~", 1)], 0),
+];
+
+static GREATEST_WRITERS: [Row; 1] = [(&[("x", 9), ("~", 1), ("y", 2)], 2)];
 
 fn value(rt: &impl Abort, alloc: Global, sibling: &Sibling) -> Value {
-    let body = if sibling.text == "~" {
-        None
-    } else {
-        Some(sibling.text.as_bytes().to_vec(alloc).expect(rt, "memory"))
+    let (text, stamp) = sibling;
+    let body = match *text {
+        "~" => None,
+        text => Some(text.as_bytes().to_vec(alloc).expect(rt, "memory")),
     };
-    Value::new(sibling.stamp, body).expect(rt, "a value")
+    Value::new(*stamp, body).expect(rt, "a value")
 }
 
 /// The place that the resolver chooses, as a caller has it who was handed the resolver.
@@ -40,36 +54,9 @@ fn place(
     resolver.resolve(values.as_slice())
 }
 
-#[test]
-fn the_last_writer_wins(rt: HostRuntime) {
-    let alloc = rt.alloc();
-    let lww: Box<dyn Resolver> = Box::new(alloc, Lww).expect(&rt, "memory");
-    let rows: [(&[Sibling], usize); 6] = [
-        (&[stamped("~", 0), stamped("w", 0)], 1),
-        (&[stamped("x", 5), stamped("y", 4)], 0),
-        (&[stamped("~", 0), stamped("", 0)], 1),
-        (&[stamped("x", 0), stamped("x", 0)], 0),
-        (&[stamped("~", 9), stamped("x", 5)], 0),
-        (&[stamped("a", 1), stamped("c", 2), stamped("b", 2)], 1),
-    ];
-    for (siblings, chosen) in &rows {
-        assert_eq!(rt; place(&rt, alloc, &lww, siblings), *chosen);
-    }
-}
-
-#[test]
-fn the_largest_wins(rt: HostRuntime) {
-    let alloc = rt.alloc();
-    let largest: Box<dyn Resolver> = Box::new(alloc, Largest).expect(&rt, "memory");
-    let rows: [(&[Sibling], usize); 5] = [
-        (&[stamped("x", 5), stamped("y", 4)], 1),
-        (&[stamped("x", 1), stamped("x", 5)], 1),
-        (&[stamped("~", 9), stamped("x", 0)], 1),
-        (&[stamped("ab", 0), stamped("b", 0), stamped("a", 0)], 1),
-        (&[stamped("~", 1), stamped("~", 1)], 0),
-    ];
-    for (siblings, chosen) in &rows {
-        assert_eq!(rt; place(&rt, alloc, &largest, siblings), *chosen);
+fn chooses(rt: &impl Abort, alloc: Global, resolver: &Box<dyn Resolver>, rows: &[Row]) {
+    for (siblings, chosen) in rows {
+        assert_eq!(rt; place(rt, alloc, resolver, siblings), *chosen);
     }
 }
 
@@ -89,9 +76,12 @@ impl Resolver for GreatestWriter {
 }
 
 #[test]
-fn a_resolver_of_ones_own_chooses(rt: HostRuntime) {
+fn each_resolver_chooses_its_sibling(rt: HostRuntime) {
     let alloc = rt.alloc();
+    let lww: Box<dyn Resolver> = Box::new(alloc, Lww).expect(&rt, "memory");
+    chooses(&rt, alloc, &lww, &LAST_WRITERS);
+    let largest: Box<dyn Resolver> = Box::new(alloc, Largest).expect(&rt, "memory");
+    chooses(&rt, alloc, &largest, &LARGEST);
     let own: Box<dyn Resolver> = Box::new(alloc, GreatestWriter).expect(&rt, "memory");
-    let siblings = [stamped("x", 9), stamped("~", 1), stamped("y", 2)];
-    assert_eq!(rt; place(&rt, alloc, &own, &siblings), 2);
+    chooses(&rt, alloc, &own, &GREATEST_WRITERS);
 }

@@ -4,7 +4,7 @@ use dvvset::{Counter, Vector};
 use meta_types::{Actor, FullPrefix, MetaKey, NodeId};
 use std::alloc::Global;
 use std::process::Abort;
-use subscriptions::{Change, Watch, WatchFault};
+use subscriptions::{Change, Watch};
 
 // What takes memory here is asked for once more where it is refused, so that the test under refused
 // memory gets its watch whichever single allocation is refused.
@@ -51,40 +51,43 @@ fn watch(rt: &impl Abort, alloc: Global, changes: &[(&str, &str)]) -> Watch {
     watch
 }
 
-/// The watch has missed so many changes, and hands out changes of these keys, in this order.
-fn hands_out(rt: &impl Abort, watch: &mut Watch, missed: u64, keys: &[&str]) {
-    assert_eq!(rt; watch.missed(), missed);
+/// What a watch hands out: the keys of its changes, one after the other.
+fn handed_out(rt: &impl Abort, alloc: Global, watch: &mut Watch) -> Vec<u8> {
+    let mut keys = Vec::new(alloc);
     let changes = watch.take().expect(rt, "memory");
-    assert_eq!(rt; changes.len(), keys.len());
-    for (change, key) in changes.iter().zip(keys) {
-        assert_eq!(rt; change.key.key(), key.as_bytes());
+    for change in changes.as_slice() {
+        keys.extend_from_slice(change.key.key())
+            .expect(rt, "memory");
     }
+    keys
 }
+
+/// The watch has missed so many changes, and hands out changes of these keys, in this order.
+fn hands_out(rt: &impl Abort, alloc: Global, watch: &mut Watch, missed: u64, keys: &[u8]) {
+    assert_eq!(rt; watch.missed(), missed);
+    assert_eq!(rt; handed_out(rt, alloc, watch).as_slice(), keys);
+}
+
+static CHANGES: [(&str, &str); 4] = [("b", "k"), ("b", "l"), ("c", "x"), ("b", "m")];
 
 #[test]
 fn the_oldest_change_is_missed_where_there_is_no_room(rt: HostRuntime) {
     let alloc = rt.alloc();
-    let mut watch = watch(
-        &rt,
-        alloc,
-        &[("b", "k"), ("b", "l"), ("c", "x"), ("b", "m")],
-    );
+    let mut watch = watch(&rt, alloc, &CHANGES);
     let mut copy = watch.copy().expect(&rt, "memory");
-    hands_out(&rt, &mut watch, 1, &["l", "m"]);
-    hands_out(&rt, &mut watch, 0, &[]);
-    hands_out(&rt, &mut copy, 1, &["l", "m"]);
+    hands_out(&rt, alloc, &mut watch, 1, b"lm");
+    hands_out(&rt, alloc, &mut watch, 0, b"");
+    hands_out(&rt, alloc, &mut copy, 1, b"lm");
 }
+
+/// Capacities, and whether a watch may have them.
+static CAPACITIES: [(usize, bool); 4] = [(0, false), (1, true), (1024, true), (1025, false)];
 
 #[test]
 fn a_watch_has_room_for_1_to_1024_changes(rt: HostRuntime) {
-    let alloc = rt.alloc();
-    for (capacity, is_taken) in [(0, false), (1, true), (1024, true), (1025, false)] {
-        let watch = Watch::new(alloc, prefix(&rt, alloc, "b"), capacity);
-        assert_eq!(rt; watch.is_ok(), is_taken);
-    }
-    for capacity in [0, 1025] {
-        let refused = Watch::new(alloc, prefix(&rt, alloc, "b"), capacity);
-        assert!(rt; matches!(refused, Err(WatchFault::BadWatch)));
+    for (capacity, is_taken) in &CAPACITIES {
+        let watch = Watch::new(rt.alloc(), prefix(&rt, rt.alloc(), "b"), *capacity);
+        assert_eq!(rt; watch.is_ok(), *is_taken, "at {capacity}");
     }
 }
 
@@ -92,8 +95,8 @@ fn a_watch_has_room_for_1_to_1024_changes(rt: HostRuntime) {
 #[test]
 fn a_take_is_made_again_under_refused_memory(rt: HostRuntime) {
     let alloc = rt.alloc();
-    let mut watch = watch(&rt, alloc, &[("b", "k"), ("b", "l"), ("b", "m")]);
+    let mut watch = watch(&rt, alloc, &CHANGES);
     if watch.take().is_err() {
-        hands_out(&rt, &mut watch, 1, &["l", "m"]);
+        hands_out(&rt, alloc, &mut watch, 1, b"lm");
     }
 }
