@@ -1,23 +1,31 @@
 //! Names, values and objects, by letters and numbers.
 //!
-//! What takes memory is asked for once more where it is refused, here and in the tests. So a test
-//! passes whichever single allocation is refused, as long as it is given then.
+//! What takes memory is asked for twice here, and in the tests once more where it is refused. So a
+//! test passes whichever single allocation is refused, as long as it is given then.
 
 use dvvset::{Entries, Entry};
 use meta_types::{Actor, FullPrefix, MetaKey, NodeId, Value};
-use std::alloc::Global;
+use std::alloc::{AllocError, Global};
 use std::process::Abort;
 
 /// A node, in how many lives it wrote, how many events it had in each, and the letters of the
 /// values of the newest of them, newest first.
 pub type Part = (u16, u32, u64, &'static [u8]);
 
+/// One of two answers to one question, of which one may be a refusal.
+pub fn either<T: Drop>(
+    rt: &impl Abort,
+    first: Result<T, AllocError>,
+    second: Result<T, AllocError>,
+) -> T {
+    first.or(second).expect(rt, "memory once more")
+}
+
 /// A list with room for so many.
 pub fn room<T: Drop>(rt: &impl Abort, alloc: Global, many: usize) -> Vec<T> {
-    match Vec::with_capacity(alloc, many) {
-        Ok(room) => room,
-        Err(_) => Vec::with_capacity(alloc, many).expect(rt, "memory once more"),
-    }
+    let first: Result<_, _> = Vec::with_capacity(alloc, many);
+    let second: Result<_, _> = Vec::with_capacity(alloc, many);
+    either(rt, first, second)
 }
 
 pub fn actor(rt: &impl Abort, node: u16, life: u32) -> Actor {
@@ -26,10 +34,9 @@ pub fn actor(rt: &impl Abort, node: u16, life: u32) -> Actor {
 
 /// The letter, so many times.
 fn text(rt: &impl Abort, alloc: Global, letter: u8, len: usize) -> Vec<u8> {
-    match vec![in alloc; letter; len] {
-        Ok(text) => text,
-        Err(_) => vec![in alloc; letter; len].expect(rt, "memory once more"),
-    }
+    let first: Result<_, _> = vec![in alloc; letter; len];
+    let second: Result<_, _> = vec![in alloc; letter; len];
+    either(rt, first, second)
 }
 
 /// A key of so many letters, under a full prefix of the longest names.

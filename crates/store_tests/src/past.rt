@@ -1,9 +1,12 @@
-use crate::parts::{actor, key, room, value, values};
+use crate::parts::{actor, either, key, room, value, values};
 use dvvset::Counter;
 use meta_types::{MetaKey, NodeId};
 use past_model::{Happening, Plain, fits};
 use std::alloc::Global;
 use std::process::Abort;
+
+/// A node, and the key under which it is asked.
+type At<'a> = (NodeId, &'a MetaKey);
 
 /// A write of a letter, which has read what was seen at that place, or nothing.
 fn wrote(
@@ -46,45 +49,28 @@ fn history(rt: &impl Abort, alloc: Global) -> Vec<Happening> {
     history
 }
 
-// Each of the next three is asked twice, and one of the answers may be a refusal.
-
-fn knows(
-    rt: &impl Abort,
-    alloc: Global,
-    plain: &Plain,
-    at: (NodeId, &MetaKey),
-    places: &[usize],
-) -> bool {
-    let known = plain
-        .known(alloc, at.0, at.1)
-        .or(plain.known(alloc, at.0, at.1));
-    known.expect(rt, "memory").as_slice() == places
+fn knows(rt: &impl Abort, alloc: Global, plain: &Plain, at: At, places: &[usize]) -> bool {
+    let (first, second) = (
+        plain.known(alloc, at.0, at.1),
+        plain.known(alloc, at.0, at.1),
+    );
+    either(rt, first, second).as_slice() == places
 }
 
-fn counts(
-    rt: &impl Abort,
-    alloc: Global,
-    plain: &Plain,
-    at: (NodeId, &MetaKey),
-    counters: &[Counter],
-) -> bool {
-    let context = plain
-        .context(alloc, at.0, at.1)
-        .or(plain.context(alloc, at.0, at.1));
-    context.expect(rt, "memory").counters() == counters
+fn counts(rt: &impl Abort, alloc: Global, plain: &Plain, at: At, counters: &[Counter]) -> bool {
+    let (first, second) = (
+        plain.context(alloc, at.0, at.1),
+        plain.context(alloc, at.0, at.1),
+    );
+    either(rt, first, second).counters() == counters
 }
 
-fn shows(
-    rt: &impl Abort,
-    alloc: Global,
-    plain: &Plain,
-    at: (NodeId, &MetaKey),
-    letters: &[u8],
-) -> bool {
-    let shown = plain
-        .siblings(alloc, at.0, at.1)
-        .or(plain.siblings(alloc, at.0, at.1));
-    shown.expect(rt, "memory").as_slice() == values(rt, alloc, letters, 1, 1).as_slice()
+fn shows(rt: &impl Abort, alloc: Global, plain: &Plain, at: At, letters: &[u8]) -> bool {
+    let (first, second) = (
+        plain.siblings(alloc, at.0, at.1),
+        plain.siblings(alloc, at.0, at.1),
+    );
+    either(rt, first, second).as_slice() == values(rt, alloc, letters, 1, 1).as_slice()
 }
 
 /// Whether node 1 knows both of its writes and what they had read.
@@ -111,7 +97,7 @@ fn are_told(rt: &impl Abort, alloc: Global, history: &[Happening]) -> bool {
 }
 
 // Holds whichever single allocation is refused: a call that was refused memory succeeds when it is
-// made again. Allocates at most 70 times.
+// made again.
 #[test]
 fn the_past_is_told_again_under_refused_memory(rt: HostRuntime) {
     let history = history(&rt, rt.alloc());

@@ -295,16 +295,19 @@ static EACH_CALL: [(Step, u16); 5] = [
     (Step::Shows(&[(0, 1, 1, b""), (1, 1, 2, b"w")]), 0),
 ];
 
+fn are_played(rt: &impl Abort, alloc: Global, rows: &[Row]) {
+    for (row, steps) in rows {
+        assert!(rt; is_played(rt, alloc, steps), "{row}");
+    }
+}
+
 #[test]
 fn objects_are_held_by_the_rules_and_up_to_the_limits(rt: HostRuntime) {
-    for (row, steps) in &ROWS {
-        assert!(rt; is_played(&rt, rt.alloc(), steps), "{row}");
-    }
+    are_played(&rt, rt.alloc(), &ROWS);
 }
 
 // Holds whichever single allocation is refused: a call that was refused memory answers `Memory` and
 // leaves the store as it was, so that it succeeds when it is made again.
-// Allocates at most 55 times.
 #[test]
 fn writes_merges_and_reads_succeed_again_under_refused_memory(rt: HostRuntime) {
     assert!(rt; is_played(&rt, rt.alloc(), &EACH_CALL));
