@@ -1,5 +1,6 @@
 -- What is made ready before a step is what the step leaves and replies.
-use Rattle.std.proofs.Common.{◌≡◌, Bool, true, false, cond, List, Some, Result, Ok, Err, IfErr, refl, sym, ap, subst, ◌∙◌}
+use Rattle.std.proofs.Common.{◌≡◌, Bool, true, false, cond, List, Some, Result, Ok, Err, IfOk, IfErr, refl, sym, ap, subst, ◌∙◌}
+use Rattle.std.proofs.lemmas.Result.{IfOk-at_ok}
 use Rattle.meta_types.specs.Failing.{FailsBy}
 use Rattle.node_events.specs.declared.fault.StepFault.{StepFault}
 use Rattle.node_events.specs.declared.fault.StepFault.TheVariants.{Memory}
@@ -20,7 +21,8 @@ use Rattle.node_core.specs.Leaving.{LeavesHeld}
 use Rattle.node_core.specs.Node.{NodeParts, present}
 use Rattle.node_core.specs.Rows.{Input, IsInput, Local, Received, is_fresh}
 use Rattle.node_core.specs.Step.{CanComeOf, IsNodeStep, IsStepOf, refusal_of, reply_of, reply_of_message}
-use Rattle.node_images.specs.Ahead.{IsPlain, IsReady, change_left, object_written, reply_ahead}
+use Rattle.node_images.specs.Ahead.{IsAhead, IsPlain, IsReady, change_left, object_written, reply_ahead}
+use Rattle.node_images.specs.declared.ahead.Ahead.{Ahead}
 use Rattle.node_images.specs.Keeping.{change_at}
 use Rattle.node_images.specs.Node.{image_key}
 use Rattle.node_images.proofs.Noding.{change_at-put}
@@ -72,6 +74,21 @@ ready_by old event new s (Received f w) is step = absurd is
 pub ready : (old : NodeParts) (event : NodeEvent) (new : NodeParts) (s : Stepped) → IsNodeStep old event new s
     → IsReady (reply_ahead event old) s.reply
 ready old event new s is = ready_by old event new s is.input is.is_input is.step
+
+-- ---- what went through `both`
+
+-- what was made ready for an event, and its step, when both came through
+pub made : (old : NodeParts) (event : NodeEvent) (new : NodeParts)
+    {passed : Result NodeEvent StepFault} {prepared kept : Result Ahead StepFault} {stepped : Result Stepped StepFault}
+    {same : NodeEvent} {before after : Ahead} {s : Stepped}
+    → passed ≡ Ok same → prepared ≡ Ok before → kept ≡ Ok after → stepped ≡ Ok s
+    → IfOk passed (λ e. event ≡ e) → IfOk kept (λ a. before ≡ a)
+    → IfOk prepared (IsAhead old event) → IfOk stepped (IsNodeStep old same new)
+    → IsAhead old event after × IsNodeStep old event new s
+made old event new {same = same} {before = before} {s = s} passed came kept went event_is ahead_is ahead step =
+    let is : event ≡ same = IfOk-at_ok (λ e. event ≡ e) passed event_is in
+    ( subst (IsAhead old event) (IfOk-at_ok (λ a. before ≡ a) kept ahead_is) (IfOk-at_ok (IsAhead old event) came ahead)
+    , subst (λ e. IsNodeStep old e new s) (sym is) (IfOk-at_ok (IsNodeStep old same new) went step) )
 
 -- ---- refusals
 

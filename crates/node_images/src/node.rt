@@ -1,6 +1,7 @@
 ghost use Rattle.std.specs.Prelude.{◌≡◌, ◌<◌, ◌≤◌, length, vec_len, vec_capacity, IfOk, IfErr, IfSome, OnOk, OnErr};
 ghost use Rattle.meta_store.specs.Table.{IsTable};
 ghost use Rattle.node_core.specs.Step.{CanComeOf};
+ghost use Rattle.node_images.specs.Ahead.{IsAhead};
 ghost use Rattle.node_images.specs.Images.{IsChange};
 ghost use Rattle.node_images.specs.Keeping.{IsRestorable, most_incarnation};
 ghost use Rattle.node_images.specs.Node.{IsImagedStep, IsRestarted, images_with, keeping, new_node, standing_with};
@@ -13,6 +14,7 @@ use meta_store::Context;
 use meta_types::{MetaKey, NodeId};
 use node_core::NodeState;
 use node_events::{NodeEvent, Outbox, Reply, StepFault};
+use node_parts::both;
 use std::alloc::{AllocError, Global};
 use std::marker::Model;
 use std::mem::replace;
@@ -84,9 +86,11 @@ impl ImagedNode {
         ensures refused { IfErr result (CanComeOf self.old.state event) }
         ensures same { OnErr result (self.new ≡ self.old) }
     {
-        let ahead = Ahead::of(*self.images.allocator(), &self.state, &event)?;
-        self.images.reserve(1)?;
-        let stepped = self.state.step(event)?;
+        // What is owned goes through `both`, so that the step owns nothing where it fails.
+        let ahead = prepare(&mut self.images, &self.state, &event);
+        let (event, ahead) = both(Ok(event), ahead)?;
+        let stepped = self.state.step(event);
+        let (ahead, stepped) = both(Ok(ahead), stepped)?;
         // Read for what it tells: what is held now is a table.
         let _few = self.state.store().len();
         let copy = copy_of(&stepped.reply, ahead.reply);
@@ -117,6 +121,22 @@ impl ImagedNode {
         self.standing = number;
         Ok(())
     }
+}
+
+/// Makes ready what the step of an event leaves beside the node's state, and room for an image.
+fn prepare(
+    images: &mut Vec<Image>,
+    state: &NodeState,
+    event: &NodeEvent,
+) -> Result<Ahead, StepFault>
+    ensures ready { IfOk result (IsAhead state.now event.now) }
+    ensures held { IfOk result (λ ahead. IfSome ahead.change IsChange) }
+    ensures refused { IfErr result (CanComeOf state.now event.now) }
+    ensures room { OnOk result (vec_len images.new < vec_capacity images.new) }
+    ensures same { images.new.items ≡ images.old.items }
+{
+    images.reserve(1)?;
+    Ahead::of(*images.allocator(), state, event)
 }
 
 /// Adds an image, if a change is left: it changes the standing one. Answers which one stands then.

@@ -5,7 +5,7 @@ use crate::words::{Words, key, node, number, vector};
 use dvvset::Vector;
 use meta_types::{MetaKey, NodeId};
 use plumtree::{Cast, CastOut};
-use std::alloc::Global;
+use std::alloc::AllocError;
 
 /// Makes the call of a row, and answers what it gave out.
 pub fn call(
@@ -27,26 +27,26 @@ pub fn call(
     }
 }
 
-/// A key and how many events of node 0 its vector counts.
-#[derive(Clone, Copy)]
-struct Known<'a> {
-    key: &'a str,
-    events: u64,
+/// A key, and the vector of what is known under it.
+#[derive(Drop)]
+struct Known {
+    key: MetaKey,
+    vector: Vector,
 }
 
-impl<'a> Known<'a> {
-    fn read(words: &mut Words<'a>) -> Result<Self, RowFault> {
+impl Known {
+    fn read(words: &mut Words<'_>) -> Result<Self, RowFault> {
+        let (name, events) = Known::named(words)?;
+        let key = key(words.alloc(), name)?;
+        let vector = vector(words.alloc(), events)?;
+        Ok(Known { key, vector })
+    }
+
+    /// The key as it is written, and how many events of node 0 the vector counts.
+    fn named<'a>(words: &mut Words<'a>) -> Result<(&'a str, u64), RowFault> {
         let key = words.after("key")?;
         let events = number(words.after("events")?)?;
-        Ok(Known { key, events })
-    }
-
-    fn key(&self, alloc: Global) -> Result<MetaKey, RowFault> {
-        key(alloc, self.key)
-    }
-
-    fn vector(&self, alloc: Global) -> Result<Vector, RowFault> {
-        vector(alloc, self.events)
+        Ok((key, events))
     }
 }
 
@@ -60,10 +60,36 @@ struct Came {
 impl Came {
     fn read(words: &mut Words<'_>) -> Result<Self, RowFault> {
         let from = node(words.after("from")?)?;
-        let number = number(words.after("round")?)?;
-        let round = u16::try_from(number).map_err(|_| RowFault::NoCommand)?;
+        let word = words.after("round")?;
+        let round = word.parse().map_err(|_| RowFault::NoCommand)?;
         Ok(Came { from, round })
     }
+}
+
+/// A message with what it names, and whether the first of two words stands after it.
+#[derive(Drop)]
+struct Told {
+    came: Came,
+    known: Known,
+    is_first: bool,
+}
+
+impl Told {
+    fn read(words: &mut Words<'_>, one: &str, other: &str) -> Result<Self, RowFault> {
+        let came = Came::read(words)?;
+        let known = Known::read(words)?;
+        let is_first = words.is_first_of(one, other)?;
+        Ok(Told {
+            came,
+            known,
+            is_first,
+        })
+    }
+}
+
+/// What a call gives out, which want of memory alone refuses.
+fn given(outs: Result<Vec<CastOut>, AllocError>) -> Result<Vec<CastOut>, RowFault> {
+    Ok(outs?)
 }
 
 fn up(cast: &mut Cast, words: &mut Words<'_>) -> Result<Vec<CastOut>, RowFault> {
@@ -78,41 +104,38 @@ fn down(cast: &mut Cast, words: &mut Words<'_>) -> Result<Vec<CastOut>, RowFault
 
 fn write(cast: &mut Cast, words: &mut Words<'_>) -> Result<Vec<CastOut>, RowFault> {
     let known = Known::read(words)?;
-    let key = known.key(words.alloc())?;
-    let vector = known.vector(words.alloc())?;
-    Ok(cast.on_broadcast(&key, &vector)?)
+    given(cast.on_broadcast(&known.key, &known.vector))
 }
 
 fn change(cast: &mut Cast, words: &mut Words<'_>) -> Result<Vec<CastOut>, RowFault> {
     let known = Known::read(words)?;
-    let key = known.key(words.alloc())?;
-    let vector = known.vector(words.alloc())?;
-    cast.on_change(&key, &vector);
+    cast.on_change(&known.key, &known.vector);
     Ok(Vec::new(words.alloc()))
 }
 
 fn gossip(cast: &mut Cast, words: &mut Words<'_>) -> Result<Vec<CastOut>, RowFault> {
-    let came = Came::read(words)?;
-    let known = Known::read(words)?;
-    let fresh = words.is_first_of("fresh", "stale")?;
-    let key = known.key(words.alloc())?;
-    let vector = known.vector(words.alloc())?;
-    Ok(cast.on_gossip(came.from, came.round, &key, &vector, fresh)?)
+    let Told {
+        came,
+        known,
+        is_first: fresh,
+    } = Told::read(words, "fresh", "stale")?;
+    given(cast.on_gossip(came.from, came.round, &known.key, &known.vector, fresh))
 }
 
 fn ihave(cast: &mut Cast, words: &mut Words<'_>) -> Result<Vec<CastOut>, RowFault> {
-    let came = Came::read(words)?;
-    let known = Known::read(words)?;
-    let stale = words.is_first_of("stale", "fresh")?;
-    let key = known.key(words.alloc())?;
-    let vector = known.vector(words.alloc())?;
-    Ok(cast.on_ihave(came.from, came.round, &key, &vector, stale)?)
+    let Told {
+        came,
+        known,
+        is_first: stale,
+    } = Told::read(words, "stale", "fresh")?;
+    given(cast.on_ihave(came.from, came.round, &known.key, &known.vector, stale))
 }
 
 fn graft(cast: &mut Cast, words: &mut Words<'_>) -> Result<Vec<CastOut>, RowFault> {
-    let came = Came::read(words)?;
-    let known = Known::read(words)?;
-    let held = words.is_first_of("held", "absent")?;
-    let key = known.key(words.alloc())?;
-    Ok(cast.on_graft(came.from, came.round, &key, held)?)
+    let Told {
+        came,
+        known,
+        is_first: held,
+    } = Told::read(words, "held", "absent")?;
+    given(cast.on_graft(came.from, came.round, &known.key, held))
 }

@@ -4,33 +4,19 @@ use hyparview::ViewOut;
 use meta_frame::{Frame, Message};
 use meta_types::{MetaKey, NodeId};
 use plumtree::CastOut;
-use printing::{print_frame, print_key};
-use std::alloc::{AllocError, Global};
+use printing::{print_frame, print_key, print_nodes, print_number};
+use std::alloc::AllocError;
 
 /// Adds a label and node numbers, as `2,3`, or `-` for none.
 pub fn print_list(text: &mut Vec<u8>, label: &str, nodes: &[NodeId]) -> Result<(), AllocError> {
     text.extend_from_slice(label.as_bytes())?;
-    match nodes {
-        [] => text.extend_from_slice(b"-"),
-        [first, others @ ..] => {
-            print_number(text, *first)?;
-            print_others(text, others)
-        }
-    }
+    print_nodes(text, nodes)
 }
 
-/// Adds node numbers, each after a comma.
-fn print_others(text: &mut Vec<u8>, nodes: &[NodeId]) -> Result<(), AllocError> {
-    for node in nodes {
-        text.extend_from_slice(b",")?;
-        print_number(text, *node)?;
-    }
-    Ok(())
-}
-
-fn print_number(text: &mut Vec<u8>, node: NodeId) -> Result<(), AllocError> {
-    let digits = format!(in *text.allocator(); "{}", node.number())?;
-    text.extend_from_slice(digits.as_bytes())
+/// Adds a label and a number.
+fn print_labelled(text: &mut Vec<u8>, label: &str, number: u16) -> Result<(), AllocError> {
+    text.extend_from_slice(label.as_bytes())?;
+    print_number(text, u64::from(number))
 }
 
 /// A message to be sent, as frame number 1 of the node.
@@ -49,16 +35,11 @@ fn print_sent(
     print_frame(text, &frame)
 }
 
-fn print_change(text: &mut Vec<u8>, change: &str, node: NodeId) -> Result<(), AllocError> {
-    text.extend_from_slice(change.as_bytes())?;
-    print_number(text, node)
-}
-
 fn print_view_out(text: &mut Vec<u8>, from: NodeId, out: &ViewOut) -> Result<(), AllocError> {
     match out {
         ViewOut::Send(to, message) => print_sent(text, from, *to, message.copy()?),
-        ViewOut::Up(node) => print_change(text, "up ", *node),
-        ViewOut::Down(node) => print_change(text, "down ", *node),
+        ViewOut::Up(node) => print_labelled(text, "up ", node.number()),
+        ViewOut::Down(node) => print_labelled(text, "down ", node.number()),
     }
 }
 
@@ -82,9 +63,9 @@ fn print_gossip(
     round: u16,
     key: &MetaKey,
 ) -> Result<(), AllocError> {
-    let number = to.number();
-    let start = format!(in *text.allocator(); "gossip to {number} round {round} key ")?;
-    text.extend_from_slice(start.as_bytes())?;
+    print_labelled(text, "gossip to ", to.number())?;
+    print_labelled(text, " round ", round)?;
+    text.extend_from_slice(b" key ")?;
     print_key(text, key)
 }
 

@@ -1,7 +1,7 @@
 //! The events of the views that rows name.
 
 use crate::fault::RowFault;
-use crate::words::{Words, node, nodes, number};
+use crate::words::{Words, node, nodes};
 use hyparview::ViewEvent;
 use meta_frame::{Message, NeighborAnswer, Priority};
 use std::alloc::Global;
@@ -53,8 +53,8 @@ fn message_of_others(kind: &str) -> Result<Message, RowFault> {
 }
 
 fn ttl(words: &mut Words<'_>) -> Result<u8, RowFault> {
-    let number = number(words.after("ttl")?)?;
-    u8::try_from(number).map_err(|_| RowFault::NoCommand)
+    let word = words.after("ttl")?;
+    word.parse().map_err(|_| RowFault::NoCommand)
 }
 
 fn forward_join(words: &mut Words<'_>) -> Result<Message, RowFault> {

@@ -27,7 +27,7 @@ fn prefix(rt: &impl Abort, alloc: Global) -> FullPrefix {
 }
 
 /// The key p/s/k.
-pub fn key(rt: &impl Abort, alloc: Global) -> MetaKey {
+fn key(rt: &impl Abort, alloc: Global) -> MetaKey {
     let prefix = prefix(rt, alloc);
     MetaKey::new(prefix, bytes(rt, alloc, b"k")).expect(rt, "a key")
 }

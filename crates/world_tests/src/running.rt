@@ -1,15 +1,9 @@
 //! Runs of events, and worlds of each size.
 
-use crate::events::{CODES, COUNT, code, events, key, new_world};
+use crate::events::{CODES, COUNT, code, events, new_world};
 use std::alloc::Global;
 use std::process::Abort;
 use world_core::{Answer, World, WorldFault};
-
-/// How many writes the node knows under the key.
-fn known(rt: &impl Abort, alloc: Global, world: &World, node: u64) -> usize {
-    let places = world.known(alloc, node, &key(rt, alloc));
-    places.expect(rt, "memory").len()
-}
 
 /// The number of the refusal at that place, or 0.
 fn code_at(rt: &impl Abort, outcomes: &[Result<Answer, WorldFault>], place: usize) -> u16 {
@@ -29,9 +23,6 @@ fn each_kind_of_event_happens_in_a_run(rt: HostRuntime) {
         assert_eq!(rt; Some(&code), CODES.get(place), "at {place}");
     }
     assert_eq!(rt; world.accepted().len(), 15);
-    // Node 0 restarted from its first image; node 1 has read that write, and written another.
-    assert_eq!(rt; known(&rt, alloc, &world, 0), 1);
-    assert_eq!(rt; known(&rt, alloc, &world, 1), 2);
 }
 
 fn is_refused(alloc: Global, nodes: u64) -> bool {
