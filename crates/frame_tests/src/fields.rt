@@ -4,11 +4,23 @@ use meta_frame::{FrameFault, get_prefix, get_vector};
 use std::alloc::Global;
 
 fn is_prefix_read(alloc: Global, bytes: &[u8], left: usize) -> bool {
-    matches!(get_prefix(alloc, bytes), Ok((_, rest)) if rest.len() == left)
+    match get_prefix(alloc, bytes) {
+        Ok((prefix, rest)) => {
+            drop(prefix);
+            rest.len() == left
+        }
+        Err(_) => false,
+    }
 }
 
 fn is_vector_read(alloc: Global, bytes: &[u8], left: usize) -> bool {
-    matches!(get_vector(alloc, bytes), Ok((_, rest)) if rest.len() == left)
+    match get_vector(alloc, bytes) {
+        Ok((vector, rest)) => {
+            drop(vector);
+            rest.len() == left
+        }
+        Err(_) => false,
+    }
 }
 
 #[test]
@@ -18,23 +30,24 @@ fn a_prefix_and_a_vector_are_read_from_the_front(rt: HostRuntime) {
     assert!(rt; is_vector_read(alloc, b"\0\x01\0\x02\0\0\0\x01\0\0\0\0\0\0\0\x05!!", 2));
 }
 
-#[test]
-fn refusals_print_their_names(rt: HostRuntime) {
-    let faults = [
-        (FrameFault::Short, "Short"),
-        (FrameFault::BadMagic, "BadMagic"),
-        (FrameFault::BadVersion, "BadVersion"),
-        (FrameFault::BadKind, "BadKind"),
-        (FrameFault::TooLong, "TooLong"),
-        (FrameFault::BadBody { at: 35 }, "BadBody"),
-        (FrameFault::LeftOver, "LeftOver"),
-        (FrameFault::Memory, "Memory"),
-    ];
-    for (fault, name) in faults {
-        assert!(rt; is_printed(rt.alloc(), &fault, name), "{name}");
-    }
-}
+static FAULTS: [(FrameFault, &str); 8] = [
+    (FrameFault::Short, "Short"),
+    (FrameFault::BadMagic, "BadMagic"),
+    (FrameFault::BadVersion, "BadVersion"),
+    (FrameFault::BadKind, "BadKind"),
+    (FrameFault::TooLong, "TooLong"),
+    (FrameFault::BadBody { at: 35 }, "BadBody"),
+    (FrameFault::LeftOver, "LeftOver"),
+    (FrameFault::Memory, "Memory"),
+];
 
 fn is_printed(alloc: Global, fault: &FrameFault, name: &str) -> bool {
     matches!(fault.to_string(alloc), Ok(printed) if printed.as_str() == name)
+}
+
+#[test]
+fn refusals_print_their_names(rt: HostRuntime) {
+    for (fault, name) in &FAULTS {
+        assert!(rt; is_printed(rt.alloc(), fault, name));
+    }
 }

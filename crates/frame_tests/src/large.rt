@@ -1,7 +1,7 @@
 //! Frames at their limits: names of 64, 64 and 256 bytes, 65,535 writers, 65,535 values, 8,192
 //! rows, and 16,777,216 bytes.
 
-use crate::kept::{is_body_kept, is_body_written};
+use crate::kept::is_body_kept;
 use dvvset::Entries;
 use meta_frame::{Frame, FrameFault, Message, encode, get_key, get_object, is_lawful};
 use meta_types::{MetaKey, NodeId};
@@ -40,7 +40,7 @@ fn put_row(out: &mut Vec<u8>, pieces: &[Piece], number: u16) -> Result<(), Alloc
     Ok(())
 }
 
-fn put_rows(out: &mut Vec<u8>, rows: Rows) -> Result<(), AllocError> {
+fn put_rows(out: &mut Vec<u8>, rows: &Rows) -> Result<(), AllocError> {
     for number in 0..rows.0 {
         put_row(out, rows.1, number)?;
     }
@@ -49,30 +49,28 @@ fn put_rows(out: &mut Vec<u8>, rows: Rows) -> Result<(), AllocError> {
 
 fn put_body(out: &mut Vec<u8>, body: &[Rows]) -> Result<(), AllocError> {
     for rows in body {
-        put_rows(out, *rows)?;
+        put_rows(out, rows)?;
     }
     Ok(())
 }
-
-const LINE: &[u8] = b"xxxxxxxxxxxxxxxxxxxxxxxxxxxxxxxxxxxxxxxxxxxxxxxxxxxxxxxxxxxxxxxx";
 
 const PREFIX: Rows = (
     1,
     &[
         Piece::Bytes(1, b"\0\x40"),
-        Piece::Bytes(1, LINE),
+        Piece::Bytes(64, b"x"),
         Piece::Bytes(1, b"\0\x40"),
-        Piece::Bytes(1, LINE),
+        Piece::Bytes(64, b"x"),
     ],
 );
 
-const LONGEST_NAME: Rows = (1, &[Piece::Bytes(1, b"\x01\0"), Piece::Bytes(4, LINE)]);
+const LONGEST_NAME: Rows = (1, &[Piece::Bytes(1, b"\x01\0"), Piece::Bytes(256, b"x")]);
 
 const ROUND: Rows = (1, &[Piece::Bytes(1, b"\xff\xff")]);
 
 const INNER: Rows = (1, &[Piece::Bytes(1, b"\x0f")]);
 
-const DIGESTS: Rows = (1, &[Piece::Bytes(8, LINE)]);
+const DIGESTS: Rows = (1, &[Piece::Bytes(512, b"x")]);
 
 const SIXTEEN: Rows = (1, &[Piece::Bytes(1, b"\0\x10")]);
 
@@ -85,11 +83,11 @@ const ENTRIES: Rows = (
     &[
         Piece::Number,
         Piece::Bytes(1, b"xxxxxxxxxxxx\0\x03\x01xxxxxxxx\x04\0"),
-        Piece::Bytes(16, LINE),
+        Piece::Bytes(1_024, b"x"),
         Piece::Bytes(1, b"\x01xxxxxxxx\x04\0"),
-        Piece::Bytes(16, LINE),
+        Piece::Bytes(1_024, b"x"),
         Piece::Bytes(1, b"\x01xxxxxxxx\x04\0"),
-        Piece::Bytes(16, LINE),
+        Piece::Bytes(1_024, b"x"),
     ],
 );
 
@@ -126,7 +124,7 @@ const PREFIXES: Rows = (
     8192,
     &[
         Piece::Bytes(1, b"\0\x40"),
-        Piece::Bytes(1, LINE),
+        Piece::Bytes(64, b"x"),
         Piece::Bytes(1, b"\0\x40"),
         Piece::Number,
         Piece::Bytes(94, b"x"),
@@ -144,33 +142,6 @@ const KEYS: Rows = (
     ],
 );
 
-// Bodies by the numbers of their kinds.
-const BODIES: [(u8, &[Rows]); 11] = [
-    (1, &[ROUND, PREFIX, LONGEST_NAME, SIXTEEN, ENTRIES]),
-    (2, &[ROUND, PREFIX, LONGEST_NAME, SIXTEEN, COUNTERS]),
-    (3, &[ROUND, PREFIX, LONGEST_NAME, SIXTEEN, COUNTERS]),
-    (3, &[ROUND, PREFIX, LONGEST_NAME, MOST_LIVES, LIVES]),
-    (13, &[ROW_COUNT, PREFIXES]),
-    (14, &[PREFIX, DIGESTS]),
-    (15, &[PREFIX, INNER, DIGESTS]),
-    (16, &[PREFIX, LEAF, ROW_COUNT, KEYS]),
-    (17, &[PREFIX, LONGEST_NAME, MOST, TOMBSTONES]),
-    (17, &[PREFIX, LONGEST_NAME, MOST_LIVES, WRITTEN_LIVES]),
-    (18, &[PREFIX, LONGEST_NAME]),
-];
-
-fn are_kept(alloc: Global, kind: u8, rows: &[Rows]) -> bool {
-    let mut body = Vec::new(alloc);
-    put_body(&mut body, rows).is_ok() && is_body_kept(alloc, kind, body.as_slice())
-}
-
-#[test]
-fn frames_at_their_limits_are_read_copied_and_written(rt: HostRuntime) {
-    for (kind, rows) in BODIES {
-        assert!(rt; are_kept(rt.alloc(), kind, rows), "kind {kind}");
-    }
-}
-
 // The front of an object of one entry with 16,210 values, and all but the last of them.
 const LONG: Rows = (1, &[Piece::Bytes(1, b"\0\x01\0\x00xxxxxxxxxxxx\x3f\x52")]);
 
@@ -178,7 +149,7 @@ const VALUES: Rows = (
     16_209,
     &[
         Piece::Bytes(1, b"\x01xxxxxxxx\x04\0"),
-        Piece::Bytes(16, LINE),
+        Piece::Bytes(1_024, b"x"),
     ],
 );
 
@@ -200,16 +171,47 @@ const LONGER: Rows = (
     ],
 );
 
-#[test]
-fn a_frame_of_16777216_bytes_is_read_and_written(rt: HostRuntime) {
-    let mut body = Vec::new(rt.alloc());
-    let rows = [PREFIX, LONGEST_NAME, LONG, VALUES, LAST];
-    assert!(rt; put_body(&mut body, &rows).is_ok() && body.len() == 16_777_196);
-    assert!(rt; is_body_written(rt.alloc(), 17, body.as_slice()));
+/// The number of a kind, and a body with its length.
+type Body = (u8, usize, &'static [Rows]);
+
+static BODIES: [Body; 12] = [
+    (1, 50_330, &[ROUND, PREFIX, LONGEST_NAME, SIXTEEN, ENTRIES]),
+    (2, 618, &[ROUND, PREFIX, LONGEST_NAME, SIXTEEN, COUNTERS]),
+    (3, 618, &[ROUND, PREFIX, LONGEST_NAME, SIXTEEN, COUNTERS]),
+    (
+        3,
+        917_884,
+        &[ROUND, PREFIX, LONGEST_NAME, MOST_LIVES, LIVES],
+    ),
+    (13, 1_343_490, &[ROW_COUNT, PREFIXES]),
+    (14, 644, &[PREFIX, DIGESTS]),
+    (15, 645, &[PREFIX, INNER, DIGESTS]),
+    (16, 2_375_815, &[PREFIX, LEAF, ROW_COUNT, KEYS]),
+    (17, 590_223, &[PREFIX, LONGEST_NAME, MOST, TOMBSTONES]),
+    (
+        17,
+        1_638_767,
+        &[PREFIX, LONGEST_NAME, MOST_LIVES, WRITTEN_LIVES],
+    ),
+    (17, 16_777_196, &[PREFIX, LONGEST_NAME, LONG, VALUES, LAST]),
+    (18, 390, &[PREFIX, LONGEST_NAME]),
+];
+
+/// Returns whether the rows make a body of the length, and its frame is kept.
+fn is_kept(alloc: Global, of: &Body) -> bool {
+    let mut body = Vec::new(alloc);
+    put_body(&mut body, of.2).is_ok() && body.len() == of.1 && is_body_kept(alloc, of.0, &body)
 }
 
-fn is_frame_too_long(alloc: Global, frame: Frame) -> bool {
-    is_lawful(&frame) && matches!(encode(alloc, &frame), Err(FrameFault::TooLong))
+#[test]
+fn frames_at_their_limits_are_read_copied_and_written(rt: HostRuntime) {
+    for body in &BODIES {
+        assert!(rt; is_kept(rt.alloc(), body));
+    }
+}
+
+fn is_frame_too_long(alloc: Global, frame: &Frame) -> bool {
+    is_lawful(frame) && matches!(encode(alloc, frame), Err(FrameFault::TooLong))
 }
 
 fn exchanged(key: MetaKey, object: Entries) -> Frame {
@@ -223,7 +225,12 @@ fn exchanged(key: MetaKey, object: Entries) -> Frame {
 
 fn is_too_long_with(alloc: Global, object: Entries, bytes: &[u8]) -> bool {
     match get_key(alloc, bytes) {
-        Ok((key, _)) => is_frame_too_long(alloc, exchanged(key, object)),
+        Ok((key, _)) => {
+            let frame = exchanged(key, object);
+            let is_too_long = is_frame_too_long(alloc, &frame);
+            drop(frame);
+            is_too_long
+        }
         Err(_) => false,
     }
 }
@@ -237,10 +244,14 @@ fn is_too_long(alloc: Global, bytes: &[u8]) -> bool {
     }
 }
 
+static TOO_LONG: [Rows; 5] = [LONG, VALUES, LONGER, PREFIX, LONGEST_NAME];
+
+fn are_too_long(alloc: Global, rows: &[Rows]) -> bool {
+    let mut parts = Vec::new(alloc);
+    put_body(&mut parts, rows).is_ok() && parts.len() == 16_777_197 && is_too_long(alloc, &parts)
+}
+
 #[test]
 fn a_frame_of_16777217_bytes_is_too_long(rt: HostRuntime) {
-    let mut parts = Vec::new(rt.alloc());
-    let rows = [LONG, VALUES, LONGER, PREFIX, LONGEST_NAME];
-    assert!(rt; put_body(&mut parts, &rows).is_ok() && parts.len() == 16_777_197);
-    assert!(rt; is_too_long(rt.alloc(), parts.as_slice()));
+    assert!(rt; are_too_long(rt.alloc(), &TOO_LONG));
 }

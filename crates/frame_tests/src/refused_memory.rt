@@ -1,63 +1,27 @@
-//! Whichever single allocation is refused: what was refused memory succeeds when it is made again.
+//! An object alone, whichever single allocation is refused: what was refused memory succeeds when it
+//! is made again.
 
-use crate::kept::is_body_kept_again;
-use crate::kinds::{GOSSIP, IHAVE, SHUFFLE, XBUCKET, XLEAVES, XPREFIXES};
 use dvvset::Entries;
 use meta_frame::lawful::is_object;
 use meta_frame::{get_object, put_object};
 use std::alloc::Global;
 
-// Allocates at most 20 times.
-#[test]
-fn a_gossip_is_kept_under_refused_memory(rt: HostRuntime) {
-    assert!(rt; is_body_kept_again(rt.alloc(), 1, GOSSIP));
-}
-
-// A vector of two writers. Allocates at most 20 times.
-#[test]
-fn an_announcement_is_kept_under_refused_memory(rt: HostRuntime) {
-    assert!(rt; is_body_kept_again(rt.alloc(), 2, IHAVE));
-}
-
-// Four nodes. Allocates at most 20 times.
-#[test]
-fn a_walk_is_kept_under_refused_memory(rt: HostRuntime) {
-    assert!(rt; is_body_kept_again(rt.alloc(), 10, SHUFFLE));
-}
-
-// Two prefixes. Allocates at most 20 times.
-#[test]
-fn prefixes_are_kept_under_refused_memory(rt: HostRuntime) {
-    assert!(rt; is_body_kept_again(rt.alloc(), 13, XPREFIXES));
-}
-
-// Sixteen digests. Allocates at most 20 times.
-#[test]
-fn leaves_are_kept_under_refused_memory(rt: HostRuntime) {
-    assert!(rt; is_body_kept_again(rt.alloc(), 15, XLEAVES));
-}
-
-// Two keys. Allocates at most 20 times.
-#[test]
-fn a_bucket_is_kept_under_refused_memory(rt: HostRuntime) {
-    assert!(rt; is_body_kept_again(rt.alloc(), 16, XBUCKET));
-}
-
-fn is_added(alloc: Global, object: Entries, bytes: &[u8]) -> bool {
+/// Returns whether the object is lawful, and added as just these bytes.
+fn is_added(alloc: Global, object: &Entries, bytes: &[u8]) -> bool {
     let mut out = Vec::new(alloc);
-    is_object(&object) && put_object(&mut out, &object).is_ok() && out.as_slice() == bytes
+    is_object(object) && put_object(&mut out, object).is_ok() && out.as_slice() == bytes
 }
 
 /// Returns whether the bytes are read as an object, and added as the same bytes again.
 fn is_object_kept(alloc: Global, bytes: &[u8]) -> bool {
     match get_object(alloc, bytes) {
-        Ok((object, _)) => is_added(alloc, object, bytes),
+        Ok((object, _)) => is_added(alloc, &object, bytes),
         Err(_) => false,
     }
 }
 
 // One value x of node 0 in its first life.
-const OBJECT: &[u8] = b"\0\x01\0\x00\0\0\0\x01\0\0\0\0\0\0\0\x01\0\x01\x01\0\0\0\0\0\0\0\0\0\x01x";
+static OBJECT: &[u8] = b"\0\x01\0\x00\0\0\0\x01\0\0\0\0\0\0\0\x01\0\x01\x01\0\0\0\0\0\0\0\0\0\x01x";
 
 // Allocates at most 20 times.
 #[test]
