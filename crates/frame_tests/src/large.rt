@@ -172,35 +172,81 @@ const LONGER: Rows = (
 );
 
 /// The number of a kind, and a body with its length.
-type Body = (u8, usize, &'static [Rows]);
+struct Body {
+    kind: u8,
+    len: usize,
+    rows: &'static [Rows],
+}
 
 static BODIES: [Body; 12] = [
-    (1, 50_330, &[ROUND, PREFIX, LONGEST_NAME, SIXTEEN, ENTRIES]),
-    (2, 618, &[ROUND, PREFIX, LONGEST_NAME, SIXTEEN, COUNTERS]),
-    (3, 618, &[ROUND, PREFIX, LONGEST_NAME, SIXTEEN, COUNTERS]),
-    (
-        3,
-        917_884,
-        &[ROUND, PREFIX, LONGEST_NAME, MOST_LIVES, LIVES],
-    ),
-    (13, 1_343_490, &[ROW_COUNT, PREFIXES]),
-    (14, 644, &[PREFIX, DIGESTS]),
-    (15, 645, &[PREFIX, INNER, DIGESTS]),
-    (16, 2_375_815, &[PREFIX, LEAF, ROW_COUNT, KEYS]),
-    (17, 590_223, &[PREFIX, LONGEST_NAME, MOST, TOMBSTONES]),
-    (
-        17,
-        1_638_767,
-        &[PREFIX, LONGEST_NAME, MOST_LIVES, WRITTEN_LIVES],
-    ),
-    (17, 16_777_196, &[PREFIX, LONGEST_NAME, LONG, VALUES, LAST]),
-    (18, 390, &[PREFIX, LONGEST_NAME]),
+    Body {
+        kind: 1,
+        len: 50_330,
+        rows: &[ROUND, PREFIX, LONGEST_NAME, SIXTEEN, ENTRIES],
+    },
+    Body {
+        kind: 2,
+        len: 618,
+        rows: &[ROUND, PREFIX, LONGEST_NAME, SIXTEEN, COUNTERS],
+    },
+    Body {
+        kind: 3,
+        len: 618,
+        rows: &[ROUND, PREFIX, LONGEST_NAME, SIXTEEN, COUNTERS],
+    },
+    Body {
+        kind: 3,
+        len: 917_884,
+        rows: &[ROUND, PREFIX, LONGEST_NAME, MOST_LIVES, LIVES],
+    },
+    Body {
+        kind: 13,
+        len: 1_343_490,
+        rows: &[ROW_COUNT, PREFIXES],
+    },
+    Body {
+        kind: 14,
+        len: 644,
+        rows: &[PREFIX, DIGESTS],
+    },
+    Body {
+        kind: 15,
+        len: 645,
+        rows: &[PREFIX, INNER, DIGESTS],
+    },
+    Body {
+        kind: 16,
+        len: 2_375_815,
+        rows: &[PREFIX, LEAF, ROW_COUNT, KEYS],
+    },
+    Body {
+        kind: 17,
+        len: 590_223,
+        rows: &[PREFIX, LONGEST_NAME, MOST, TOMBSTONES],
+    },
+    Body {
+        kind: 17,
+        len: 1_638_767,
+        rows: &[PREFIX, LONGEST_NAME, MOST_LIVES, WRITTEN_LIVES],
+    },
+    Body {
+        kind: 17,
+        len: 16_777_196,
+        rows: &[PREFIX, LONGEST_NAME, LONG, VALUES, LAST],
+    },
+    Body {
+        kind: 18,
+        len: 390,
+        rows: &[PREFIX, LONGEST_NAME],
+    },
 ];
 
 /// Returns whether the rows make a body of the length, and its frame is kept.
 fn is_kept(alloc: Global, of: &Body) -> bool {
     let mut body = Vec::new(alloc);
-    put_body(&mut body, of.2).is_ok() && body.len() == of.1 && is_body_kept(alloc, of.0, &body)
+    put_body(&mut body, of.rows).is_ok()
+        && body.len() == of.len
+        && is_body_kept(alloc, of.kind, &body)
 }
 
 #[test]
