@@ -1,4 +1,4 @@
-//! The tests of `exchange`, over its public calls and apart from it: a crate is proved once more
+//! What rows of scenarios cannot show of `exchange`, apart from it: a crate is proved once more
 //! with its tests. No crate uses this one.
 #![tactic(auto)]
 
@@ -6,16 +6,4 @@
 // So where memory is wanting a test ends on the spot, by `expect`, which drops nothing.
 
 #[cfg(test)]
-mod large;
-#[cfg(test)]
-mod messages;
-#[cfg(test)]
-mod odd_messages;
-#[cfg(test)]
-mod parts;
-#[cfg(test)]
-mod refused_memory;
-#[cfg(test)]
-mod sides;
-#[cfg(test)]
-mod whole;
+mod exchanges;
