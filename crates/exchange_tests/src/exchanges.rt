@@ -81,14 +81,15 @@ fn ends(
         || reconcile(alloc, here, here_tree, there, there_tree) == *wanted
 }
 
-/// An exchange of sides whose keys node 0 wrote here and node 1 there: whether it ends as is
-/// wanted, whether they then have one root, and how many keys each holds.
-fn exchange(
+/// Returns whether an exchange, of sides whose keys node 0 wrote here and node 1 there, ends as is
+/// wanted; whether the sides then have one root, if none was refused, and hold so many keys.
+fn is_exchanged(
     rt: &impl Abort,
     alloc: Global,
     numbers: [Numbers; 2],
     wanted: &Result<(), StoreFault>,
-) -> (bool, bool, usize, usize) {
+    lens: (usize, usize),
+) -> bool {
     let (mut here, mut there) = (
         filled(rt, alloc, 0, numbers[0]),
         filled(rt, alloc, 1, numbers[1]),
@@ -103,7 +104,7 @@ fn exchange(
         wanted,
     );
     let have_one_root = here_tree.root() == there_tree.root();
-    (ends, have_one_root, here.len(), there.len())
+    ends & (have_one_root == wanted.is_ok()) & (here.len() == lens.0) & (there.len() == lens.1)
 }
 
 static DONE: Result<(), StoreFault> = Ok(());
@@ -113,19 +114,13 @@ static STORE_FULL: Result<(), StoreFault> = Err(StoreFault::StoreFull);
 #[test]
 fn stores_of_200_keys_that_have_50_in_common_are_reconciled(rt: HostRuntime) {
     let numbers = [(0, 200), (150, 350)];
-    assert_eq!(rt;
-        exchange(&rt, rt.alloc(), numbers, &DONE),
-        (true, true, 350, 350)
-    );
+    assert!(rt; is_exchanged(&rt, rt.alloc(), numbers, &DONE, (350, 350)));
 }
 
 #[test]
 fn an_exchange_with_a_full_store_is_refused(rt: HostRuntime) {
     let numbers = [(0, 8_192), (8_192, 8_193)];
-    assert_eq!(rt;
-        exchange(&rt, rt.alloc(), numbers, &STORE_FULL),
-        (true, false, 8_192, 1)
-    );
+    assert!(rt; is_exchanged(&rt, rt.alloc(), numbers, &STORE_FULL, (8_192, 1)));
 }
 
 // Holds whichever single allocation is refused. Allocates at most 150 times.
@@ -133,10 +128,7 @@ fn an_exchange_with_a_full_store_is_refused(rt: HostRuntime) {
 fn an_exchange_succeeds_again_under_refused_memory(rt: HostRuntime) {
     // A key of each side, under one full prefix.
     let numbers = [(0, 1), (10, 11)];
-    assert_eq!(rt;
-        exchange(&rt, rt.alloc(), numbers, &DONE),
-        (true, true, 2, 2)
-    );
+    assert!(rt; is_exchanged(&rt, rt.alloc(), numbers, &DONE, (2, 2)));
 }
 
 // Messages stay in lists here: a message alone has a drop of many cases.
