@@ -22,40 +22,59 @@ fn bytes(rt: &impl Abort, alloc: Global, text: &[u8]) -> Vec<u8> {
 }
 
 fn prefix(rt: &impl Abort, alloc: Global) -> FullPrefix {
-    let first = bytes(rt, alloc, b"p");
-    FullPrefix::new(first, bytes(rt, alloc, b"s")).expect(rt, "a prefix")
+    let first = bytes(rt, alloc, b"app");
+    FullPrefix::new(first, bytes(rt, alloc, b"flags")).expect(rt, "a prefix")
 }
 
-/// The key p/s/k.
-fn key(rt: &impl Abort, alloc: Global) -> MetaKey {
+/// The key app/flags/colour.
+pub fn key(rt: &impl Abort, alloc: Global) -> MetaKey {
     let prefix = prefix(rt, alloc);
-    MetaKey::new(prefix, bytes(rt, alloc, b"k")).expect(rt, "a key")
+    MetaKey::new(prefix, bytes(rt, alloc, b"colour")).expect(rt, "a key")
 }
 
 fn value(rt: &impl Abort, alloc: Global, body: &[u8]) -> Value {
     Value::new(0, Some(bytes(rt, alloc, body))).expect(rt, "a value")
 }
 
-/// A write of x.
-pub fn put(rt: &impl Abort, alloc: Global, node: u64, read: Option<u64>) -> Event {
+pub fn put(rt: &impl Abort, alloc: Global, node: u64, body: &[u8], read: Option<u64>) -> Event {
     Event::Put {
         node,
         key: key(rt, alloc),
-        value: value(rt, alloc, b"x"),
+        value: value(rt, alloc, body),
         read,
+    }
+}
+
+pub fn get(rt: &impl Abort, alloc: Global, node: u64) -> Event {
+    Event::Get {
+        node,
+        key: key(rt, alloc),
+    }
+}
+
+pub fn join() -> Event {
+    Event::Join {
+        node: 1,
+        contact: 0,
+        word: 0,
+    }
+}
+
+pub fn deliver(frame: u64, node: u64) -> Event {
+    Event::Deliver {
+        frame,
+        node,
+        word: 0,
     }
 }
 
 /// The event of that place: in a new world of two nodes they can all happen, in this order.
 pub fn event(rt: &impl Abort, alloc: Global, place: usize) -> Event {
     match place {
-        1 => put(rt, alloc, 2, None),
-        3 => put(rt, alloc, 0, None),
-        4 => Event::Get {
-            node: 0,
-            key: key(rt, alloc),
-        },
-        5 => put(rt, alloc, 1, Some(1)),
+        1 => put(rt, alloc, 2, b"x", None),
+        3 => put(rt, alloc, 0, b"x", None),
+        4 => get(rt, alloc, 0),
+        5 => put(rt, alloc, 1, b"x", Some(1)),
         6 => Event::PutOver {
             node: 0,
             key: key(rt, alloc),
@@ -81,16 +100,8 @@ pub fn event(rt: &impl Abort, alloc: Global, place: usize) -> Event {
 /// The same, of an event that is made of numbers alone.
 fn small_event(place: usize) -> Event {
     match place {
-        0 => Event::Join {
-            node: 1,
-            contact: 0,
-            word: 0,
-        },
-        2 => Event::Deliver {
-            frame: 1,
-            node: 0,
-            word: 0,
-        },
+        0 => join(),
+        2 => deliver(1, 0),
         9 => Event::Changes { node: 0, number: 1 },
         10 => Event::Tick { node: 0, word: 0 },
         11 => Event::Exchange { node: 0, peer: 1 },

@@ -1,103 +1,47 @@
 //! The example of README.md.
 
-use meta_types::{FullPrefix, MetaKey, Value};
+use crate::events::{apply, deliver, get, join, key, new_world, put};
+use meta_types::MetaKey;
 use printing::print_object;
 use std::alloc::Global;
 use std::process::Abort;
 use world_core::{Event, World};
 
-fn bytes(rt: &impl Abort, alloc: Global, text: &str) -> Vec<u8> {
-    text.as_bytes().to_vec(alloc).expect(rt, "memory")
-}
-
-/// The key app/flags/colour.
-fn colour(rt: &impl Abort, alloc: Global) -> MetaKey {
-    let (prefix, sub) = (bytes(rt, alloc, "app"), bytes(rt, alloc, "flags"));
-    let prefix = FullPrefix::new(prefix, sub).expect(rt, "a prefix");
-    MetaKey::new(prefix, bytes(rt, alloc, "colour")).expect(rt, "a key")
-}
-
-fn value(rt: &impl Abort, alloc: Global, text: &str) -> Value {
-    Value::new(0, Some(bytes(rt, alloc, text))).expect(rt, "a value")
-}
-
-/// What node 1 shows under the key, as it is printed.
-fn shown(rt: &impl Abort, alloc: Global, world: &World, key: &MetaKey) -> Vec<u8> {
+/// Returns whether node 1 shows this under the key, as it is printed.
+fn is_shown(rt: &impl Abort, alloc: Global, world: &World, key: &MetaKey, wanted: &[u8]) -> bool {
     let store = world.state(1).expect(rt, "a node").store();
-    let object = store.object(key).expect(rt, "an object");
     let mut text = Vec::new(alloc);
-    print_object(&mut text, object).expect(rt, "memory");
-    text
+    print_object(&mut text, store.object(key).expect(rt, "an object")).expect(rt, "memory");
+    text.as_slice() == wanted
 }
 
-fn apply(rt: &impl Abort, world: &mut World, event: Event) {
-    let answer = world.apply(event).expect(rt, "an event");
-    drop(answer);
+fn happen(rt: &impl Abort, world: &mut World, event: Event) {
+    assert_eq!(rt; apply(world, event), 0);
 }
 
-fn put(
-    rt: &impl Abort,
-    alloc: Global,
-    world: &mut World,
-    node: u64,
-    text: &str,
-    read: Option<u64>,
-) {
-    let (key, value) = (colour(rt, alloc), value(rt, alloc, text));
-    let event = Event::Put {
-        node,
-        key,
-        value,
-        read,
-    };
-    apply(rt, world, event);
+/// Node 1 joins through node 0 by frame 1, a JOIN. Then both write, neither knowing of the other's
+/// write. Each sends what it holds to the other, as frames 2 and 3: GOSSIP. Node 1 takes frame 2.
+fn write_both(rt: &impl Abort, alloc: Global, world: &mut World) {
+    happen(rt, world, join());
+    happen(rt, world, deliver(1, 0));
+    happen(rt, world, put(rt, alloc, 0, b"red", None));
+    happen(rt, world, put(rt, alloc, 1, b"blue", None));
+    happen(rt, world, deliver(2, 1));
 }
 
-/// Node 1 joins the cluster through node 0, by frame 1: a JOIN.
-fn join(rt: &impl Abort, world: &mut World) {
-    let join = Event::Join {
-        node: 1,
-        contact: 0,
-        word: 0,
-    };
-    apply(rt, world, join);
-    deliver(rt, world, 1, 0);
-}
-
-/// Frames may be lost, repeated and reordered.
-fn deliver(rt: &impl Abort, world: &mut World, frame: u64, node: u64) {
-    let deliver = Event::Deliver {
-        frame,
-        node,
-        word: 0,
-    };
-    apply(rt, world, deliver);
+/// A write with the context of a read replaces all that the read showed.
+fn write_over(rt: &impl Abort, alloc: Global, world: &mut World) {
+    happen(rt, world, get(rt, alloc, 1));
+    happen(rt, world, put(rt, alloc, 1, b"green", Some(1)));
 }
 
 #[test]
 fn two_nodes_join_write_and_deliver(rt: HostRuntime) {
-    let alloc = rt.alloc();
-    let key = colour(&rt, alloc);
-    let mut world = World::new(alloc, 2).expect(&rt, "a world");
-    join(&rt, &mut world);
-    // Both nodes write under app/flags/colour, neither knowing of the other's write. Each sends
-    // what it holds to the other, as frames 2 and 3: GOSSIP. Node 1 takes frame 2.
-    put(&rt, alloc, &mut world, 0, "red", None);
-    put(&rt, alloc, &mut world, 1, "blue", None);
-    deliver(&rt, &mut world, 2, 1);
-    // Node 1 shows red and blue, and the context 0.1:1,1.1:1. A write with that context replaces
-    // both.
-    let both = shown(&rt, alloc, &world, &key);
-    assert_eq!(rt;
-        both.as_slice(),
-        b"ctx 0.1:1,1.1:1 values red,blue".as_slice()
-    );
-    let get = Event::Get {
-        node: 1,
-        key: colour(&rt, alloc),
-    };
-    apply(&rt, &mut world, get);
-    put(&rt, alloc, &mut world, 1, "green", Some(1));
-    let one = shown(&rt, alloc, &world, &key);
-    assert_eq!(rt; one.as_slice(), b"ctx 0.1:1,1.1:2 values green".as_slice());
+    let (key, mut world) = (key(&rt, rt.alloc()), new_world(&rt, rt.alloc()));
+    write_both(&rt, rt.alloc(), &mut world);
+    let both = b"ctx 0.1:1,1.1:1 values red,blue";
+    assert!(rt; is_shown(&rt, rt.alloc(), &world, &key, both.as_slice()));
+    write_over(&rt, rt.alloc(), &mut world);
+    let one = b"ctx 0.1:1,1.1:2 values green";
+    assert!(rt; is_shown(&rt, rt.alloc(), &world, &key, one.as_slice()));
 }
