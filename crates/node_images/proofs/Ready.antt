@@ -86,9 +86,10 @@ pub made : (old : NodeParts) (event : NodeEvent) (new : NodeParts)
     → IfOk prepared (IsAhead old event) → IfOk stepped (IsNodeStep old same new)
     → IsAhead old event after × IsNodeStep old event new s
 made old event new {same = same} {before = before} {s = s} passed came kept went event_is ahead_is ahead step =
-    let is : event ≡ same = IfOk-at_ok (λ e. event ≡ e) passed event_is in
-    ( subst (IsAhead old event) (IfOk-at_ok (λ a. before ≡ a) kept ahead_is) (IfOk-at_ok (IsAhead old event) came ahead)
-    , subst (λ e. IsNodeStep old e new s) (sym is) (IfOk-at_ok (IsNodeStep old same new) went step) )
+    let is : event ≡ same = IfOk-at_ok (λ e. event ≡ e) passed event_is in (
+      subst (IsAhead old event) (IfOk-at_ok (λ a. before ≡ a) kept ahead_is) (IfOk-at_ok (IsAhead old event) came ahead),
+      subst (λ e. IsNodeStep old e new s) (sym is) (IfOk-at_ok (IsNodeStep old same new) went step),
+    )
 
 -- ---- refusals
 

@@ -35,13 +35,18 @@ fn write_over(rt: &impl Abort, alloc: Global, world: &mut World) {
     happen(rt, world, put(rt, alloc, 1, b"green", Some(1)));
 }
 
+/// Returns whether node 1 shows both writes, and then the one that replaces them.
+fn is_told(rt: &impl Abort, alloc: Global, world: &mut World, key: &MetaKey) -> bool {
+    write_both(rt, alloc, world);
+    let both = b"ctx 0.1:1,1.1:1 values red,blue".as_slice();
+    let shows_both = is_shown(rt, alloc, world, key, both);
+    write_over(rt, alloc, world);
+    let one = b"ctx 0.1:1,1.1:2 values green".as_slice();
+    shows_both & is_shown(rt, alloc, world, key, one)
+}
+
 #[test]
 fn two_nodes_join_write_and_deliver(rt: HostRuntime) {
     let (key, mut world) = (key(&rt, rt.alloc()), new_world(&rt, rt.alloc()));
-    write_both(&rt, rt.alloc(), &mut world);
-    let both = b"ctx 0.1:1,1.1:1 values red,blue";
-    assert!(rt; is_shown(&rt, rt.alloc(), &world, &key, both.as_slice()));
-    write_over(&rt, rt.alloc(), &mut world);
-    let one = b"ctx 0.1:1,1.1:2 values green";
-    assert!(rt; is_shown(&rt, rt.alloc(), &world, &key, one.as_slice()));
+    assert!(rt; is_told(&rt, rt.alloc(), &mut world, &key));
 }
