@@ -16,7 +16,10 @@ impl NodeState {
         ensures step { IfOk result (IsNodeStep self.old event self.new) }
         ensures refused { IfErr result (λ fault. Rejects self.old event fault self.new) }
     {
-        self.step_on(&event)
+        // Dropped on its one way out, where the proof has one case for it.
+        let stepped = self.step_on(&event);
+        drop(event);
+        stepped
     }
 
     /// The same, by the event's row.

@@ -29,7 +29,10 @@ impl NodeState {
         ensures same { OnErr result (self.new ≡ self.old) }
     {
         let frame = decode(self.alloc, bytes.as_slice())?;
-        self.receive(&frame, word)
+        // Dropped on its one way out, where the proof has one case for it.
+        let taken = self.receive(&frame, word);
+        drop(frame);
+        taken
     }
 
     /// A frame came.

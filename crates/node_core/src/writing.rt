@@ -45,6 +45,8 @@ impl NodeState {
     {
         let (values, context) = self.held.store().look(key, self.source())?;
         drop(values);
-        self.write(key, value, Some(&context))
+        let written = self.write(key, value, Some(&context));
+        drop(context);
+        written
     }
 }

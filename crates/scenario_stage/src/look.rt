@@ -1,8 +1,11 @@
 //! Commands that only look.
 
-ghost use Rattle.std.specs.Prelude.{◌≡◌, ◌++◌, None, OnOk};
+ghost use Rattle.std.specs.Prelude.{◌≡◌, ◌++◌, None, [], codes, map, IfOk, OnOk};
+ghost use Rattle.std.specs.Option.{option_copied, unwrap_or};
 ghost use Rattle.meta_types.specs.Name.{IsFullPrefix, IsKey};
-ghost use Rattle.meta_store.specs.Table.{object_at};
+ghost use Rattle.meta_store.specs.Table.{keys_under, object_at};
+ghost use Rattle.printing.specs.Field.{bytes_text};
+ghost use Rattle.printing.specs.Joined.{joined};
 ghost use Rattle.printing.specs.Object.{object_text};
 ghost use Rattle.scenario_stage.specs.Coded.{LooksAt};
 ghost use Rattle.scenario_text.specs.Coded.{command_word, key_word, prefix_word};
@@ -13,6 +16,9 @@ ghost use Rattle.world_core.specs.declared.fault.WorldFault.TheVariants.{NoSuchN
 
 use crate::print::{print_count, print_fault, print_keys};
 use crate::stage::Stage;
+use dvvset::Entries;
+use meta_store::Store;
+use meta_types::MetaKey;
 use node_core::NodeState;
 use printing::{print_digest, print_nodes, print_object};
 use scenario_text::{Command, KeyWord, PrefixWord};
@@ -78,7 +84,15 @@ fn show(
         ++ line (object_text (object_at state.now.table (key_word key.now)))) }
 {
     let key = key.to_key(alloc)?;
-    match state.store().object(&key) {
+    print_held(text, state.store().object(&key))
+}
+
+/// Adds what is held under a key, if something is.
+fn print_held(text: &mut Vec<u8>, held: Option<&Entries>) -> Result<(), AllocError>
+    ensures { OnOk result (text.new.items ≡ text.old.items
+        ++ line (object_text (unwrap_or (option_copied held.entry) []))) }
+{
+    match held {
         Some(object) => print_object(text, object)?,
         None => text.extend_from_slice(b"ctx - values -")?,
     }
@@ -96,10 +110,30 @@ fn list(
     ensures { OnOk result (text.new.items ≡ text.old.items
         ++ line (list_text (prefix_word prefix.now) state.now.table)) }
 {
+    let keys = keys_under(alloc, state.store(), prefix)?;
+    print_held_keys(text, keys.as_slice())
+}
+
+/// The keys that a store holds under a prefix.
+fn keys_under(
+    alloc: Global,
+    store: &Store,
+    prefix: &PrefixWord<'_>,
+) -> Result<Vec<MetaKey>, AllocError>
+    requires { IsFullPrefix (prefix_word prefix.now) }
+    ensures { IfOk result (λ keys. keys.items ≡ keys_under (prefix_word prefix.now) store.now) }
+{
     let prefix = prefix.to_prefix(alloc)?;
-    let keys = state.store().list(&prefix)?;
+    store.list(&prefix)
+}
+
+/// Adds the keys that are held under a prefix.
+fn print_held_keys(text: &mut Vec<u8>, keys: &[MetaKey]) -> Result<(), AllocError>
+    ensures { OnOk result (text.new.items ≡ text.old.items
+        ++ line (codes "keys " ++ joined (map (λ k. bytes_text k.key) keys.now))) }
+{
     text.extend_from_slice(b"keys ")?;
-    print_keys(text, keys.as_slice())?;
+    print_keys(text, keys)?;
     text.extend_from_slice(b"\n")
 }
 

@@ -1,15 +1,16 @@
 //! Commands that read what a node holds and then do something with it: keeping it all, and
 //! resolving siblings.
 
-ghost use Rattle.std.specs.Prelude.{◌≡◌, ◌<◌, ◌∷◌, ◌++◌, [], length, map, IfOk, OnOk};
+ghost use Rattle.std.specs.Prelude.{◌≡◌, ◌<◌, ◌∷◌, ◌++◌, ℕ, List, [], length, map, IfOk, OnOk};
 ghost use Rattle.std.specs.Option.{option_map};
 ghost use Rattle.dvvset.specs.Clock.{values_of};
 ghost use Rattle.meta_store.specs.Table.{object_at};
 ghost use Rattle.meta_types.specs.Name.{IsKey, IsName};
 ghost use Rattle.node_core.specs.Repair.{chosen};
-ghost use Rattle.scenario_stage.specs.Obeying.{KeepsAll, chosen_as};
+ghost use Rattle.scenario_stage.specs.Obeying.{Happens, KeepsAll, chosen_as};
 ghost use Rattle.scenario_stage.specs.Coded.{KeepsOrNot, ResolvesAs};
 ghost use Rattle.scenario_text.specs.Coded.{key_word};
+ghost use Rattle.world_core.specs.declared.event.Event.TheVariants.{PutOver};
 
 use crate::look::print_no_node;
 use crate::print::{lacks_memory, print_line};
@@ -77,16 +78,49 @@ impl Stage {
             (option_map (λ r. choice r.now) resolver.entry) text.old.items text.new.items
             self.new) }
     {
-        let key = key.to_key(self.alloc)?;
         let value = match self.world.state(node) {
-            Some(state) => chosen(state.store(), &key, resolver)?,
+            Some(state) => chosen_under(self.alloc, state.store(), key, resolver)?,
             None => return print_no_node(text),
         };
         match value {
-            Some(value) => self.happen(Event::PutOver { node, key, value }, text),
+            Some(value) => self.put_over(node, key, value, text),
             None => print_line(text, "ok"),
         }
     }
+
+    /// The node writes the value over all that it shows.
+    fn put_over(
+        &mut self,
+        node: u64,
+        key: &KeyWord<'_>,
+        value: Value,
+        text: &mut Vec<u8>,
+    ) -> Result<(), AllocError>
+        requires { IsKey (key_word key.now) }
+        ensures { OnOk result ((added : List ℕ)
+            × Happens self.old (PutOver node (key_word key.now) value) added self.new
+            × (text.new.items ≡ text.old.items ++ added)) }
+    {
+        let key = key.to_key(self.alloc)?;
+        self.happen(Event::PutOver { node, key, value }, text)
+    }
+}
+
+/// The sibling under a key that the resolver chooses, where there is a resolver, and two siblings
+/// or more.
+fn chosen_under(
+    alloc: Global,
+    store: &Store,
+    key: &KeyWord<'_>,
+    resolver: Option<&Box<dyn Resolver>>,
+) -> Result<Option<Value>, AllocError>
+    requires { IsKey (key_word key.now) }
+    ensures { IfOk result (λ value. value
+        ≡ chosen_as (option_map (λ r. choice r.now) resolver.entry)
+        (values_of (object_at store.now (key_word key.now)))) }
+{
+    let key = key.to_key(alloc)?;
+    chosen(store, &key, resolver)
 }
 
 /// The keys that a store holds, in order. Fails only when memory runs out.
@@ -121,7 +155,7 @@ fn key_under(prefix: &FullPrefix, key: &ByteString) -> Result<MetaKey, AllocErro
     Ok(MetaKey::under(prefix, key))
 }
 
-/// The sibling that the resolver chooses, where there is a resolver, and two siblings or more.
+/// The same, under the key itself.
 fn chosen(
     store: &Store,
     key: &MetaKey,

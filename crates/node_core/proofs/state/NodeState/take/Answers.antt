@@ -9,15 +9,15 @@ returns-clause-step c =
     let frame = c.in_ok-frame.frame in
     let found = c.in_ok-frame.ensures.found in
     let same = c.as_slice.ensures in
-    IfOk-weaker c.receive.result _ _
-    (λ stepped step. taken c.args.self.now c.args.bytes.now c.args.word frame c.receive.new.self stepped (subst (Spells frame) same found) step)
-    c.receive.ensures.step
+    IfOk-weaker c.receive-taken.result _ _
+    (λ stepped step. taken c.args.self.now c.args.bytes.now c.args.word frame c.receive-taken.new.self stepped (subst (Spells frame) same found) step)
+    c.receive-taken.ensures.step
 
 pub returns-clause-refused : goal.returns-clause-refused
 returns-clause-refused c =
     let frame = c.in_ok-frame.frame in
     let found = c.in_ok-frame.ensures.found in
     let same = c.as_slice.ensures in
-    IfErr-weaker c.receive.result _ _
+    IfErr-weaker c.receive-taken.result _ _
     (λ fault cause. refused_frame c.args.self.now c.args.bytes.now c.args.word frame fault (subst (Spells frame) same found) cause)
-    c.receive.ensures.refused
+    c.receive-taken.ensures.refused
