@@ -1,17 +1,17 @@
 //! The example of README.md.
 
 use crate::events::{apply, deliver, get, join, key, new_world, put};
-use meta_types::MetaKey;
 use printing::print_object;
 use std::alloc::Global;
 use std::process::Abort;
 use world_core::{Event, World};
 
-/// Returns whether node 1 shows this under the key, as it is printed.
-fn is_shown(rt: &impl Abort, alloc: Global, world: &World, key: &MetaKey, wanted: &[u8]) -> bool {
+/// Returns whether node 1 shows this under app/flags/colour, as it is printed.
+fn is_shown(rt: &impl Abort, alloc: Global, world: &World, wanted: &[u8]) -> bool {
     let store = world.state(1).expect(rt, "a node").store();
+    let object = store.object(&key(rt, alloc)).expect(rt, "an object");
     let mut text = Vec::new(alloc);
-    print_object(&mut text, store.object(key).expect(rt, "an object")).expect(rt, "memory");
+    print_object(&mut text, object).expect(rt, "memory");
     text.as_slice() == wanted
 }
 
@@ -36,17 +36,17 @@ fn write_over(rt: &impl Abort, alloc: Global, world: &mut World) {
 }
 
 /// Returns whether node 1 shows both writes, and then the one that replaces them.
-fn is_told(rt: &impl Abort, alloc: Global, world: &mut World, key: &MetaKey) -> bool {
+fn is_told(rt: &impl Abort, alloc: Global, world: &mut World) -> bool {
     write_both(rt, alloc, world);
     let both = b"ctx 0.1:1,1.1:1 values red,blue".as_slice();
-    let shows_both = is_shown(rt, alloc, world, key, both);
+    let shows_both = is_shown(rt, alloc, world, both);
     write_over(rt, alloc, world);
     let one = b"ctx 0.1:1,1.1:2 values green".as_slice();
-    shows_both & is_shown(rt, alloc, world, key, one)
+    shows_both & is_shown(rt, alloc, world, one)
 }
 
 #[test]
 fn two_nodes_join_write_and_deliver(rt: HostRuntime) {
-    let (key, mut world) = (key(&rt, rt.alloc()), new_world(&rt, rt.alloc()));
-    assert!(rt; is_told(&rt, rt.alloc(), &mut world, &key));
+    let mut world = new_world(&rt, rt.alloc());
+    assert!(rt; is_told(&rt, rt.alloc(), &mut world));
 }

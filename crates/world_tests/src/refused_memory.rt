@@ -58,7 +58,8 @@ fn refused(outcomes: &[Result<Answer, WorldFault>]) -> usize {
 /// delivery of its frame, is refused too.
 #[test]
 fn a_run_goes_on_under_refused_memory(rt: HostRuntime) {
-    let (events, mut world) = (events(&rt, rt.alloc()), new_world(&rt, rt.alloc()));
+    let events = events(&rt, rt.alloc());
+    let mut world = new_world(&rt, rt.alloc());
     let outcomes = outcomes(&rt, rt.alloc(), &mut world, events.as_slice());
     let goes_on = (outcomes.len() == COUNT) & (world.accepted().len() >= 11);
     assert!(rt; goes_on & (refused(outcomes.as_slice()) <= 1));

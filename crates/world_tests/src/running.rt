@@ -18,7 +18,8 @@ fn have_codes(rt: &impl Abort, outcomes: &[Result<Answer, WorldFault>]) -> bool 
 /// A run goes on after a refused event.
 #[test]
 fn each_kind_of_event_happens_in_a_run(rt: HostRuntime) {
-    let (events, mut world) = (events(&rt, rt.alloc()), new_world(&rt, rt.alloc()));
+    let events = events(&rt, rt.alloc());
+    let mut world = new_world(&rt, rt.alloc());
     let outcomes = world
         .run(rt.alloc(), events.as_slice())
         .expect(&rt, "memory");
@@ -35,13 +36,13 @@ static SIZES: [(u64, bool); 6] = [
     (18_446_744_073_709_551_615, false),
 ];
 
+fn is_made(alloc: Global, nodes: u64) -> bool {
+    World::new(alloc, nodes).is_ok()
+}
+
 #[test]
 fn a_world_has_1_to_16_nodes(rt: HostRuntime) {
-    for (nodes, is_made) in &SIZES {
-        assert_eq!(rt;
-            World::new(rt.alloc(), *nodes).is_ok(),
-            *is_made,
-            "at {nodes}"
-        );
+    for (nodes, wanted) in &SIZES {
+        assert_eq!(rt; is_made(rt.alloc(), *nodes), *wanted, "at {nodes}");
     }
 }
