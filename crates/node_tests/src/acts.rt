@@ -3,26 +3,23 @@
 //! What takes memory here is asked for once more where it is refused, so that tests under refused
 //! memory get their events whichever single allocation is refused.
 
-use meta_store::Context;
+use crate::frames::{FRONT_OF_LARGEST, FRONT_OF_LONG_VALUE};
 use meta_types::{ByteString, FullPrefix, MetaKey, NodeId, Value};
 use node_events::NodeEvent;
 use std::alloc::Global;
 use std::process::Abort;
 
-/// What a node is asked, an event with word 0 or a repair, or what is looked at. A node is told by
-/// its number, a key under p/s by its letter, and the body of a value by its letter, where `~` is
-/// a tombstone.
+/// What a node is asked, an event with word 0 or another call. A node is told by its number, a key
+/// under p/s by its letter, and the body of a value by its letter, where `~` is a tombstone.
 #[derive(Clone, Copy)]
 pub enum Act {
     Read(u8),
     Write(u8, u8),
-    /// A write that has read what the read of this number handed out.
-    WriteOver(u8, u8, usize),
     PutOver(u8, u8),
-    /// The frame of this number, of all that the nodes have sent, counted from 1.
-    Take(usize),
-    /// These bytes, as a frame.
-    TakeBytes(&'static [u8]),
+    /// These bytes come as a frame.
+    Take(&'static [u8]),
+    /// A GOSSIP comes from node 1 of the key k, with an object of 1,048,576 bytes.
+    TakeLargest,
     Tick,
     Join(u16),
     PeerDown(u16),
@@ -35,17 +32,19 @@ pub enum Act {
     Leave,
     /// The repair of a key by the last write.
     Repair(u8),
-    /// The neighbours of the node, and which of them are eager and lazy.
-    Peers,
-    /// Whether the root of the node is that of this other one.
-    RootOf(u16),
+    /// A new node 0 is there in place of the one before.
+    New,
+    /// A copy goes on in the place of the node.
+    Copy,
+    /// Writes under 8,191 keys of two bytes, none of which is refused.
+    Fill,
 }
 
 pub fn node(rt: &impl Abort, number: u16) -> NodeId {
     NodeId::new(number).expect(rt, "a node")
 }
 
-pub fn bytes(rt: &impl Abort, alloc: Global, bytes: &[u8]) -> Vec<u8> {
+fn bytes(rt: &impl Abort, alloc: Global, bytes: &[u8]) -> Vec<u8> {
     match bytes.to_vec(alloc) {
         Ok(bytes) => bytes,
         Err(_) => bytes.to_vec(alloc).expect(rt, "memory once more"),
@@ -53,18 +52,18 @@ pub fn bytes(rt: &impl Abort, alloc: Global, bytes: &[u8]) -> Vec<u8> {
 }
 
 /// The full prefix p/s.
-pub fn prefix(rt: &impl Abort, alloc: Global) -> FullPrefix {
+fn prefix(rt: &impl Abort, alloc: Global) -> FullPrefix {
     let prefix = bytes(rt, alloc, b"p");
     FullPrefix::new(prefix, bytes(rt, alloc, b"s")).expect(rt, "a prefix")
 }
 
-/// The key of this letter under p/s.
-pub fn key(rt: &impl Abort, alloc: Global, letter: u8) -> MetaKey {
+/// The key of these letters under p/s.
+pub fn key(rt: &impl Abort, alloc: Global, letters: &[u8]) -> MetaKey {
     let prefix = prefix(rt, alloc);
-    MetaKey::new(prefix, bytes(rt, alloc, &[letter])).expect(rt, "a key")
+    MetaKey::new(prefix, bytes(rt, alloc, letters)).expect(rt, "a key")
 }
 
-pub fn value(rt: &impl Abort, alloc: Global, letter: u8) -> Value {
+fn value(rt: &impl Abort, alloc: Global, letter: u8) -> Value {
     let body = if letter == b'~' {
         None
     } else {
@@ -73,60 +72,48 @@ pub fn value(rt: &impl Abort, alloc: Global, letter: u8) -> Value {
     Value::new(0, body).expect(rt, "a value")
 }
 
-/// The bytes of the frame of this number.
-fn frame(rt: &impl Abort, frames: &[ByteString], number: usize) -> ByteString {
-    let frame = frames.get(number.wrapping_sub(1)).expect(rt, "a frame");
-    match frame.copy() {
-        Ok(frame) => frame,
-        Err(_) => frame.copy().expect(rt, "memory once more"),
+/// The GOSSIP with the largest object: 18 bytes before its values, 1,013 values of 1,035 bytes, and
+/// one of 103.
+fn largest(rt: &impl Abort, alloc: Global) -> Vec<u8> {
+    let mut text = bytes(rt, alloc, FRONT_OF_LARGEST);
+    for _ in 0..1_013 {
+        text.extend_from_slice(FRONT_OF_LONG_VALUE)
+            .expect(rt, "memory");
+        text.extend_from_slice(&[b'x'; 1_024]).expect(rt, "memory");
+    }
+    text
+}
+
+/// A write of x over the key of these letters.
+pub fn put_over(rt: &impl Abort, alloc: Global, letters: &[u8], body: u8) -> NodeEvent {
+    NodeEvent::PutOver {
+        key: key(rt, alloc, letters),
+        value: value(rt, alloc, body),
     }
 }
 
-/// What the read of this number handed out.
-fn context(rt: &impl Abort, contexts: &[Context], number: usize) -> Context {
-    let context = contexts.get(number.wrapping_sub(1)).expect(rt, "a read");
-    match context.copy() {
-        Ok(context) => context,
-        Err(_) => context.copy().expect(rt, "memory once more"),
-    }
-}
-
-/// The event that is meant, where these frames were sent and these contexts handed out.
-pub fn event(
-    rt: &impl Abort,
-    alloc: Global,
-    frames: &[ByteString],
-    contexts: &[Context],
-    act: Act,
-) -> NodeEvent {
+/// The event that is meant.
+pub fn event(rt: &impl Abort, alloc: Global, act: Act) -> NodeEvent {
     match act {
         Act::Read(letter) => NodeEvent::Read {
-            key: key(rt, alloc, letter),
+            key: key(rt, alloc, &[letter]),
         },
         Act::Write(letter, body) => NodeEvent::Write {
-            key: key(rt, alloc, letter),
+            key: key(rt, alloc, &[letter]),
             value: value(rt, alloc, body),
             context: None,
         },
-        Act::WriteOver(letter, body, number) => NodeEvent::Write {
-            key: key(rt, alloc, letter),
-            value: value(rt, alloc, body),
-            context: Some(context(rt, contexts, number)),
-        },
-        Act::PutOver(letter, body) => NodeEvent::PutOver {
-            key: key(rt, alloc, letter),
-            value: value(rt, alloc, body),
-        },
-        Act::Take(number) => NodeEvent::Take {
-            frame: frame(rt, frames, number),
-            word: 0,
-        },
-        Act::TakeBytes(text) => NodeEvent::Take {
+        Act::PutOver(letter, body) => put_over(rt, alloc, &[letter], body),
+        Act::Take(text) => NodeEvent::Take {
             frame: ByteString::new(bytes(rt, alloc, text)),
             word: 0,
         },
+        Act::TakeLargest => NodeEvent::Take {
+            frame: ByteString::new(largest(rt, alloc)),
+            word: 0,
+        },
         Act::Keep(letter) => NodeEvent::Keep {
-            key: key(rt, alloc, letter),
+            key: key(rt, alloc, &[letter]),
         },
         Act::Watch(capacity) => NodeEvent::Watch {
             prefix: prefix(rt, alloc),
