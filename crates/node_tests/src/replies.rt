@@ -4,9 +4,9 @@
 use crate::acts::Act;
 use crate::frames::GOSSIP_OF_Y;
 use crate::playing::{asked, new_node};
+use dvvset::Vector;
 use node_core::{NodeState, Stepped};
 use node_events::{Reply, StepFault};
-use printing::print_vector;
 use std::alloc::Global;
 use std::process::Abort;
 
@@ -30,26 +30,41 @@ fn read(rt: &impl Abort, alloc: Global, node: &mut NodeState) -> u64 {
     step
 }
 
-/// Adds the vector of each change.
-fn add_vectors(rt: &impl Abort, text: &mut Vec<u8>, outcome: &Result<Stepped, StepFault>) {
-    if let Ok(
-        Stepped {
-            reply: Reply::Changed { changes, .. },
-            ..
-        },
-    ) = outcome
-    {
-        for change in changes.as_slice() {
-            print_vector(text, &change.vector).expect(rt, "memory");
-            text.extend_from_slice(b" ").expect(rt, "memory");
-        }
+/// What a vector counts, of each writer three digits: its node, its life and its writes.
+fn digits(vector: &Vector) -> u64 {
+    let mut digits: u64 = 0;
+    for counter in vector.counters() {
+        let (writer, count) = (counter.id(), counter.count());
+        let node = u64::from(writer.node().number());
+        let life = u64::from(writer.incarnation());
+        let next = node.wrapping_mul(100).wrapping_add(life.wrapping_mul(10));
+        digits = digits
+            .wrapping_mul(1_000)
+            .wrapping_add(next)
+            .wrapping_add(count);
+    }
+    digits
+}
+
+/// What two changes count, which are handed out.
+fn counted(outcome: &Result<Stepped, StepFault>) -> (u64, u64) {
+    let Ok(stepped) = outcome else {
+        return (0, 0);
+    };
+    let Reply::Changed { changes, .. } = &stepped.reply else {
+        return (0, 0);
+    };
+    match changes.as_slice() {
+        [first, second] => (digits(&first.vector), digits(&second.vector)),
+        _ => (0, 0),
     }
 }
 
-fn changes(rt: &impl Abort, alloc: Global, node: &mut NodeState, text: &mut Vec<u8>) {
+fn changes(rt: &impl Abort, alloc: Global, node: &mut NodeState) -> (u64, u64) {
     let outcome = asked(rt, alloc, node, Act::Changes(1));
-    add_vectors(rt, text, &outcome);
+    let counted = counted(&outcome);
     drop(outcome);
+    counted
 }
 
 /// Returns whether the node does it.
@@ -63,14 +78,15 @@ fn is_done(rt: &impl Abort, alloc: Global, node: &mut NodeState, act: Act) -> bo
 /// A step that is refused doesn't count.
 #[test]
 fn a_read_tells_its_step_and_a_change_the_writes_that_are_known(rt: HostRuntime) {
-    let (mut text, mut node) = (Vec::new(rt.alloc()), new_node(&rt, rt.alloc()));
+    let mut node = new_node(&rt, rt.alloc());
     assert!(rt; is_done(&rt, rt.alloc(), &mut node, Act::Watch(9)));
     assert!(rt; is_done(&rt, rt.alloc(), &mut node, Act::Take(GOSSIP_OF_Y)));
     assert!(rt; !is_done(&rt, rt.alloc(), &mut node, Act::Join(0)));
     assert!(rt; is_done(&rt, rt.alloc(), &mut node, Act::PutOver(b'k', b'x')));
     let step = read(&rt, rt.alloc(), &mut node);
-    changes(&rt, rt.alloc(), &mut node, &mut text);
+    let counted = changes(&rt, rt.alloc(), &mut node);
     drop(node);
     assert_eq!(rt; step, 4);
-    assert_eq!(rt; text.as_slice(), b"1.1:1 0.1:1,1.1:1 ".as_slice());
+    // The vectors are 1.1:1 and 0.1:1,1.1:1.
+    assert!(rt; counted == (111, 11_111));
 }

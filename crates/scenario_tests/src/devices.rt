@@ -1,69 +1,50 @@
-//! A reader of a text and a writer of one, which fail as they are told.
+//! A reader of a text and a writer that wants one, which fail as they are told.
 
 use std::io::{self, ErrorKind, Read, Write};
 
-/// How a reader goes on after its text.
-#[derive(Clone, Copy, PartialEq, Eq)]
-pub(crate) enum End {
-    Over,
-    /// Each further read fails in this way.
-    Fails(ErrorKind),
-}
-
-/// Gives a text, at most so many bytes at a time.
+/// Gives a text so many times more than what is left of it, at most so many bytes at a time, and
+/// is at its end then, or fails each time.
 #[derive(Clone, Copy)]
-pub(crate) struct Feed {
-    pub(crate) text: &'static [u8],
-    pub(crate) most: usize,
-    pub(crate) end: End,
+pub struct Feed {
+    pub left: &'static [u8],
+    pub text: &'static [u8],
+    pub times: u32,
+    pub most: usize,
+    pub fault: Option<ErrorKind>,
 }
 
 impl Read for Feed {
     fn read(&mut self, piece: &mut [u8]) -> io::Result<usize> {
-        let n = piece.len().min(self.most).min(self.text.len());
+        if self.left.is_empty() && self.times > 0 {
+            self.left = self.text;
+            self.times -= 1;
+        }
+        let n = piece.len().min(self.most).min(self.left.len());
         if n == 0 {
-            return match self.end {
-                End::Over => Ok(0),
-                End::Fails(kind) => Err(io::Error::from(kind)),
+            return match self.fault {
+                Some(kind) => Err(io::Error::from(kind)),
+                None => Ok(0),
             };
         }
-        piece[..n].copy_from_slice(&self.text[..n]);
-        self.text = &self.text[n..];
-        Ok(n)
-    }
-}
-
-/// Gives so many bytes, each the same one, with a line feed at the end of each piece where it is
-/// told to.
-#[derive(Clone, Copy)]
-pub(crate) struct Filling {
-    pub(crate) byte: u8,
-    pub(crate) lines: bool,
-    pub(crate) left: usize,
-}
-
-impl Read for Filling {
-    fn read(&mut self, piece: &mut [u8]) -> io::Result<usize> {
-        let n = piece.len().min(self.left);
-        piece[..n].fill(self.byte);
-        if self.lines && n > 0 {
-            piece[n - 1] = b'\n';
-        }
-        self.left -= n;
+        piece[..n].copy_from_slice(&self.left[..n]);
+        self.left = &self.left[n..];
         Ok(n)
     }
 }
 
 /// Takes so many bytes, at most so many at a time, and then fails, or takes none.
-#[derive(Drop)]
-pub(crate) struct Bin {
-    pub(crate) text: Vec<u8>,
-    pub(crate) room: usize,
-    pub(crate) most: usize,
-    pub(crate) fault: Option<ErrorKind>,
+#[derive(Clone, Copy)]
+pub struct Device {
+    /// The text that is still to come.
+    pub wanted: &'static [u8],
+    /// Whether only what was wanted came.
+    pub is_right: bool,
+    pub room: usize,
+    pub most: usize,
+    pub fault: Option<ErrorKind>,
 }
 
-impl Write for Bin {
+impl Write for Device {
     fn write(&mut self, bytes: &[u8]) -> io::Result<usize> {
         let n = bytes.len().min(self.most).min(self.room);
         if n == 0 && !bytes.is_empty() {
@@ -72,9 +53,9 @@ impl Write for Bin {
                 None => Ok(0),
             };
         }
-        match self.text.extend_from_slice(&bytes[..n]) {
-            Ok(()) => {}
-            Err(_) => return Err(io::Error::from(ErrorKind::OutOfMemory)),
+        match self.wanted.strip_prefix(&bytes[..n]) {
+            Some(rest) => self.wanted = rest,
+            None => self.is_right = false,
         }
         self.room -= n;
         Ok(n)

@@ -1,84 +1,83 @@
-//! Readers and writers that fail.
+//! Readers and writers that fail, and a text that is too long.
 
-use crate::devices::{Bin, End, Feed, Filling};
-use crate::runs::{TEXT, outcome, resolvers};
-use scenario::{ScenarioFault, run_over};
+use crate::devices::Device;
+use crate::runs::{Done, device, feed, run};
+use crate::texts::{OUTPUT, TEXT, TIMES_TOO_LONG, TOO_LONG};
+use scenario::ScenarioFault;
+use std::alloc::Global;
 use std::io::ErrorKind;
-use streams::{MAX_INPUT_LEN, MayFail, StreamFault};
+use std::process::Abort;
+use streams::StreamFault;
 
-#[test]
-fn a_reader_that_fails_at_each_byte(rt: HostRuntime) {
-    for kind in [ErrorKind::Other, ErrorKind::Interrupted] {
-        for at in 0..TEXT.len() {
-            let mut reader = MayFail(Feed {
-                text: &TEXT[..at],
-                most: 7,
-                end: End::Fails(kind),
-            });
-            let mut output = Vec::new(rt.alloc());
-            let ended = run_over(rt.alloc(), &mut reader, &mut output, &[]);
-            assert!(&rt; ended == Err(ScenarioFault::Stream(StreamFault::Read)));
-            assert!(&rt; output.is_empty());
-        }
-    }
+fn fault(fault: StreamFault) -> Done {
+    Err(ScenarioFault::Stream(fault))
+}
+
+/// A reader fails behind so many bytes of the text.
+fn assert_not_read(rt: &impl Abort, alloc: Global, at: usize, kind: ErrorKind) {
+    let mut reader = feed(TEXT.get(..at).expect(rt, "a front"));
+    reader.most = 7;
+    reader.fault = Some(kind);
+    let (done, writer) = run(rt, alloc, reader, device(b""), 0);
+    assert!(rt; writer.is_right && done == fault(StreamFault::Read));
 }
 
 #[test]
-fn a_writer_that_fails_at_each_byte(rt: HostRuntime) {
-    let all = resolvers(&rt, rt.alloc(), 2);
-    let (wanted, _) = outcome(&rt, rt.alloc(), TEXT, 2);
-    let kinds = [
-        (None, StreamFault::Write),
-        (Some(ErrorKind::Other), StreamFault::Write),
-        (Some(ErrorKind::BrokenPipe), StreamFault::BrokenPipe),
-    ];
-    for (fault, wanted_fault) in kinds {
-        for room in 0..wanted.len() {
-            let mut writer = MayFail(Bin {
-                text: Vec::new(rt.alloc()),
-                room,
-                most: 9,
-                fault,
-            });
-            let mut reader = TEXT;
-            let ended = run_over(rt.alloc(), &mut reader, &mut writer, all.as_slice());
-            assert!(&rt; ended == Err(ScenarioFault::Stream(wanted_fault)));
-            assert!(&rt; writer.0.text.as_slice() == &wanted[..room]);
-        }
+fn a_reader_that_fails_at_any_byte(rt: HostRuntime) {
+    for at in 0..TEXT.len() {
+        assert_not_read(&rt, rt.alloc(), at, ErrorKind::Other);
+        assert_not_read(&rt, rt.alloc(), at, ErrorKind::Interrupted);
     }
 }
 
-#[test]
-fn a_line_of_a_fault_that_can_not_be_written(rt: HostRuntime) {
-    let mut writer = MayFail(Bin {
-        text: Vec::new(rt.alloc()),
-        room: 9,
+/// A text, what it prints, the kind of error with which the writer fails, or none where it takes
+/// no more, and how the run ends then.
+type Row = (&'static [u8], &'static [u8], Option<ErrorKind>, StreamFault);
+
+static ROWS: [Row; 4] = [
+    (TEXT, OUTPUT, None, StreamFault::Write),
+    (TEXT, OUTPUT, Some(ErrorKind::Other), StreamFault::Write),
+    (
+        TEXT,
+        OUTPUT,
+        Some(ErrorKind::BrokenPipe),
+        StreamFault::BrokenPipe,
+    ),
+    (
+        b"nonsense",
+        b"error 70 BadLine 1\n",
+        None,
+        StreamFault::Write,
+    ),
+];
+
+/// The writer fails once it took so many bytes.
+fn assert_not_written(rt: &impl Abort, alloc: Global, row: Row, room: usize) {
+    let (text, output, kind, wanted) = row;
+    let writer = Device {
+        room,
         most: 9,
-        fault: None,
-    });
-    let mut reader: &[u8] = b"nonsense";
-    let ended = run_over(rt.alloc(), &mut reader, &mut writer, &[]);
-    assert!(&rt; ended == Err(ScenarioFault::Stream(StreamFault::Write)));
-    let wanted: &[u8] = b"error 70 ";
-    assert!(&rt; writer.0.text.as_slice() == wanted);
+        fault: kind,
+        ..device(output)
+    };
+    let (done, writer) = run(rt, alloc, feed(text), writer, 2);
+    assert!(rt; writer.is_right && writer.room == 0);
+    assert!(rt; done == fault(wanted));
 }
 
 #[test]
-fn the_longest_text_and_one_byte_more(rt: HostRuntime) {
-    let mut output = Vec::new(rt.alloc());
-    let mut reader = MayFail(Filling {
-        byte: b'#',
-        lines: true,
-        left: MAX_INPUT_LEN,
-    });
-    let ended = run_over(rt.alloc(), &mut reader, &mut output, &[]);
-    assert!(&rt; ended == Ok(()));
-    let mut reader = MayFail(Filling {
-        byte: b'#',
-        lines: true,
-        left: MAX_INPUT_LEN + 1,
-    });
-    let ended = run_over(rt.alloc(), &mut reader, &mut output, &[]);
-    assert!(&rt; ended == Err(ScenarioFault::Stream(StreamFault::InputTooLong)));
-    assert!(&rt; output.is_empty());
+fn a_writer_that_fails_at_any_byte_has_a_front(rt: HostRuntime) {
+    for row in &ROWS {
+        for room in 0..row.1.len() {
+            assert_not_written(&rt, rt.alloc(), *row, room);
+        }
+    }
+}
+
+#[test]
+fn one_byte_more_than_is_read_is_too_long(rt: HostRuntime) {
+    let mut reader = feed(TOO_LONG);
+    reader.times = TIMES_TOO_LONG.saturating_sub(1);
+    let (done, writer) = run(&rt, rt.alloc(), reader, device(b""), 0);
+    assert!(rt; writer.is_right && done == fault(StreamFault::InputTooLong));
 }

@@ -1,4 +1,5 @@
-//! The tests of `scenario`. No crate uses this one.
+//! The tests of `scenario` that need its calls: what a text of whole lines prints is a row of
+//! `scenario_rows`. No crate uses this one.
 #![tactic(auto)]
 
 #[cfg(test)]
@@ -6,8 +7,8 @@ mod devices;
 #[cfg(test)]
 mod faults;
 #[cfg(test)]
-mod hostile;
-#[cfg(test)]
 mod refused_memory;
 #[cfg(test)]
 mod runs;
+#[cfg(test)]
+mod texts;

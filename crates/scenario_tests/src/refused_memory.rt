@@ -1,36 +1,29 @@
-//! A run whose allocations are refused, one at a time. It takes some 700 of them.
+//! A run whose allocations are refused, one at a time.
 
-use crate::runs::TEXT;
-use resolvers::{Largest, Lww, Resolver};
+use crate::runs::{Done, largest, lww};
+use crate::texts::{OUTPUT, TEXT};
 use scenario::{ScenarioFault, run_over};
-use std::alloc::{AllocError, Global};
+use std::alloc::Global;
+use std::process::Abort;
 use streams::StreamFault;
 
-const MEMORY: ScenarioFault = ScenarioFault::Stream(StreamFault::Memory);
+const MEMORY: Done = Err(ScenarioFault::Stream(StreamFault::Memory));
 
-/// What the text prints, and how it ends.
-fn printed(alloc: Global) -> Result<(Vec<u8>, Result<(), ScenarioFault>), AllocError> {
-    let lww: Box<dyn Resolver> = Box::new(alloc, Lww)?;
-    let largest: Box<dyn Resolver> = Box::new(alloc, Largest)?;
-    let mut output = Vec::new(alloc);
-    let mut reader = TEXT;
-    let ended = run_over(alloc, &mut reader, &mut output, &[lww, largest]);
-    Ok((output, ended))
+/// The run ends with its output, or for want of memory with a front of it.
+fn assert_ends(rt: &impl Abort, done: Done, output: &[u8]) {
+    if done == Ok(()) {
+        assert!(rt; output == OUTPUT);
+    } else {
+        assert!(rt; done == MEMORY && OUTPUT.starts_with(output));
+    }
 }
 
-/// The first run is refused an allocation, or none; the second has all that it asks for, unless it
-/// was the second that was refused one. Whichever was gives a front of what the other gives.
 #[test]
 fn a_run_gives_a_front_of_its_output_under_refused_memory(rt: HostRuntime) {
-    let Ok((one, first)) = printed(rt.alloc()) else {
-        return;
-    };
-    let Ok((other, second)) = printed(rt.alloc()) else {
-        return;
-    };
-    assert!(&rt; first == Ok(()) || first == Err(MEMORY));
-    assert!(&rt; second == Ok(()) || second == Err(MEMORY));
-    assert!(&rt; first == Ok(()) || second == Ok(()));
-    assert!(&rt; first == Err(MEMORY) || one.as_slice().starts_with(other.as_slice()));
-    assert!(&rt; second == Err(MEMORY) || other.as_slice().starts_with(one.as_slice()));
+    let all = [lww(&rt, rt.alloc()), largest(&rt, rt.alloc())];
+    let mut output = Vec::new(rt.alloc());
+    let mut reader = TEXT;
+    let done = run_over(rt.alloc(), &mut reader, &mut output, &all);
+    drop(all);
+    assert_ends(&rt, done, output.as_slice());
 }
