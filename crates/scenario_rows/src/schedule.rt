@@ -76,13 +76,27 @@ fn follow(
 ) -> Result<bool, AllocError> {
     let keys = keys(alloc)?;
     let mut stage = Stage::new(alloc, NODES)?;
+    let is_right = follow_all(alloc, &mut stage, lines, keys.as_slice(), resolvers, log);
+    drop(stage);
+    is_right
+}
+
+/// The same, with the stage that obeys the commands and the keys under which nodes are compared.
+fn follow_all(
+    alloc: Global,
+    stage: &mut Stage,
+    lines: &str,
+    keys: &[MetaKey],
+    resolvers: &[Box<dyn Resolver>],
+    log: &mut Vec<u8>,
+) -> Result<bool, AllocError> {
     for (place, line) in lines.lines().enumerate() {
-        take_line(alloc, &mut stage, line, resolvers, log)?;
-        if is_compared(place) && !compare(alloc, &stage, line, keys.as_slice(), log)? {
+        take_line(alloc, stage, line, resolvers, log)?;
+        if is_compared(place) && !compare(alloc, stage, line, keys, log)? {
             return Ok(false);
         }
     }
-    compare(alloc, &stage, "the last", keys.as_slice(), log)
+    compare(alloc, stage, "the last", keys, log)
 }
 
 /// Whether all is compared after the command of this place: after each of the first, and then, as
