@@ -1,5 +1,5 @@
-//! An object alone, whichever single allocation is refused: what was refused memory succeeds when it
-//! is made again.
+//! An object alone, whichever single allocation is refused: what was refused memory succeeds when
+//! it is made again.
 
 use dvvset::Entries;
 use meta_frame::lawful::is_object;

@@ -1,4 +1,4 @@
-//! A node is asked what the rows tell, with ample memory and whichever single allocation is refused.
+//! A node is asked what the rows tell, with ample memory and under refused memory.
 
 use crate::acts::{Act, event, key, node, put_over};
 use crate::rows::{COMING, EACH, Given, LARGE, REFUSED};
