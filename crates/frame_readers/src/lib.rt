@@ -1,16 +1,18 @@
-//! Readers of the fields that frames are made of, from the front of bytes. `meta_frame` alone uses
-//! them: their contracts cite readers on lists, and what is public there cites forms.
+//! Readers of the fields that frames are made of, from the front of bytes. Their contracts cite
+//! readers on lists; those of `meta_frame`, which reads frames by them, cite forms.
 //!
 //! ```
 //! let (key, rest) = read_key(alloc, bytes)?;
 //! let (object, rest) = read_object(alloc, rest)?;
 //! ```
 //!
-//! Read `reading` (numbers, names, objects), `listing` (lists whose rows rise), then `fault`.
+//! Read `reading` (numbers, names, objects), `listing` (lists whose rows rise), `old` (objects in
+//! the form that node files had first), then `fault`.
 #![tactic(auto)]
 
 pub mod fault;
 pub mod listing;
+pub mod old;
 pub mod reading;
 
 pub use fault::FieldFault;

@@ -17,7 +17,7 @@ use meta_types::{Actor, FullPrefix, MetaKey, NodeId, Value};
 use std::alloc::Global;
 
 /// One more than the greatest number of a writer.
-const MOST_WRITERS: u64 = 16 * INCARNATIONS;
+pub(crate) const MOST_WRITERS: u64 = 16 * INCARNATIONS;
 
 pub fn read_u8(bytes: &[u8]) -> Result<(u8, &[u8]), FieldFault>
     ensures value { MatchesReader result (number_reader w8 bytes.now) }
@@ -98,7 +98,7 @@ pub(crate) fn u16_within(low: u16, high: u64, bytes: &[u8]) -> Result<(u16, &[u8
 }
 
 #[tactic(auto, unfolding(crate::specs::Reader::within_reader))]
-fn u64_within(low: u64, high: u64, bytes: &[u8]) -> Result<(u64, &[u8]), FieldFault>
+pub(crate) fn u64_within(low: u64, high: u64, bytes: &[u8]) -> Result<(u64, &[u8]), FieldFault>
     ensures value { MatchesReader result (within_reader w64 low high bytes.now) }
     ensures range { IfOk result (λ x. (low ≤ x.0) × (x.0 ≤ high)) }
     ensures memory { IfErr result (λ fault. fault ≢ Memory) }
@@ -256,7 +256,7 @@ fn read_writer(low: u64, bytes: &[u8]) -> Result<(u16, u32, &[u8]), FieldFault>
     }
 }
 
-fn writer_from(node: u16, incarnation: u32) -> Actor
+pub(crate) fn writer_from(node: u16, incarnation: u32) -> Actor
     requires { IsNode node }
     ensures { result ≡ writer_number node incarnation }
 {
@@ -291,7 +291,11 @@ fn read_value(alloc: Global, bytes: &[u8]) -> Result<(Value, &[u8]), FieldFault>
 }
 
 #[tactic(auto, unfolding(crate::specs::Reader::values_reader))]
-fn read_values(alloc: Global, count: u64, bytes: &[u8]) -> Result<(Vec<Value>, &[u8]), FieldFault>
+pub(crate) fn read_values(
+    alloc: Global,
+    count: u64,
+    bytes: &[u8],
+) -> Result<(Vec<Value>, &[u8]), FieldFault>
     ensures { Gives (λ x. (x.0.items, x.1.now)) result (values_reader count bytes.now) }
 {
     let (len, rest) = u16_within(0, count, bytes)?;
