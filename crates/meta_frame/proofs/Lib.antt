@@ -6,3 +6,5 @@ pub mod Rows
 pub mod Frames
 -- what a reader of a field answered, in the words of its form
 pub mod Fronts
+-- a header before other bytes
+pub mod Headers

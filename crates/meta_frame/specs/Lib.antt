@@ -10,6 +10,8 @@ pub use Rattle.frame_fields.specs.Form
 pub use Rattle.frame_fields.specs.Field
 -- the kinds of message, frames, and which refusal comes first
 pub mod Frame
+-- the header of a frame alone
+pub mod Header
 -- a field at the front of bytes
 pub mod Front
 -- the numbers of refusals

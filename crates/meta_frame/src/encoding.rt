@@ -5,8 +5,8 @@ ghost use Rattle.meta_types.specs.Failing.{FailsWith};
 ghost use Rattle.frame_fields.specs.Field.{object};
 ghost use Rattle.meta_frame.specs.Frame.{IsLawful, Spells, spelling, limit, body};
 
-use crate::decoding::{HEADER_LEN, MAX_FRAME_LEN, VERSION};
 use crate::fault::FrameFault;
+use crate::header::{HEADER_LEN, MAX_FRAME_LEN, VERSION};
 use crate::kinds::{body_len, kind_number, write_message};
 use crate::message::Frame;
 use dvvset::Entries;

@@ -6,8 +6,8 @@
 //! let again = decode(alloc, bytes.as_slice())?; // equal to the frame
 //! ```
 //!
-//! Read `message`, `kinds` (the table of kinds), `encoding`, `decoding` with `bodies`, `lawful`,
-//! `field`, then `laws` and `fault`.
+//! Read `message`, `kinds` (the table of kinds), `encoding`, `header`, `decoding` with `bodies`,
+//! `lawful`, `field`, then `laws` and `fault`.
 #![tactic(auto)]
 
 mod bodies;
@@ -16,16 +16,18 @@ pub mod decoding;
 pub mod encoding;
 pub mod fault;
 pub mod field;
+pub mod header;
 mod kinds;
 pub mod lawful;
 pub mod laws;
 pub mod message;
 
-pub use decoding::{HEADER_LEN, MAX_FRAME_LEN, VERSION, decode};
+pub use decoding::decode;
 pub use encoding::{encode, put_object};
 pub use fault::FrameFault;
 pub use field::{get_key, get_object, get_prefix, get_vector};
 pub use frame_fields::{NeighborAnswer, Priority};
+pub use header::{HEADER_LEN, Header, MAX_FRAME_LEN, VERSION, read_header};
 pub use kinds::kind_name;
 pub use lawful::is_lawful;
 pub use message::{Frame, Message};
