@@ -15,8 +15,8 @@ use Rattle.streams.proofs.Sent.{Appends-nil, Appends-then, Appends-kept}
 use Rattle.streams.proofs.Pieces.{Consumes-nil, Consumes-then}
 use Rattle.plumctl_core.specs.declared.frame.Ended.{Ended}
 use Rattle.plumctl_core.specs.declared.frame.Ended.TheVariants.{AllPrinted, SomeRefused}
-use Rattle.plumctl_core.specs.Output.{IsTextOfAll, IsFrameLine, IsOutput}
-use Rattle.plumctl_core.specs.Run.{EndsLine, Prints, Stops, WritesLine, StopsLine, WritesLast, StopsLast}
+use Rattle.plumctl_core.specs.Output.{IsTextOfAll, IsFrameLine, IsFrameOutput}
+use Rattle.plumctl_core.specs.Run.{EndsAtLine, PrintsFrames, Stops, WritesLine, StopsLine, WritesLast, StopsLast}
 use Rattle.plumctl_core.proofs.LinesOf.{ends_none, ends_more, lines_more, lines_last}
 use Rattle.plumctl_core.proofs.Texts.{text_of_line, text_more}
 
@@ -42,9 +42,9 @@ pub record Going (r s w v : Option (List ℕ)) (now : Pending) (all : Bool) : Ty
   pub counted : 67108864 ≡ now.left + length read
   pub done : List ℕ
   pub parts : read ≡ done ++ now.bytes
-  pub ends : EndsLine done
+  pub ends : EndsAtLine done
   pub output : List ℕ
-  pub output_is : IsOutput done output
+  pub output_is : IsFrameOutput done output
   pub appended : Appends w v output
   pub frames : IsTrue all ↔ All IsFrameLine (lines_of done)
 
@@ -146,7 +146,7 @@ ended_is false ended e = (λ same. cc (sym e ∙ same), λ yes. cc yes)
 
 -- the input ended after a line feed
 prints_all : (passed : Type 0) (r s t w v u : Option (List ℕ)) (now new : Pending) (all : Bool) (line : List ℕ) (ended : Ended)
-    → Going r s w v now all → TakesLine now new s t line false → line ≡ [] → Keeps v u → ended ≡ (if all then AllPrinted else SomeRefused) → passed → Prints passed r t w u ended
+    → Going r s w v now all → TakesLine now new s t line false → line ≡ [] → Keeps v u → ended ≡ (if all then AllPrinted else SomeRefused) → passed → PrintsFrames passed r t w u ended
 prints_all passed r s t w v u now new all line ended so_far takes none keeps e on =
     let more = takes.reads.bytes in
     let done : so_far.read ++ more ≡ so_far.done =
@@ -158,7 +158,7 @@ prints_all passed r s t w v u now new all line ended so_far takes none keeps e o
       end = takes.answer.2;
       within = let a = so_far.counted in let b = takes.reads.counted in omega (arith, length-append so_far.read more);
       output = so_far.output;
-      output_is = subst (λ input. IsOutput input so_far.output) (sym done) so_far.output_is;
+      output_is = subst (λ input. IsFrameOutput input so_far.output) (sym done) so_far.output_is;
       appended = Appends-kept w v u so_far.output so_far.appended keeps;
       passed = on;
       all =
@@ -168,7 +168,7 @@ prints_all passed r s t w v u now new all line ended so_far takes none keeps e o
 
 -- the input ended without a line feed after its last line
 prints_last : (passed : Type 0) (r s t w v u x : Option (List ℕ)) (now new : Pending) (all is : Bool) (line : List ℕ) (ended : Ended)
-    → Going r s w v now all → TakesLine now new s t line false → 0 < length line → WritesLine line v u is → Keeps u x → ended ≡ (if all && is then AllPrinted else SomeRefused) → passed → Prints passed r t w x ended
+    → Going r s w v now all → TakesLine now new s t line false → 0 < length line → WritesLine line v u is → Keeps u x → ended ≡ (if all && is then AllPrinted else SomeRefused) → passed → PrintsFrames passed r t w x ended
 prints_last passed r s t w v u x now new all is line ended so_far takes some writes keeps e on =
     let more = takes.reads.bytes in
     let done : so_far.read ++ more ≡ so_far.done ++ line =
@@ -409,7 +409,7 @@ and_is true false e = cc e
 
 -- the last line was written, if there is one, and what was held back was passed on
 pub prints_over : (passed : Type 0) (r s t w v u x : Option (List ℕ)) (now new : Pending) (all is : Bool) (line : List ℕ) (ended : Ended)
-    → Going r s w v now all → TakesLine now new s t line false → WritesLast line v u is → Keeps u x → ended ≡ (if all && is then AllPrinted else SomeRefused) → passed → Prints passed r t w x ended
+    → Going r s w v now all → TakesLine now new s t line false → WritesLast line v u is → Keeps u x → ended ≡ (if all && is then AllPrinted else SomeRefused) → passed → PrintsFrames passed r t w x ended
 prints_over passed r s t w v u x now new all is line ended so_far takes last keeps e on = elim last [
   | inl none ↦ prints_all passed r s t w v x now new all line ended so_far takes none.0 (Keeps-then v u x none.1 keeps) (e ∙ ap (λ b. if b then AllPrinted else SomeRefused) (and_is all is none.2)) on
   | inr some ↦ prints_last passed r s t w v u x now new all is line ended so_far takes some.0 some.1 keeps e on

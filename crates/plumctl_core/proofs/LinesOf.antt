@@ -3,7 +3,7 @@ use Rattle.std.proofs.Common.{◌≡◌, ◌≢◌, ℕ, ◌<◌, List, [], ◌�
 use Rattle.std.proofs.lemmas.Bool.{ne_eqb}
 use Rattle.std.proofs.lemmas.List.Elements.{All-head, All-tail}
 use Rattle.streams.specs.Line.{IsOneLine}
-use Rattle.plumctl_core.specs.Run.{EndsLine}
+use Rattle.plumctl_core.specs.Run.{EndsAtLine}
 use Rattle.streams.specs.Line.{lines_of}
 
 abbrev IsOther : ℕ → Type 0
@@ -23,7 +23,7 @@ lines_rest (b ∷ []) one some = rw (ne_eqb b 10 (All-head IsOther b [] one)) re
 lines_rest (b ∷ c ∷ line) one some =
     rw (ne_eqb b 10 (All-head IsOther b (c ∷ line) one), lines_rest (c ∷ line) (All-tail IsOther b (c ∷ line) one) (omega arith)) refl
 
-pub ends_none : EndsLine []
+pub ends_none : EndsAtLine []
 unfolding lines_of
 ends_none rest = refl
 
@@ -32,10 +32,10 @@ unfolding lines_of
 lines_nil = refl
 
 -- one more line
-pub lines_more : (done line : List ℕ) → EndsLine done → IsOneLine line → lines_of (done ++ (line ++ 10 ∷ [])) ≡ lines_of done ++ line ∷ []
+pub lines_more : (done line : List ℕ) → EndsAtLine done → IsOneLine line → lines_of (done ++ (line ++ 10 ∷ [])) ≡ lines_of done ++ line ∷ []
 lines_more done line ends one = ends (line ++ 10 ∷ []) ∙ ap (λ lines. lines_of done ++ lines) (lines_line line [] one ∙ ap (λ lines. line ∷ lines) lines_nil)
 
-pub ends_more : (done line : List ℕ) → EndsLine done → IsOneLine line → EndsLine (done ++ (line ++ 10 ∷ []))
+pub ends_more : (done line : List ℕ) → EndsAtLine done → IsOneLine line → EndsAtLine (done ++ (line ++ 10 ∷ []))
 ends_more done line ends one rest =
     ap lines_of (append_assoc done (line ++ 10 ∷ []) rest ∙ ap (λ bytes. done ++ bytes) (append_assoc line (10 ∷ []) rest))
     ∙ ends (line ++ 10 ∷ rest) ∙ ap (λ lines. lines_of done ++ lines) (lines_line line rest one)
@@ -43,5 +43,5 @@ ends_more done line ends one rest =
     ∙ ap (λ lines. lines ++ lines_of rest) (sym (lines_more done line ends one))
 
 -- the last line, without a line feed
-pub lines_last : (done line : List ℕ) → EndsLine done → IsOneLine line → 0 < length line → lines_of (done ++ line) ≡ lines_of done ++ line ∷ []
+pub lines_last : (done line : List ℕ) → EndsAtLine done → IsOneLine line → 0 < length line → lines_of (done ++ line) ≡ lines_of done ++ line ∷ []
 lines_last done line ends one some = ends line ∙ ap (λ lines. lines_of done ++ lines) (lines_rest line one some)

@@ -38,8 +38,8 @@ IsTextOfAll (line ∷ lines) text = (first : List ℕ) × (rest : List ℕ) × I
     × IsTextOfAll lines rest × (text ≡ first ++ 10 ∷ rest)
 
 -- the output for a whole input
-abbrev pub IsOutput : List ℕ → List ℕ → Type 0
-IsOutput input output = IsTextOfAll (lines_of input) output
+abbrev pub IsFrameOutput : List ℕ → List ℕ → Type 0
+IsFrameOutput input output = IsTextOfAll (lines_of input) output
 
 -- ---- what private functions cite
 

@@ -7,21 +7,21 @@ use Rattle.streams.specs.Written.{AppendsFront}
 use Rattle.plumctl_core.specs.declared.frame.Ended.{Ended}
 use Rattle.plumctl_core.specs.declared.frame.Ended.TheVariants.{AllPrinted}
 use Rattle.streams.specs.Line.{input_limit, lines_of}
-use Rattle.plumctl_core.specs.Output.{IsTextOf, IsFrameLine, IsOutput}
+use Rattle.plumctl_core.specs.Output.{IsTextOf, IsFrameLine, IsFrameOutput}
 
 -- the text ends where a line ends: what follows it starts a line
-abbrev pub EndsLine : List ℕ → Type 0
-EndsLine text = (rest : List ℕ) → lines_of (text ++ rest) ≡ lines_of text ++ lines_of rest
+abbrev pub EndsAtLine : List ℕ → Type 0
+EndsAtLine text = (rest : List ℕ) → lines_of (text ++ rest) ≡ lines_of text ++ lines_of rest
 
 -- the whole input was read, which is within the limit, and its output was written and passed on
-pub record Prints (passed_on : Type 0)
+pub record PrintsFrames (passed_on : Type 0)
     (reader_old reader_new writer_old writer_new : Option (List ℕ)) (ended : Ended) : Type 0 where
   pub input : List ℕ
   pub consumed : Consumes reader_old reader_new input
   pub end : IsAtEnd reader_new
   pub within : length input ≤ input_limit
   pub output : List ℕ
-  pub output_is : IsOutput input output
+  pub output_is : IsFrameOutput input output
   pub appended : Appends writer_old writer_new output
   pub passed : passed_on
   pub all : (ended ≡ AllPrinted) ↔ All IsFrameLine (lines_of input)
@@ -36,9 +36,9 @@ pub record Stops (read_failed_old read_failed_new : Type 0) (failed_old failed_n
   pub lines : List ℕ
   pub begun : List ℕ
   pub consumed : Consumes reader_old reader_new (lines ++ begun)
-  pub ended : EndsLine lines ⊎ ((begun ≡ []) × IsAtEnd reader_new)
+  pub ended : EndsAtLine lines ⊎ ((begun ≡ []) × IsAtEnd reader_new)
   pub output : List ℕ
-  pub output_is : IsOutput lines output
+  pub output_is : IsFrameOutput lines output
   pub appended : AppendsFront writer_old writer_new output
   pub cause : HasCause read_failed_new (input_limit < length (lines ++ begun))
       ((read_failed_new → read_failed_old) × (length (lines ++ begun) ≤ input_limit))

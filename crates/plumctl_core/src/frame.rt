@@ -3,7 +3,7 @@
 ghost use Rattle.std.specs.Prelude.{◌≡◌, IfOk, IfErr, OnOk, if◌then◌else◌};
 ghost use Rattle.plumctl_core.specs.declared.frame.Ended.TheVariants.{AllPrinted, SomeRefused};
 ghost use Rattle.streams.specs.Fault.{FailsNoMore};
-ghost use Rattle.plumctl_core.specs.Run.{Prints, Stops, WritesLine, StopsLine, WritesLast, StopsLast};
+ghost use Rattle.plumctl_core.specs.Run.{PrintsFrames, Stops, WritesLine, StopsLine, WritesLast, StopsLast};
 
 use crate::line::print_line;
 use std::alloc::Global;
@@ -83,7 +83,7 @@ pub fn frame_lines<R: Source, W: Sink>(
     reader: &mut R,
     writer: &mut W,
 ) -> Result<Ended, StreamFault>
-    ensures ok { IfOk result (λ ended. Prints (W.passed_on writer.new)
+    ensures ok { IfOk result (λ ended. PrintsFrames (W.passed_on writer.new)
         (R.remaining reader.old) (R.remaining reader.new)
         (W.contents writer.old) (W.contents writer.new) ended) }
     ensures err { IfErr result (λ fault. Stops (R.read_failed reader.old) (R.read_failed reader.new)

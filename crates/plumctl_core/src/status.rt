@@ -3,7 +3,7 @@
 ghost use Rattle.std.specs.Prelude.{◌≡◌, ◌≢◌, ◌⊎◌};
 ghost use Rattle.std.specs.Io.KnownBytes.{Keeps};
 ghost use Rattle.streams.specs.Fault.{FailsNoMore};
-ghost use Rattle.plumctl_core.specs.Run.{Prints, Stops};
+ghost use Rattle.plumctl_core.specs.Run.{PrintsFrames, Stops};
 ghost use Rattle.plumctl_core.specs.Status.{status_of_end, status_of_fault, line_of_fault, TellsFault};
 
 use crate::frame::{Ended, frame_lines};
@@ -74,7 +74,7 @@ pub fn run_frame<R: Source, W: Sink, E: Sink>(
         × Keeps (E.contents errors.old) (E.contents errors.new)
         × (R.read_failed reader.new → R.read_failed reader.old)
         × FailsNoMore (W.failed writer.old) (W.failed writer.new)
-        × Prints (W.passed_on writer.new) (R.remaining reader.old) (R.remaining reader.new)
+        × PrintsFrames (W.passed_on writer.new) (R.remaining reader.old) (R.remaining reader.new)
         (W.contents writer.old) (W.contents writer.new) ended)
         ⊎ ((fault : StreamFault) × (result ≡ status_of_fault fault)
         × TellsFault (E.failed errors.old) (E.failed errors.new)

@@ -3,7 +3,7 @@ use Rattle.std.proofs.Common.{◌≡◌, ℕ, List, [], ◌∷◌, ◌++◌, len
 use Rattle.std.specs.Prelude.{codes}
 use Rattle.scenario_text.specs.Commands.{Command}
 use Rattle.scenario_text.specs.Script.{Scenario, commands_of, first_bad, scenario_of}
-use Rattle.scenario_stage.specs.Obeying.{Choices, Stage, opening}
+use Rattle.scenario_stage.specs.Obeying.{Choices, Stage, new_stage}
 use Rattle.scenario_stage.specs.Printed.{line}
 use Rattle.scenario_stage.proofs.OneStage.{obeys_within, one_obeys}
 use Rattle.scenario.specs.Output.{IsOutput, Plays, PlaysOrNothing, PlaysUnless, Runs}
@@ -28,7 +28,7 @@ one_run choices old (command ∷ commands) text other ended ending (inr (first, 
 
 one_play : (choices : Choices) (scenario : Scenario) (one other : List ℕ) (ended ending : Option ScenarioFault) → Plays choices scenario one ended → Plays choices scenario other ending → (one ≡ other) × (ended ≡ ending)
 one_play choices scenario one other ended ending a b =
-    let same = one_run choices (opening scenario.nodes) scenario.commands a.rest b.rest ended ending a.runs b.runs in
+    let same = one_run choices (new_stage scenario.nodes) scenario.commands a.rest b.rest ended ending a.runs b.runs in
     (a.output_is ∙ ap (λ (xs : List ℕ). line (codes "ok") ++ xs) same.0 ∙ sym b.output_is, same.1)
 
 one_play_or_nothing : (choices : Choices) (scenario : Option Scenario) (one other : List ℕ) (ended ending : Option ScenarioFault) → PlaysOrNothing choices scenario one ended → PlaysOrNothing choices scenario other ending

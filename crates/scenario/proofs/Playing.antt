@@ -14,7 +14,7 @@ use Rattle.streams.proofs.Sent.{Appends-kept, Appends-nil, Appends-then}
 use Rattle.scenario_text.specs.Commands.{Command}
 use Rattle.scenario_text.specs.Script.{Scenario, commands_of, first_bad, scenario_of}
 use Rattle.scenario.specs.Ending.{end_line}
-use Rattle.scenario_stage.specs.Obeying.{Choices, ObeysOrEnds, Obeys, PassesLimit, Stage, opening}
+use Rattle.scenario_stage.specs.Obeying.{Choices, ObeysOrEnds, Obeys, PassesLimit, Stage, new_stage}
 use Rattle.scenario_stage.specs.declared.fault.StageFault.{StageFault}
 use Rattle.scenario_stage.specs.declared.fault.StageFault.TheVariants as stages
 use Rattle.scenario.specs.Fault.{of_stage}
@@ -180,7 +180,7 @@ ends_writing choices failed_old failed_new old new command added w v fault obeys
 abbrev ok_line : List ℕ
 ok_line = line (codes "ok")
 
-pub plays_all : (choices : Choices) (scenario : Scenario) (stage : Stage) (w v u : Option (List ℕ)) → stage ≡ opening scenario.nodes → Appends w v ok_line → WritesAll choices stage scenario.commands v u → PlaysAll choices scenario w u
+pub plays_all : (choices : Choices) (scenario : Scenario) (stage : Stage) (w v u : Option (List ℕ)) → stage ≡ new_stage scenario.nodes → Appends w v ok_line → WritesAll choices stage scenario.commands v u → PlaysAll choices scenario w u
 plays_all choices scenario stage w v u opens ok writes = record {
   text = writes.text;
   stage = writes.new;
@@ -201,7 +201,7 @@ plays_unopened choices failed scenario w fault is =
     subst (EndsPlay choices failed failed scenario w w) (sym is)
     (record { text = []; front = inl (ok_line, refl); appended = Appends-nil w; cause = want_of_memory failed Memory refl })
 
-pub ends_play : (choices : Choices) (failed_old failed_now failed_new : Failed) (scenario : Scenario) (stage : Stage) (w v u : Option (List ℕ)) (fault : ScenarioFault) → stage ≡ opening scenario.nodes → Appends w v ok_line
+pub ends_play : (choices : Choices) (failed_old failed_now failed_new : Failed) (scenario : Scenario) (stage : Stage) (w v u : Option (List ℕ)) (fault : ScenarioFault) → stage ≡ new_stage scenario.nodes → Appends w v ok_line
     → FailsNoMore failed_old failed_now → EndsCommands choices failed_now failed_new stage scenario.commands v u fault → EndsPlay choices failed_old failed_new scenario w u fault
 ends_play choices failed_old failed_now failed_new scenario stage w v u (BadLine number) opens ok kept ends = absurd ends
 ends_play choices failed_old failed_now failed_new scenario stage w v u Limit opens ok kept ends =
@@ -245,7 +245,7 @@ front_of_play choices scenario front output ended (inl (more, is)) plays = (
   plays.output_is ∙ ap (λ (xs : List ℕ). xs ++ plays.rest) is ∙ append_assoc front more plays.rest,
 )
 front_of_play choices scenario front output ended (inr (rest, runs, is)) plays =
-    let more = front_of_run choices (opening scenario.nodes) scenario.commands rest plays.rest ended runs plays.runs in (
+    let more = front_of_run choices (new_stage scenario.nodes) scenario.commands rest plays.rest ended runs plays.runs in (
       more.0,
       plays.output_is ∙ ap (λ (xs : List ℕ). ok_line ++ xs) more.1 ∙ sym (append_assoc ok_line rest more.0) ∙ ap (λ (xs : List ℕ). xs ++ more.0) (sym is),
     )
@@ -270,7 +270,7 @@ runs_to_limit choices old stage (command ∷ done) last left printed (first, res
     inr (first, rest ++ limit_line, between, obeys, runs_to_limit choices between stage done last left rest others limit, ap (λ (xs : List ℕ). xs ++ limit_line) text_is ∙ append_assoc first rest limit_line)
 
 -- all that a scenario prints
-whole_front : (choices : Choices) (scenario : Scenario) (stage : Stage) (text : List ℕ) → ObeyAll choices (opening scenario.nodes) scenario.commands text stage → IsFrontOfPlay choices scenario (ok_line ++ text)
+whole_front : (choices : Choices) (scenario : Scenario) (stage : Stage) (text : List ℕ) → ObeyAll choices (new_stage scenario.nodes) scenario.commands text stage → IsFrontOfPlay choices scenario (ok_line ++ text)
 whole_front choices scenario stage text obeyed =
     inr (
       text,
@@ -295,7 +295,7 @@ writes_scenario choices text scenario w v none_bad scenario_is plays = record {
   output = ok_line ++ plays.text;
   output_is =
       is_played choices text (ok_line ++ plays.text) scenario None none_bad scenario_is
-      (record { rest = plays.text; runs = runs_all choices (opening scenario.nodes) plays.stage scenario.commands plays.text plays.obeyed; output_is = refl });
+      (record { rest = plays.text; runs = runs_all choices (new_stage scenario.nodes) plays.stage scenario.commands plays.text plays.obeyed; output_is = refl });
   front = inr (inr (scenario, none_bad, scenario_is, whole_front choices scenario plays.stage plays.text plays.obeyed));
   appended = plays.appended;
 }
@@ -333,8 +333,8 @@ limit_output choices text scenario w v none_bad scenario_is plays =
     (record {
       rest = plays.text ++ limit_line;
       runs =
-          subst (λ (cs : List Command). Runs choices (opening scenario.nodes) cs (plays.text ++ limit_line) (Some Limit)) (sym plays.commands_are)
-          (runs_to_limit choices (opening scenario.nodes) plays.stage plays.done plays.last plays.left plays.text plays.obeyed plays.limit);
+          subst (λ (cs : List Command). Runs choices (new_stage scenario.nodes) cs (plays.text ++ limit_line) (Some Limit)) (sym plays.commands_are)
+          (runs_to_limit choices (new_stage scenario.nodes) plays.stage plays.done plays.last plays.left plays.text plays.obeyed plays.limit);
       output_is = append_assoc ok_line plays.text limit_line;
     })
 

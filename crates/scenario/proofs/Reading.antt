@@ -5,7 +5,7 @@ use Rattle.streams.specs.declared.fault.StreamFault.{StreamFault}
 use Rattle.streams.specs.declared.fault.StreamFault.TheVariants.{Read, InputTooLong, Write, BrokenPipe, Memory}
 use Rattle.streams.specs.Line.{input_limit}
 use Rattle.streams.proofs.Pieces.{Consumes-nil, Consumes-then}
-use Rattle.scenario.specs.Run.{AddsPiece, ReadsAll, StopsAfter, StopsPiece, StopsReading}
+use Rattle.scenario.specs.Run.{AddsPiece, ReadsAll, StopsAfter, StopsPiece, ReadsPart}
 
 -- this was read so far
 pub record ReadsSoFar (failed_old failed_new : Type 0) (r s : Option (List ℕ)) (text : List ℕ) : Type 0 where
@@ -38,7 +38,7 @@ cause_before old now new count Write sound cause = cause
 cause_before old now new count BrokenPipe sound cause = cause
 cause_before old now new count Memory sound cause = ((λ has. sound (cause.0.0 has), cause.0.1), cause.1)
 
-pub reads_stopped : (old now new : Type 0) (r s t : Option (List ℕ)) (text : List ℕ) (fault : StreamFault) → ReadsSoFar old now r s text → StopsPiece now new s t text fault → StopsReading old new r t fault
+pub reads_stopped : (old now new : Type 0) (r s t : Option (List ℕ)) (text : List ℕ) (fault : StreamFault) → ReadsSoFar old now r s text → StopsPiece now new s t text fault → ReadsPart old new r t fault
 reads_stopped old now new r s t text fault so_far stop = record {
   bytes = text ++ stop.bytes;
   consumed = Consumes-then r s t text stop.bytes so_far.consumed stop.consumed;

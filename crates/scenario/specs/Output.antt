@@ -4,7 +4,7 @@ use Rattle.std.specs.Prelude.{◌≡◌, ℕ, ◌⊎◌, List, [], ◌∷◌, �
 use Rattle.scenario.specs.declared.fault.ScenarioFault.{ScenarioFault}
 use Rattle.scenario.specs.declared.fault.ScenarioFault.TheVariants.{BadLine, Limit}
 use Rattle.scenario_text.specs.Commands.{Command}
-use Rattle.scenario_stage.specs.Obeying.{Choices, Obeys, PassesLimit, Stage, opening}
+use Rattle.scenario_stage.specs.Obeying.{Choices, Obeys, PassesLimit, Stage, new_stage}
 use Rattle.scenario_stage.specs.Printed.{line}
 use Rattle.scenario.specs.Ending.{bad_line, limit_line}
 use Rattle.scenario_text.specs.Script.{Scenario, commands_of, first_bad, scenario_of}
@@ -31,7 +31,7 @@ Runs choices old (command ∷ commands) text ended =
 pub record Plays (choices : Choices) (scenario : Scenario) (output : List ℕ)
     (ended : Option ScenarioFault) : Type 0 where
   pub rest : List ℕ
-  pub runs : Runs choices (opening scenario.nodes) scenario.commands rest ended
+  pub runs : Runs choices (new_stage scenario.nodes) scenario.commands rest ended
   pub output_is : output ≡ line (codes "ok") ++ rest
 
 -- a text without a command prints nothing
@@ -79,7 +79,7 @@ pub record RunsFront (choices : Choices) (old : Stage) (commands : List Command)
 abbrev pub IsFrontOfPlay : Choices → Scenario → List ℕ → Type 0
 IsFrontOfPlay choices scenario front =
     ((more : List ℕ) × (line (codes "ok") ≡ front ++ more))
-    ⊎ ((rest : List ℕ) × RunsFront choices (opening scenario.nodes) scenario.commands rest
+    ⊎ ((rest : List ℕ) × RunsFront choices (new_stage scenario.nodes) scenario.commands rest
     × (front ≡ line (codes "ok") ++ rest))
 
 -- what was printed of a text: a front of the line of its first bad line, or of its scenario; or

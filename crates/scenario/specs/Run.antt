@@ -8,7 +8,7 @@ use Rattle.streams.specs.Written.{AppendsFront}
 use Rattle.scenario.specs.declared.fault.ScenarioFault.{ScenarioFault}
 use Rattle.scenario.specs.declared.fault.ScenarioFault.TheVariants.{BadLine, Limit, Stream}
 use Rattle.scenario_text.specs.Commands.{Command}
-use Rattle.scenario_stage.specs.Obeying.{Choices, Obeys, PassesLimit, Stage, opening}
+use Rattle.scenario_stage.specs.Obeying.{Choices, Obeys, PassesLimit, Stage, new_stage}
 use Rattle.scenario.specs.Output.{BeginsNext, IsFrontOfOutput, IsFrontOfPlay, IsOutput, ObeyAll, RunsFront}
 use Rattle.scenario_stage.specs.Printed.{line}
 use Rattle.scenario_text.specs.Script.{Scenario, commands_of, first_bad, scenario_of}
@@ -59,8 +59,8 @@ StopsAfter read_failed_old read_failed_new count fault =
     ((read_failed_new → read_failed_old) × (input_limit < count))
     ((read_failed_new → read_failed_old) × (count ≤ input_limit)) fault
 
--- what was read until the fault of reading, and its cause
-pub record StopsReading (read_failed_old read_failed_new : Type 0)
+-- a part of the input was read, until the fault of reading, which has its cause
+pub record ReadsPart (read_failed_old read_failed_new : Type 0)
     (reader_old reader_new : Option (List ℕ)) (fault : StreamFault) : Type 0 where
   pub bytes : List ℕ
   pub consumed : Consumes reader_old reader_new bytes
@@ -81,7 +81,7 @@ pub record EndsReading (read_failed_old read_failed_new : Type 0)
     : Type 0 where
   pub by_stream : StreamFault
   pub is : fault ≡ Stream by_stream
-  pub stops : StopsReading read_failed_old read_failed_new reader_old reader_new by_stream
+  pub stops : ReadsPart read_failed_old read_failed_new reader_old reader_new by_stream
   pub kept : Keeps writer_old writer_new
 
 -- how a run ends before its last command, or without its last write
@@ -205,7 +205,7 @@ pub record PlaysAll (choices : Choices) (scenario : Scenario)
     (writer_old writer_new : Option (List ℕ)) : Type 0 where
   pub text : List ℕ
   pub stage : Stage
-  pub obeyed : ObeyAll choices (opening scenario.nodes) scenario.commands text stage
+  pub obeyed : ObeyAll choices (new_stage scenario.nodes) scenario.commands text stage
   pub appended : Appends writer_old writer_new (line (codes "ok") ++ text)
 
 -- they were obeyed up to a settling that passes its limit, of which nothing was written yet
@@ -217,7 +217,7 @@ pub record PlaysToLimit (choices : Choices) (scenario : Scenario)
   pub commands_are : scenario.commands ≡ done ++ last ∷ left
   pub text : List ℕ
   pub stage : Stage
-  pub obeyed : ObeyAll choices (opening scenario.nodes) done text stage
+  pub obeyed : ObeyAll choices (new_stage scenario.nodes) done text stage
   pub limit : PassesLimit stage last
   pub appended : Appends writer_old writer_new (line (codes "ok") ++ text)
 

@@ -2,7 +2,7 @@
 
 ghost use Rattle.std.specs.Prelude.{◌<◌, ◌≤◌, length, IfOk, IfErr, OnOk};
 ghost use Rattle.streams.specs.Line.{input_limit};
-ghost use Rattle.scenario.specs.Run.{AddsPiece, ReadsAll, StopsPiece, StopsReading};
+ghost use Rattle.scenario.specs.Run.{AddsPiece, ReadsAll, StopsPiece, ReadsPart};
 
 use std::alloc::Global;
 use streams::{MAX_INPUT_LEN, Source, StreamFault};
@@ -16,7 +16,7 @@ const PIECE_LEN: usize = 65_536;
 pub fn read_text<R: Source>(alloc: Global, reader: &mut R) -> Result<Vec<u8>, StreamFault>
     ensures ok { IfOk result (λ text. ReadsAll (R.read_failed reader.old)
         (R.read_failed reader.new) (R.remaining reader.old) (R.remaining reader.new) text.items) }
-    ensures err { IfErr result (λ fault. StopsReading (R.read_failed reader.old)
+    ensures err { IfErr result (λ fault. ReadsPart (R.read_failed reader.old)
         (R.read_failed reader.new) (R.remaining reader.old) (R.remaining reader.new) fault) }
 {
     let mut piece = vec![in alloc; 0u8; PIECE_LEN]?;

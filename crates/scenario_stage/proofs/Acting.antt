@@ -6,7 +6,7 @@ use Rattle.world_core.specs.World.{World, new_world}
 use Rattle.scenario_text.specs.Commands as spoken
 use Rattle.scenario_text.specs.Commands.{Command}
 use Rattle.scenario_stage.specs.Coded.{IsActOrLook, IsEventOf, IsNoDelivery, LooksOrNot}
-use Rattle.scenario_stage.specs.Meaning.{Look, event_of}
+use Rattle.scenario_stage.specs.Meaning.{Report, event_of}
 use Rattle.scenario_stage.specs.Obeying.{ActsOrLooks, Happens, Stage}
 
 abbrev IfEvent : Option Event → Type 0
@@ -25,16 +25,16 @@ pub no_delivery : (command : Command) (event : Event) → IsActOrLook command �
 no_delivery command event here is = let w : World = new_world 1 in subst IfEvent (event_is w command (Some event) here is) (event_here w command here)
 
 -- an event happened
-pub acts : (old new : Stage) (known : Option Event) (event : Event) (look : Option Look) (text_old text_new : List ℕ) → known ≡ Some event → (added : List ℕ) × Happens old event added new × (text_new ≡ text_old ++ added)
+pub acts : (old new : Stage) (known : Option Event) (event : Event) (look : Option Report) (text_old text_new : List ℕ) → known ≡ Some event → (added : List ℕ) × Happens old event added new × (text_new ≡ text_old ++ added)
     → (added : List ℕ) × ActsOrLooks old known look added new × (text_new ≡ text_old ++ added)
 acts old new known event look text_old text_new is (added, happens, text_is) = (added, subst (λ (e : Option Event). ActsOrLooks old e look added new) (sym is) happens, text_is)
 
 -- it was only looked, or nothing was done
-looks_or_not : (old : Stage) (look : Option Look) (text_old text_new : List ℕ) → LooksOrNot old look text_old text_new → (added : List ℕ) × ActsOrLooks old None look added old × (text_new ≡ text_old ++ added)
+looks_or_not : (old : Stage) (look : Option Report) (text_old text_new : List ℕ) → LooksOrNot old look text_old text_new → (added : List ℕ) × ActsOrLooks old None look added old × (text_new ≡ text_old ++ added)
 looks_or_not old None text_old text_new same = ([], (refl, refl), same ∙ sym (append-nil text_old))
 looks_or_not old (Some look) text_old text_new (added, looks, text_is) = (added, looks, text_is)
 
-pub looks : (old : Stage) (known : Option Event) (look : Option Look) (text_old text_new : List ℕ) → known ≡ None → LooksOrNot old look text_old text_new
+pub looks : (old : Stage) (known : Option Event) (look : Option Report) (text_old text_new : List ℕ) → known ≡ None → LooksOrNot old look text_old text_new
     → (added : List ℕ) × ActsOrLooks old known look added old × (text_new ≡ text_old ++ added)
 looks old known look text_old text_new is looked =
     let told = looks_or_not old look text_old text_new looked in (told.0, subst (λ (e : Option Event). ActsOrLooks old e look told.0 old) (sym is) told.1, told.2)

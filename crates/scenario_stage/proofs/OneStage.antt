@@ -15,7 +15,7 @@ use Rattle.world_core.specs.Refusal.{IsFrameOf}
 use Rattle.world_core.specs.World.{World}
 use Rattle.world_core.proofs.Deciding.{one_outcome}
 use Rattle.scenario_text.specs.Commands.{Command, Keep, Resolve, Settle, fault_in}
-use Rattle.scenario_stage.specs.Meaning.{Look, addressee, event_of, look_of}
+use Rattle.scenario_stage.specs.Meaning.{Report, addressee, event_of, report_of}
 use Rattle.scenario_stage.specs.Obeying.{Acts, ActsOrLooks, ActsUnless, Answers, AreSent, Choices, Comes, GoesOn, HandsOn, HandsOnEach, Happens, IsNoNode, KeepsHeld, KeepsAll, Obeys, PassesLimit, Resolves, Settles, Stage, given_by, outcome_line, waiting, with_given, with_new}
 use Rattle.scenario_stage.specs.Printed.{AreFrameLines, frame_line, line}
 
@@ -135,7 +135,7 @@ never_both old new text settles on =
 
 -- ---- a command
 
-one_act_or_look : (old new left : Stage) (event : Option Event) (look : Option Look) (text other : List ℕ) → ActsOrLooks old event look text new → ActsOrLooks old event look other left → AreOne text other new left
+one_act_or_look : (old new left : Stage) (event : Option Event) (look : Option Report) (text other : List ℕ) → ActsOrLooks old event look text new → ActsOrLooks old event look other left → AreOne text other new left
 one_act_or_look old new left (Some event) look text other a b = one_happens old new left event text other a b
 one_act_or_look old new left None (Some look) text other a b = one_answer old new left look.node look.text text other a b
 one_act_or_look old new left None None text other a b = (a.0 ∙ sym b.0, a.1 ∙ sym b.1)
@@ -144,7 +144,7 @@ one_act : (choices : Choices) (old new left : Stage) (command : Command) (text o
 one_act choices old new left (Keep node) text other a b = one_keeps_or_not node old new left text other a b
 one_act choices old new left (Resolve node key by) text other a b = one_resolves node key _ old new left text other a b
 one_act choices old new left Settle text other a b = one_settles old new left text other a b
-one_act choices old new left command text other a b = one_act_or_look old new left (event_of old.world command) (look_of old.world command) text other a b
+one_act choices old new left command text other a b = one_act_or_look old new left (event_of old.world command) (report_of old.world command) text other a b
 
 one_act_unless : (fault : Option TypeFault) (choices : Choices) (old new left : Stage) (command : Command) (text other : List ℕ) → ActsUnless fault choices old command text new → ActsUnless fault choices old command other left
     → AreOne text other new left

@@ -15,7 +15,7 @@ use Rattle.world_core.specs.Refusal.{table_of}
 use Rattle.world_core.specs.World.{World}
 use Rattle.scenario_text.specs.Commands as spoken
 use Rattle.scenario_text.specs.Commands.{Command}
-use Rattle.scenario_stage.specs.Meaning.{Look, addressee, event_of, look_of}
+use Rattle.scenario_stage.specs.Meaning.{Report, addressee, event_of, report_of}
 use Rattle.scenario_stage.specs.Fault.{most_deliveries}
 use Rattle.scenario_stage.specs.Obeying.{Acts, ActsOrLooks, AreSent, Choices, GoesOn, HandsOnEach, Happens, IsNoNode, KeepsHeld, Looks, Resolves, Settles, Stage, chosen_as, counts_as_given, outcome_line, waiting}
 use Rattle.scenario_stage.specs.declared.fault.StageFault.{StageFault}
@@ -60,14 +60,14 @@ SettlesOrPasses old text_old text_new new (Err Limit) = GoesOn old
 SettlesOrPasses old text_old text_new new (Err Memory) = Unit {0}
 
 -- of looking
-abbrev pub LooksOrNot : Stage → Option Look → (text_old text_new : List ℕ) → Type 0
+abbrev pub LooksOrNot : Stage → Option Report → (text_old text_new : List ℕ) → Type 0
 LooksOrNot old None text_old text_new = text_new ≡ text_old
 LooksOrNot old (Some look) text_old text_new = (added : List ℕ)
     × Looks old look added old × (text_new ≡ text_old ++ added)
 
 abbrev pub LooksAt : Stage → Command → (text_old text_new : List ℕ) → Type 0
 LooksAt old command text_old text_new =
-    LooksOrNot old (look_of old.world command) text_old text_new
+    LooksOrNot old (report_of old.world command) text_old text_new
 
 -- of keeping
 abbrev pub KeepsOrNot : Stage → ℕ → (text_old text_new : List ℕ) → Stage → Type 0
@@ -85,7 +85,7 @@ ResolvesAs old node key choice text_old text_new new = (added : List ℕ)
 -- of an event, or of looking
 abbrev pub ActsOrLooksAs : Stage → Command → (text_old text_new : List ℕ) → Stage → Type 0
 ActsOrLooksAs old command text_old text_new new = (added : List ℕ)
-    × ActsOrLooks old (event_of old.world command) (look_of old.world command) added new
+    × ActsOrLooks old (event_of old.world command) (report_of old.world command) added new
     × (text_new ≡ text_old ++ added)
 
 -- so many waiting frames are handed on: all of them, or as many as may be

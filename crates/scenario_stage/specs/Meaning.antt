@@ -54,8 +54,8 @@ event_of w (Watch n p capacity) = Some (events.Watch n p capacity)
 event_of w (Changes n number) = Some (events.Changes n number)
 event_of w command = None
 
--- what is looked at: of which node, and the text of it
-pub record Look : Type 0 where
+-- what a command reports that only looks: of which node, and the text
+pub record Report : Type 0 where
   pub node : ℕ
   pub text : List ℕ
 
@@ -74,20 +74,20 @@ overlay_text overlay = codes "active " ++ nodes_text overlay.views.active
     ++ codes " eager " ++ nodes_text overlay.cast.eager
     ++ codes " lazy " ++ nodes_text overlay.cast.lazy
 
--- what a command looks at, if it only looks
-abbrev pub look_of : World → Command → Option Look
-look_of w (Show n k) = Some (record { node = n; text = object_text (object_at (table_of w n) k) })
-look_of w (Keys n p) = Some (record { node = n; text = list_text p (table_of w n) })
-look_of w (Root n) = Some (record { node = n; text = root_text (table_of w n) })
-look_of w (Images n) = Some (record {
+-- what a command reports, if it only looks
+abbrev pub report_of : World → Command → Option Report
+report_of w (Show n k) = Some (record { node = n; text = object_text (object_at (table_of w n) k) })
+report_of w (Keys n p) = Some (record { node = n; text = list_text p (table_of w n) })
+report_of w (Root n) = Some (record { node = n; text = root_text (table_of w n) })
+report_of w (Images n) = Some (record {
   node = n;
   text = codes "images " ++ decimal (length (node_at w n).images + 1);
 })
-look_of w (Views n) = Some (record {
+report_of w (Views n) = Some (record {
   node = n;
   text = overlay_text (node_at w n).state.overlay;
 })
-look_of w command = None
+report_of w command = None
 
 -- ---- result lines
 
@@ -112,5 +112,5 @@ reply_text given Done = codes "ok"
 reply_text given (Watching watch) = codes "watch " ++ decimal watch
 reply_text given (Changed missed changes) = changed_text missed changes
 
-abbrev pub answer_text : Answer → List ℕ
-answer_text answer = reply_text answer.read answer.reply
+abbrev pub result_text : Answer → List ℕ
+result_text answer = reply_text answer.read answer.reply

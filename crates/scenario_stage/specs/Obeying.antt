@@ -18,7 +18,7 @@ use Rattle.world_core.specs.Outcome.{Outcome}
 use Rattle.world_core.specs.Refusal.{table_of}
 use Rattle.world_core.specs.World.{World, new_world}
 use Rattle.scenario_text.specs.Commands.{Command, Keep, Resolve, Settle, fault_in}
-use Rattle.scenario_stage.specs.Meaning.{Look, addressee, answer_text, event_of, look_of}
+use Rattle.scenario_stage.specs.Meaning.{Report, addressee, result_text, event_of, report_of}
 use Rattle.scenario_stage.specs.Fault.{most_deliveries}
 use Rattle.scenario_stage.specs.Printed.{AreLinesOf, line, name_refused, world_refused}
 use Rattle.scenario_stage.specs.declared.fault.StageFault.{StageFault}
@@ -29,8 +29,9 @@ pub record Stage : Type 0 where
   pub world : World
   pub given : List Bool
 
-abbrev pub opening : ℕ → Stage
-opening nodes = record { world = new_world nodes; given = [] }
+-- a new world of so many nodes, none of whose frames was given
+abbrev pub new_stage : ℕ → Stage
+new_stage nodes = record { world = new_world nodes; given = [] }
 
 -- what each resolver chooses of siblings, in the order in which the resolvers were handed in
 abbrev pub Choices : Type 0
@@ -39,7 +40,7 @@ Choices = List (List ValueParts → ℕ)
 -- ---- an event
 
 abbrev pub outcome_line : Result Answer WorldFault → List ℕ
-outcome_line (Ok answer) = line (answer_text answer)
+outcome_line (Ok answer) = line (result_text answer)
 outcome_line (Err fault) = world_refused fault
 
 -- what was sent, and is in this world: a line for each frame; a refused event sends none
@@ -101,7 +102,7 @@ Answers old node answer text new = (text ≡
     (if nat_le (length old.world.nodes) node then world_refused NoSuchNode else line answer))
     × (new ≡ old)
 
-abbrev pub Looks : Stage → Look → (text : List ℕ) → Stage → Type 0
+abbrev pub Looks : Stage → Report → (text : List ℕ) → Stage → Type 0
 Looks old look text new = Answers old look.node look.text text new
 
 -- the world hasn't the node, and nothing changes
@@ -182,7 +183,7 @@ pub record GoesOn (old : Stage) : Type 0 where
 
 -- a command that is an event, or only looks; one that is neither, as `nodes`, which stands only in
 -- front, does nothing
-abbrev pub ActsOrLooks : Stage → Option Event → Option Look → (text : List ℕ) → Stage → Type 0
+abbrev pub ActsOrLooks : Stage → Option Event → Option Report → (text : List ℕ) → Stage → Type 0
 ActsOrLooks old (Some event) look text new = Happens old event text new
 ActsOrLooks old None (Some look) text new = Looks old look text new
 ActsOrLooks old None None text new = (text ≡ []) × (new ≡ old)
@@ -193,7 +194,7 @@ Acts choices old (Resolve node key by) text new = Resolves old node key
     (chosen_by choices by (values_of (object_at (table_of old.world node) key))) text new
 Acts choices old Settle text new = Settles old text new
 Acts choices old command text new =
-    ActsOrLooks old (event_of old.world command) (look_of old.world command) text new
+    ActsOrLooks old (event_of old.world command) (report_of old.world command) text new
 
 -- a name or a value is too long, or the command is done
 abbrev pub ActsUnless : Option TypeFault → Choices → Stage → Command → (text : List ℕ) → Stage

@@ -7,7 +7,7 @@ ghost use Rattle.meta_frame.specs.declared.message.Frame.{Frame as F};
 ghost use Rattle.printing.specs.Field.{bytes_text};
 ghost use Rattle.printing.specs.Joined.{joined, separated};
 ghost use Rattle.printing.specs.Object.{vector_text};
-ghost use Rattle.scenario_stage.specs.Meaning.{answer_text, changed_text, looked_text, reply_text};
+ghost use Rattle.scenario_stage.specs.Meaning.{result_text, changed_text, looked_text, reply_text};
 ghost use Rattle.scenario_stage.specs.Printed.{AreLinesOf, frame_line, line, name_refused, refused, world_refused};
 ghost use Rattle.scenario_stage.specs.Coded.{AreThere, HasSent, PrintsOutcome};
 ghost use Rattle.world_core.specs.Refusal.{IsFrameOf};
@@ -266,7 +266,7 @@ fn print_answer(
 ) -> Result<(), AllocError>
     requires { AreThere world.now answer.now.sent }
     ensures { OnOk result ((sent : List ℕ) × (AreLinesOf world.now answer.now.sent sent
-        × (out.new.items ≡ out.old.items ++ (line (answer_text answer.now) ++ sent)))) }
+        × (out.new.items ≡ out.old.items ++ (line (result_text answer.now) ++ sent)))) }
 {
     print_reply(out, answer.read, &answer.reply)?;
     print_frames(alloc, out, world, answer.sent)

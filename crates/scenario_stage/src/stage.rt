@@ -4,7 +4,7 @@ ghost use Rattle.std.specs.Prelude.{◌≡◌, ◌≤◌, ℕ, List, ◌++◌, N
 ghost use Rattle.scenario_stage.specs.Coded.{ActsAs, ActsOrLooksAs, IsActOrLook, IsAtOnce, IsNoDelivery};
 ghost use Rattle.scenario_text.specs.Coded.{command_word};
 ghost use Rattle.scenario_text.specs.Commands.{fault_in};
-ghost use Rattle.scenario_stage.specs.Obeying.{ObeysOrEnds, Happens, opening, was_given, with_new};
+ghost use Rattle.scenario_stage.specs.Obeying.{ObeysOrEnds, Happens, new_stage, was_given, with_new};
 ghost use Rattle.world_core.specs.Outcome.{Passes};
 
 use crate::event::event_of;
@@ -46,7 +46,7 @@ impl Stage {
     /// A new world of so many nodes: 1 to 16. Fails only when memory runs out.
     pub fn new(alloc: Global, nodes: u64) -> Result<Self, AllocError>
         requires { (1 ≤ nodes) × (nodes ≤ 16) }
-        ensures { IfOk result (λ stage. stage ≡ opening nodes) }
+        ensures { IfOk result (λ stage. stage ≡ new_stage nodes) }
     {
         match World::new(alloc, nodes) {
             Ok(world) => Ok(Stage {

@@ -4,7 +4,7 @@ use Rattle.std.specs.List.{list_all}
 use Rattle.std.proofs.lemmas.Bool.{and_parts, and_right, cases_Bool, false_from_ne_true, false≢true}
 use Rattle.std.proofs.lemmas.List.Elements.{All-cons, All-nil}
 use Rattle.printing.specs.Field.{is_plain, are_plain}
-use Rattle.scenario_text.specs.Word.{key_of, parts_of, prefix_of}
+use Rattle.scenario_text.specs.Word.{key_of, parts_of, full_prefix_of}
 use Rattle.scenario_text.proofs.Parts.{IsOther, parts_of-first, parts_of-only}
 
 -- one part, or two at least
@@ -34,11 +34,11 @@ are_plain-false bytes p q rest more =
     false_from_ne_true (are_plain bytes)
     (λ plain. cc (sym (parts_of-only 47 bytes (plain_others bytes (and_parts _ (list_all is_plain bytes) plain).1)) ∙ more))
 
-pub prefix_of-one : (word : List ℕ) → All (IsOther 47) word → prefix_of word ≡ None
-prefix_of-one word one = rw (parts_of-only 47 word one) refl
+pub full_prefix_of-one : (word : List ℕ) → All (IsOther 47) word → full_prefix_of word ≡ None
+full_prefix_of-one word one = rw (parts_of-only 47 word one) refl
 
-pub prefix_of-two : (word a b : List ℕ) → All (IsOther 47) a → word ≡ a ++ 47 ∷ b → prefix_of word ≡ (if are_plain a && are_plain b then Some (record { prefix = a; sub = b }) else None)
-prefix_of-two word a b one is =
+pub full_prefix_of-two : (word a b : List ℕ) → All (IsOther 47) a → word ≡ a ++ 47 ∷ b → full_prefix_of word ≡ (if are_plain a && are_plain b then Some (record { prefix = a; sub = b }) else None)
+full_prefix_of-two word a b one is =
     rw (is, parts_of-first 47 a b one)
     (elim (parts_of-cases 47 b) [
       | inl only ↦ rw only refl

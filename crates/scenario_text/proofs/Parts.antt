@@ -5,7 +5,8 @@ use Rattle.std.specs.Borrow.{Bor}
 use Rattle.std.proofs.lemmas.List.{take_all, nil_from_length}
 use Rattle.std.proofs.lemmas.List.Elements.{All-head, All-tail}
 use Rattle.streams.specs.Line.{lines_of}
-use Rattle.scenario_text.specs.Word.{onto_first, parts_of, words_of}
+use Rattle.scenario_text.specs.Word.{parts_of, words_of}
+use Rattle.streams.specs.Line.{onto_first}
 use Rattle.scenario_text.specs.Coded.{BeginsNoSpace, SplitsAt, SplitsWord}
 
 abbrev pub IsOther : ℕ → ℕ → Type 0

@@ -14,7 +14,7 @@ use Rattle.scenario_text.specs.declared.verb.Verb.TheVariants as verbs
 use Rattle.scenario_text.specs.declared.line.Line as coded_line
 use Rattle.scenario_text.specs.declared.line.Line.TheVariants as lines
 use Rattle.scenario_text.specs.Word.{Word, bytes_of_digits, words_of}
-use Rattle.scenario_text.specs.Reading.{Reads}
+use Rattle.scenario_text.specs.Reading.{WordReader}
 use Rattle.scenario_text.specs.Commands as spoken
 use Rattle.scenario_text.specs.Commands.{Command}
 use Rattle.scenario_text.specs.Script.{Line, Skipped, Asks, Bad, Scenario, commands_of, first_bad, first_bad_from, scenario_of}
@@ -118,14 +118,14 @@ Takes old (Some word) new = old ≡ word.now ∷ new
 
 -- the reading gave what stands at the front of the words, and left the others; where it gives
 -- nothing, nothing is said of what is left
-abbrev pub Gives : {A : Type 0} → Reads A → List Word → Option A → List Word → Type 0
-Gives reads old None new = reads old ≡ None
-Gives reads old (Some x) new = reads old ≡ Some (x, new)
+abbrev pub ReadsWords : {A : Type 0} → WordReader A → List Word → Option A → List Word → Type 0
+ReadsWords reads old None new = reads old ≡ None
+ReadsWords reads old (Some x) new = reads old ≡ Some (x, new)
 
 -- the next line was read, or there is none
-abbrev pub TakesLine : List (List ℕ) → Option (Bor (List ℕ)) → List (List ℕ) → Type 0
-TakesLine old None new = (old ≡ []) × (new ≡ [])
-TakesLine old (Some line) new = old ≡ line.now ∷ new
+abbrev pub TakesNextLine : List (List ℕ) → Option (Bor (List ℕ)) → List (List ℕ) → Type 0
+TakesNextLine old None new = (old ≡ []) × (new ≡ [])
+TakesNextLine old (Some line) new = old ≡ line.now ∷ new
 
 -- the next command was read, or there is none
 abbrev pub TakesCommand : List Command → Option coded.Command → List Command → Type 0

@@ -3,8 +3,8 @@ use Rattle.std.specs.Prelude.{ℕ, nat_le, Bool, ◌&&◌, if◌then◌else◌, 
 use Rattle.meta_types.specs.Name.{Prefix, Key}
 use Rattle.meta_types.specs.declared.fault.TypeFault.{TypeFault}
 use Rattle.meta_types.specs.declared.fault.TypeFault.TheVariants.{BadName, ValueTooLong}
-use Rattle.scenario_text.specs.Word.{Word, number_of, prefix_of, key_of, value_of, junk_of, choice_of, below, within}
-use Rattle.scenario_text.specs.Reading.{Reads, just, one, number_or_none, labelled, labelled_or_zero, whole, ◌and◌}
+use Rattle.scenario_text.specs.Word.{Word, number_of, full_prefix_of, key_of, value_of, junk_of, choice_of, below, within}
+use Rattle.scenario_text.specs.Reading.{WordReader, just, one, number_or_none, labelled, labelled_or_zero, exactly, ◌and◌}
 
 pub data Command : Type 0 where
   -- so many nodes: the first command, and only that
@@ -41,80 +41,80 @@ pub data Command : Type 0 where
 
 -- ---- words
 
-abbrev pub number : Reads ℕ
-number = one number_of
+abbrev pub a_number : WordReader ℕ
+a_number = one number_of
 
-abbrev pub key : Reads Key
-key = one key_of
+abbrev pub a_key : WordReader Key
+a_key = one key_of
 
-abbrev pub prefix : Reads Prefix
-prefix = one prefix_of
+abbrev pub a_prefix : WordReader Prefix
+a_prefix = one full_prefix_of
 
-abbrev pub value : Reads (List ℕ)
-value = one value_of
+abbrev pub a_value : WordReader (List ℕ)
+a_value = one value_of
 
-abbrev pub junk : Reads (List ℕ)
+abbrev pub junk : WordReader (List ℕ)
 junk = one junk_of
 
 -- 1 to 16
-abbrev pub node_count : Reads ℕ
+abbrev pub node_count : WordReader ℕ
 node_count = one (λ word. within 1 16 (number_of word))
 
 -- `stamp S`, or nothing for stamp 0
-abbrev pub stamp : Reads ℕ
+abbrev pub stamp : WordReader ℕ
 stamp = labelled_or_zero (codes "stamp")
 
 -- `read R`, or nothing
-abbrev pub read : Reads (Option ℕ)
+abbrev pub read : WordReader (Option ℕ)
 read = labelled (codes "read")
 
 -- `word W`, or nothing for word 0
-abbrev pub random : Reads ℕ
+abbrev pub random : WordReader ℕ
 random = labelled_or_zero (codes "word")
 
 -- `lww` or `largest`, where there are as many resolvers
-abbrev pub resolver : ℕ → Reads ℕ
+abbrev pub resolver : ℕ → WordReader ℕ
 resolver resolvers =
     one (λ word. below resolvers (choice_of (codes "lww") (codes "largest") word))
 
 -- the table: the name of a command, and what stands behind it, in this order
-abbrev pub rows : ℕ → List (Word × Reads Command)
+abbrev pub rows : ℕ → List (Word × WordReader Command)
 rows resolvers =
     (codes "nodes", just Nodes and node_count)
-    ∷ (codes "put", just Put and number and key and value and stamp and read)
-    ∷ (codes "del", just Del and number and key and stamp and read)
-    ∷ (codes "over", just Over and number and key and value and stamp)
-    ∷ (codes "read", just Read and number and key)
-    ∷ (codes "show", just Show and number and key)
-    ∷ (codes "resolve", just Resolve and number and key and resolver resolvers)
-    ∷ (codes "deliver", just Deliver and number and number_or_none and random)
-    ∷ (codes "junk", just Junk and number and junk)
-    ∷ (codes "tick", just Tick and number and random)
-    ∷ (codes "join", just Join and number and number and random)
-    ∷ (codes "down", just Down and number and number and random)
-    ∷ (codes "exchange", just Exchange and number and number)
-    ∷ (codes "hello", just Hello and number and number)
-    ∷ (codes "leave", just Leave and number)
-    ∷ (codes "restart", just Restart and number and number)
-    ∷ (codes "keep", just Keep and number)
-    ∷ (codes "watch", just Watch and number and prefix and number)
-    ∷ (codes "changes", just Changes and number and number)
-    ∷ (codes "list", just Keys and number and prefix)
-    ∷ (codes "root", just Root and number)
-    ∷ (codes "images", just Images and number)
-    ∷ (codes "views", just Views and number)
+    ∷ (codes "put", just Put and a_number and a_key and a_value and stamp and read)
+    ∷ (codes "del", just Del and a_number and a_key and stamp and read)
+    ∷ (codes "over", just Over and a_number and a_key and a_value and stamp)
+    ∷ (codes "read", just Read and a_number and a_key)
+    ∷ (codes "show", just Show and a_number and a_key)
+    ∷ (codes "resolve", just Resolve and a_number and a_key and resolver resolvers)
+    ∷ (codes "deliver", just Deliver and a_number and number_or_none and random)
+    ∷ (codes "junk", just Junk and a_number and junk)
+    ∷ (codes "tick", just Tick and a_number and random)
+    ∷ (codes "join", just Join and a_number and a_number and random)
+    ∷ (codes "down", just Down and a_number and a_number and random)
+    ∷ (codes "exchange", just Exchange and a_number and a_number)
+    ∷ (codes "hello", just Hello and a_number and a_number)
+    ∷ (codes "leave", just Leave and a_number)
+    ∷ (codes "restart", just Restart and a_number and a_number)
+    ∷ (codes "keep", just Keep and a_number)
+    ∷ (codes "watch", just Watch and a_number and a_prefix and a_number)
+    ∷ (codes "changes", just Changes and a_number and a_number)
+    ∷ (codes "list", just Keys and a_number and a_prefix)
+    ∷ (codes "root", just Root and a_number)
+    ∷ (codes "images", just Images and a_number)
+    ∷ (codes "views", just Views and a_number)
     ∷ (codes "settle", just Settle)
     ∷ []
 
 -- what stands behind this name, by these rows
-abbrev pub reads_behind : Word → List (Word × Reads Command) → Reads Command
+abbrev pub reads_behind : Word → List (Word × WordReader Command) → WordReader Command
 reads_behind name [] = λ words. None
 reads_behind name (row ∷ rows) = if bytes_eq name row.0 then row.1 else reads_behind name rows
 
 -- the command that words are, if they are one, where there are so many resolvers
 abbrev pub command_of : ℕ → List Word → Option Command
 command_of resolvers [] = None
-command_of resolvers (name ∷ words) = whole (reads_behind name (rows resolvers)) words
+command_of resolvers (name ∷ words) = exactly (reads_behind name (rows resolvers)) words
 
 -- ---- out of range
 

@@ -4,12 +4,12 @@
 use Rattle.std.specs.Prelude.{ℕ, if◌then◌else◌, List, [], ◌∷◌, Option, Some, None, bytes_eq}
 use Rattle.scenario_text.specs.Word.{Word, number_of}
 
-abbrev pub Reads : Type 0 → Type 0
-Reads A = List Word → Option (A × List Word)
+abbrev pub WordReader : Type 0 → Type 0
+WordReader A = List Word → Option (A × List Word)
 
 infixl 10 ◌and◌
 -- what needs no word
-abbrev pub just : {A : Type 0} → A → Reads A
+abbrev pub just : {A : Type 0} → A → WordReader A
 just x words = Some (x, words)
 
 -- what was read, and what is left
@@ -18,12 +18,12 @@ given left None = None
 given left (Some x) = Some (x, left)
 
 -- one word, that stands for something by the rule
-abbrev pub one : {A : Type 0} → (Word → Option A) → Reads A
+abbrev pub one : {A : Type 0} → (Word → Option A) → WordReader A
 one rule [] = None
 one rule (word ∷ words) = given words (rule word)
 
 -- a number where the first word is one, and otherwise none, for which no word is read
-abbrev pub number_or_none : Reads (Option ℕ)
+abbrev pub number_or_none : WordReader (Option ℕ)
 number_or_none [] = Some (None, [])
 number_or_none (word ∷ words) = elim (number_of word) [
   | None ↦ Some (None, word ∷ words)
@@ -37,7 +37,7 @@ some_of (Some read) = Some (Some read.0, read.1)
 
 -- a number behind this label, where it stands, as `stamp 5`; otherwise none, for which no word is
 -- read
-abbrev pub labelled : Word → Reads (Option ℕ)
+abbrev pub labelled : Word → WordReader (Option ℕ)
 labelled label [] = Some (None, [])
 labelled label (word ∷ words) =
     if bytes_eq word label then some_of (one number_of words) else Some (None, word ∷ words)
@@ -48,7 +48,7 @@ or_zero None = None
 or_zero (Some (None, words)) = Some (0, words)
 or_zero (Some (Some n, words)) = Some (n, words)
 
-abbrev pub labelled_or_zero : Word → Reads ℕ
+abbrev pub labelled_or_zero : Word → WordReader ℕ
 labelled_or_zero label words = or_zero (labelled label words)
 
 -- ---- one reading after another
@@ -57,13 +57,13 @@ abbrev pub applied : {A B : Type 0} → (A → B) → Option (A × List Word) �
 applied f None = None
 applied f (Some read) = Some (f read.0, read.1)
 
-abbrev pub and_then : {A B : Type 0} → Reads A → Option ((A → B) × List Word)
+abbrev pub and_then : {A B : Type 0} → WordReader A → Option ((A → B) × List Word)
     → Option (B × List Word)
 and_then next None = None
 and_then next (Some read) = applied read.0 (next read.1)
 
 -- what the first reading gives, of what the second gives from the words that the first left
-abbrev pub ◌and◌ : {A B : Type 0} → Reads (A → B) → Reads A → Reads B
+abbrev pub ◌and◌ : {A B : Type 0} → WordReader (A → B) → WordReader A → WordReader B
 first and second = λ words. and_then second (first words)
 
 abbrev pub whole_of : {A : Type 0} → Option (A × List Word) → Option A
@@ -72,5 +72,5 @@ whole_of (Some (x, [])) = Some x
 whole_of (Some (x, word ∷ words)) = None
 
 -- what the words stand for where none is left over
-abbrev pub whole : {A : Type 0} → Reads A → List Word → Option A
-whole reads words = whole_of (reads words)
+abbrev pub exactly : {A : Type 0} → WordReader A → List Word → Option A
+exactly reads words = whole_of (reads words)

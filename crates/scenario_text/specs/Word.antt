@@ -5,16 +5,12 @@ use Rattle.hex.specs.Hex.{decode_of}
 use Rattle.hex.specs.declared.error.FromHexError.{FromHexError}
 use Rattle.meta_types.specs.Name.{Prefix, Key}
 use Rattle.printing.specs.Field.{are_plain}
+use Rattle.streams.specs.Line.{onto_first}
 
 abbrev pub Word : Type 0
 Word = List ℕ
 
 -- ---- parts
-
--- a byte in front of the first part
-abbrev pub onto_first : ℕ → List (List ℕ) → List (List ℕ)
-onto_first b [] = (b ∷ []) ∷ []
-onto_first b (part ∷ parts) = (b ∷ part) ∷ parts
 
 -- the parts between separators: one more than there are separators, of which some may be empty
 unfoldable pub parts_of : ℕ → List ℕ → List (List ℕ)
@@ -63,8 +59,8 @@ prefix_of_parts (prefix ∷ sub ∷ []) =
 prefix_of_parts parts = None
 
 -- as `a/b`
-abbrev pub prefix_of : Word → Option Prefix
-prefix_of word = prefix_of_parts (parts_of 47 word)
+abbrev pub full_prefix_of : Word → Option Prefix
+full_prefix_of word = prefix_of_parts (parts_of 47 word)
 
 abbrev key_of_parts : List (List ℕ) → Option Key
 key_of_parts (prefix ∷ sub ∷ key ∷ []) =

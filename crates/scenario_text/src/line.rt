@@ -2,7 +2,7 @@
 
 ghost use Rattle.std.specs.Prelude.{◌≡◌, ◌<◌, ◌∷◌, length};
 ghost use Rattle.streams.specs.Line.{lines_of};
-ghost use Rattle.scenario_text.specs.Coded.{TakesLine, line_word};
+ghost use Rattle.scenario_text.specs.Coded.{TakesNextLine, line_word};
 ghost use Rattle.scenario_text.specs.Script.{line_of};
 
 use crate::command::Command;
@@ -69,7 +69,7 @@ impl<'a> Lines<'a> {
 
     /// The next line, without its line feed.
     pub(crate) fn next(&mut self) -> Option<&'a [u8]>
-        ensures { TakesLine self.old result self.new }
+        ensures { TakesNextLine self.old result self.new }
     {
         if self.left.is_empty() {
             return None;

@@ -5,7 +5,7 @@ ghost use Rattle.std.specs.Prelude.{◌≡◌, IfOk, IsTrue, ◌↔◌};
 ghost use Rattle.std.specs.Option.{option_map};
 ghost use Rattle.meta_types.specs.Name.{IsFullPrefix, IsKey, IsName};
 ghost use Rattle.scenario_text.specs.Coded.{key_word, prefix_word};
-ghost use Rattle.scenario_text.specs.Word.{key_of, prefix_of};
+ghost use Rattle.scenario_text.specs.Word.{key_of, full_prefix_of};
 
 use crate::split::split_once;
 use meta_types::{FullPrefix, MetaKey};
@@ -40,7 +40,7 @@ fn is_part(bytes: &[u8], most: usize) -> bool
 
 /// The full prefix that a word is.
 pub(crate) fn prefix_word(word: &[u8]) -> Option<PrefixWord<'_>>
-    ensures { option_map prefix_word result ≡ prefix_of word.now }
+    ensures { option_map prefix_word result ≡ full_prefix_of word.now }
 {
     let (prefix, sub) = split_once(word, b'/')?;
     if are_plain(prefix) && are_plain(sub) {

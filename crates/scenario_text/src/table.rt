@@ -2,7 +2,7 @@
 
 ghost use Rattle.std.specs.Prelude.{◌≡◌};
 ghost use Rattle.std.specs.Option.{option_map};
-ghost use Rattle.scenario_text.specs.Coded.{Gives, command_word, verb_word};
+ghost use Rattle.scenario_text.specs.Coded.{ReadsWords, command_word, verb_word};
 ghost use Rattle.scenario_text.specs.Commands as forms;
 ghost use Rattle.scenario_text.specs.Commands.{command_of, reads_behind, rows};
 ghost use Rattle.scenario_text.specs.Reading.{just, number_or_none, ◌and◌};
@@ -26,7 +26,7 @@ pub(crate) fn read_command<'a>(words: &mut Words<'a>, resolvers: usize) -> Optio
 
 /// What stands behind the verb.
 fn read_row<'a>(verb: Verb, words: &mut Words<'a>, resolvers: usize) -> Option<Command<'a>>
-    ensures { Gives (reads_behind (verb_word verb) (rows resolvers))
+    ensures { ReadsWords (reads_behind (verb_word verb) (rows resolvers))
         words.old (option_map command_word result) words.new }
 {
     match verb {
@@ -58,7 +58,7 @@ fn read_row<'a>(verb: Verb, words: &mut Words<'a>, resolvers: usize) -> Option<C
 }
 
 fn nodes<'a>(words: &mut Words<'a>) -> Option<Command<'a>>
-    ensures { Gives (just forms.Nodes and forms.node_count)
+    ensures { ReadsWords (just forms.Nodes and forms.node_count)
         words.old (option_map command_word result) words.new }
 {
     let count = words.node_count()?;
@@ -66,7 +66,7 @@ fn nodes<'a>(words: &mut Words<'a>) -> Option<Command<'a>>
 }
 
 fn put<'a>(words: &mut Words<'a>) -> Option<Command<'a>>
-    ensures { Gives (just forms.Put and forms.number and forms.key and forms.value
+    ensures { ReadsWords (just forms.Put and forms.a_number and forms.a_key and forms.a_value
         and forms.stamp and forms.read) words.old
         (option_map command_word result) words.new }
 {
@@ -80,7 +80,7 @@ fn put<'a>(words: &mut Words<'a>) -> Option<Command<'a>>
 }
 
 fn del<'a>(words: &mut Words<'a>) -> Option<Command<'a>>
-    ensures { Gives (just forms.Del and forms.number and forms.key and forms.stamp and forms.read)
+    ensures { ReadsWords (just forms.Del and forms.a_number and forms.a_key and forms.stamp and forms.read)
         words.old (option_map command_word result) words.new }
 {
     Some(Command::Del {
@@ -92,7 +92,7 @@ fn del<'a>(words: &mut Words<'a>) -> Option<Command<'a>>
 }
 
 fn over<'a>(words: &mut Words<'a>) -> Option<Command<'a>>
-    ensures { Gives (just forms.Over and forms.number and forms.key and forms.value and forms.stamp)
+    ensures { ReadsWords (just forms.Over and forms.a_number and forms.a_key and forms.a_value and forms.stamp)
         words.old (option_map command_word result) words.new }
 {
     Some(Command::Over {
@@ -104,7 +104,7 @@ fn over<'a>(words: &mut Words<'a>) -> Option<Command<'a>>
 }
 
 fn read<'a>(words: &mut Words<'a>) -> Option<Command<'a>>
-    ensures { Gives (just forms.Read and forms.number and forms.key)
+    ensures { ReadsWords (just forms.Read and forms.a_number and forms.a_key)
         words.old (option_map command_word result) words.new }
 {
     Some(Command::Read {
@@ -114,7 +114,7 @@ fn read<'a>(words: &mut Words<'a>) -> Option<Command<'a>>
 }
 
 fn show<'a>(words: &mut Words<'a>) -> Option<Command<'a>>
-    ensures { Gives (just forms.Show and forms.number and forms.key)
+    ensures { ReadsWords (just forms.Show and forms.a_number and forms.a_key)
         words.old (option_map command_word result) words.new }
 {
     Some(Command::Show {
@@ -124,7 +124,7 @@ fn show<'a>(words: &mut Words<'a>) -> Option<Command<'a>>
 }
 
 fn resolve<'a>(words: &mut Words<'a>, resolvers: usize) -> Option<Command<'a>>
-    ensures { Gives (just forms.Resolve and forms.number and forms.key and forms.resolver resolvers)
+    ensures { ReadsWords (just forms.Resolve and forms.a_number and forms.a_key and forms.resolver resolvers)
         words.old (option_map command_word result) words.new }
 {
     Some(Command::Resolve {
@@ -135,7 +135,7 @@ fn resolve<'a>(words: &mut Words<'a>, resolvers: usize) -> Option<Command<'a>>
 }
 
 fn deliver<'a>(words: &mut Words<'a>) -> Option<Command<'a>>
-    ensures { Gives (just forms.Deliver and forms.number and number_or_none and forms.random)
+    ensures { ReadsWords (just forms.Deliver and forms.a_number and number_or_none and forms.random)
         words.old (option_map command_word result) words.new }
 {
     Some(Command::Deliver {
@@ -146,7 +146,7 @@ fn deliver<'a>(words: &mut Words<'a>) -> Option<Command<'a>>
 }
 
 fn junk<'a>(words: &mut Words<'a>) -> Option<Command<'a>>
-    ensures { Gives (just forms.Junk and forms.number and forms.junk)
+    ensures { ReadsWords (just forms.Junk and forms.a_number and forms.junk)
         words.old (option_map command_word result) words.new }
 {
     Some(Command::Junk {
@@ -156,7 +156,7 @@ fn junk<'a>(words: &mut Words<'a>) -> Option<Command<'a>>
 }
 
 fn tick<'a>(words: &mut Words<'a>) -> Option<Command<'a>>
-    ensures { Gives (just forms.Tick and forms.number and forms.random)
+    ensures { ReadsWords (just forms.Tick and forms.a_number and forms.random)
         words.old (option_map command_word result) words.new }
 {
     Some(Command::Tick {
@@ -166,7 +166,7 @@ fn tick<'a>(words: &mut Words<'a>) -> Option<Command<'a>>
 }
 
 fn join<'a>(words: &mut Words<'a>) -> Option<Command<'a>>
-    ensures { Gives (just forms.Join and forms.number and forms.number and forms.random)
+    ensures { ReadsWords (just forms.Join and forms.a_number and forms.a_number and forms.random)
         words.old (option_map command_word result) words.new }
 {
     Some(Command::Join {
@@ -177,7 +177,7 @@ fn join<'a>(words: &mut Words<'a>) -> Option<Command<'a>>
 }
 
 fn down<'a>(words: &mut Words<'a>) -> Option<Command<'a>>
-    ensures { Gives (just forms.Down and forms.number and forms.number and forms.random)
+    ensures { ReadsWords (just forms.Down and forms.a_number and forms.a_number and forms.random)
         words.old (option_map command_word result) words.new }
 {
     Some(Command::Down {
@@ -188,7 +188,7 @@ fn down<'a>(words: &mut Words<'a>) -> Option<Command<'a>>
 }
 
 fn exchange<'a>(words: &mut Words<'a>) -> Option<Command<'a>>
-    ensures { Gives (just forms.Exchange and forms.number and forms.number)
+    ensures { ReadsWords (just forms.Exchange and forms.a_number and forms.a_number)
         words.old (option_map command_word result) words.new }
 {
     Some(Command::Exchange {
@@ -198,7 +198,7 @@ fn exchange<'a>(words: &mut Words<'a>) -> Option<Command<'a>>
 }
 
 fn hello<'a>(words: &mut Words<'a>) -> Option<Command<'a>>
-    ensures { Gives (just forms.Hello and forms.number and forms.number)
+    ensures { ReadsWords (just forms.Hello and forms.a_number and forms.a_number)
         words.old (option_map command_word result) words.new }
 {
     Some(Command::Hello {
@@ -208,7 +208,7 @@ fn hello<'a>(words: &mut Words<'a>) -> Option<Command<'a>>
 }
 
 fn leave<'a>(words: &mut Words<'a>) -> Option<Command<'a>>
-    ensures { Gives (just forms.Leave and forms.number)
+    ensures { ReadsWords (just forms.Leave and forms.a_number)
         words.old (option_map command_word result) words.new }
 {
     let node = words.number()?;
@@ -216,7 +216,7 @@ fn leave<'a>(words: &mut Words<'a>) -> Option<Command<'a>>
 }
 
 fn restart<'a>(words: &mut Words<'a>) -> Option<Command<'a>>
-    ensures { Gives (just forms.Restart and forms.number and forms.number)
+    ensures { ReadsWords (just forms.Restart and forms.a_number and forms.a_number)
         words.old (option_map command_word result) words.new }
 {
     Some(Command::Restart {
@@ -226,7 +226,7 @@ fn restart<'a>(words: &mut Words<'a>) -> Option<Command<'a>>
 }
 
 fn keep<'a>(words: &mut Words<'a>) -> Option<Command<'a>>
-    ensures { Gives (just forms.Keep and forms.number)
+    ensures { ReadsWords (just forms.Keep and forms.a_number)
         words.old (option_map command_word result) words.new }
 {
     let node = words.number()?;
@@ -234,7 +234,7 @@ fn keep<'a>(words: &mut Words<'a>) -> Option<Command<'a>>
 }
 
 fn watch<'a>(words: &mut Words<'a>) -> Option<Command<'a>>
-    ensures { Gives (just forms.Watch and forms.number and forms.prefix and forms.number)
+    ensures { ReadsWords (just forms.Watch and forms.a_number and forms.a_prefix and forms.a_number)
         words.old (option_map command_word result) words.new }
 {
     Some(Command::Watch {
@@ -245,7 +245,7 @@ fn watch<'a>(words: &mut Words<'a>) -> Option<Command<'a>>
 }
 
 fn changes<'a>(words: &mut Words<'a>) -> Option<Command<'a>>
-    ensures { Gives (just forms.Changes and forms.number and forms.number)
+    ensures { ReadsWords (just forms.Changes and forms.a_number and forms.a_number)
         words.old (option_map command_word result) words.new }
 {
     Some(Command::Changes {
@@ -255,7 +255,7 @@ fn changes<'a>(words: &mut Words<'a>) -> Option<Command<'a>>
 }
 
 fn keys<'a>(words: &mut Words<'a>) -> Option<Command<'a>>
-    ensures { Gives (just forms.Keys and forms.number and forms.prefix)
+    ensures { ReadsWords (just forms.Keys and forms.a_number and forms.a_prefix)
         words.old (option_map command_word result) words.new }
 {
     Some(Command::Keys {
@@ -265,7 +265,7 @@ fn keys<'a>(words: &mut Words<'a>) -> Option<Command<'a>>
 }
 
 fn root<'a>(words: &mut Words<'a>) -> Option<Command<'a>>
-    ensures { Gives (just forms.Root and forms.number)
+    ensures { ReadsWords (just forms.Root and forms.a_number)
         words.old (option_map command_word result) words.new }
 {
     let node = words.number()?;
@@ -273,7 +273,7 @@ fn root<'a>(words: &mut Words<'a>) -> Option<Command<'a>>
 }
 
 fn images<'a>(words: &mut Words<'a>) -> Option<Command<'a>>
-    ensures { Gives (just forms.Images and forms.number)
+    ensures { ReadsWords (just forms.Images and forms.a_number)
         words.old (option_map command_word result) words.new }
 {
     let node = words.number()?;
@@ -281,7 +281,7 @@ fn images<'a>(words: &mut Words<'a>) -> Option<Command<'a>>
 }
 
 fn views<'a>(words: &mut Words<'a>) -> Option<Command<'a>>
-    ensures { Gives (just forms.Views and forms.number)
+    ensures { ReadsWords (just forms.Views and forms.a_number)
         words.old (option_map command_word result) words.new }
 {
     let node = words.number()?;

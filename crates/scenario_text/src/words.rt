@@ -2,7 +2,7 @@
 
 ghost use Rattle.std.specs.Prelude.{◌≡◌, ◌↔◌, [], Some, IsTrue, slice_get};
 ghost use Rattle.std.specs.Option.{option_copied, option_map};
-ghost use Rattle.scenario_text.specs.Coded.{BeginsNoSpace, Gives, SplitsWord, Takes, bytes_word, key_word, prefix_word};
+ghost use Rattle.scenario_text.specs.Coded.{BeginsNoSpace, ReadsWords, SplitsWord, Takes, bytes_word, key_word, prefix_word};
 ghost use Rattle.scenario_text.specs.Commands as forms;
 ghost use Rattle.scenario_text.specs.Reading.{labelled, labelled_or_zero, number_or_none};
 ghost use Rattle.scenario_text.specs.Word.{words_of};
@@ -87,38 +87,38 @@ impl<'a> Words<'a> {
     }
 
     pub(crate) fn number(&mut self) -> Option<u64>
-        ensures { Gives forms.number self.old result self.new }
+        ensures { ReadsWords forms.a_number self.old result self.new }
     {
         number(self.next()?)
     }
 
     pub(crate) fn key(&mut self) -> Option<KeyWord<'a>>
-        ensures { Gives forms.key self.old (option_map key_word result) self.new }
+        ensures { ReadsWords forms.a_key self.old (option_map key_word result) self.new }
     {
         key_word(self.next()?)
     }
 
     pub(crate) fn prefix(&mut self) -> Option<PrefixWord<'a>>
-        ensures { Gives forms.prefix self.old (option_map prefix_word result) self.new }
+        ensures { ReadsWords forms.a_prefix self.old (option_map prefix_word result) self.new }
     {
         prefix_word(self.next()?)
     }
 
     pub(crate) fn value(&mut self) -> Option<BytesWord<'a>>
-        ensures { Gives forms.value self.old (option_map bytes_word result) self.new }
+        ensures { ReadsWords forms.a_value self.old (option_map bytes_word result) self.new }
     {
         BytesWord::of_value(self.next()?)
     }
 
     pub(crate) fn junk(&mut self) -> Option<BytesWord<'a>>
-        ensures { Gives forms.junk self.old (option_map bytes_word result) self.new }
+        ensures { ReadsWords forms.junk self.old (option_map bytes_word result) self.new }
     {
         BytesWord::of_junk(self.next()?)
     }
 
     /// A number from 1 to 16.
     pub(crate) fn node_count(&mut self) -> Option<u64>
-        ensures { Gives forms.node_count self.old result self.new }
+        ensures { ReadsWords forms.node_count self.old result self.new }
     {
         let count = self.number()?;
         if (1..=16).contains(&count) {
@@ -130,7 +130,7 @@ impl<'a> Words<'a> {
 
     /// The place of the resolver that the next word names, if there are so many.
     pub(crate) fn resolver(&mut self, resolvers: usize) -> Option<usize>
-        ensures { Gives (forms.resolver resolvers) self.old result self.new }
+        ensures { ReadsWords (forms.resolver resolvers) self.old result self.new }
     {
         let place = match self.next()? {
             b"lww" => 0,
@@ -142,7 +142,7 @@ impl<'a> Words<'a> {
 
     /// The number that the next word is, or none, and then no word is read.
     pub(crate) fn number_or_none(&mut self) -> Option<u64>
-        ensures { Gives number_or_none self.old (Some result) self.new }
+        ensures { ReadsWords number_or_none self.old (Some result) self.new }
     {
         let found = number(self.peek()?)?;
         self.next()?;
@@ -152,7 +152,7 @@ impl<'a> Words<'a> {
     /// The number behind this label, where the next word is the label; none where it isn't, and
     /// then no word is read.
     pub(crate) fn labelled(&mut self, label: &[u8]) -> Option<Option<u64>>
-        ensures { Gives (labelled label.now) self.old result self.new }
+        ensures { ReadsWords (labelled label.now) self.old result self.new }
     {
         match self.peek() {
             Some(word) if word == label => {}
@@ -164,28 +164,28 @@ impl<'a> Words<'a> {
 
     /// The same, where none is 0.
     pub(crate) fn labelled_or_zero(&mut self, label: &[u8]) -> Option<u64>
-        ensures { Gives (labelled_or_zero label.now) self.old result self.new }
+        ensures { ReadsWords (labelled_or_zero label.now) self.old result self.new }
     {
         Some(self.labelled(label)?.unwrap_or(0))
     }
 
     /// `stamp S`, or nothing for stamp 0.
     pub(crate) fn stamp(&mut self) -> Option<u64>
-        ensures { Gives forms.stamp self.old result self.new }
+        ensures { ReadsWords forms.stamp self.old result self.new }
     {
         self.labelled_or_zero(b"stamp")
     }
 
     /// `read R`, or nothing.
     pub(crate) fn read(&mut self) -> Option<Option<u64>>
-        ensures { Gives forms.read self.old result self.new }
+        ensures { ReadsWords forms.read self.old result self.new }
     {
         self.labelled(b"read")
     }
 
     /// `word W`, or nothing for word 0.
     pub(crate) fn random(&mut self) -> Option<u64>
-        ensures { Gives forms.random self.old result self.new }
+        ensures { ReadsWords forms.random self.old result self.new }
     {
         self.labelled_or_zero(b"word")
     }

@@ -13,8 +13,8 @@ pub record Pending : Type 0 where
   pub bytes : List ℕ
   pub left : ℕ
 
--- a byte in front of the first line
-abbrev onto_first : ℕ → List (List ℕ) → List (List ℕ)
+-- a byte in front of the first list
+abbrev pub onto_first : ℕ → List (List ℕ) → List (List ℕ)
 onto_first b [] = (b ∷ []) ∷ []
 onto_first b (line ∷ lines) = (b ∷ line) ∷ lines
 

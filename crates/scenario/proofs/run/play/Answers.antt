@@ -1,19 +1,19 @@
 use Rattle.std.proofs.Common.{◌≡◌, ap, ◌∙◌}
 use Rattle.std.proofs.lemmas.Result.{err_from_is_err_and}
-use Rattle.scenario_stage.specs.Obeying.{opening}
+use Rattle.scenario_stage.specs.Obeying.{new_stage}
 use Rattle.scenario.proofs.Playing.{ends_play, plays_all, plays_nothing, plays_unopened}
 use Rattle.scenario_stage.proofs.Results.{on_err, on_ok}
 use Rattle.scenario.proofs.run.play.Goals as goal
 
 pub returns-clause-err : goal.returns-clause-err
 returns-clause-err g c =
-    let opens : c.in_ok-stage.stage ≡ opening c.args.script.now.nodes = c.in_ok-stage.ensures ∙ ap opening c.nodes.ensures.value in
+    let opens : c.in_ok-stage.stage ≡ new_stage c.args.script.now.nodes = c.in_ok-stage.ensures ∙ ap new_stage c.nodes.ensures.value in
     on_err c.play_commands.result
     (λ fault ends. ends_play _ _ _ _ c.args.script.now c.in_ok-stage.stage _ _ _ fault opens c.in_ok-write_ok.ensures.ok c.in_ok-write_ok.ensures.sound ends) c.play_commands.ensures.err
 
 pub returns-clause-ok : goal.returns-clause-ok
 returns-clause-ok g c =
-    let opens : c.in_ok-stage.stage ≡ opening c.args.script.now.nodes = c.in_ok-stage.ensures ∙ ap opening c.nodes.ensures.value in
+    let opens : c.in_ok-stage.stage ≡ new_stage c.args.script.now.nodes = c.in_ok-stage.ensures ∙ ap new_stage c.nodes.ensures.value in
     on_ok c.play_commands.result (plays_all _ c.args.script.now c.in_ok-stage.stage _ _ _ opens c.in_ok-write_ok.ensures.ok) c.play_commands.ensures.ok
 
 pub returns-in_err-stage-clause-err : goal.returns-in_err-stage-clause-err
