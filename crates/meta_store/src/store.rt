@@ -13,8 +13,7 @@ use crate::context::Context;
 use crate::parts::{copy_parts, put_part, remove_part};
 use crate::rows::Rows;
 use crate::source::Source;
-use crate::stale::{has_read, knows};
-use dvvset::{Entries, Entry, Vector, join, values};
+use dvvset::{Entries, Vector, has_read, join, knows, values};
 use meta_types::{FullPrefix, MetaKey, Value};
 use std::alloc::{AllocError, Global};
 use std::collections::BTreeMap;
@@ -116,7 +115,8 @@ impl Store {
     pub fn is_stale(&self, key: &MetaKey, vector: &Vector) -> bool
         ensures { result ≡ is_stale self.now key.now vector.now }
     {
-        has_read(self.entries_under(key), vector.counters())
+        let absent = Entries::empty(self.alloc);
+        has_read(self.object_or(key, &absent), vector)
     }
 
     /// Returns whether the object under the key knows each event that the other knows. It takes no
@@ -124,17 +124,8 @@ impl Store {
     pub(crate) fn knows(&self, key: &MetaKey, other: &Entries) -> bool
         ensures { result ≡ is_stale self.now key.now (join other.now) }
     {
-        knows(self.entries_under(key), other.entries())
-    }
-
-    /// The entries of the object under the key, none where nothing is held.
-    fn entries_under(&self, key: &MetaKey) -> &[Entry]
-        ensures { result.now ≡ object_at self.now key.now }
-    {
-        match self.object(key) {
-            Some(object) => object.entries(),
-            None => &[],
-        }
+        let absent = Entries::empty(self.alloc);
+        knows(self.object_or(key, &absent), other)
     }
 
     /// Holds the object under the key, in place of what is held there, as a store is filled from
