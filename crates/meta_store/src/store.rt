@@ -92,22 +92,42 @@ impl Store {
             (λ read. read.0.items ≡ values_of (object_at self.now key.now)) }
         ensures vector { IfOk result (λ read. read.1 ≡ join (object_at self.now key.now)) }
     {
-        match self.object(key) {
-            Some(object) => Ok((values(self.alloc, object)?, join(self.alloc, object)?)),
-            None => Ok((Vec::new(self.alloc), Vector::empty(self.alloc))),
-        }
+        Ok((self.values(key)?, self.vector(key)?))
     }
 
     /// The values under the key, as `get` has them, and a context for a later write that has read
-    /// them; where nothing is held its vector has read nothing. `source` says who reads. It takes
-    /// memory, with the refusal of which alone it is refused.
+    /// them, as `context` makes it. Fails only when memory runs out.
     pub fn look(&self, key: &MetaKey, source: Source) -> Result<(Vec<Value>, Context), AllocError>
         ensures values { IfOk result
             (λ read. read.0.items ≡ values_of (object_at self.now key.now)) }
         ensures context { IfOk result (λ read. read.1 ≡ reading_at self.now key.now source) }
     {
-        let (values, vector) = self.get(key)?;
-        Ok((values, Context::new(key.copy()?, vector, source)))
+        Ok((self.values(key)?, self.context(key, source)?))
+    }
+
+    /// A context for a later write that has read what is under the key; where nothing is held its
+    /// vector has read nothing. `source` says who reads. No value is copied. Fails only when memory
+    /// runs out.
+    pub fn context(&self, key: &MetaKey, source: Source) -> Result<Context, AllocError>
+        ensures { IfOk result (λ context. context ≡ reading_at self.now key.now source) }
+    {
+        Ok(Context::new(key.copy()?, self.vector(key)?, source))
+    }
+
+    /// The values under the key, none where nothing is held. They are copies.
+    fn values(&self, key: &MetaKey) -> Result<Vec<Value>, AllocError>
+        ensures { IfOk result (λ values. values.items ≡ values_of (object_at self.now key.now)) }
+    {
+        let absent = Entries::empty(self.alloc);
+        values(self.alloc, self.object_or(key, &absent))
+    }
+
+    /// The vector of the object under the key, which has read nothing where nothing is held.
+    fn vector(&self, key: &MetaKey) -> Result<Vector, AllocError>
+        ensures { IfOk result (λ vector. vector ≡ join (object_at self.now key.now)) }
+    {
+        let absent = Entries::empty(self.alloc);
+        join(self.alloc, self.object_or(key, &absent))
     }
 
     /// Returns whether the object under the key has read all that the vector has. It takes no
