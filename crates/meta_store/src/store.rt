@@ -148,6 +148,14 @@ impl Store {
         knows(self.object_or(key, &absent), other)
     }
 
+    /// Returns whether an object may be held under the key: it is held, or there are fewer keys than
+    /// 8,192. It takes no memory.
+    pub fn has_room_for(&self, key: &MetaKey) -> bool
+        ensures { IsTrue result ↔ (is_full_for self.now key.now ≡ false) }
+    {
+        self.len < MAX_KEYS || self.object(key).is_some()
+    }
+
     /// Holds the object under the key, in place of what is held there, as a store is filled from
     /// what another one has held. Fails only when memory runs out for a new key, and then nothing
     /// changes. A key that is held is never refused.
@@ -220,13 +228,6 @@ impl Store {
         })
     }
 
-    /// Returns whether the key would be one too many.
-    pub(crate) fn is_full_for(&self, key: &MetaKey) -> bool
-        ensures { result ≡ is_full_for self.now key.now }
-    {
-        MAX_KEYS <= self.len && self.object(key).is_none()
-    }
-
     /// The object under the key, the absent one where nothing is held. `absent` is borrowed for it.
     pub(crate) fn object_or<'a>(&'a self, key: &MetaKey, absent: &'a Entries) -> &'a Entries
         requires { absent.now ≡ [] }
@@ -238,4 +239,28 @@ impl Store {
     pub(crate) fn allocator(&self) -> Global {
         self.alloc
     }
+}
+
+impl PartialEq for Store {
+    ghost use Rattle.std.specs.Prelude.{◌≡◌, ◌↔◌, IsTrue};
+    ghost use Rattle.std.specs.Cmp.{partial_equiv_from_equiv};
+    ghost use Rattle.meta_store.specs.Equal.{table_eq, table_equivalence};
+
+    ghost eq = { table_eq };
+
+    ghost laws = { partial_equiv_from_equiv table_equivalence };
+
+    /// Returns whether both hold the same objects under the same keys. It takes no memory.
+    fn eq(&self, other: &Store) -> bool
+        ensures value { result ≡ table_eq self.now other.now }
+        ensures same { IsTrue result ↔ (self.now ≡ other.now) }
+    {
+        self.parts == other.parts
+    }
+}
+
+impl Eq for Store {
+    ghost use Rattle.meta_store.specs.Equal.{table_equivalence};
+
+    ghost laws = { table_equivalence };
 }
