@@ -22,7 +22,7 @@ use Rattle.frame_fields.specs.declared.prefixes.PrefixDigest.{PrefixDigest}
 use Rattle.meta_store.specs.Table.{IsHeld}
 use Rattle.meta_store.specs.Kept as store
 use Rattle.meta_store.specs.Kept.{PartsOf, RowsOf, rows_at, rows_under, table_of}
-use Rattle.meta_store.proofs.Kept.{all_prefixes, bytes_total, prefix_total, put_part}
+use Rattle.meta_store.proofs.Kept.{all_prefixes, bytes_total, own_part, prefix_total, put_part, rows_left_out}
 use Rattle.meta_store.proofs.Maps.{All-put, below_rest, filled_up, find_below, first, greater_back, is_less, is_true, put_last, rest_sorted, second}
 use Rattle.hash_tree.specs.Tree.{Digest, OwnRows, DigestRows, digested, object_digest, own_rows, prefix_root, prefix_roots, tree_root}
 use Rattle.hash_tree.specs.Kept.{AreTreeParts}
@@ -33,48 +33,6 @@ Filled part = part.1 ≢ []
 
 abbrev Parts : Type 0
 Parts = PartsOf Digest
-
--- ---- the rows of one full prefix
-
--- rows of another prefix are left out
-left_out : (p q : Prefix) (rows : OwnRows) (rest : DigestRows) → prefix_eq p q ≡ false → own_rows p (rows_under q rows ++ rest) ≡ own_rows p rest
-left_out p q [] rest apart = refl
-left_out p q (row ∷ rows) rest apart =
-    let others : List (Key × Digest) = rows_under q rows ++ rest in
-    ap (λ b. map (λ r. (r.0.key, r.1)) (cond b ((record { prefix = q; key = row.0 }, row.1) ∷ filter (λ r. prefix_eq p r.0.prefix) others) (filter (λ r. prefix_eq p r.0.prefix) others))) apart
-    ∙ left_out p q rows rest apart
-
--- those of the prefix are taken
-taken : (p : Prefix) (rows : OwnRows) (rest : DigestRows) → own_rows p rest ≡ [] → own_rows p (rows_under p rows ++ rest) ≡ rows
-taken p [] rest none = none
-taken p (row ∷ rows) rest none =
-    let others : List (Key × Digest) = rows_under p rows ++ rest in
-    ap (λ o. map (λ r. (r.0.key, r.1)) (cond (is_eq o) ((record { prefix = p; key = row.0 }, row.1) ∷ filter (λ r. prefix_eq p r.0.prefix) others) (filter (λ r. prefix_eq p r.0.prefix) others))) (tied_itself prefix_total p)
-    ∙ ap (λ xs. row ∷ xs) (taken p rows rest none)
-
-none_found : {A : Type 0} (x : A) → Some x ≡ None → ⊥
-none_found x e = cc
-
-no_rows : (p : Prefix) (parts : Parts) → find prefix_cmp p parts ≡ None → own_rows p (table_of parts) ≡ []
-no_rows p [] e = refl
-no_rows p (part ∷ parts) e =
-    elim (prefix_eq p part.0) as (λ b. prefix_eq p part.0 ≡ b → cond b (Some part.1) (find prefix_cmp p parts) ≡ None → own_rows p (rows_under part.0 part.1 ++ table_of parts) ≡ []) [
-      | true ↦ λ is none. absurd (none_found part.1 none)
-      | false ↦ λ is none. left_out p part.0 part.1 (table_of parts) is ∙ no_rows p parts none
-    ] refl e
-
-pub own_part : (p : Prefix) (parts : Parts) → T (is_sorted prefix_cmp parts) → own_rows p (table_of parts) ≡ rows_at p parts
-own_part p [] sorted = refl
-own_part p (part ∷ parts) sorted =
-    let later = own_part p parts (rest_sorted prefix_cmp prefix_total part parts sorted) in
-    elim (prefix_cmp p part.0) as (λ r. prefix_cmp p part.0 ≡ r → own_rows p (rows_under part.0 part.1 ++ table_of parts) ≡ unwrap_or (cond (is_eq r) (Some part.1) (find prefix_cmp p parts)) []) [
-      | Less ↦ λ less. left_out p part.0 part.1 (table_of parts) (ap is_eq less) ∙ later
-      | Equal ↦ λ tied.
-          let none : find prefix_cmp p parts ≡ None =
-          sym (find_tied prefix_cmp prefix_total p part.0 tied parts) ∙ find_below prefix_cmp part.0 parts (below_rest prefix_cmp prefix_total part parts sorted) in
-          ap (λ q. own_rows p (rows_under q part.1 ++ table_of parts)) (sym (same_prefix p part.0 tied)) ∙ taken p part.1 (table_of parts) (no_rows p parts none)
-      | Greater ↦ λ greater. left_out p part.0 part.1 (table_of parts) (ap is_eq greater) ∙ later
-    ] refl
 
 -- ---- roots
 
@@ -94,7 +52,7 @@ skipped q rows rest (part ∷ parts) below =
     let less : prefix_cmp q part.0 ≡ Less = is_less (prefix_cmp q part.0) (first (is_lt (prefix_cmp q part.0)) (below_all prefix_cmp q parts) below) in
     let apart : prefix_eq part.0 q ≡ false = ap is_eq (greater_back prefix_cmp prefix_total q part.0 less) in
     let later = skipped q rows rest parts (second (is_lt (prefix_cmp q part.0)) (below_all prefix_cmp q parts) below) in
-    λ i. record { prefix = part.0; digest = prefix_root (left_out part.0 q rows rest apart i) } ∷ later i
+    λ i. record { prefix = part.0; digest = prefix_root (rows_left_out part.0 q rows rest apart i) } ∷ later i
 
 each_root : (parts : Parts) → T (is_sorted prefix_cmp parts) → map (rooted (table_of parts)) (map (λ part. part.0) parts) ≡ map part_root parts
 each_root [] sorted = refl
