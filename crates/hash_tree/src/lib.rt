@@ -12,12 +12,15 @@
 //! tree.root() // that of `plain_root(alloc, &store)?`
 //! ```
 //!
-//! Read `tree`, `object`, then `laws`; `parts`, `prefix_tree`, `leaves`, `bucket`, `hashing` and
+//! `Held` is a store with its tree, of which one never changes without the other.
+//!
+//! Read `tree`, `object`, `held`, then `laws`; `parts`, `prefix_tree`, `leaves`, `bucket`, `hashing` and
 //! `text_hasher` are private.
 #![tactic(auto)]
 
 mod bucket;
 mod hashing;
+pub mod held;
 pub mod laws;
 mod leaves;
 pub mod object;
@@ -26,5 +29,6 @@ mod prefix_tree;
 mod text_hasher;
 pub mod tree;
 
+pub use held::{Held, Unbuilt};
 pub use object::object_digest;
 pub use tree::{Tree, plain_root};

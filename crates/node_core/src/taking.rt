@@ -111,7 +111,7 @@ impl NodeState {
     {
         // Read for what it tells: what is held is a table.
         let _few = self.held.store().len();
-        let messages = answer(self.alloc, self.held.store(), self.held.tree(), message)?;
+        let messages = answer(self.alloc, &self.held, message)?;
         Ok(addressed(self.alloc, to, messages)?)
     }
 }

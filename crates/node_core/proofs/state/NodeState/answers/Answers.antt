@@ -13,7 +13,7 @@ returns-clause-may c =
     let to = c.args.to in
     let message = c.args.message.now in
     let few_is = c.store.ensures ∙ ap (λ s. s.table) c.self.view_is in
-    let table_is = c.store-2.ensures ∙ ap (λ s. s.table) c.self.view_is in
+    let table_is = ap (λ s. s.table) c.self.view_is in
     let told = c.in_ok-messages.ensures ∙ ap (λ t. answer t message) table_is in
     All-same (MaySend s.node) c.in_ok-addressed.field-0.items (map (envelope to) (answer s.table message))
     (c.in_ok-addressed.ensures ∙ ap (map (envelope to)) told)
