@@ -6,7 +6,7 @@ ghost use Rattle.frame_fields.specs.Field.{digests, keys};
 ghost use Rattle.meta_frame.specs.declared.message.Message.TheVariants.{XRoot};
 ghost use Rattle.hash_tree.specs.Tree.{bucket, prefix_roots, rows_of, tree_root};
 ghost use Rattle.hash_tree.specs.Hashed.{rows_below};
-ghost use Rattle.exchange.specs.Answers.{answer, answer_bucket, answer_inner, answer_leaves};
+ghost use Rattle.exchange.specs.Answers.{answers_to, answer_bucket, answer_inner, answer_leaves};
 ghost use Rattle.exchange.specs.Answers.{answer_prefixes, answer_root, object_if_held};
 ghost use Rattle.exchange.specs.Answers.{bucket_message, inner_message, leaves_message};
 ghost use Rattle.exchange.specs.Answers.{want_messages};
@@ -30,9 +30,9 @@ pub fn start(held: &Held) -> Message
 /// What a message is answered from what is held, in order: each answer goes to the sender. XOBJECT,
 /// whose object is to be merged, and messages of no exchange have no answer; nor have leaves of an
 /// inner node from 16 on, which no frame carries. Fails only when memory runs out.
-#[tactic(auto, unfolding(crate::specs::Answers::answer))]
+#[tactic(auto, unfolding(crate::specs::Answers::answers_to))]
 pub fn answer(alloc: Global, held: &Held, message: &Message) -> Result<Vec<Message>, AllocError>
-    ensures { IfOk result (λ answers. answers.items ≡ answer held.now message.now) }
+    ensures { IfOk result (λ answers. answers.items ≡ answers_to held.now message.now) }
 {
     match message {
         Message::XRoot { root } => answer_root(alloc, held, *root),

@@ -6,9 +6,9 @@ ghost use Rattle.meta_store.specs.Step.{refusal_of_merge, table_after_merge};
 ghost use Rattle.meta_store.specs.declared.fault.StoreFault.TheVariants.{Memory};
 ghost use Rattle.meta_frame.specs.declared.message.Message.TheVariants.{XRoot};
 ghost use Rattle.hash_tree.specs.Tree.{rows_of, tree_root};
-ghost use Rattle.exchange.specs.Answers.{answer};
-ghost use Rattle.exchange.specs.Whole.{StayBetween, EndInUnion, answers_in_turn, answers_to};
-ghost use Rattle.exchange.specs.Whole.{here_after, offers, refusal_of, refusal_of_all};
+ghost use Rattle.exchange.specs.Answers.{answers_to};
+ghost use Rattle.exchange.specs.Whole.{StayBetween, EndInUnion, answers_in_turn, answers_to_all};
+ghost use Rattle.exchange.specs.Whole.{here_after, offers, refusal_of_one, refusal_of_all};
 ghost use Rattle.exchange.specs.Whole.{TookFront, refusal_of_exchange, table_after};
 ghost use Rattle.exchange.specs.Whole.{table_after_all, there_after, wanted};
 
@@ -45,7 +45,7 @@ fn take_all(
 
 /// What messages that bring no object are answered.
 fn answer_all(alloc: Global, held: &Held, messages: &[Message]) -> Result<Vec<Message>, AllocError>
-    ensures { IfOk result (λ answers. answers.items ≡ answers_to held.now messages.now) }
+    ensures { IfOk result (λ answers. answers.items ≡ answers_to_all held.now messages.now) }
 {
     let mut answers = Vec::new(alloc);
     for message in messages {
@@ -68,12 +68,12 @@ fn add_all(answers: &mut Vec<Message>, own: Vec<Message>) -> Result<(), AllocErr
 }
 
 /// Takes a message: merges the object that it brings, if it is an XOBJECT.
-#[tactic(auto, unfolding(crate::specs::Whole::table_after, crate::specs::Whole::refusal_of))]
+#[tactic(auto, unfolding(crate::specs::Whole::table_after, crate::specs::Whole::refusal_of_one))]
 fn take(held: &mut Held, message: &Message) -> Result<(), StoreFault>
     ensures value { OnOk result (held.new ≡ table_after held.old message.now) }
     ensures same { OnErr result (held.new ≡ held.old) }
-    ensures no_refusal { OnOk result (refusal_of held.old message.now ≡ None) }
-    ensures fault { FailsBy Memory (refusal_of held.old message.now) result }
+    ensures no_refusal { OnOk result (refusal_of_one held.old message.now ≡ None) }
+    ensures fault { FailsBy Memory (refusal_of_one held.old message.now) result }
 {
     match message {
         Message::XObject { key, object } => merge(held, key, object),
@@ -97,7 +97,7 @@ fn merge(held: &mut Held, key: &MetaKey, object: &Entries) -> Result<(), StoreFa
 /// What the root of here is answered there.
 fn answer_start(alloc: Global, here: &Held, there: &Held) -> Result<Vec<Message>, AllocError>
     ensures { IfOk result
-        (λ answers. answers.items ≡ answer there.now (XRoot (tree_root (rows_of here.now)))) }
+        (λ answers. answers.items ≡ answers_to there.now (XRoot (tree_root (rows_of here.now)))) }
 {
     let root = start(here);
     answer(alloc, there, &root)
@@ -109,7 +109,7 @@ fn answer_round(
     held: &Held,
     messages: Vec<Message>,
 ) -> Result<Vec<Message>, AllocError>
-    ensures { IfOk result (λ answers. answers.items ≡ answers_to held.now messages.items) }
+    ensures { IfOk result (λ answers. answers.items ≡ answers_to_all held.now messages.items) }
 {
     answer_all(alloc, held, messages.as_slice())
 }

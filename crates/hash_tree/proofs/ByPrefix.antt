@@ -24,7 +24,7 @@ use Rattle.meta_store.specs.Kept as store
 use Rattle.meta_store.specs.Kept.{PartsOf, RowsOf, rows_at, rows_under, table_of}
 use Rattle.meta_store.proofs.Kept.{all_prefixes, bytes_total, own_part, prefix_total, put_part, rows_left_out}
 use Rattle.meta_store.proofs.Maps.{All-put, below_rest, filled_up, find_below, first, greater_back, is_less, is_true, put_last, rest_sorted, second}
-use Rattle.hash_tree.specs.Tree.{Digest, OwnRows, DigestRows, digested, object_digest, own_rows, prefix_root, prefix_roots, tree_root}
+use Rattle.hash_tree.specs.Tree.{Digest, OwnRows, DigestRows, digest_rows, object_digest, own_rows, prefix_root, prefix_roots, tree_root}
 use Rattle.hash_tree.specs.Kept.{AreTreeParts}
 use Rattle.hash_tree.specs.Rising.{do_prefixes_rise}
 
@@ -110,48 +110,48 @@ module _ (k : Key) (d : Digest) (parts new : Parts) (are : AreTreeParts parts) (
 
 -- ---- the parts of a store
 
-pub digested_put : (k : Key) (o : List Entry) (table : List (Key × List Entry)) → digested (put key_cmp k o table) ≡ put key_cmp k (object_digest o) (digested table)
+pub digested_put : (k : Key) (o : List Entry) (table : List (Key × List Entry)) → digest_rows (put key_cmp k o table) ≡ put key_cmp k (object_digest o) (digest_rows table)
 digested_put k o [] = refl
 digested_put k o (row ∷ rows) =
-    elim (key_cmp k row.0) as (λ r. digested (by_order r ((k, o) ∷ row ∷ rows) ((row.0, o) ∷ rows) (row ∷ put key_cmp k o rows))
-    ≡ by_order r ((k, object_digest o) ∷ (row.0, object_digest row.1) ∷ digested rows) ((row.0, object_digest o) ∷ digested rows) ((row.0, object_digest row.1) ∷ put key_cmp k (object_digest o) (digested rows))) [
+    elim (key_cmp k row.0) as (λ r. digest_rows (by_order r ((k, o) ∷ row ∷ rows) ((row.0, o) ∷ rows) (row ∷ put key_cmp k o rows))
+    ≡ by_order r ((k, object_digest o) ∷ (row.0, object_digest row.1) ∷ digest_rows rows) ((row.0, object_digest o) ∷ digest_rows rows) ((row.0, object_digest row.1) ∷ put key_cmp k (object_digest o) (digest_rows rows))) [
       | Less ↦ refl
       | Equal ↦ refl
       | Greater ↦ ap (λ xs. (row.0, object_digest row.1) ∷ xs) (digested_put k o rows)
     ]
 
-digested_under : (p : Prefix) (rows : RowsOf (List Entry)) → digested (rows_under p rows) ≡ rows_under p (digested rows)
+digested_under : (p : Prefix) (rows : RowsOf (List Entry)) → digest_rows (rows_under p rows) ≡ rows_under p (digest_rows rows)
 digested_under p [] = refl
 digested_under p (row ∷ rows) = ap (λ xs. (record { prefix = p; key = row.0 }, object_digest row.1) ∷ xs) (digested_under p rows)
 
 abbrev pub digested_part : Prefix × RowsOf (List Entry) → Prefix × OwnRows
-digested_part part = (part.0, digested part.1)
+digested_part part = (part.0, digest_rows part.1)
 
-pub digested_parts : (parts : PartsOf (List Entry)) → table_of (map digested_part parts) ≡ digested (table_of parts)
+pub digested_parts : (parts : PartsOf (List Entry)) → table_of (map digested_part parts) ≡ digest_rows (table_of parts)
 digested_parts [] = refl
 digested_parts (part ∷ parts) =
-    ap (λ xs. rows_under part.0 (digested part.1) ++ xs) (digested_parts parts)
-    ∙ ap (λ xs. xs ++ digested (table_of parts)) (sym (digested_under part.0 part.1))
+    ap (λ xs. rows_under part.0 (digest_rows part.1) ++ xs) (digested_parts parts)
+    ∙ ap (λ xs. xs ++ digest_rows (table_of parts)) (sym (digested_under part.0 part.1))
     ∙ sym (map-append (λ (row : Key × List Entry). (row.0, object_digest row.1)) (rows_under part.0 part.1) (table_of parts))
 
 -- ---- rows of a store that are taken in, in order
 
-below_digested : (k : List ℕ) (rows : RowsOf (List Entry)) → below_all bytes_cmp k (digested rows) ≡ below_all bytes_cmp k rows
+below_digested : (k : List ℕ) (rows : RowsOf (List Entry)) → below_all bytes_cmp k (digest_rows rows) ≡ below_all bytes_cmp k rows
 below_digested k [] = refl
 below_digested k (row ∷ rows) = ap (λ b. is_lt (bytes_cmp k row.0) && b) (below_digested k rows)
 
-sorted_digested : (rows : RowsOf (List Entry)) → is_sorted bytes_cmp (digested rows) ≡ is_sorted bytes_cmp rows
+sorted_digested : (rows : RowsOf (List Entry)) → is_sorted bytes_cmp (digest_rows rows) ≡ is_sorted bytes_cmp rows
 sorted_digested [] = refl
 sorted_digested (row ∷ rows) = λ i. below_digested row.0 rows i && sorted_digested rows i
 
-pub row_taken : (done new : OwnRows) (k : List ℕ) (object : List Entry) (d : Digest) (rest from rows : RowsOf (List Entry)) → T (is_sorted bytes_cmp rows) → done ++ digested from ≡ digested rows → from ≡ (k, object) ∷ rest
-    → d ≡ object_digest object → new ≡ put bytes_cmp k d done → new ++ digested rest ≡ digested rows
+pub row_taken : (done new : OwnRows) (k : List ℕ) (object : List Entry) (d : Digest) (rest from rows : RowsOf (List Entry)) → T (is_sorted bytes_cmp rows) → done ++ digest_rows from ≡ digest_rows rows → from ≡ (k, object) ∷ rest
+    → d ≡ object_digest object → new ≡ put bytes_cmp k d done → new ++ digest_rows rest ≡ digest_rows rows
 row_taken done new k object d rest from rows sorted so_far is_first is_digest is =
-    let whole : done ++ (k, object_digest object) ∷ digested rest ≡ digested rows = ap (λ xs. done ++ digested xs) (sym is_first) ∙ so_far in
-    let are : T (is_sorted bytes_cmp (done ++ (k, object_digest object) ∷ digested rest)) =
+    let whole : done ++ (k, object_digest object) ∷ digest_rows rest ≡ digest_rows rows = ap (λ xs. done ++ digest_rows xs) (sym is_first) ∙ so_far in
+    let are : T (is_sorted bytes_cmp (done ++ (k, object_digest object) ∷ digest_rows rest)) =
     subst T (sym (ap (is_sorted bytes_cmp) whole ∙ sorted_digested rows)) sorted in
-    ap (λ xs. xs ++ digested rest) (is ∙ ap (λ x. put bytes_cmp k x done) is_digest)
-    ∙ put_last bytes_cmp bytes_total done k (object_digest object) (digested rest) are
+    ap (λ xs. xs ++ digest_rows rest) (is ∙ ap (λ x. put bytes_cmp k x done) is_digest)
+    ∙ put_last bytes_cmp bytes_total done k (object_digest object) (digest_rows rest) are
     ∙ whole
 
 below_parts : (p : Prefix) (parts : PartsOf (List Entry)) → below_all prefix_cmp p (map digested_part parts) ≡ below_all prefix_cmp p parts
@@ -163,7 +163,7 @@ sorted_parts [] = refl
 sorted_parts (part ∷ parts) = λ i. below_parts part.0 parts i && sorted_parts parts i
 
 pub part_taken : (done new : Parts) (p : Prefix) (rows : RowsOf (List Entry)) (tree : OwnRows) (rest from all : PartsOf (List Entry)) → is_sorted prefix_cmp all ≡ true → done ++ map digested_part from ≡ map digested_part all → from ≡ (p, rows) ∷ rest
-    → tree ≡ digested rows → new ≡ insert_entry prefix_cmp done p tree → new ++ map digested_part rest ≡ map digested_part all
+    → tree ≡ digest_rows rows → new ≡ insert_entry prefix_cmp done p tree → new ++ map digested_part rest ≡ map digested_part all
 part_taken done new p rows tree rest from all sorted so_far is_first is_tree is =
     filled_up prefix_cmp prefix_total done new (map digested_part rest) (map digested_part all) p tree
     (subst T (sym (sorted_parts all)) (passes (is_sorted prefix_cmp all) sorted))
@@ -172,7 +172,7 @@ part_taken done new p rows tree rest from all sorted so_far is_first is_tree is 
 
 -- ---- and what was filled so
 
-some_digested : (rows : RowsOf (List Entry)) → rows ≢ [] → digested rows ≢ []
+some_digested : (rows : RowsOf (List Entry)) → rows ≢ [] → digest_rows rows ≢ []
 some_digested [] some e = some refl
 some_digested (row ∷ rows) some e = cc
 
