@@ -1,13 +1,13 @@
 -- The parts of a tree by full prefix: what its readers find in them.
-use Rattle.std.proofs.Common.{◌≡◌, ◌≢◌, ℕ, true, false, cond, ◌&&◌, T, List, [], ◌∷◌, ◌++◌, map, All, Some, None, refl, sym, ap, subst, ◌∙◌}
+use Rattle.std.proofs.Common.{◌≡◌, ◌≢◌, ℕ, true, false, cond, ◌&&◌, T, List, [], ◌∷◌, ◌++◌, map, All, Some, refl, sym, ap, subst, ◌∙◌}
 use Rattle.std.specs.Bool.{passes}
-use Rattle.std.specs.List.{filter, flat_map}
+use Rattle.std.specs.List.{flat_map}
 use Rattle.std.specs.Option.{unwrap_or}
 use Rattle.std.specs.Ordering.{is_eq, is_lt}
 use Rattle.std.specs.declared.cmp.Ordering.TheVariants.{Less, Equal, Greater}
 use Rattle.std.specs.Cmp.{tied_itself}
 use Rattle.std.specs.FinMap.{find, put, is_sorted}
-use Rattle.std.specs.FinMap.Entries.{below_all, by_order, find_tied, is_sorted-put}
+use Rattle.std.specs.FinMap.Entries.{below_all, by_order, is_sorted-put}
 use Rattle.std.specs.BTreeMap.{insert_entry}
 use Rattle.std.proofs.lemmas.List.Elements.{All-cons, All-head, All-tail, All-nil}
 use Rattle.std.proofs.lemmas.List.Folds.{flat_map-map}
@@ -15,7 +15,6 @@ use Rattle.std.proofs.lemmas.List.{map-append}
 use Rattle.sha2.specs.Sha256.{sha256}
 use Rattle.meta_types.specs.Name.{Prefix, Key}
 use Rattle.meta_types.specs.Order.{bytes_cmp, key_cmp, prefix_cmp, prefix_eq}
-use Rattle.meta_types.proofs.Comparing.{same_prefix}
 use Rattle.dvvset.specs.Object.{Entry}
 use Rattle.frame_fields.specs.Field.{prefix, prefix_row_parts}
 use Rattle.frame_fields.specs.declared.prefixes.PrefixDigest.{PrefixDigest}
@@ -23,7 +22,7 @@ use Rattle.meta_store.specs.Table.{IsHeld}
 use Rattle.meta_store.specs.Kept as store
 use Rattle.meta_store.specs.Kept.{PartsOf, RowsOf, rows_at, rows_under, table_of}
 use Rattle.meta_store.proofs.Kept.{all_prefixes, bytes_total, own_part, prefix_total, put_part, rows_left_out}
-use Rattle.meta_store.proofs.Maps.{All-put, below_rest, filled_up, find_below, first, greater_back, is_less, is_true, put_last, rest_sorted, second}
+use Rattle.meta_store.proofs.Maps.{All-put, below_rest, filled_up, first, greater_back, is_less, is_true, put_last, rest_sorted, second}
 use Rattle.hash_tree.specs.Tree.{Digest, OwnRows, DigestRows, digest_rows, object_digest, own_rows, prefix_root, prefix_roots, tree_root}
 use Rattle.hash_tree.specs.Kept.{AreTreeParts}
 use Rattle.hash_tree.specs.Rising.{do_prefixes_rise}

@@ -1,5 +1,5 @@
 -- The comparisons of rows and of tables: equal exactly where all keys and objects are.
-use Rattle.std.specs.Prelude.{◌≡◌, ℕ, nat_eq, Bool, ◌&&◌, List}
+use Rattle.std.specs.Prelude.{◌≡◌, nat_eq, Bool, ◌&&◌, List}
 use Rattle.std.specs.Bool.{Decides}
 use Rattle.std.specs.Cmp.{IsEquivalence, decided}
 use Rattle.std.specs.Cmp.Lexicographic.{pointwise, pointwise_decides, bytes_decides}
