@@ -1,8 +1,8 @@
 -- Vectors that descend others, compared in one pass.
-use Rattle.std.proofs.Common.{◌≡◌, ℕ, ◌+◌, ◌<◌, ◌≤◌, ◌&&◌, true, false, cond, List, [], ◌∷◌, length, drop, get_or, All, refl, sym, ap, subst, ◌∙◌, arith, eqb, leb}
+use Rattle.std.proofs.Common.{◌≡◌, ℕ, ◌+◌, ◌<◌, ◌≤◌, ◌&&◌, true, false, cond, List, [], ◌∷◌, length, map, drop, get_or, All, refl, sym, ap, subst, ◌∙◌, arith, eqb, leb}
 use Rattle.std.specs.Bool.{Decides}
 use Rattle.std.proofs.lemmas.Bool.{eqb-true, eqb-false, eq-eqb, ne_eqb, leb-true, le-leb, and_parts}
-use Rattle.std.proofs.lemmas.List.{length-drop}
+use Rattle.std.proofs.lemmas.List.{get_or-map, length-drop}
 use Rattle.std.proofs.lemmas.List.Elements.{All-head, All-tail}
 use Rattle.std.proofs.Math.ListN.{drop_of_length-le}
 use Rattle.dvvset.specs.Object.{Counter, RisesFrom, ids_counted, IsCounter, IsVector}
@@ -36,6 +36,10 @@ skip x xs (y ∷ ys) low rises lt =
     let first : low ≤ y.id = rises.0 in
     let other : (x.id ≡ y.id → ⊥) = λ e. absurd (omega arith) in
     (λ i. leb y.count (counter-other x xs y.id other i) && skip x xs ys (y.id + 1) rises.1 (omega arith) i)
+
+-- the counter of an element stands at its place among the counters of all
+pub counter_at : {X : Type 0} (f : X → Counter) (xs : List X) (i : ℕ) (v : X) (c : Counter) → i < length xs → v ≡ get_or xs i v → c ≡ f v → c ≡ get_or (map f xs) i c
+counter_at f xs i v c lt is counts = counts ∙ ap f is ∙ sym (get_or-map f xs i v c lt)
 
 -- the test so far: what is left of both answers for all
 pub record Descending (a b : List Counter) (i j : ℕ) : Type 0 where

@@ -1,8 +1,8 @@
 //! Comparing clocks, and asking them for a writer. These calls take no memory and always succeed.
 
-ghost use Rattle.std.specs.Prelude.{◌≡◌, ◌≤◌, ◌↔◌, ◌∷◌, [], ℕ, IsTrue};
+ghost use Rattle.std.specs.Prelude.{◌≡◌, ◌≤◌, ◌↔◌, ◌∷◌, [], ℕ, map, IsTrue};
 ghost use Rattle.dvvset.specs.Object.{IsVector};
-ghost use Rattle.dvvset.specs.Clock.{count_for, descends, same};
+ghost use Rattle.dvvset.specs.Clock.{count_for, descends, join, same};
 ghost use Rattle.dvvset.specs.Writer.{count_of, shapes};
 
 use crate::entries::Entries;
@@ -28,20 +28,63 @@ pub fn descends(a: &Vector, b: &Vector) -> bool
     ensures value { result ≡ descends a.now b.now }
     ensures counters { IsTrue result ↔ ((w : ℕ) → count_for b.now w ≤ count_for a.now w) }
 {
-    descends_from(a.counters(), b.counters())
+    descends_over(a.counters(), b.counters())
 }
 
-fn descends_from(a: &[Counter], b: &[Counter]) -> bool
-    requires a { IsVector a.now }
-    requires b { IsVector b.now }
-    ensures { result ≡ descends a.now b.now }
+/// Returns whether the object knows each event that the vector counts. One pass over both.
+pub fn has_read(object: &Entries, vector: &Vector) -> bool
+    ensures { result ≡ descends (join object.now) vector.now }
+{
+    descends_over(object.entries(), vector.counters())
+}
+
+/// Returns whether the object knows each event that the other knows. One pass over both.
+pub fn knows(object: &Entries, other: &Entries) -> bool
+    ensures { result ≡ descends (join object.now) (join other.now) }
+{
+    descends_over(object.entries(), other.entries())
+}
+
+/// An element of an object or of a vector: it counts the events of one writer.
+trait Counts {
+    ghost use Rattle.std.specs.Prelude.{◌≡◌};
+    ghost use Rattle.dvvset.specs.Object.{Counter as Parts};
+
+    ghost counter: { Self → Parts };
+
+    fn counter(&self) -> Counter
+        ensures { result ≡ counter self.now };
+}
+
+impl Counts for Counter {
+    ghost counter = { λ counter. counter };
+
+    fn counter(&self) -> Counter {
+        *self
+    }
+}
+
+impl Counts for Entry {
+    ghost counter = { λ entry. record { id = entry.id; count = entry.count } };
+
+    fn counter(&self) -> Counter {
+        Counter::new(self.id(), self.count())
+    }
+}
+
+/// One pass over both lists, whose writers rise.
+fn descends_over<A: Counts, B: Counts>(a: &[A], b: &[B]) -> bool
+    requires a { IsVector (map A.counter a.now) }
+    requires b { IsVector (map B.counter b.now) }
+    ensures { result ≡ descends (map A.counter a.now) (map B.counter b.now) }
 {
     let (mut i, mut j) = (0, 0);
     while j < b.len() {
         if i == a.len() {
             return false;
         }
-        let (x, y) = (a[i], b[j]);
+        let x = a[i].counter();
+        let y = b[j].counter();
         if y.id() < x.id() {
             return false;
         }

@@ -26,7 +26,7 @@ pub mod merge;
 pub mod vector;
 pub mod write;
 
-pub use compare::{count_of, descends, same};
+pub use compare::{count_of, descends, has_read, knows, same};
 pub use entries::{Entries, values};
 pub use entry::{Entry, copy_values};
 pub use fault::ClockFault;

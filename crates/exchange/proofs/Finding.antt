@@ -29,8 +29,8 @@ use Rattle.hash_tree.proofs.Bytes.{one_of_256}
 use Rattle.hash_tree.proofs.Lookups.{by_leaf, find_digested, find_own}
 use Rattle.hash_tree.proofs.Collisions.{SameAt, key_by_inner, key_by_leaf, key_by_root, key_by_roots, object_same}
 use Rattle.exchange.specs.Sides.{differ, differing_keys, differing_places, of_either, same_digest}
-use Rattle.exchange.specs.Answers.{answer, answer_key, bucket_message, inner_message, leaves_message, object_if_held, object_messages, want_if_listed, want_messages}
-use Rattle.exchange.specs.Whole.{answers_to, offers}
+use Rattle.exchange.specs.Answers.{answers_to, answer_key, bucket_message, inner_message, leaves_message, object_if_held, object_messages, want_if_listed, want_messages}
+use Rattle.exchange.specs.Whole.{answers_to_all, offers}
 use Rattle.exchange.proofs.Members.{In, in_back, in_filter, in_flat_map, in_front, in_map, in_range}
 
 -- ---- what differs stands among what is listed
@@ -128,22 +128,22 @@ module _ (here there : Table) (table : IsTable here) (other : IsTable there) whe
   b = rows_of there
 
   abbrev first : List Message
-  first = answer there (XRoot (tree_root a))
+  first = answers_to there (XRoot (tree_root a))
 
   abbrev second : List Message
-  second = answers_to here first
+  second = answers_to_all here first
 
   abbrev third : List Message
-  third = answers_to there second
+  third = answers_to_all there second
 
   abbrev fourth : List Message
-  fourth = answers_to here third
+  fourth = answers_to_all here third
 
   settled : (k : Key) → SameAt here there table other k → Alike here there k
   settled k same = ⊎_elim (object_same here there table other k) inr same
 
   found_root : (k : Key) → Alike here there k ⊎ In (XPrefixes (prefix_roots b)) first
-  unfolding answer
+  unfolding answers_to
   found_root k =
       elim (same_digest (tree_root a) (tree_root b)) as (λ v. same_digest (tree_root a) (tree_root b) ≡ v → Alike here there k ⊎ In (XPrefixes (prefix_roots b)) (cond v [] (XPrefixes (prefix_roots b) ∷ []))) [
         | true ↦ λ e. inl (settled k (key_by_root here there table other k ((bytes_decides (tree_root a) (tree_root b)).0 e)))
@@ -151,17 +151,17 @@ module _ (here there : Table) (table : IsTable here) (other : IsTable there) whe
       ] refl
 
   found_prefix : (k : Key) → In (XPrefixes (prefix_roots b)) first → Alike here there k ⊎ In (inner_message here k.prefix) second
-  unfolding answer
+  unfolding answers_to
   found_prefix k is =
       ⊎_elim
       (λ same. inl (settled k (key_by_roots here there table other k (sym same))))
-      (λ differs. inr (in_flat_map (answer here) (XPrefixes (prefix_roots b)) (inner_message here k.prefix) first is
+      (λ differs. inr (in_flat_map (answers_to here) (XPrefixes (prefix_roots b)) (inner_message here k.prefix) first is
       (in_map (inner_message here) k.prefix (differing_keys prefix_cmp (map prefix_row_parts (prefix_roots b)) (map prefix_row_parts (prefix_roots a))) differs)))
       (key_found prefix_cmp prefix_total same_prefix k.prefix (map prefix_row_parts (prefix_roots b)) (map prefix_row_parts (prefix_roots a)))
 
   found_inner : (k : Key) (inner : ℕ) → inner < 16 → leaf_of k.key / 16 ≡ inner → In (inner_message here k.prefix) second
       → Alike here there k ⊎ In (leaves_message there k.prefix inner) third
-  unfolding answer
+  unfolding answers_to
   found_inner k inner less at is =
       ⊎_elim
       (λ same.
@@ -171,13 +171,13 @@ module _ (here there : Table) (table : IsTable here) (other : IsTable there) whe
       let digests : inner_digest (rows_below k.prefix here) inner ≡ inner_digest (rows_below k.prefix there) inner = cc in
       inl (settled k (key_by_inner here there table other k
       (subst (λ n. inner_digest (rows_below k.prefix here) n ≡ inner_digest (rows_below k.prefix there) n) (sym at) digests))))
-      (λ differs. inr (in_flat_map (answer there) (inner_message here k.prefix) (leaves_message there k.prefix inner) second is
+      (λ differs. inr (in_flat_map (answers_to there) (inner_message here k.prefix) (leaves_message there k.prefix inner) second is
       (in_map (leaves_message there k.prefix) inner (differing_places (inner_digests (rows_below k.prefix here)) (inner_digests (rows_below k.prefix there))) differs)))
       (place_found (inner_digests (rows_below k.prefix here)) (inner_digests (rows_below k.prefix there)) inner less)
 
   found_leaf : (k : Key) (inner place : ℕ) → inner < 16 → place < 16 → leaf_of k.key ≡ 16 * inner + place → In (leaves_message there k.prefix inner) third
       → Alike here there k ⊎ In (bucket_message here k.prefix (16 * inner + place)) fourth
-  unfolding answer
+  unfolding answers_to
   found_leaf k inner place few less at is =
       ⊎_elim
       (λ same.
@@ -187,7 +187,7 @@ module _ (here there : Table) (table : IsTable here) (other : IsTable there) whe
       let digests : leaf_digest (rows_below k.prefix here) (16 * inner + place) ≡ leaf_digest (rows_below k.prefix there) (16 * inner + place) = cc in
       inl (settled k (key_by_leaf here there table other k
       (subst (λ n. leaf_digest (rows_below k.prefix here) n ≡ leaf_digest (rows_below k.prefix there) n) (sym at) digests))))
-      (λ differs. inr (in_flat_map (answer here) (leaves_message there k.prefix inner) (bucket_message here k.prefix (16 * inner + place)) third is
+      (λ differs. inr (in_flat_map (answers_to here) (leaves_message there k.prefix inner) (bucket_message here k.prefix (16 * inner + place)) third is
       (subst (λ v. In (bucket_message here k.prefix (16 * inner + place)) (cond v [] (map (λ n. bucket_message here k.prefix (16 * inner + n)) (differing_places (leaf_digests (rows_below k.prefix there) inner) (leaf_digests (rows_below k.prefix here) inner)))))
       (sym (lt-leb 16 inner few))
       (in_map (λ n. bucket_message here k.prefix (16 * inner + n)) place (differing_places (leaf_digests (rows_below k.prefix there) inner) (leaf_digests (rows_below k.prefix here) inner)) differs))))
@@ -213,12 +213,12 @@ module _ (here there : Table) (table : IsTable here) (other : IsTable there) whe
   told_keys k = bucket (rows_below k.prefix here) (leaf_of k.key)
 
   found : (k : Key) (message : Message) → In message (answer_key there (told_keys k) k) → Alike here there k ⊎ In message (offers here there)
-  unfolding answer offers
+  unfolding answers_to offers
   found k message is =
       ⊎_elim inl
       (λ keys. ⊎_elim
       (λ same. inl (settled k (inl (sym (found_listed here k) ∙ same ∙ found_listed there k))))
-      (λ differs. inr (in_flat_map (answer there) (bucket_message here k.prefix (leaf_of k.key)) message fourth keys
+      (λ differs. inr (in_flat_map (answers_to there) (bucket_message here k.prefix (leaf_of k.key)) message fourth keys
       (in_flat_map (λ bytes. answer_key there (told_keys k) (record { prefix = k.prefix; key = bytes })) k.key message
       (differing_keys bytes_cmp (map key_row_parts (told_keys k)) (map key_row_parts (bucket (rows_below k.prefix there) (leaf_of k.key)))) differs is)))
       (key_found bytes_cmp bytes_total same_bytes k.key (map key_row_parts (told_keys k)) (map key_row_parts (bucket (rows_below k.prefix there) (leaf_of k.key)))))

@@ -22,7 +22,5 @@ mod Merging
 mod Whole
 -- steps of the loops that take messages
 mod Taking
--- a store and its tree after an object is held
-mod Keeping
 -- what a whole exchange leaves on both sides, round by round
 mod Ending

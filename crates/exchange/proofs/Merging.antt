@@ -29,7 +29,7 @@ use Rattle.meta_store.proofs.Tables.{object_at-here, object_at-elsewhere}
 use Rattle.hash_tree.specs.Tree.{Digest, bucket, inner_digests, leaf_digests, prefix_roots, rows_of, tree_root}
 use Rattle.hash_tree.specs.Hashed.{rows_below}
 use Rattle.exchange.specs.Sides.{differing_keys, differing_places, same_digest}
-use Rattle.exchange.specs.Answers.{answer, answer_key, bucket_message, inner_message, leaves_message, object_if_held, object_messages, want_if_listed, want_messages}
+use Rattle.exchange.specs.Answers.{answers_to, answer_key, bucket_message, inner_message, leaves_message, object_if_held, object_messages, want_if_listed, want_messages}
 use Rattle.exchange.specs.Whole.{answers_in_turn, table_after, table_after_all}
 use Rattle.exchange.proofs.Members.{In}
 use Rattle.exchange.proofs.Taken.{Each, Each-append, Each-map, Each-flat_map, Each-weaker, in_front, in_back}
@@ -161,8 +161,8 @@ honest_want : (t : Table) (k : Key) (d : Option Digest) → Each (IsHonest t) (w
 honest_want t k None = tt
 honest_want t k (Some d) = (tt, tt)
 
-honest : (t : Table) (m : Message) → Each (IsHonest t) (answer t m)
-unfolding answer
+honest : (t : Table) (m : Message) → Each (IsHonest t) (answers_to t m)
+unfolding answers_to
 honest t (XRoot root) =
     elim (same_digest root (tree_root (rows_of t))) as (λ b. Each (IsHonest t) (cond b [] (XPrefixes (prefix_roots (rows_of t)) ∷ []))) [
       | true ↦ tt
@@ -190,25 +190,25 @@ honest_carries t k (XObject l o) e = λ same. ap (λ f. unwrap_or f []) (sym e) 
 honest_carries t k _ e = tt
 
 -- all that a table answers under a key is what stands there
-pub answer_carries : (t : Table) (k : Key) (m : Message) → Each (Carries k (λ o. o ≡ object_at t k)) (answer t m)
-answer_carries t k m = Each-weaker (IsHonest t) (Carries k (λ o. o ≡ object_at t k)) (honest_carries t k) (answer t m) (honest t m)
+pub answer_carries : (t : Table) (k : Key) (m : Message) → Each (Carries k (λ o. o ≡ object_at t k)) (answers_to t m)
+answer_carries t k m = Each-weaker (IsHonest t) (Carries k (λ o. o ≡ object_at t k)) (honest_carries t k) (answers_to t m) (honest t m)
 
 -- all that is answered in turn is x or u
 pub turns_carry : (k : Key) (x u : List Entry) (Q : List Entry → Type 0) → Absorbs x u Q → (ms : List Message) (t : Table) → Each (Carries k Q) ms → Between x u (object_at t k) → Each (Carries k (Between x u)) (answers_in_turn t ms)
 turns_carry k x u Q absorbs [] t c h = tt
 turns_carry k x u Q absorbs (m ∷ ms) t c h =
     let next : Between x u (object_at (table_after t m) k) = between_after k x u Q absorbs t m c.0 h in
-    Each-append (Carries k (Between x u)) (answer (table_after t m) m) (answers_in_turn (table_after t m) ms)
+    Each-append (Carries k (Between x u)) (answers_to (table_after t m) m) (answers_in_turn (table_after t m) ms)
     (Each-weaker (Carries k (λ o. o ≡ object_at (table_after t m) k)) (Carries k (Between x u))
     (Carries-weaker k (λ o. o ≡ object_at (table_after t m) k) (Between x u) (λ o e. subst (Between x u) (sym e) next))
-    (answer (table_after t m) m) (answer_carries (table_after t m) k m))
+    (answers_to (table_after t m) m) (answer_carries (table_after t m) k m))
     (turns_carry k x u Q absorbs ms (table_after t m) c.1 next)
 
-want_answered : (k : Key) (t : Table) (m : Message) (o : List Entry) → m ≡ XWant k → find key_cmp k t ≡ Some o → In (XObject k o) (answer t m)
-unfolding answer
+want_answered : (k : Key) (t : Table) (m : Message) (o : List Entry) → m ≡ XWant k → find key_cmp k t ≡ Some o → In (XObject k o) (answers_to t m)
+unfolding answers_to
 want_answered k t m o is e =
-    let at_want : In (XObject k o) (answer t (XWant k)) = subst (λ f. In (XObject k o) (object_messages k f)) (sym e) (inl refl) in
-    subst (λ n. In (XObject k o) (answer t n)) (sym is) at_want
+    let at_want : In (XObject k o) (answers_to t (XWant k)) = subst (λ f. In (XObject k o) (object_messages k f)) (sym e) (inl refl) in
+    subst (λ n. In (XObject k o) (answers_to t n)) (sym is) at_want
 
 -- a want is answered by an object, once something is held
 pub wants_answered : (k : Key) (ms : List Message) (t : Table) → Has k t → In (XWant k) ms → (o : List Entry) × In (XObject k o) (answers_in_turn t ms)
@@ -216,10 +216,10 @@ wants_answered k [] t has m = absurd m
 wants_answered k (n ∷ ns) t has m =
     let next : Has k (table_after t n) = has_after k t n has in
     ⊎_elim
-    (λ here. (next.0, in_front (XObject k next.0) (answer (table_after t n) n) (answers_in_turn (table_after t n) ns) (want_answered k (table_after t n) n next.0 here next.1)))
+    (λ here. (next.0, in_front (XObject k next.0) (answers_to (table_after t n) n) (answers_in_turn (table_after t n) ns) (want_answered k (table_after t n) n next.0 here next.1)))
     (λ later.
     let found : (o : List Entry) × In (XObject k o) (answers_in_turn (table_after t n) ns) = wants_answered k ns (table_after t n) next later in
-    (found.0, in_back (XObject k found.0) (answer (table_after t n) n) (answers_in_turn (table_after t n) ns) found.1))
+    (found.0, in_back (XObject k found.0) (answers_to (table_after t n) n) (answers_in_turn (table_after t n) ns) found.1))
     m
 
 -- ---- the objects of one history

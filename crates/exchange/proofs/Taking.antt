@@ -9,8 +9,8 @@ use Rattle.meta_frame.specs.declared.message.Message.TheVariants.{XRoot}
 use Rattle.meta_store.specs.Table.{Table}
 use Rattle.meta_store.specs.declared.fault.StoreFault.{StoreFault}
 use Rattle.hash_tree.specs.Tree.{rows_of, tree_root}
-use Rattle.exchange.specs.Answers.{answer}
-use Rattle.exchange.specs.Whole.{answers_in_turn, answers_to, offers, refusal_of, refusal_of_all, table_after, table_after_all}
+use Rattle.exchange.specs.Answers.{answers_to}
+use Rattle.exchange.specs.Whole.{answers_in_turn, answers_to_all, offers, refusal_of_one, refusal_of_all, table_after, table_after_all}
 
 after_append : (xs ys : List Message) (t : Table) → table_after_all t (xs ++ ys) ≡ table_after_all (table_after_all t xs) ys
 after_append [] ys t = refl
@@ -22,15 +22,15 @@ dropped ms i m lt is =
 
 module _ (t : Table) (ms : List Message) (i : ℕ) (m : Message) (lt : i < length ms) (is : m ≡ get_or ms i m) where
   -- one more is answered
-  pub answered_more : (done more new all : List Message) → more ≡ answer t m → new ≡ done ++ more → done ++ answers_to t (drop i ms) ≡ all → new ++ answers_to t (drop (i + 1) ms) ≡ all
+  pub answered_more : (done more new all : List Message) → more ≡ answers_to t m → new ≡ done ++ more → done ++ answers_to_all t (drop i ms) ≡ all → new ++ answers_to_all t (drop (i + 1) ms) ≡ all
   answered_more done more new all said made e =
-      ap (λ xs. xs ++ answers_to t (drop (i + 1) ms)) made
-      ∙ append_assoc done more (answers_to t (drop (i + 1) ms))
-      ∙ ap (λ xs. done ++ (xs ++ answers_to t (drop (i + 1) ms))) said
-      ∙ sym (ap (λ xs. done ++ answers_to t xs) (dropped ms i m lt is)) ∙ e
+      ap (λ xs. xs ++ answers_to_all t (drop (i + 1) ms)) made
+      ∙ append_assoc done more (answers_to_all t (drop (i + 1) ms))
+      ∙ ap (λ xs. done ++ (xs ++ answers_to_all t (drop (i + 1) ms))) said
+      ∙ sym (ap (λ xs. done ++ answers_to_all t xs) (dropped ms i m lt is)) ∙ e
 
   -- the message is refused, and so is the whole
-  pub refused_here : (f : StoreFault) (all : Option StoreFault) → refusal_of t m ≡ Some f → refusal_of_all t (drop i ms) ≡ all → all ≡ Some f
+  pub refused_here : (f : StoreFault) (all : Option StoreFault) → refusal_of_one t m ≡ Some f → refusal_of_all t (drop i ms) ≡ all → all ≡ Some f
   refused_here f all refused e =
       sym e ∙ ap (refusal_of_all t) (dropped ms i m lt is) ∙ ap (λ r. option_or r (refusal_of_all (table_after t m) (drop (i + 1) ms))) refused
 
@@ -43,15 +43,15 @@ module _ (t : Table) (ms : List Message) (i : ℕ) (m : Message) (lt : i < lengt
     pub rest_more : (end : Table) → table_after_all t (drop i ms) ≡ end → table_after_all next (drop (i + 1) ms) ≡ end
     rest_more end e = ap (λ x. table_after_all x (drop (i + 1) ms)) step ∙ sym (ap (table_after_all t) (dropped ms i m lt is)) ∙ e
 
-    pub told_more : (done more new all : List Message) → more ≡ answer next m → new ≡ done ++ more → done ++ answers_in_turn t (drop i ms) ≡ all → new ++ answers_in_turn next (drop (i + 1) ms) ≡ all
+    pub told_more : (done more new all : List Message) → more ≡ answers_to next m → new ≡ done ++ more → done ++ answers_in_turn t (drop i ms) ≡ all → new ++ answers_in_turn next (drop (i + 1) ms) ≡ all
     told_more done more new all said made e =
         ap (λ xs. xs ++ answers_in_turn next (drop (i + 1) ms)) made
         ∙ append_assoc done more (answers_in_turn next (drop (i + 1) ms))
         ∙ ap (λ xs. done ++ (xs ++ answers_in_turn next (drop (i + 1) ms))) said
-        ∙ ap (λ x. done ++ (answer x m ++ answers_in_turn x (drop (i + 1) ms))) step
+        ∙ ap (λ x. done ++ (answers_to x m ++ answers_in_turn x (drop (i + 1) ms))) step
         ∙ sym (ap (λ xs. done ++ answers_in_turn t xs) (dropped ms i m lt is)) ∙ e
 
-    pub refusal_more : (all : Option StoreFault) → refusal_of t m ≡ None → refusal_of_all t (drop i ms) ≡ all → refusal_of_all next (drop (i + 1) ms) ≡ all
+    pub refusal_more : (all : Option StoreFault) → refusal_of_one t m ≡ None → refusal_of_all t (drop i ms) ≡ all → refusal_of_all next (drop (i + 1) ms) ≡ all
     refusal_more all none e =
         ap (λ x. refusal_of_all x (drop (i + 1) ms)) step
         ∙ sym (ap (refusal_of_all t) (dropped ms i m lt is) ∙ ap (λ r. option_or r (refusal_of_all (table_after t m) (drop (i + 1) ms))) none) ∙ e
@@ -59,10 +59,10 @@ module _ (t : Table) (ms : List Message) (i : ℕ) (m : Message) (lt : i < lengt
 -- ---- five rounds of digests
 
 module _ (here there : Table) {A : Type 0} (items : A → List Message) (r : Result A AllocError) where
-  pub offered : (root : Message) (first second third fourth : List Message) → root ≡ XRoot (tree_root (rows_of here)) → first ≡ answer there root → second ≡ answers_to here first
-      → third ≡ answers_to there second → fourth ≡ answers_to here third → IfOk r (λ v. items v ≡ answers_to there fourth) → IfOk r (λ v. items v ≡ offers here there)
+  pub offered : (root : Message) (first second third fourth : List Message) → root ≡ XRoot (tree_root (rows_of here)) → first ≡ answers_to there root → second ≡ answers_to_all here first
+      → third ≡ answers_to_all there second → fourth ≡ answers_to_all here third → IfOk r (λ v. items v ≡ answers_to_all there fourth) → IfOk r (λ v. items v ≡ offers here there)
   unfolding offers
   offered root first second third fourth begins one two three four told =
       subst (λ xs. IfOk r (λ v. items v ≡ xs))
-      (ap (answers_to there) (four ∙ ap (answers_to here) (three ∙ ap (answers_to there) (two ∙ ap (answers_to here) (one ∙ ap (answer there) begins)))))
+      (ap (answers_to_all there) (four ∙ ap (answers_to_all here) (three ∙ ap (answers_to_all there) (two ∙ ap (answers_to_all here) (one ∙ ap (answers_to there) begins)))))
       told

@@ -18,8 +18,8 @@ use Rattle.meta_store.specs.Table.{IsTable, Table, object_at}
 use Rattle.hash_tree.specs.Tree.{rows_of, tree_root}
 use Rattle.hash_tree.specs.Hashed.{Collides}
 use Rattle.hash_tree.proofs.Lookups.{every_key}
-use Rattle.exchange.specs.Answers.{answer}
-use Rattle.exchange.specs.Whole.{StayBetween, EndInUnion, Holds, IsBetween, Reconciled, answers_in_turn, answers_to, here_after, offers, table_after_all, there_after, wanted}
+use Rattle.exchange.specs.Answers.{answers_to}
+use Rattle.exchange.specs.Whole.{StayBetween, EndInUnion, Holds, IsBetween, Reconciled, answers_in_turn, answers_to_all, here_after, offers, table_after_all, there_after, wanted}
 use Rattle.exchange.proofs.Finding.{Alike, asked, sent}
 use Rattle.exchange.proofs.Members.{In}
 use Rattle.exchange.proofs.Taken.{Each, Each-flat_map, Each-take}
@@ -41,8 +41,8 @@ module _ (here there : Table) (hs : List Happening) (history : IsHistory hs) (k 
   offers_carry : Each (Carries k (λ o. o ≡ object_at there k)) (offers here there)
   unfolding offers
   offers_carry =
-      Each-flat_map (Carries k (λ o. o ≡ object_at there k)) (answer there) (answer_carries there k)
-      (answers_to here (answers_to there (answers_to here (answer there (XRoot (tree_root (rows_of here)))))))
+      Each-flat_map (Carries k (λ o. o ≡ object_at there k)) (answers_to there) (answer_carries there k)
+      (answers_to_all here (answers_to_all there (answers_to_all here (answers_to there (XRoot (tree_root (rows_of here)))))))
 
   absorbs_here : Absorbs (object_at here k) all (λ o. o ≡ object_at there k)
   absorbs_here = absorbs_theirs hs history k S T (object_at here k) (object_at there k) ours theirs

@@ -88,12 +88,12 @@ answer_bucket table p leaf theirs =
 -- ---- all messages: XWANT is answered by XOBJECT if it is held; XOBJECT, and what belongs to no
 -- exchange, has no answer
 
-unfoldable pub answer : Table → Message → List Message
-answer table (XRoot root) = answer_root table root
-answer table (XPrefixes theirs) = answer_prefixes table theirs
-answer table (XInner p theirs) = answer_inner table p theirs
-answer table (XLeaves p inner theirs) = answer_leaves table p inner theirs
-answer table (XBucket p leaf theirs) = answer_bucket table p leaf theirs
-answer table (XWant key) = object_if_held table key
-answer table (XObject key object) = []
-answer table _ = []
+unfoldable pub answers_to : Table → Message → List Message
+answers_to table (XRoot root) = answer_root table root
+answers_to table (XPrefixes theirs) = answer_prefixes table theirs
+answers_to table (XInner p theirs) = answer_inner table p theirs
+answers_to table (XLeaves p inner theirs) = answer_leaves table p inner theirs
+answers_to table (XBucket p leaf theirs) = answer_bucket table p leaf theirs
+answers_to table (XWant key) = object_if_held table key
+answers_to table (XObject key object) = []
+answers_to table _ = []

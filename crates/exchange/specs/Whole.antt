@@ -16,7 +16,7 @@ use Rattle.meta_store.specs.Step.{refusal_of_merge, table_after_merge}
 use Rattle.meta_store.specs.declared.fault.StoreFault.{StoreFault}
 use Rattle.hash_tree.specs.Tree.{rows_of, tree_root}
 use Rattle.hash_tree.specs.Hashed.{Collides}
-use Rattle.exchange.specs.Answers.{answer}
+use Rattle.exchange.specs.Answers.{answers_to}
 
 -- ---- XOBJECT is merged; no other message changes what is held
 
@@ -24,9 +24,9 @@ unfoldable pub table_after : Table → Message → Table
 table_after table (XObject key object) = table_after_merge table key object
 table_after table _ = table
 
-unfoldable pub refusal_of : Table → Message → Option StoreFault
-refusal_of table (XObject key object) = refusal_of_merge table key object
-refusal_of table _ = None
+unfoldable pub refusal_of_one : Table → Message → Option StoreFault
+refusal_of_one table (XObject key object) = refusal_of_merge table key object
+refusal_of_one table _ = None
 
 -- ---- messages that are taken in turn, each answered from what is held once it was taken
 
@@ -38,7 +38,7 @@ table_after_all table (message ∷ messages) =
 abbrev pub answers_in_turn : Table → List Message → List Message
 answers_in_turn table [] = []
 answers_in_turn table (message ∷ messages) =
-    answer (table_after table message) message
+    answers_to (table_after table message) message
     ++ answers_in_turn (table_after table message) messages
 
 -- what was held once the first of the messages were taken, as many as that may be
@@ -49,19 +49,19 @@ TookFront old messages new = (n : ℕ) × (new ≡ table_after_all old (take n m
 abbrev pub refusal_of_all : Table → List Message → Option StoreFault
 refusal_of_all table [] = None
 refusal_of_all table (message ∷ messages) =
-    option_or (refusal_of table message) (refusal_of_all (table_after table message) messages)
+    option_or (refusal_of_one table message) (refusal_of_all (table_after table message) messages)
 
 -- ---- seven rounds: in each, one side takes all that the other answered in the round before. An
 -- exchange begins with the root of here
 
-abbrev pub answers_to : Table → List Message → List Message
-answers_to table messages = flat_map (answer table) messages
+abbrev pub answers_to_all : Table → List Message → List Message
+answers_to_all table messages = flat_map (answers_to table) messages
 
 -- the first five rounds bring digests, by which nothing changes; what there answers in the fifth
 unfoldable pub offers : Table → Table → List Message
 offers here there =
-    answers_to there (answers_to here (answers_to there (answers_to here
-    (answer there (XRoot (tree_root (rows_of here)))))))
+    answers_to_all there (answers_to_all here (answers_to_all there (answers_to_all here
+    (answers_to there (XRoot (tree_root (rows_of here)))))))
 
 -- in the sixth, here takes objects and wants
 unfoldable pub here_after : Table → Table → Table

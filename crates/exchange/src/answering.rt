@@ -6,72 +6,60 @@ ghost use Rattle.frame_fields.specs.Field.{digests, keys};
 ghost use Rattle.meta_frame.specs.declared.message.Message.TheVariants.{XRoot};
 ghost use Rattle.hash_tree.specs.Tree.{bucket, prefix_roots, rows_of, tree_root};
 ghost use Rattle.hash_tree.specs.Hashed.{rows_below};
-ghost use Rattle.exchange.specs.Answers.{answer, answer_bucket, answer_inner, answer_leaves};
+ghost use Rattle.exchange.specs.Answers.{answers_to, answer_bucket, answer_inner, answer_leaves};
 ghost use Rattle.exchange.specs.Answers.{answer_prefixes, answer_root, object_if_held};
 ghost use Rattle.exchange.specs.Answers.{bucket_message, inner_message, leaves_message};
 ghost use Rattle.exchange.specs.Answers.{want_messages};
 
 use crate::sides::{Next, differ_at, next_key, next_prefix};
 use frame_fields::{Digest, Digests, KeyDigest, KeyDigests, PrefixDigest, PrefixDigests};
-use hash_tree::Tree;
+use hash_tree::Held;
 use meta_frame::Message;
-use meta_store::Store;
 use meta_types::{ByteString, FullPrefix, MetaKey};
 use std::alloc::{AllocError, Global};
 
 /// What begins an exchange: the root of what is held here. It takes no memory.
-pub fn start(tree: &Tree) -> Message
-    ensures { result ≡ XRoot (tree_root tree.now) }
+pub fn start(held: &Held) -> Message
+    ensures { result ≡ XRoot (tree_root (rows_of held.now)) }
 {
-    Message::XRoot { root: tree.root() }
+    Message::XRoot {
+        root: held.tree().root(),
+    }
 }
 
-/// What a message is answered from what is held, in order: each answer goes to the sender. The tree
-/// must be that of the store. XOBJECT, whose object is to be merged, and messages of no exchange
-/// have no answer; nor have leaves of an inner node from 16 on, which no frame carries. Fails only
-/// when memory runs out.
-#[tactic(auto, unfolding(crate::specs::Answers::answer))]
-pub fn answer(
-    alloc: Global,
-    store: &Store,
-    tree: &Tree,
-    message: &Message,
-) -> Result<Vec<Message>, AllocError>
-    requires { tree.now ≡ rows_of store.now }
-    ensures { IfOk result (λ answers. answers.items ≡ answer store.now message.now) }
+/// What a message is answered from what is held, in order: each answer goes to the sender. XOBJECT,
+/// whose object is to be merged, and messages of no exchange have no answer; nor have leaves of an
+/// inner node from 16 on, which no frame carries. Fails only when memory runs out.
+#[tactic(auto, unfolding(crate::specs::Answers::answers_to))]
+pub fn answer(alloc: Global, held: &Held, message: &Message) -> Result<Vec<Message>, AllocError>
+    ensures { IfOk result (λ answers. answers.items ≡ answers_to held.now message.now) }
 {
     match message {
-        Message::XRoot { root } => answer_root(alloc, store, tree, *root),
-        Message::XPrefixes { prefixes } => answer_prefixes(alloc, store, tree, prefixes),
+        Message::XRoot { root } => answer_root(alloc, held, *root),
+        Message::XPrefixes { prefixes } => answer_prefixes(alloc, held, prefixes),
         Message::XInner { prefix, digests } => {
-            answer_inner(alloc, store, tree, prefix, digests.as_slice())
+            answer_inner(alloc, held, prefix, digests.as_slice())
         }
         Message::XLeaves {
             prefix,
             inner,
             digests,
-        } => answer_leaves(alloc, store, tree, prefix, *inner, digests.as_slice()),
+        } => answer_leaves(alloc, held, prefix, *inner, digests.as_slice()),
         Message::XBucket { prefix, leaf, keys } => {
-            answer_bucket(alloc, store, tree, prefix, *leaf, keys)
+            answer_bucket(alloc, held, prefix, *leaf, keys)
         }
-        Message::XWant { key } => object_if_held(alloc, store, key),
+        Message::XWant { key } => object_if_held(alloc, held, key),
         _ => Ok(Vec::new(alloc)),
     }
 }
 
 /// All full prefixes with their roots, if the roots differ.
-fn answer_root(
-    alloc: Global,
-    store: &Store,
-    tree: &Tree,
-    theirs: Digest,
-) -> Result<Vec<Message>, AllocError>
-    requires { tree.now ≡ rows_of store.now }
-    ensures { IfOk result (λ answers. answers.items ≡ answer_root store.now theirs) }
+fn answer_root(alloc: Global, held: &Held, theirs: Digest) -> Result<Vec<Message>, AllocError>
+    ensures { IfOk result (λ answers. answers.items ≡ answer_root held.now theirs) }
 {
     let mut answers = Vec::new(alloc);
-    if theirs != tree.root() {
-        let prefixes = own_prefixes(store, tree)?;
+    if theirs != held.tree().root() {
+        let prefixes = own_prefixes(held)?;
         answers.push(Message::XPrefixes { prefixes })?;
     }
     Ok(answers)
@@ -81,19 +69,17 @@ fn answer_root(
 /// its inner nodes.
 fn answer_prefixes(
     alloc: Global,
-    store: &Store,
-    tree: &Tree,
+    held: &Held,
     theirs: &PrefixDigests,
 ) -> Result<Vec<Message>, AllocError>
-    requires { tree.now ≡ rows_of store.now }
-    ensures { IfOk result (λ answers. answers.items ≡ answer_prefixes store.now theirs.now) }
+    ensures { IfOk result (λ answers. answers.items ≡ answer_prefixes held.now theirs.now) }
 {
-    let own = own_prefixes(store, tree)?;
+    let own = own_prefixes(held)?;
     let mut their_rest = theirs.as_slice();
     let mut own_rest = own.as_slice();
     let mut answers = Vec::new(alloc);
     while let Some(next) = next_prefix(their_rest, own_rest) {
-        answer_prefix(alloc, &mut answers, store, tree, &next)?;
+        answer_prefix(alloc, &mut answers, held, &next)?;
         their_rest = next.theirs;
         own_rest = next.own;
     }
@@ -104,38 +90,34 @@ fn answer_prefixes(
 fn answer_prefix(
     alloc: Global,
     answers: &mut Vec<Message>,
-    store: &Store,
-    tree: &Tree,
+    held: &Held,
     next: &Next<'_, FullPrefix, PrefixDigest>,
 ) -> Result<(), AllocError>
-    requires { tree.now ≡ rows_of store.now }
     ensures { OnOk result (answers.new.items ≡ answers.old.items
-        ++ cond next.now.differs (inner_message store.now next.now.key.now ∷ []) []) }
+        ++ cond next.now.differs (inner_message held.now next.now.key.now ∷ []) []) }
 {
     if !next.differs {
         return Ok(());
     }
-    answers.push(inner_message(alloc, store, tree, next.key)?)?;
+    answers.push(inner_message(alloc, held, next.key)?)?;
     Ok(())
 }
 
 /// For each inner node that differs, in order, the digests of its leaves.
 fn answer_inner(
     alloc: Global,
-    store: &Store,
-    tree: &Tree,
+    held: &Held,
     prefix: &FullPrefix,
     theirs: &[Digest],
 ) -> Result<Vec<Message>, AllocError>
-    requires { tree.now ≡ rows_of store.now }
     ensures { IfOk result
-        (λ answers. answers.items ≡ answer_inner store.now prefix.now theirs.now) }
+        (λ answers. answers.items ≡ answer_inner held.now prefix.now theirs.now) }
 {
-    let own = tree.inner(prefix);
+    let own = held.tree().inner(prefix);
     let mut answers = Vec::new(alloc);
     for inner in 0..16_usize {
         if differ_at(theirs, own.as_slice(), inner) {
-            answers.push(leaves_message(alloc, store, tree, prefix, inner as u8)?)?;
+            answers.push(leaves_message(alloc, held, prefix, inner as u8)?)?;
         }
     }
     Ok(answers)
@@ -144,25 +126,23 @@ fn answer_inner(
 /// For each leaf that differs, in order, its keys with their digests.
 fn answer_leaves(
     alloc: Global,
-    store: &Store,
-    tree: &Tree,
+    held: &Held,
     prefix: &FullPrefix,
     inner: u8,
     theirs: &[Digest],
 ) -> Result<Vec<Message>, AllocError>
-    requires { tree.now ≡ rows_of store.now }
     ensures { IfOk result
-        (λ answers. answers.items ≡ answer_leaves store.now prefix.now inner theirs.now) }
+        (λ answers. answers.items ≡ answer_leaves held.now prefix.now inner theirs.now) }
 {
     let mut answers = Vec::new(alloc);
     if inner >= 16 {
         return Ok(answers);
     }
-    let own = tree.leaves(prefix, inner);
+    let own = held.tree().leaves(prefix, inner);
     for place in 0..16_usize {
         if differ_at(theirs, own.as_slice(), place) {
             let leaf = 16 * inner + place as u8;
-            answers.push(bucket_message(store, tree, prefix, leaf)?)?;
+            answers.push(bucket_message(held, prefix, leaf)?)?;
         }
     }
     Ok(answers)
@@ -172,21 +152,19 @@ fn answer_leaves(
 /// object if it is held, and a want of it if the other side lists it.
 fn answer_bucket(
     alloc: Global,
-    store: &Store,
-    tree: &Tree,
+    held: &Held,
     prefix: &FullPrefix,
     leaf: u8,
     theirs: &KeyDigests,
 ) -> Result<Vec<Message>, AllocError>
-    requires { tree.now ≡ rows_of store.now }
     ensures { IfOk result
-        (λ answers. answers.items ≡ answer_bucket store.now prefix.now leaf theirs.now) }
+        (λ answers. answers.items ≡ answer_bucket held.now prefix.now leaf theirs.now) }
 {
     let mut their_rest = theirs.as_slice();
-    let mut own_rest = lent_keys(store, tree, prefix, leaf);
+    let mut own_rest = lent_keys(held, prefix, leaf);
     let mut answers = Vec::new(alloc);
     while let Some(next) = next_key(their_rest, own_rest) {
-        answer_key(&mut answers, store, prefix, &next)?;
+        answer_key(&mut answers, held, prefix, &next)?;
         their_rest = next.theirs;
         own_rest = next.own;
     }
@@ -197,20 +175,20 @@ fn answer_bucket(
 /// other side lists it.
 fn answer_key(
     answers: &mut Vec<Message>,
-    store: &Store,
+    held: &Held,
     prefix: &FullPrefix,
     next: &Next<'_, ByteString, KeyDigest>,
 ) -> Result<(), AllocError>
     requires { IsName 256 next.now.key.now }
     ensures { let key : Key = record { prefix = prefix.now; key = next.now.key.now } in
         OnOk result (answers.new.items ≡ answers.old.items ++ cond next.now.differs
-        (object_if_held store.now key ++ want_messages key next.now.digest) []) }
+        (object_if_held held.now key ++ want_messages key next.now.digest) []) }
 {
     if !next.differs {
         return Ok(());
     }
     let key = MetaKey::under(prefix.copy()?, next.key.copy()?);
-    add_object_if_held(answers, store, &key)?;
+    add_object_if_held(answers, held, &key)?;
     if next.digest.is_none() {
         return Ok(());
     }
@@ -219,24 +197,24 @@ fn answer_key(
 }
 
 /// The object under the key, if it is held.
-fn object_if_held(alloc: Global, store: &Store, key: &MetaKey) -> Result<Vec<Message>, AllocError>
-    ensures { IfOk result (λ answers. answers.items ≡ object_if_held store.now key.now) }
+fn object_if_held(alloc: Global, held: &Held, key: &MetaKey) -> Result<Vec<Message>, AllocError>
+    ensures { IfOk result (λ answers. answers.items ≡ object_if_held held.now key.now) }
 {
     let mut answers = Vec::new(alloc);
-    add_object_if_held(&mut answers, store, key)?;
+    add_object_if_held(&mut answers, held, key)?;
     Ok(answers)
 }
 
 /// Appends the object under the key, if it is held.
 fn add_object_if_held(
     answers: &mut Vec<Message>,
-    store: &Store,
+    held: &Held,
     key: &MetaKey,
 ) -> Result<(), AllocError>
     ensures { OnOk result (answers.new.items
-        ≡ answers.old.items ++ object_if_held store.now key.now) }
+        ≡ answers.old.items ++ object_if_held held.now key.now) }
 {
-    if let Some(object) = store.object(key) {
+    if let Some(object) = held.store().object(key) {
         answers.push(Message::XObject {
             key: key.copy()?,
             object: object.copy()?,
@@ -246,16 +224,10 @@ fn add_object_if_held(
 }
 
 /// The digests of the inner nodes of a full prefix.
-fn inner_message(
-    alloc: Global,
-    store: &Store,
-    tree: &Tree,
-    prefix: &FullPrefix,
-) -> Result<Message, AllocError>
-    requires { tree.now ≡ rows_of store.now }
-    ensures { IfOk result (λ message. message ≡ inner_message store.now prefix.now) }
+fn inner_message(alloc: Global, held: &Held, prefix: &FullPrefix) -> Result<Message, AllocError>
+    ensures { IfOk result (λ message. message ≡ inner_message held.now prefix.now) }
 {
-    let digests = listed(alloc, tree.inner(prefix).as_slice())?;
+    let digests = listed(alloc, held.tree().inner(prefix).as_slice())?;
     Ok(Message::XInner {
         prefix: prefix.copy()?,
         digests,
@@ -265,16 +237,14 @@ fn inner_message(
 /// The digests of the leaves under an inner node of a full prefix.
 fn leaves_message(
     alloc: Global,
-    store: &Store,
-    tree: &Tree,
+    held: &Held,
     prefix: &FullPrefix,
     inner: u8,
 ) -> Result<Message, AllocError>
-    requires tree { tree.now ≡ rows_of store.now }
-    requires inner { inner < 16 }
-    ensures { IfOk result (λ message. message ≡ leaves_message store.now prefix.now inner) }
+    requires { inner < 16 }
+    ensures { IfOk result (λ message. message ≡ leaves_message held.now prefix.now inner) }
 {
-    let digests = listed(alloc, tree.leaves(prefix, inner).as_slice())?;
+    let digests = listed(alloc, held.tree().leaves(prefix, inner).as_slice())?;
     Ok(Message::XLeaves {
         prefix: prefix.copy()?,
         inner,
@@ -283,16 +253,10 @@ fn leaves_message(
 }
 
 /// The keys of a leaf of a full prefix with their digests.
-fn bucket_message(
-    store: &Store,
-    tree: &Tree,
-    prefix: &FullPrefix,
-    leaf: u8,
-) -> Result<Message, AllocError>
-    requires { tree.now ≡ rows_of store.now }
-    ensures { IfOk result (λ message. message ≡ bucket_message store.now prefix.now leaf) }
+fn bucket_message(held: &Held, prefix: &FullPrefix, leaf: u8) -> Result<Message, AllocError>
+    ensures { IfOk result (λ message. message ≡ bucket_message held.now prefix.now leaf) }
 {
-    let keys = own_keys(store, tree, prefix, leaf)?;
+    let keys = own_keys(held, prefix, leaf)?;
     Ok(Message::XBucket {
         prefix: prefix.copy()?,
         leaf,
@@ -301,36 +265,28 @@ fn bucket_message(
 }
 
 /// The full prefixes that hold a key, in order, with their roots.
-fn own_prefixes(store: &Store, tree: &Tree) -> Result<PrefixDigests, AllocError>
-    requires { tree.now ≡ rows_of store.now }
-    ensures { IfOk result (λ prefixes. prefixes ≡ prefix_roots (rows_of store.now)) }
+fn own_prefixes(held: &Held) -> Result<PrefixDigests, AllocError>
+    ensures { IfOk result (λ prefixes. prefixes ≡ prefix_roots (rows_of held.now)) }
 {
-    let _few = store.len();
-    Ok(PrefixDigests::new(tree.prefix_roots()?))
+    let _few = held.store().len();
+    Ok(PrefixDigests::new(held.tree().prefix_roots()?))
 }
 
 /// The keys of a leaf, in order, with their digests, as the tree keeps them.
-fn lent_keys<'a>(store: &Store, tree: &'a Tree, prefix: &FullPrefix, leaf: u8) -> &'a [KeyDigest]
-    requires { tree.now ≡ rows_of store.now }
-    ensures value { result.now ≡ bucket (rows_below prefix.now store.now) leaf }
+fn lent_keys<'a>(held: &'a Held, prefix: &FullPrefix, leaf: u8) -> &'a [KeyDigest]
+    ensures value { result.now ≡ bucket (rows_below prefix.now held.now) leaf }
     ensures lawful { keys.Fits result.now }
 {
-    let _few = store.len();
-    tree.lent_bucket(prefix, leaf)
+    let _few = held.store().len();
+    held.tree().lent_bucket(prefix, leaf)
 }
 
 /// The keys of a leaf, in order, with their digests. They are copies.
-fn own_keys(
-    store: &Store,
-    tree: &Tree,
-    prefix: &FullPrefix,
-    leaf: u8,
-) -> Result<KeyDigests, AllocError>
-    requires { tree.now ≡ rows_of store.now }
-    ensures { IfOk result (λ keys. keys ≡ bucket (rows_below prefix.now store.now) leaf) }
+fn own_keys(held: &Held, prefix: &FullPrefix, leaf: u8) -> Result<KeyDigests, AllocError>
+    ensures { IfOk result (λ keys. keys ≡ bucket (rows_below prefix.now held.now) leaf) }
 {
-    let _few = store.len();
-    Ok(KeyDigests::new(tree.bucket(prefix, leaf)?))
+    let _few = held.store().len();
+    Ok(KeyDigests::new(held.tree().bucket(prefix, leaf)?))
 }
 
 /// Sixteen digests as a field of a frame.

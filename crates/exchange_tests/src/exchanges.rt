@@ -3,13 +3,11 @@
 //! What takes memory for a store or its tree is asked for once more where it is refused, so that a
 //! test under refused memory gets them whichever single allocation is refused.
 
-ghost use Rattle.std.specs.Prelude.{◌≡◌};
-ghost use Rattle.hash_tree.specs.Tree.{rows_of};
-
+use dvvset::Counter;
 use exchange::{answer, reconcile, start};
-use hash_tree::Tree;
+use hash_tree::Held;
 use meta_frame::Message;
-use meta_store::{Store, StoreFault};
+use meta_store::{Source, Store, StoreFault};
 use meta_types::{Actor, FullPrefix, MetaKey, NodeId, Value};
 use std::alloc::Global;
 use std::process::Abort;
@@ -33,6 +31,15 @@ fn key(rt: &impl Abort, alloc: Global, number: u16) -> MetaKey {
     MetaKey::new(prefix.expect(rt, "a prefix"), own).expect(rt, "a key")
 }
 
+fn value(rt: &impl Abort, alloc: Global, body: &[u8]) -> Value {
+    Value::new(7, Some(text(rt, alloc, body))).expect(rt, "a value")
+}
+
+/// The writer that a node is in its first life.
+fn actor(rt: &impl Abort, node: u16) -> Actor {
+    Actor::new(NodeId::new(node).expect(rt, "a node"), 1)
+}
+
 fn write_once(
     rt: &impl Abort,
     alloc: Global,
@@ -40,45 +47,32 @@ fn write_once(
     node: u16,
     number: u16,
 ) -> Result<(), StoreFault> {
-    let value = Value::new(7, Some(text(rt, alloc, b"x"))).expect(rt, "a value");
-    let actor = Actor::new(NodeId::new(node).expect(rt, "a node"), 1);
-    store.put(actor, key(rt, alloc, number), value, None)
+    let value = value(rt, alloc, b"x");
+    store.put(actor(rt, node), key(rt, alloc, number), value, None)
 }
 
-/// A store in which the node, in its first life, wrote x under these keys.
-fn filled(rt: &impl Abort, alloc: Global, node: u16, numbers: Numbers) -> Store {
+/// The store with its tree.
+fn built(rt: &impl Abort, alloc: Global, store: Store) -> Held {
+    match Held::build(alloc, store) {
+        Ok(held) => held,
+        Err(unbuilt) => Held::new(alloc, unbuilt.store).expect(rt, "memory once more"),
+    }
+}
+
+/// A side on which the node, in its first life, wrote x under these keys.
+fn filled(rt: &impl Abort, alloc: Global, node: u16, numbers: Numbers) -> Held {
     let mut store = Store::new(alloc);
     for number in numbers.0..numbers.1 {
         if write_once(rt, alloc, &mut store, node, number).is_err() {
             write_once(rt, alloc, &mut store, node, number).expect(rt, "a write");
         }
     }
-    store
-}
-
-fn tree_of(rt: &impl Abort, alloc: Global, store: &Store) -> Tree
-    ensures { result ≡ rows_of store.now }
-{
-    match Tree::from_store(alloc, store) {
-        Ok(tree) => tree,
-        Err(_) => Tree::from_store(alloc, store).expect(rt, "memory once more"),
-    }
+    built(rt, alloc, store)
 }
 
 /// Returns whether an exchange ends as is wanted. It is made once more where memory was refused.
-fn ends(
-    alloc: Global,
-    here: &mut Store,
-    here_tree: &mut Tree,
-    there: &mut Store,
-    there_tree: &mut Tree,
-    wanted: &Result<(), StoreFault>,
-) -> bool
-    requires here { here_tree.old ≡ rows_of here.old }
-    requires there { there_tree.old ≡ rows_of there.old }
-{
-    reconcile(alloc, here, here_tree, there, there_tree) == *wanted
-        || reconcile(alloc, here, here_tree, there, there_tree) == *wanted
+fn ends(alloc: Global, here: &mut Held, there: &mut Held, wanted: &Result<(), StoreFault>) -> bool {
+    reconcile(alloc, here, there) == *wanted || reconcile(alloc, here, there) == *wanted
 }
 
 /// Returns whether an exchange, of sides whose keys node 0 wrote here and node 1 there, ends as is
@@ -94,17 +88,10 @@ fn is_exchanged(
         filled(rt, alloc, 0, numbers[0]),
         filled(rt, alloc, 1, numbers[1]),
     );
-    let (mut here_tree, mut there_tree) = (tree_of(rt, alloc, &here), tree_of(rt, alloc, &there));
-    let ends = ends(
-        alloc,
-        &mut here,
-        &mut here_tree,
-        &mut there,
-        &mut there_tree,
-        wanted,
-    );
-    let have_one_root = here_tree.root() == there_tree.root();
-    ends & (have_one_root == wanted.is_ok()) & (here.len() == lens.0) & (there.len() == lens.1)
+    let ends = ends(alloc, &mut here, &mut there, wanted);
+    let have_one_root = here.tree().root() == there.tree().root();
+    let have_lens = (here.store().len() == lens.0) & (there.store().len() == lens.1);
+    ends & (have_one_root == wanted.is_ok()) & have_lens
 }
 
 static DONE: Result<(), StoreFault> = Ok(());
@@ -131,6 +118,45 @@ fn an_exchange_succeeds_again_under_refused_memory(rt: HostRuntime) {
     assert!(rt; is_exchanged(&rt, rt.alloc(), numbers, &DONE, (2, 2)));
 }
 
+/// A side on which the node wrote these values under key 0, one letter each, having read what was
+/// shown.
+fn overwritten(rt: &impl Abort, alloc: Global, node: u16, letters: &[u8]) -> Held {
+    let mut store = Store::new(alloc);
+    let (actor, key) = (actor(rt, node), key(rt, alloc, 0));
+    for letter in letters {
+        let context = store
+            .context(&key, Source { actor, step: 1 })
+            .expect(rt, "memory");
+        let value = value(rt, alloc, [*letter].as_slice());
+        let written = store.put(
+            actor,
+            key.copy().expect(rt, "memory"),
+            value,
+            Some(&context),
+        );
+        written.expect(rt, "a write");
+    }
+    built(rt, alloc, store)
+}
+
+/// Returns whether a side shows y of node 0 and z of node 1 under key 0, and knows two writes of
+/// node 0 and one of node 1.
+fn shows_siblings(rt: &impl Abort, alloc: Global, side: &Held) -> bool {
+    let (values, vector) = side.store().get(&key(rt, alloc, 0)).expect(rt, "memory");
+    let shown = [value(rt, alloc, b"y"), value(rt, alloc, b"z")];
+    let known = [Counter::new(actor(rt, 0), 2), Counter::new(actor(rt, 1), 1)];
+    (values.as_slice() == shown.as_slice()) & (vector.counters() == known.as_slice())
+}
+
+#[test]
+fn siblings_are_reconciled(rt: HostRuntime) {
+    let alloc = rt.alloc();
+    let mut here = overwritten(&rt, alloc, 0, b"xy");
+    let mut there = overwritten(&rt, alloc, 1, b"z");
+    assert!(rt; reconcile(alloc, &mut here, &mut there).is_ok());
+    assert!(rt; shows_siblings(&rt, alloc, &here) & shows_siblings(&rt, alloc, &there));
+}
+
 // Messages stay in lists here: a message alone has a drop of many cases.
 
 fn one<T: Drop>(rt: &impl Abort, alloc: Global, item: T) -> Vec<T> {
@@ -140,40 +166,23 @@ fn one<T: Drop>(rt: &impl Abort, alloc: Global, item: T) -> Vec<T> {
 }
 
 /// What a message is answered.
-fn answers(
-    rt: &impl Abort,
-    alloc: Global,
-    store: &Store,
-    tree: &Tree,
-    message: Option<&Message>,
-) -> Vec<Message>
-    requires { tree.now ≡ rows_of store.now }
-{
+fn answers(rt: &impl Abort, alloc: Global, side: &Held, message: Option<&Message>) -> Vec<Message> {
     let message = message.expect(rt, "a message");
-    answer(alloc, store, tree, message).expect(rt, "memory")
+    answer(alloc, side, message).expect(rt, "memory")
 }
 
 /// How many answers a message has of a side that holds nothing.
 fn count(rt: &impl Abort, alloc: Global, message: Option<&Message>) -> usize {
-    let store = Store::new(alloc);
-    let tree = tree_of(rt, alloc, &store);
-    answers(rt, alloc, &store, &tree, message).len()
+    let side = built(rt, alloc, Store::new(alloc));
+    answers(rt, alloc, &side, message).len()
 }
 
 /// The leaves that there answers, in an exchange that here began.
-fn leaves(
-    rt: &impl Abort,
-    alloc: Global,
-    here: (&Store, &Tree),
-    there: (&Store, &Tree),
-) -> Vec<Message>
-    requires here { here.1.now ≡ rows_of here.0.now }
-    requires there { there.1.now ≡ rows_of there.0.now }
-{
-    let root = one(rt, alloc, start(here.1));
-    let prefixes = answers(rt, alloc, there.0, there.1, root.first());
-    let inner = answers(rt, alloc, here.0, here.1, prefixes.first());
-    answers(rt, alloc, there.0, there.1, inner.first())
+fn leaves(rt: &impl Abort, alloc: Global, here: &Held, there: &Held) -> Vec<Message> {
+    let root = one(rt, alloc, start(here));
+    let prefixes = answers(rt, alloc, there, root.first());
+    let inner = answers(rt, alloc, here, prefixes.first());
+    answers(rt, alloc, there, inner.first())
 }
 
 /// Gives buckets and leaves a number that isn't theirs.
@@ -190,20 +199,12 @@ fn forge(messages: &mut [Message]) {
 /// Returns whether odd messages are answered by the table. Both sides hold key 0, which stands in
 /// leaf 0x96: listed in another one it is sent and wanted as ever. There is no answer to leaves of
 /// inner node 16, to an object, and to a want of what isn't held.
-fn are_odd_answered(
-    rt: &impl Abort,
-    alloc: Global,
-    here: (&Store, &Tree),
-    there: (&Store, &Tree),
-) -> bool
-    requires here { here.1.now ≡ rows_of here.0.now }
-    requires there { there.1.now ≡ rows_of there.0.now }
-{
+fn are_odd_answered(rt: &impl Abort, alloc: Global, here: &Held, there: &Held) -> bool {
     let mut leaves = leaves(rt, alloc, here, there);
-    let mut buckets = answers(rt, alloc, here.0, here.1, leaves.first());
-    let honest = answers(rt, alloc, there.0, there.1, buckets.first());
+    let mut buckets = answers(rt, alloc, here, leaves.first());
+    let honest = answers(rt, alloc, there, buckets.first());
     forge(buckets.as_mut_slice());
-    let forged = answers(rt, alloc, there.0, there.1, buckets.first());
+    let forged = answers(rt, alloc, there, buckets.first());
     forge(leaves.as_mut_slice());
     let unanswered = count(rt, alloc, leaves.first()) == 0;
     let object = count(rt, alloc, honest.first()) == 0;
@@ -215,6 +216,5 @@ fn are_odd_answered(
 fn odd_messages_are_answered_as_the_table_says(rt: HostRuntime) {
     let alloc = rt.alloc();
     let (here, there) = (filled(&rt, alloc, 0, (0, 1)), filled(&rt, alloc, 1, (0, 1)));
-    let (here_tree, there_tree) = (tree_of(&rt, alloc, &here), tree_of(&rt, alloc, &there));
-    assert!(rt; are_odd_answered(&rt, alloc, (&here, &here_tree), (&there, &there_tree)));
+    assert!(rt; are_odd_answered(&rt, alloc, &here, &there));
 }

@@ -1,13 +1,13 @@
 -- The parts of a tree by full prefix: what its readers find in them.
-use Rattle.std.proofs.Common.{◌≡◌, ◌≢◌, ℕ, true, false, cond, ◌&&◌, T, List, [], ◌∷◌, ◌++◌, map, All, Some, None, refl, sym, ap, subst, ◌∙◌}
+use Rattle.std.proofs.Common.{◌≡◌, ◌≢◌, ℕ, true, false, cond, ◌&&◌, T, List, [], ◌∷◌, ◌++◌, map, All, Some, refl, sym, ap, subst, ◌∙◌}
 use Rattle.std.specs.Bool.{passes}
-use Rattle.std.specs.List.{filter, flat_map}
+use Rattle.std.specs.List.{flat_map}
 use Rattle.std.specs.Option.{unwrap_or}
 use Rattle.std.specs.Ordering.{is_eq, is_lt}
 use Rattle.std.specs.declared.cmp.Ordering.TheVariants.{Less, Equal, Greater}
 use Rattle.std.specs.Cmp.{tied_itself}
 use Rattle.std.specs.FinMap.{find, put, is_sorted}
-use Rattle.std.specs.FinMap.Entries.{below_all, by_order, find_tied, is_sorted-put}
+use Rattle.std.specs.FinMap.Entries.{below_all, by_order, is_sorted-put}
 use Rattle.std.specs.BTreeMap.{insert_entry}
 use Rattle.std.proofs.lemmas.List.Elements.{All-cons, All-head, All-tail, All-nil}
 use Rattle.std.proofs.lemmas.List.Folds.{flat_map-map}
@@ -15,16 +15,15 @@ use Rattle.std.proofs.lemmas.List.{map-append}
 use Rattle.sha2.specs.Sha256.{sha256}
 use Rattle.meta_types.specs.Name.{Prefix, Key}
 use Rattle.meta_types.specs.Order.{bytes_cmp, key_cmp, prefix_cmp, prefix_eq}
-use Rattle.meta_types.proofs.Comparing.{same_prefix}
 use Rattle.dvvset.specs.Object.{Entry}
 use Rattle.frame_fields.specs.Field.{prefix, prefix_row_parts}
 use Rattle.frame_fields.specs.declared.prefixes.PrefixDigest.{PrefixDigest}
 use Rattle.meta_store.specs.Table.{IsHeld}
 use Rattle.meta_store.specs.Kept as store
 use Rattle.meta_store.specs.Kept.{PartsOf, RowsOf, rows_at, rows_under, table_of}
-use Rattle.meta_store.proofs.Kept.{all_prefixes, bytes_total, prefix_total, put_part}
-use Rattle.meta_store.proofs.Maps.{All-put, below_rest, filled_up, find_below, first, greater_back, is_less, is_true, put_last, rest_sorted, second}
-use Rattle.hash_tree.specs.Tree.{Digest, OwnRows, DigestRows, digested, object_digest, own_rows, prefix_root, prefix_roots, tree_root}
+use Rattle.meta_store.proofs.Kept.{all_prefixes, bytes_total, own_part, prefix_total, put_part, rows_left_out}
+use Rattle.meta_store.proofs.Maps.{All-put, below_rest, filled_up, first, greater_back, is_less, is_true, put_last, rest_sorted, second}
+use Rattle.hash_tree.specs.Tree.{Digest, OwnRows, DigestRows, digest_rows, object_digest, own_rows, prefix_root, prefix_roots, tree_root}
 use Rattle.hash_tree.specs.Kept.{AreTreeParts}
 use Rattle.hash_tree.specs.Rising.{do_prefixes_rise}
 
@@ -33,48 +32,6 @@ Filled part = part.1 ≢ []
 
 abbrev Parts : Type 0
 Parts = PartsOf Digest
-
--- ---- the rows of one full prefix
-
--- rows of another prefix are left out
-left_out : (p q : Prefix) (rows : OwnRows) (rest : DigestRows) → prefix_eq p q ≡ false → own_rows p (rows_under q rows ++ rest) ≡ own_rows p rest
-left_out p q [] rest apart = refl
-left_out p q (row ∷ rows) rest apart =
-    let others : List (Key × Digest) = rows_under q rows ++ rest in
-    ap (λ b. map (λ r. (r.0.key, r.1)) (cond b ((record { prefix = q; key = row.0 }, row.1) ∷ filter (λ r. prefix_eq p r.0.prefix) others) (filter (λ r. prefix_eq p r.0.prefix) others))) apart
-    ∙ left_out p q rows rest apart
-
--- those of the prefix are taken
-taken : (p : Prefix) (rows : OwnRows) (rest : DigestRows) → own_rows p rest ≡ [] → own_rows p (rows_under p rows ++ rest) ≡ rows
-taken p [] rest none = none
-taken p (row ∷ rows) rest none =
-    let others : List (Key × Digest) = rows_under p rows ++ rest in
-    ap (λ o. map (λ r. (r.0.key, r.1)) (cond (is_eq o) ((record { prefix = p; key = row.0 }, row.1) ∷ filter (λ r. prefix_eq p r.0.prefix) others) (filter (λ r. prefix_eq p r.0.prefix) others))) (tied_itself prefix_total p)
-    ∙ ap (λ xs. row ∷ xs) (taken p rows rest none)
-
-none_found : {A : Type 0} (x : A) → Some x ≡ None → ⊥
-none_found x e = cc
-
-no_rows : (p : Prefix) (parts : Parts) → find prefix_cmp p parts ≡ None → own_rows p (table_of parts) ≡ []
-no_rows p [] e = refl
-no_rows p (part ∷ parts) e =
-    elim (prefix_eq p part.0) as (λ b. prefix_eq p part.0 ≡ b → cond b (Some part.1) (find prefix_cmp p parts) ≡ None → own_rows p (rows_under part.0 part.1 ++ table_of parts) ≡ []) [
-      | true ↦ λ is none. absurd (none_found part.1 none)
-      | false ↦ λ is none. left_out p part.0 part.1 (table_of parts) is ∙ no_rows p parts none
-    ] refl e
-
-pub own_part : (p : Prefix) (parts : Parts) → T (is_sorted prefix_cmp parts) → own_rows p (table_of parts) ≡ rows_at p parts
-own_part p [] sorted = refl
-own_part p (part ∷ parts) sorted =
-    let later = own_part p parts (rest_sorted prefix_cmp prefix_total part parts sorted) in
-    elim (prefix_cmp p part.0) as (λ r. prefix_cmp p part.0 ≡ r → own_rows p (rows_under part.0 part.1 ++ table_of parts) ≡ unwrap_or (cond (is_eq r) (Some part.1) (find prefix_cmp p parts)) []) [
-      | Less ↦ λ less. left_out p part.0 part.1 (table_of parts) (ap is_eq less) ∙ later
-      | Equal ↦ λ tied.
-          let none : find prefix_cmp p parts ≡ None =
-          sym (find_tied prefix_cmp prefix_total p part.0 tied parts) ∙ find_below prefix_cmp part.0 parts (below_rest prefix_cmp prefix_total part parts sorted) in
-          ap (λ q. own_rows p (rows_under q part.1 ++ table_of parts)) (sym (same_prefix p part.0 tied)) ∙ taken p part.1 (table_of parts) (no_rows p parts none)
-      | Greater ↦ λ greater. left_out p part.0 part.1 (table_of parts) (ap is_eq greater) ∙ later
-    ] refl
 
 -- ---- roots
 
@@ -94,7 +51,7 @@ skipped q rows rest (part ∷ parts) below =
     let less : prefix_cmp q part.0 ≡ Less = is_less (prefix_cmp q part.0) (first (is_lt (prefix_cmp q part.0)) (below_all prefix_cmp q parts) below) in
     let apart : prefix_eq part.0 q ≡ false = ap is_eq (greater_back prefix_cmp prefix_total q part.0 less) in
     let later = skipped q rows rest parts (second (is_lt (prefix_cmp q part.0)) (below_all prefix_cmp q parts) below) in
-    λ i. record { prefix = part.0; digest = prefix_root (left_out part.0 q rows rest apart i) } ∷ later i
+    λ i. record { prefix = part.0; digest = prefix_root (rows_left_out part.0 q rows rest apart i) } ∷ later i
 
 each_root : (parts : Parts) → T (is_sorted prefix_cmp parts) → map (rooted (table_of parts)) (map (λ part. part.0) parts) ≡ map part_root parts
 each_root [] sorted = refl
@@ -152,48 +109,48 @@ module _ (k : Key) (d : Digest) (parts new : Parts) (are : AreTreeParts parts) (
 
 -- ---- the parts of a store
 
-pub digested_put : (k : Key) (o : List Entry) (table : List (Key × List Entry)) → digested (put key_cmp k o table) ≡ put key_cmp k (object_digest o) (digested table)
+pub digested_put : (k : Key) (o : List Entry) (table : List (Key × List Entry)) → digest_rows (put key_cmp k o table) ≡ put key_cmp k (object_digest o) (digest_rows table)
 digested_put k o [] = refl
 digested_put k o (row ∷ rows) =
-    elim (key_cmp k row.0) as (λ r. digested (by_order r ((k, o) ∷ row ∷ rows) ((row.0, o) ∷ rows) (row ∷ put key_cmp k o rows))
-    ≡ by_order r ((k, object_digest o) ∷ (row.0, object_digest row.1) ∷ digested rows) ((row.0, object_digest o) ∷ digested rows) ((row.0, object_digest row.1) ∷ put key_cmp k (object_digest o) (digested rows))) [
+    elim (key_cmp k row.0) as (λ r. digest_rows (by_order r ((k, o) ∷ row ∷ rows) ((row.0, o) ∷ rows) (row ∷ put key_cmp k o rows))
+    ≡ by_order r ((k, object_digest o) ∷ (row.0, object_digest row.1) ∷ digest_rows rows) ((row.0, object_digest o) ∷ digest_rows rows) ((row.0, object_digest row.1) ∷ put key_cmp k (object_digest o) (digest_rows rows))) [
       | Less ↦ refl
       | Equal ↦ refl
       | Greater ↦ ap (λ xs. (row.0, object_digest row.1) ∷ xs) (digested_put k o rows)
     ]
 
-digested_under : (p : Prefix) (rows : RowsOf (List Entry)) → digested (rows_under p rows) ≡ rows_under p (digested rows)
+digested_under : (p : Prefix) (rows : RowsOf (List Entry)) → digest_rows (rows_under p rows) ≡ rows_under p (digest_rows rows)
 digested_under p [] = refl
 digested_under p (row ∷ rows) = ap (λ xs. (record { prefix = p; key = row.0 }, object_digest row.1) ∷ xs) (digested_under p rows)
 
 abbrev pub digested_part : Prefix × RowsOf (List Entry) → Prefix × OwnRows
-digested_part part = (part.0, digested part.1)
+digested_part part = (part.0, digest_rows part.1)
 
-pub digested_parts : (parts : PartsOf (List Entry)) → table_of (map digested_part parts) ≡ digested (table_of parts)
+pub digested_parts : (parts : PartsOf (List Entry)) → table_of (map digested_part parts) ≡ digest_rows (table_of parts)
 digested_parts [] = refl
 digested_parts (part ∷ parts) =
-    ap (λ xs. rows_under part.0 (digested part.1) ++ xs) (digested_parts parts)
-    ∙ ap (λ xs. xs ++ digested (table_of parts)) (sym (digested_under part.0 part.1))
+    ap (λ xs. rows_under part.0 (digest_rows part.1) ++ xs) (digested_parts parts)
+    ∙ ap (λ xs. xs ++ digest_rows (table_of parts)) (sym (digested_under part.0 part.1))
     ∙ sym (map-append (λ (row : Key × List Entry). (row.0, object_digest row.1)) (rows_under part.0 part.1) (table_of parts))
 
 -- ---- rows of a store that are taken in, in order
 
-below_digested : (k : List ℕ) (rows : RowsOf (List Entry)) → below_all bytes_cmp k (digested rows) ≡ below_all bytes_cmp k rows
+below_digested : (k : List ℕ) (rows : RowsOf (List Entry)) → below_all bytes_cmp k (digest_rows rows) ≡ below_all bytes_cmp k rows
 below_digested k [] = refl
 below_digested k (row ∷ rows) = ap (λ b. is_lt (bytes_cmp k row.0) && b) (below_digested k rows)
 
-sorted_digested : (rows : RowsOf (List Entry)) → is_sorted bytes_cmp (digested rows) ≡ is_sorted bytes_cmp rows
+sorted_digested : (rows : RowsOf (List Entry)) → is_sorted bytes_cmp (digest_rows rows) ≡ is_sorted bytes_cmp rows
 sorted_digested [] = refl
 sorted_digested (row ∷ rows) = λ i. below_digested row.0 rows i && sorted_digested rows i
 
-pub row_taken : (done new : OwnRows) (k : List ℕ) (object : List Entry) (d : Digest) (rest from rows : RowsOf (List Entry)) → T (is_sorted bytes_cmp rows) → done ++ digested from ≡ digested rows → from ≡ (k, object) ∷ rest
-    → d ≡ object_digest object → new ≡ put bytes_cmp k d done → new ++ digested rest ≡ digested rows
+pub row_taken : (done new : OwnRows) (k : List ℕ) (object : List Entry) (d : Digest) (rest from rows : RowsOf (List Entry)) → T (is_sorted bytes_cmp rows) → done ++ digest_rows from ≡ digest_rows rows → from ≡ (k, object) ∷ rest
+    → d ≡ object_digest object → new ≡ put bytes_cmp k d done → new ++ digest_rows rest ≡ digest_rows rows
 row_taken done new k object d rest from rows sorted so_far is_first is_digest is =
-    let whole : done ++ (k, object_digest object) ∷ digested rest ≡ digested rows = ap (λ xs. done ++ digested xs) (sym is_first) ∙ so_far in
-    let are : T (is_sorted bytes_cmp (done ++ (k, object_digest object) ∷ digested rest)) =
+    let whole : done ++ (k, object_digest object) ∷ digest_rows rest ≡ digest_rows rows = ap (λ xs. done ++ digest_rows xs) (sym is_first) ∙ so_far in
+    let are : T (is_sorted bytes_cmp (done ++ (k, object_digest object) ∷ digest_rows rest)) =
     subst T (sym (ap (is_sorted bytes_cmp) whole ∙ sorted_digested rows)) sorted in
-    ap (λ xs. xs ++ digested rest) (is ∙ ap (λ x. put bytes_cmp k x done) is_digest)
-    ∙ put_last bytes_cmp bytes_total done k (object_digest object) (digested rest) are
+    ap (λ xs. xs ++ digest_rows rest) (is ∙ ap (λ x. put bytes_cmp k x done) is_digest)
+    ∙ put_last bytes_cmp bytes_total done k (object_digest object) (digest_rows rest) are
     ∙ whole
 
 below_parts : (p : Prefix) (parts : PartsOf (List Entry)) → below_all prefix_cmp p (map digested_part parts) ≡ below_all prefix_cmp p parts
@@ -205,7 +162,7 @@ sorted_parts [] = refl
 sorted_parts (part ∷ parts) = λ i. below_parts part.0 parts i && sorted_parts parts i
 
 pub part_taken : (done new : Parts) (p : Prefix) (rows : RowsOf (List Entry)) (tree : OwnRows) (rest from all : PartsOf (List Entry)) → is_sorted prefix_cmp all ≡ true → done ++ map digested_part from ≡ map digested_part all → from ≡ (p, rows) ∷ rest
-    → tree ≡ digested rows → new ≡ insert_entry prefix_cmp done p tree → new ++ map digested_part rest ≡ map digested_part all
+    → tree ≡ digest_rows rows → new ≡ insert_entry prefix_cmp done p tree → new ++ map digested_part rest ≡ map digested_part all
 part_taken done new p rows tree rest from all sorted so_far is_first is_tree is =
     filled_up prefix_cmp prefix_total done new (map digested_part rest) (map digested_part all) p tree
     (subst T (sym (sorted_parts all)) (passes (is_sorted prefix_cmp all) sorted))
@@ -214,7 +171,7 @@ part_taken done new p rows tree rest from all sorted so_far is_first is_tree is 
 
 -- ---- and what was filled so
 
-some_digested : (rows : RowsOf (List Entry)) → rows ≢ [] → digested rows ≢ []
+some_digested : (rows : RowsOf (List Entry)) → rows ≢ [] → digest_rows rows ≢ []
 some_digested [] some e = some refl
 some_digested (row ∷ rows) some e = cc
 

@@ -15,13 +15,13 @@ use Rattle.meta_types.proofs.Comparing.{same_prefix}
 use Rattle.frame_fields.specs.Field.{prefix_row_parts}
 use Rattle.meta_store.specs.Table.{Table, prefixes_of}
 use Rattle.meta_store.proofs.Keys.{same_key}
-use Rattle.hash_tree.specs.Tree.{Digest, DigestRows, OwnRows, digested, in_leaf, leaf_of, object_digest, own_rows, prefix_root, prefix_roots}
+use Rattle.hash_tree.specs.Tree.{Digest, DigestRows, OwnRows, digest_rows, in_leaf, leaf_of, object_digest, own_rows, prefix_root, prefix_roots}
 use Rattle.meta_types.proofs.Comparing.{same_bytes}
 
-pub find_digested : (k : Key) (table : Table) → find key_cmp k (digested table) ≡ option_map object_digest (find key_cmp k table)
+pub find_digested : (k : Key) (table : Table) → find key_cmp k (digest_rows table) ≡ option_map object_digest (find key_cmp k table)
 find_digested k [] = refl
 find_digested k (row ∷ rows) =
-    elim (is_eq (key_cmp k row.0)) as (λ b. cond b (Some (object_digest row.1)) (find key_cmp k (digested rows)) ≡ option_map object_digest (cond b (Some row.1) (find key_cmp k rows))) [
+    elim (is_eq (key_cmp k row.0)) as (λ b. cond b (Some (object_digest row.1)) (find key_cmp k (digest_rows rows)) ≡ option_map object_digest (cond b (Some row.1) (find key_cmp k rows))) [
       | true ↦ refl
       | false ↦ find_digested k rows
     ]

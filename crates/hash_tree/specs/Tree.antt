@@ -27,12 +27,12 @@ unfoldable pub object_digest : List Entry → Digest
 object_digest es = sha256 (object.spell es)
 
 -- the digest of each object in its place
-abbrev pub digested : {K : Type 0} → List (K × List Entry) → List (K × Digest)
-digested rows = map (λ row. (row.0, object_digest row.1)) rows
+abbrev pub digest_rows : {K : Type 0} → List (K × List Entry) → List (K × Digest)
+digest_rows rows = map (λ row. (row.0, object_digest row.1)) rows
 
 -- what a tree knows of a table
 abbrev pub rows_of : Table → DigestRows
-rows_of table = digested table
+rows_of table = digest_rows table
 
 -- the rows with this digest under the key, and all else as before
 abbrev pub with_digest : Key → Digest → DigestRows → DigestRows

@@ -6,7 +6,7 @@ ghost use Rattle.std.specs.FinMap.{find, put};
 ghost use Rattle.meta_types.specs.Name.{IsName};
 ghost use Rattle.meta_types.specs.Order.{bytes_cmp};
 ghost use Rattle.meta_store.specs.Table.{IsHeld};
-ghost use Rattle.hash_tree.specs.Tree.{bucket, digested, inner_digests, leaf_digests, prefix_root};
+ghost use Rattle.hash_tree.specs.Tree.{bucket, digest_rows, inner_digests, leaf_digests, prefix_root};
 ghost use Rattle.hash_tree.specs.Rising.{do_keys_rise};
 ghost use Rattle.hash_tree.specs.Kept.{inner_over};
 
@@ -74,7 +74,7 @@ impl PrefixTree {
     /// digest.
     pub(crate) fn of_rows(alloc: Global, rows: &Rows) -> Result<Self, AllocError>
         requires held { All (λ row. IsHeld row.1) rows.now }
-        ensures { IfOk result (λ tree. tree ≡ digested rows.now) }
+        ensures { IfOk result (λ tree. tree ≡ digest_rows rows.now) }
     {
         let mut leaves = Leaves::new(alloc);
         for (key, object) in rows.iter() {

@@ -25,23 +25,18 @@ use std::marker::Model;
 pub struct Tree {
     alloc: Global,
     parts: BTreeMap<FullPrefix, PrefixTree>,
-    root: Digest,
 }
 
 impl Model for Tree {
-    ghost use Rattle.std.specs.Prelude.{◌≡◌};
     ghost use Rattle.meta_store.specs.Kept.{table_of};
-    ghost use Rattle.hash_tree.specs.Tree.{DigestRows, tree_root};
+    ghost use Rattle.hash_tree.specs.Tree.{DigestRows};
     ghost use Rattle.hash_tree.specs.Kept.{AreTreeParts};
 
     ghost Value = { DigestRows };
 
     ghost view = { λ t. table_of t.parts.entries };
 
-    ghost invariant = { λ t. record {
-      parts : AreTreeParts t.parts.entries;
-      kept : t.root ≡ tree_root (table_of t.parts.entries);
-    } };
+    ghost invariant = { λ t. AreTreeParts t.parts.entries };
 }
 
 impl Tree {
@@ -50,8 +45,7 @@ impl Tree {
         ensures { IfOk result (λ tree. tree ≡ rows_of store.now) }
     {
         let parts = parts_of(alloc, store)?;
-        let root = root_of(&parts);
-        Ok(Tree { alloc, parts, root })
+        Ok(Tree { alloc, parts })
     }
 
     /// Takes in that the object under the key has this digest. Fails only when memory runs out for
@@ -62,15 +56,14 @@ impl Tree {
         ensures same { OnErr result (self.new ≡ self.old) }
     {
         put_part(self.alloc, &mut self.parts, key, digest)?;
-        self.root = root_of(&self.parts);
         Ok(())
     }
 
-    /// The root, which is kept. It takes no memory.
+    /// The root, computed from those of all full prefixes. It takes no memory.
     pub fn root(&self) -> Digest
         ensures { result ≡ tree_root self.now }
     {
-        self.root
+        root_of(&self.parts)
     }
 
     /// The full prefixes that hold a key, in order, each with its root. They are copies. Fails only
@@ -132,7 +125,6 @@ impl Tree {
         Ok(Tree {
             alloc: self.alloc,
             parts: copy_parts(self.alloc, &self.parts)?,
-            root: self.root,
         })
     }
 }

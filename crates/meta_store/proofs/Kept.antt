@@ -1,6 +1,6 @@
 -- A table that is kept by full prefix: what is found in it, what a row put there makes of it, and its lists.
-use Rattle.std.proofs.Common.{◌≡◌, ◌≢◌, ℕ, true, false, cond, T, List, [], ◌∷◌, ◌++◌, map, All, Option, Some, None, refl, sym, ap, ◌∙◌}
-use Rattle.std.specs.List.{dedup_from}
+use Rattle.std.proofs.Common.{◌≡◌, ◌≢◌, ℕ, true, false, cond, T, List, [], ◌∷◌, ◌++◌, map, All, Option, Some, None, refl, sym, ap, subst, ◌∙◌}
+use Rattle.std.specs.List.{dedup_from, filter}
 use Rattle.std.specs.Option.{unwrap_or}
 use Rattle.std.specs.Ordering.{is_eq, is_lt, ordering_then}
 use Rattle.std.specs.declared.cmp.Ordering.{Ordering}
@@ -10,7 +10,7 @@ use Rattle.std.specs.Cmp.Lexicographic.{nat_list_cmp_total}
 use Rattle.std.specs.BTreeMap.{is_at}
 use Rattle.std.specs.Map.{lookup}
 use Rattle.std.specs.FinMap.{find, put, is_sorted}
-use Rattle.std.specs.FinMap.Entries.{by_order, below_all, find_tied}
+use Rattle.std.specs.FinMap.Entries.{by_order, below_all, find_tied, same_entries}
 use Rattle.std.proofs.lemmas.List.Elements.{All-head, All-tail}
 use Rattle.meta_types.specs.Name.{Prefix, Key, IsName}
 use Rattle.meta_types.specs.Order.{bytes_cmp, prefix_cmp, prefix_eq, key_cmp}
@@ -233,3 +233,67 @@ module _ {X : Type 0} where
   all_prefixes ((p, row ∷ rows) ∷ parts) sorted filled =
       counted_once p rows (table_of parts)
       ∙ each_once p parts (below_rest prefix_cmp prefix_total (p, row ∷ rows) parts sorted) (rest_sorted prefix_cmp prefix_total (p, row ∷ rows) parts sorted) (All-tail Filled (p, row ∷ rows) parts filled)
+
+  -- ---- the rows of one full prefix
+
+  abbrev pub rows_with : Prefix → List (Key × X) → RowsOf X
+  rows_with p rows = map (λ row. (row.0.key, row.1)) (filter (λ row. prefix_eq p row.0.prefix) rows)
+
+  -- rows of another prefix are left out
+  pub rows_left_out : (p q : Prefix) (rows : RowsOf X) (rest : List (Key × X)) → prefix_eq p q ≡ false → rows_with p (rows_under q rows ++ rest) ≡ rows_with p rest
+  rows_left_out p q [] rest apart = refl
+  rows_left_out p q (row ∷ rows) rest apart =
+      let others : List (Key × X) = rows_under q rows ++ rest in
+      ap (λ b. map (λ r. (r.0.key, r.1)) (cond b ((record { prefix = q; key = row.0 }, row.1) ∷ filter (λ r. prefix_eq p r.0.prefix) others) (filter (λ r. prefix_eq p r.0.prefix) others))) apart
+      ∙ rows_left_out p q rows rest apart
+
+  -- those of the prefix are taken
+  rows_taken : (p : Prefix) (rows : RowsOf X) (rest : List (Key × X)) → rows_with p rest ≡ [] → rows_with p (rows_under p rows ++ rest) ≡ rows
+  rows_taken p [] rest none = none
+  rows_taken p (row ∷ rows) rest none =
+      let others : List (Key × X) = rows_under p rows ++ rest in
+      ap (λ o. map (λ r. (r.0.key, r.1)) (cond (is_eq o) ((record { prefix = p; key = row.0 }, row.1) ∷ filter (λ r. prefix_eq p r.0.prefix) others) (filter (λ r. prefix_eq p r.0.prefix) others))) (tied_itself prefix_total p)
+      ∙ ap (λ xs. row ∷ xs) (rows_taken p rows rest none)
+
+  no_rows : (p : Prefix) (parts : PartsOf X) → find prefix_cmp p parts ≡ None → rows_with p (table_of parts) ≡ []
+  no_rows p [] e = refl
+  no_rows p (part ∷ parts) e =
+      elim (prefix_eq p part.0) as (λ b. prefix_eq p part.0 ≡ b → cond b (Some part.1) (find prefix_cmp p parts) ≡ None → rows_with p (rows_under part.0 part.1 ++ table_of parts) ≡ []) [
+        | true ↦ λ is none. absurd (not_some part.1 none)
+        | false ↦ λ is none. rows_left_out p part.0 part.1 (table_of parts) is ∙ no_rows p parts none
+      ] refl e
+
+  pub own_part : (p : Prefix) (parts : PartsOf X) → T (is_sorted prefix_cmp parts) → rows_with p (table_of parts) ≡ rows_at p parts
+  own_part p [] sorted = refl
+  own_part p (part ∷ parts) sorted =
+      let later = own_part p parts (rest_sorted prefix_cmp prefix_total part parts sorted) in
+      elim (prefix_cmp p part.0) as (λ r. prefix_cmp p part.0 ≡ r → rows_with p (rows_under part.0 part.1 ++ table_of parts) ≡ unwrap_or (cond (is_eq r) (Some part.1) (find prefix_cmp p parts)) []) [
+        | Less ↦ λ less. rows_left_out p part.0 part.1 (table_of parts) (ap is_eq less) ∙ later
+        | Equal ↦ λ tied.
+            let none : find prefix_cmp p parts ≡ None =
+            sym (find_tied prefix_cmp prefix_total p part.0 tied parts) ∙ find_below prefix_cmp part.0 parts (below_rest prefix_cmp prefix_total part parts sorted) in
+            ap (λ q. rows_with p (rows_under q part.1 ++ table_of parts)) (sym (same_prefix p part.0 tied)) ∙ rows_taken p part.1 (table_of parts) (no_rows p parts none)
+        | Greater ↦ λ greater. rows_left_out p part.0 part.1 (table_of parts) (ap is_eq greater) ∙ later
+      ] refl
+
+  -- ---- a table is kept in one way
+
+  found_filled : (p : Prefix) (parts : PartsOf X) → All Filled parts → (rows : RowsOf X) → find prefix_cmp p parts ≡ Some rows → rows ≢ []
+  found_filled p [] filled rows e = absurd (not_some rows (sym e))
+  found_filled p (part ∷ parts) filled rows e =
+      elim (is_eq (prefix_cmp p part.0)) as (λ b. cond b (Some part.1) (find prefix_cmp p parts) ≡ Some rows → rows ≢ []) [
+        | true ↦ λ is. subst (λ r. r ≢ []) (let same : part.1 ≡ rows = cc in same) (All-head Filled part parts filled)
+        | false ↦ λ is. found_filled p parts (All-tail Filled part parts filled) rows is
+      ] e
+
+  same_found : (a b : Option (RowsOf X)) → ((rows : RowsOf X) → a ≡ Some rows → rows ≢ []) → ((rows : RowsOf X) → b ≡ Some rows → rows ≢ []) → unwrap_or a [] ≡ unwrap_or b [] → a ≡ b
+  same_found None None left right e = refl
+  same_found None (Some rows) left right e = absurd (right rows refl (sym e))
+  same_found (Some rows) None left right e = absurd (left rows refl e)
+  same_found (Some rows) (Some others) left right e = ap (λ x. Some x) e
+
+  pub same_parts : (parts others : PartsOf X) → T (is_sorted prefix_cmp parts) → T (is_sorted prefix_cmp others) → All Filled parts → All Filled others → table_of parts ≡ table_of others → parts ≡ others
+  same_parts parts others sorted other_sorted filled other_filled e =
+      same_entries prefix_cmp prefix_total same_prefix parts others sorted other_sorted
+      (λ p. same_found (find prefix_cmp p parts) (find prefix_cmp p others) (found_filled p parts filled) (found_filled p others other_filled)
+      (sym (own_part p parts sorted) ∙ ap (rows_with p) e ∙ own_part p others other_sorted))

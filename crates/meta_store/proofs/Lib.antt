@@ -4,6 +4,8 @@ pub mod Keys
 pub mod Maps
 -- a table that is kept by full prefix
 pub mod Kept
+-- stores that keep the same
+pub mod Same
 -- a store after an object was held
 mod Holding
 -- a store after a key was forgotten

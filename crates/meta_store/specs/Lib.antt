@@ -24,3 +24,5 @@ pub mod Step
 pub mod Fault
 -- how a store keeps its table, by full prefix: what is gone over row by row
 pub mod Kept
+-- lemmas, which stand here since impls cite them: the comparisons decide equality of all parts
+pub mod Equal

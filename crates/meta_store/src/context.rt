@@ -7,7 +7,7 @@ use std::alloc::AllocError;
 use std::marker::Model;
 
 /// What a read hands out for a later write: the key that was read, the vector of the object there,
-/// and who read. Only `Store::look` makes one, and `copy` another.
+/// and who read. Only `Store::look` and `Store::context` make one, and `copy` another.
 #[derive(Debug, Drop, PartialEq, Eq)]
 pub struct Context {
     key: MetaKey,

@@ -8,7 +8,7 @@
 //! ```
 //!
 //! Read `store` with `rows`, `put`, `merge`, `context` with `source`, then `laws` and `fault`;
-//! `size` tells what may be held, `parts` and `stale` are private.
+//! `size` tells what may be held, `parts` is private.
 #![tactic(auto)]
 
 pub mod context;
@@ -20,7 +20,6 @@ pub mod put;
 pub mod rows;
 pub mod size;
 pub mod source;
-mod stale;
 pub mod store;
 
 pub use context::Context;

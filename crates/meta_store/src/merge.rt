@@ -103,7 +103,7 @@ impl Store {
         if all_are_bare(merged.entries()) {
             return Err(StoreFault::BadEntries);
         }
-        if self.is_full_for(key) {
+        if !self.has_room_for(key) {
             return Err(StoreFault::StoreFull);
         }
         if !is_small_enough(&merged, MAX_MERGED_LEN) {

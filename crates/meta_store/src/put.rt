@@ -40,7 +40,7 @@ impl Store {
         if context.is_some_and(|context| context.key() != key) {
             return Err(StoreFault::WrongKey);
         }
-        if self.is_full_for(key) {
+        if !self.has_room_for(key) {
             return Err(StoreFault::StoreFull);
         }
         let alloc = self.allocator();

@@ -116,3 +116,26 @@ impl Rows {
         Ok(Rows { by_key })
     }
 }
+
+impl PartialEq for Rows {
+    ghost use Rattle.std.specs.Prelude.{◌≡◌, ◌↔◌, IsTrue};
+    ghost use Rattle.std.specs.Cmp.{partial_equiv_from_equiv};
+    ghost use Rattle.meta_store.specs.Equal.{rows_eq, rows_equivalence};
+
+    ghost eq = { rows_eq };
+
+    ghost laws = { partial_equiv_from_equiv rows_equivalence };
+
+    fn eq(&self, other: &Rows) -> bool
+        ensures value { result ≡ rows_eq self.now other.now }
+        ensures same { IsTrue result ↔ (self.now ≡ other.now) }
+    {
+        self.by_key == other.by_key
+    }
+}
+
+impl Eq for Rows {
+    ghost use Rattle.meta_store.specs.Equal.{rows_equivalence};
+
+    ghost laws = { rows_equivalence };
+}

@@ -13,8 +13,7 @@ use crate::context::Context;
 use crate::parts::{copy_parts, put_part, remove_part};
 use crate::rows::Rows;
 use crate::source::Source;
-use crate::stale::{has_read, knows};
-use dvvset::{Entries, Entry, Vector, join, values};
+use dvvset::{Entries, Vector, has_read, join, knows, values};
 use meta_types::{FullPrefix, MetaKey, Value};
 use std::alloc::{AllocError, Global};
 use std::collections::BTreeMap;
@@ -93,22 +92,42 @@ impl Store {
             (λ read. read.0.items ≡ values_of (object_at self.now key.now)) }
         ensures vector { IfOk result (λ read. read.1 ≡ join (object_at self.now key.now)) }
     {
-        match self.object(key) {
-            Some(object) => Ok((values(self.alloc, object)?, join(self.alloc, object)?)),
-            None => Ok((Vec::new(self.alloc), Vector::empty(self.alloc))),
-        }
+        Ok((self.values(key)?, self.vector(key)?))
     }
 
     /// The values under the key, as `get` has them, and a context for a later write that has read
-    /// them; where nothing is held its vector has read nothing. `source` says who reads. It takes
-    /// memory, with the refusal of which alone it is refused.
+    /// them, as `context` makes it. Fails only when memory runs out.
     pub fn look(&self, key: &MetaKey, source: Source) -> Result<(Vec<Value>, Context), AllocError>
         ensures values { IfOk result
             (λ read. read.0.items ≡ values_of (object_at self.now key.now)) }
         ensures context { IfOk result (λ read. read.1 ≡ reading_at self.now key.now source) }
     {
-        let (values, vector) = self.get(key)?;
-        Ok((values, Context::new(key.copy()?, vector, source)))
+        Ok((self.values(key)?, self.context(key, source)?))
+    }
+
+    /// A context for a later write that has read what is under the key; where nothing is held its
+    /// vector has read nothing. `source` says who reads. No value is copied. Fails only when memory
+    /// runs out.
+    pub fn context(&self, key: &MetaKey, source: Source) -> Result<Context, AllocError>
+        ensures { IfOk result (λ context. context ≡ reading_at self.now key.now source) }
+    {
+        Ok(Context::new(key.copy()?, self.vector(key)?, source))
+    }
+
+    /// The values under the key, none where nothing is held. They are copies.
+    fn values(&self, key: &MetaKey) -> Result<Vec<Value>, AllocError>
+        ensures { IfOk result (λ values. values.items ≡ values_of (object_at self.now key.now)) }
+    {
+        let absent = Entries::empty(self.alloc);
+        values(self.alloc, self.object_or(key, &absent))
+    }
+
+    /// The vector of the object under the key, which has read nothing where nothing is held.
+    fn vector(&self, key: &MetaKey) -> Result<Vector, AllocError>
+        ensures { IfOk result (λ vector. vector ≡ join (object_at self.now key.now)) }
+    {
+        let absent = Entries::empty(self.alloc);
+        join(self.alloc, self.object_or(key, &absent))
     }
 
     /// Returns whether the object under the key has read all that the vector has. It takes no
@@ -116,7 +135,8 @@ impl Store {
     pub fn is_stale(&self, key: &MetaKey, vector: &Vector) -> bool
         ensures { result ≡ is_stale self.now key.now vector.now }
     {
-        has_read(self.entries_under(key), vector.counters())
+        let absent = Entries::empty(self.alloc);
+        has_read(self.object_or(key, &absent), vector)
     }
 
     /// Returns whether the object under the key knows each event that the other knows. It takes no
@@ -124,17 +144,16 @@ impl Store {
     pub(crate) fn knows(&self, key: &MetaKey, other: &Entries) -> bool
         ensures { result ≡ is_stale self.now key.now (join other.now) }
     {
-        knows(self.entries_under(key), other.entries())
+        let absent = Entries::empty(self.alloc);
+        knows(self.object_or(key, &absent), other)
     }
 
-    /// The entries of the object under the key, none where nothing is held.
-    fn entries_under(&self, key: &MetaKey) -> &[Entry]
-        ensures { result.now ≡ object_at self.now key.now }
+    /// Returns whether an object may be held under the key: it is held, or there are fewer keys than
+    /// 8,192. It takes no memory.
+    pub fn has_room_for(&self, key: &MetaKey) -> bool
+        ensures { IsTrue result ↔ (is_full_for self.now key.now ≡ false) }
     {
-        match self.object(key) {
-            Some(object) => object.entries(),
-            None => &[],
-        }
+        self.len < MAX_KEYS || self.object(key).is_some()
     }
 
     /// Holds the object under the key, in place of what is held there, as a store is filled from
@@ -209,13 +228,6 @@ impl Store {
         })
     }
 
-    /// Returns whether the key would be one too many.
-    pub(crate) fn is_full_for(&self, key: &MetaKey) -> bool
-        ensures { result ≡ is_full_for self.now key.now }
-    {
-        MAX_KEYS <= self.len && self.object(key).is_none()
-    }
-
     /// The object under the key, the absent one where nothing is held. `absent` is borrowed for it.
     pub(crate) fn object_or<'a>(&'a self, key: &MetaKey, absent: &'a Entries) -> &'a Entries
         requires { absent.now ≡ [] }
@@ -227,4 +239,28 @@ impl Store {
     pub(crate) fn allocator(&self) -> Global {
         self.alloc
     }
+}
+
+impl PartialEq for Store {
+    ghost use Rattle.std.specs.Prelude.{◌≡◌, ◌↔◌, IsTrue};
+    ghost use Rattle.std.specs.Cmp.{partial_equiv_from_equiv};
+    ghost use Rattle.meta_store.specs.Equal.{table_eq, table_equivalence};
+
+    ghost eq = { table_eq };
+
+    ghost laws = { partial_equiv_from_equiv table_equivalence };
+
+    /// Returns whether both hold the same objects under the same keys. It takes no memory.
+    fn eq(&self, other: &Store) -> bool
+        ensures value { result ≡ table_eq self.now other.now }
+        ensures same { IsTrue result ↔ (self.now ≡ other.now) }
+    {
+        self.parts == other.parts
+    }
+}
+
+impl Eq for Store {
+    ghost use Rattle.meta_store.specs.Equal.{table_equivalence};
+
+    ghost laws = { table_equivalence };
 }

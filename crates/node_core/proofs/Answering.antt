@@ -18,7 +18,7 @@ use Rattle.meta_store.specs.Table.{IsTable, Table}
 use Rattle.meta_store.proofs.Tables.{found_row}
 use Rattle.hash_tree.specs.Tree.{Digest, bucket, inner_digests, leaf_digests, prefix_roots, rows_of, tree_root}
 use Rattle.hash_tree.specs.Hashed.{rows_below}
-use Rattle.exchange.specs.Answers.{answer, answer_bucket, answer_inner, answer_key, answer_leaves, answer_root, bucket_message, inner_message, leaves_message, object_if_held, object_messages, want_if_listed, want_messages}
+use Rattle.exchange.specs.Answers.{answers_to, answer_bucket, answer_inner, answer_key, answer_leaves, answer_root, bucket_message, inner_message, leaves_message, object_if_held, object_messages, want_if_listed, want_messages}
 use Rattle.exchange.specs.Sides.{differ, differing_keys, differing_places, same_digest}
 use Rattle.node_parts.specs.Outbox.{IsSendable, MaySend}
 use Rattle.node_parts.specs.Overlay.{envelope}
@@ -84,8 +84,8 @@ module _ (table : Table) (is : IsTable table) where
       (wanted key (find bytes_cmp bytes (map key_row_parts theirs))))
       (differing_keys bytes_cmp (map key_row_parts theirs) (map key_row_parts (bucket (rows_below p table) leaf)))
 
-  sendable : (m : Message) → All IsSendable (answer table m)
-  unfolding answer
+  sendable : (m : Message) → All IsSendable (answers_to table m)
+  unfolding answers_to
   sendable (XRoot root) = rooted root
   sendable (XPrefixes theirs) = All-mapped IsSendable (inner_message table) (λ _. tt) _
   sendable (XInner p theirs) = inner p theirs
@@ -95,7 +95,7 @@ module _ (table : Table) (is : IsTable table) where
   sendable _ = All-nil IsSendable
 
   -- each goes to another node
-  pub answers_may : (node to : ℕ) → to ≢ node → (m : Message) → All (MaySend node) (map (envelope to) (answer table m))
+  pub answers_may : (node to : ℕ) → to ≢ node → (m : Message) → All (MaySend node) (map (envelope to) (answers_to table m))
   answers_may node to another m =
-      All-map (MaySend node) (envelope to) (answer table m)
-      (All-weaker IsSendable (λ message. MaySend node (envelope to message)) (λ message may. record { apart = another; sendable = may }) (answer table m) (sendable m))
+      All-map (MaySend node) (envelope to) (answers_to table m)
+      (All-weaker IsSendable (λ message. MaySend node (envelope to message)) (λ message may. record { apart = another; sendable = may }) (answers_to table m) (sendable m))

@@ -12,7 +12,7 @@ use Rattle.dvvset.specs.Object.{Counter, Entry}
 use Rattle.dvvset.specs.Clock.{descends, join}
 use Rattle.frame_fields.specs.Field.{greatest_count}
 use Rattle.frame_fields.proofs.Spellable.{number_within}
-use Rattle.exchange.specs.Answers.{answer}
+use Rattle.exchange.specs.Answers.{answers_to}
 use Rattle.meta_frame.specs.Frame.{spelling}
 use Rattle.meta_frame.specs.declared.message.Message.{Message}
 use Rattle.meta_frame.specs.declared.message.Message.TheVariants.{Gossip, XRoot, XPrefixes, XInner, XLeaves, XBucket, XWant}
@@ -122,7 +122,7 @@ held_if_stale table key vector fits stale absent =
 -- ---- questions
 
 pub after_question : (from : ℕ) (m : Message) (s : NodeParts) → IsQuestion m
-    → on_message from 0 m (begun s) ≡ record { parts = s; sent = map (envelope from) (answer s.table m) }
+    → on_message from 0 m (begun s) ≡ record { parts = s; sent = map (envelope from) (answers_to s.table m) }
 after_question from (XRoot root) s is = refl
 after_question from (XPrefixes prefixes) s is = refl
 after_question from (XInner prefix digests) s is = refl
@@ -150,7 +150,7 @@ question_reply (XWant key) s is = refl
 question_reply _ s is = absurd is
 
 pub asked_step : (from : ℕ) (m : Message) (old new : NodeParts) (sent : List Envelope) (outbox : Outbox) (stepped : Stepped) → IsQuestion m
-    → sent ≡ map (envelope from) (answer old.table m)
+    → sent ≡ map (envelope from) (answers_to old.table m)
     → stepped ≡ record { reply = Took; outbox = outbox }
     → outbox ≡ map spelling (frames_from old.node old.frames sent)
     → All HasSpelling (frames_from old.node old.frames sent)

@@ -14,7 +14,7 @@ use Rattle.meta_frame.specs.declared.message.Message.TheVariants.{Gossip, IHave,
 use Rattle.meta_store.specs.Table.{Table, object_at}
 use Rattle.hash_tree.specs.Tree.{Digest, bucket, inner_digests, leaf_digests, prefix_roots, rows_of, tree_root}
 use Rattle.hash_tree.specs.Hashed.{rows_below}
-use Rattle.exchange.specs.Answers.{answer, bucket_message, inner_message, leaves_message, object_if_held, object_messages, want_if_listed, want_messages, answer_key}
+use Rattle.exchange.specs.Answers.{answers_to, bucket_message, inner_message, leaves_message, object_if_held, object_messages, want_if_listed, want_messages, answer_key}
 use Rattle.exchange.specs.Sides.{differing_keys, differing_places, same_digest}
 use Rattle.peer_lists.specs.Lists.{choose, has, pick, put_last, without_all}
 use Rattle.hyparview.specs.declared.event.ViewEvent.{ViewEvent}
@@ -321,8 +321,8 @@ module _ (table : Table) where
   held : (key : Key) → All (IsOfHeld table) (object_if_held table key)
   held key = found key (find key_cmp key table) refl
 
-  answered : (m : Message) → All (IsOfHeld table) (answer table m)
-  unfolding answer
+  answered : (m : Message) → All (IsOfHeld table) (answers_to table m)
+  unfolding answers_to
   answered (XRoot theirs) =
       let own = XPrefixes (prefix_roots (rows_of table)) in
       cond_both (same_digest theirs (tree_root (rows_of table))) [] (own ∷ []) (All (IsOfHeld table))
@@ -348,5 +348,5 @@ module _ (table : Table) where
   answered (XWant key) = held key
   answered _ = All-nil (IsOfHeld table)
 
-  pub answers_carry_held : (to : ℕ) (m : Message) → All (HoldsHeld table) (map (envelope to) (answer table m))
-  answers_carry_held to m = All-map (HoldsHeld table) (envelope to) (answer table m) (answered m)
+  pub answers_carry_held : (to : ℕ) (m : Message) → All (HoldsHeld table) (map (envelope to) (answers_to table m))
+  answers_carry_held to m = All-map (HoldsHeld table) (envelope to) (answers_to table m) (answered m)

@@ -13,7 +13,7 @@ use Rattle.meta_store.specs.Context.{Reading}
 use Rattle.meta_store.specs.Step.{merge_of, object_after_put, table_after_merge}
 use Rattle.meta_store.specs.Table.{Table, is_stale, with_object}
 use Rattle.hash_tree.specs.Tree.{rows_of, tree_root}
-use Rattle.exchange.specs.Answers.{answer}
+use Rattle.exchange.specs.Answers.{answers_to}
 use Rattle.peer_lists.specs.Lists.{has}
 use Rattle.hyparview.specs.declared.event.ViewEvent.{ViewEvent}
 use Rattle.hyparview.specs.declared.event.ViewEvent.TheVariants as OfViews
@@ -118,7 +118,7 @@ module _ (s : NodeParts) where
       (λ _. Leaves-views s.table (OfViews.PeerDown from) word heard known) (λ _. known))
       (λ _. Leaves-begun)
 
-  Leaves-reply : (from : ℕ) (m : Message) → Leaves s s.table (send_all from (answer s.table m) (begun s))
+  Leaves-reply : (from : ℕ) (m : Message) → Leaves s s.table (send_all from (answers_to s.table m) (begun s))
   Leaves-reply from m = record { node = refl; life = refl; held = refl; sent = answers_carry_held s.table from m }
 
   Leaves-tick : (word : ℕ) → Leaves s s.table (tick word (begun s))

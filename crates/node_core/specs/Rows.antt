@@ -14,7 +14,7 @@ use Rattle.meta_store.specs.Context.{Reading}
 use Rattle.meta_store.specs.Step.{object_after_put, merge_of}
 use Rattle.meta_store.specs.Table.{is_stale}
 use Rattle.hash_tree.specs.Tree.{rows_of, tree_root}
-use Rattle.exchange.specs.Answers.{answer}
+use Rattle.exchange.specs.Answers.{answers_to}
 use Rattle.hyparview.specs.declared.event.ViewEvent.TheVariants as OfViews
 use Rattle.plumtree.specs.Broadcast.{TakesGossip, TakesPrune, TakesIHave, TakesGraft, Tick as CastTick}
 use Rattle.subscriptions.specs.Watching.{empty}
@@ -81,7 +81,7 @@ on_hello from life word t =
 -- object in one is merged and not broadcast, and those of the views go to the views
 
 abbrev pub reply_to : ℕ → Message → Draft → Draft
-reply_to from message t = send_all from (answer t.parts.table message) t
+reply_to from message t = send_all from (answers_to t.parts.table message) t
 
 abbrev pub on_message : ℕ → ℕ → Message → Draft → Draft
 on_message from word (Gossip round key object) = on_gossip from round key object

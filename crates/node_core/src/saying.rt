@@ -22,7 +22,7 @@ impl NodeState {
         ensures same { OnErr result (self.new ≡ self.old) }
     {
         self.is_another(peer)?;
-        let outbox = self.one_frame(peer, start(self.held.tree()))?;
+        let outbox = self.one_frame(peer, start(&self.held))?;
         Ok(self.finish(Reply::Done, outbox))
     }
 

@@ -3,12 +3,12 @@ ghost use Rattle.hash_tree.specs.Tree.{rows_of};
 ghost use Rattle.node_core.specs.Node.{IsNodeState, opening};
 ghost use Rattle.node_parts.specs.Overlay.{ArePeers};
 
-use hash_tree::Tree;
+use hash_tree::{Held, Tree};
 use hyparview::Views;
 use meta_store::Store;
 use meta_types::NodeId;
 use node_events::{Outbox, Reply};
-use node_parts::{Held, Overlay, Watches, both};
+use node_parts::{Overlay, Watches, both};
 use plumtree::Cast;
 use std::alloc::{AllocError, Global};
 use std::marker::Model;

@@ -2,7 +2,7 @@
 
 ghost use Rattle.std.specs.Prelude.{◌≡◌, ◌≢◌, IfOk, IfErr, OnErr, All, map};
 ghost use Rattle.meta_types.specs.Failing.{FailsBy};
-ghost use Rattle.exchange.specs.Answers.{answer};
+ghost use Rattle.exchange.specs.Answers.{answers_to};
 ghost use Rattle.meta_frame.specs.Frame.{IsLawful, IsMessage};
 ghost use Rattle.node_parts.specs.Outbox.{MaySend};
 ghost use Rattle.node_parts.specs.Overlay.{envelope};
@@ -105,13 +105,13 @@ impl NodeState {
     fn answers(&self, to: NodeId, message: &Message) -> Result<Vec<Envelope>, StepFault>
         requires { to ≢ self.now.node }
         ensures sent { IfOk result (λ sent. sent.items
-            ≡ map (envelope to) (answer self.now.table message.now)) }
+            ≡ map (envelope to) (answers_to self.now.table message.now)) }
         ensures may { IfOk result (λ sent. All (MaySend self.now.node) sent.items) }
         ensures memory { IfErr result (λ fault. fault ≡ Memory) }
     {
         // Read for what it tells: what is held is a table.
         let _few = self.held.store().len();
-        let messages = answer(self.alloc, self.held.store(), self.held.tree(), message)?;
+        let messages = answer(self.alloc, &self.held, message)?;
         Ok(addressed(self.alloc, to, messages)?)
     }
 }

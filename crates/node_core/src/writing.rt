@@ -43,8 +43,7 @@ impl NodeState {
             (refusal_of (Local (PutOver key.now value.now)) self.old) result }
         ensures same { OnErr result (self.new ≡ self.old) }
     {
-        let (values, context) = self.held.store().look(key, self.source())?;
-        drop(values);
+        let context = self.held.store().context(key, self.source())?;
         let written = self.write(key, value, Some(&context));
         drop(context);
         written

@@ -121,7 +121,7 @@ impl Ahead {
         ensures refused { FailsBy Memory
             (refusal_of (Local (OfEvent.PutOver key.now value.now)) state.now) result }
     {
-        let (_, context) = state.store().look(key, state.source())?;
+        let context = state.store().context(key, state.source())?;
         let ahead = Ahead::of_write(alloc, state, key, value, Some(&context))?;
         Ok(Ahead {
             change: ahead.change,

@@ -1,12 +1,11 @@
 //! The parts of a node, each of which keeps what must always hold of it.
 //!
-//! Read `held` (the store with its tree), `overlay` (the views with the broadcast), `talking` and
-//! `ticking` (what the overlay does), `watches` with `news`; then `messages` and `sending`, by
-//! which what a node says becomes frames. `laws` has what always holds of an overlay.
+//! Read `overlay` (the views with the broadcast), `talking` and `ticking` (what the overlay does),
+//! `watches` with `news`; then `messages` and `sending`, by which what a node says becomes frames.
+//! `laws` has what always holds of an overlay.
 #![tactic(auto)]
 
 pub mod envelope;
-pub mod held;
 pub mod laws;
 pub mod messages;
 pub mod news;
@@ -19,7 +18,6 @@ pub mod together;
 pub mod watches;
 
 pub use envelope::Envelope;
-pub use held::Held;
 pub use messages::gossips;
 pub use news::News;
 pub use origin::Origin;

@@ -2,12 +2,9 @@
 //!
 //! A list of messages is handed on by value, so that no function holds two where a call may fail.
 
-ghost use Rattle.std.specs.Prelude.{◌≡◌};
-ghost use Rattle.hash_tree.specs.Tree.{rows_of};
-
 use crate::node::{filled, keys, put_over, refused, value};
 use exchange::{answer, reconcile, start};
-use hash_tree::Tree;
+use hash_tree::Held;
 use meta_frame::{Frame, Message, encode, is_lawful};
 use meta_store::Store;
 use meta_types::{Actor, MetaKey, NodeId, Value};
@@ -72,30 +69,17 @@ impl Sides {
 
     /// How many nanoseconds an exchange of copies takes.
     pub fn taken(&self, rt: &HostRuntime) -> io::Result<u128> {
-        let mut here = self.here.copy()?;
-        let mut there = self.there.copy()?;
-        let (here_first, there_first) = (
-            Tree::from_store(self.alloc, &here)?,
-            Tree::from_store(self.alloc, &there)?,
-        );
-        let mut here_tree = here_first.copy()?;
-        let mut there_tree = there_first.copy()?;
+        let mut here = Held::new(self.alloc, self.here.copy()?)?;
+        let mut there = Held::new(self.alloc, self.there.copy()?)?;
         let start = Instant::now(rt)?;
-        reconcile(
-            self.alloc,
-            &mut here,
-            &mut here_tree,
-            &mut there,
-            &mut there_tree,
-        )
-        .map_err(refused)?;
+        reconcile(self.alloc, &mut here, &mut there).map_err(refused)?;
         Ok(start.elapsed(rt)?.as_nanos())
     }
 
     /// What an exchange of copies sends.
     pub fn sent(&self) -> io::Result<Sent> {
-        let mut here = self.here.copy()?;
-        let mut there = self.there.copy()?;
+        let mut here = Held::new(self.alloc, self.here.copy()?)?;
+        let mut there = Held::new(self.alloc, self.there.copy()?)?;
         exchanged(self.alloc, &mut here, &mut there)
     }
 }
@@ -111,7 +95,7 @@ impl Sent {
 }
 
 /// What an exchange sends that here begins: seven rounds, each of which answers the one before.
-fn exchanged(alloc: Global, here: &mut Store, there: &mut Store) -> io::Result<Sent> {
+fn exchanged(alloc: Global, here: &mut Held, there: &mut Held) -> io::Result<Sent> {
     let mut sent = Sent {
         frames: 0,
         bytes: 0,
@@ -128,92 +112,80 @@ fn exchanged(alloc: Global, here: &mut Store, there: &mut Store) -> io::Result<S
 }
 
 /// What begins an exchange.
-fn begun(alloc: Global, store: &Store) -> io::Result<Vec<Message>> {
-    let tree = Tree::from_store(alloc, store)?;
+fn begun(alloc: Global, held: &Held) -> io::Result<Vec<Message>> {
     let mut messages = Vec::new(alloc);
-    messages.push(start(&tree))?;
+    messages.push(start(held))?;
     Ok(messages)
 }
 
 /// Takes a round of messages, and answers it. It is dropped.
 fn round(
     alloc: Global,
-    store: &mut Store,
+    held: &mut Held,
     sent: &mut Sent,
     messages: Vec<Message>,
 ) -> io::Result<Vec<Message>> {
-    take_and_answer(alloc, store, sent, messages.as_slice())
+    take_and_answer(alloc, held, sent, messages.as_slice())
 }
 
 /// Takes the last round of messages, to which there is no answer.
 fn last_round(
     alloc: Global,
-    store: &mut Store,
+    held: &mut Held,
     sent: &mut Sent,
     messages: Vec<Message>,
 ) -> io::Result<()> {
-    take_all(alloc, store, sent, messages.as_slice())
+    take_all(alloc, held, sent, messages.as_slice())
 }
 
 /// Takes messages and answers them. A want of a key comes after its object, so it makes no
 /// difference that all are taken before the first is answered.
 fn take_and_answer(
     alloc: Global,
-    store: &mut Store,
+    held: &mut Held,
     sent: &mut Sent,
     messages: &[Message],
 ) -> io::Result<Vec<Message>> {
-    take_all(alloc, store, sent, messages)?;
-    answers(alloc, store, messages)
+    take_all(alloc, held, sent, messages)?;
+    answers(alloc, held, messages)
 }
 
 /// Takes messages in turn, as `take` does.
 fn take_all(
     alloc: Global,
-    store: &mut Store,
+    held: &mut Held,
     sent: &mut Sent,
     messages: &[Message],
 ) -> io::Result<()> {
     for message in messages {
-        take(alloc, store, sent, message)?;
+        take(alloc, held, sent, message)?;
     }
     Ok(())
 }
 
 /// Counts a message as a frame, and merges the object that it brings, if it brings one.
-fn take(alloc: Global, store: &mut Store, sent: &mut Sent, message: &Message) -> io::Result<()> {
+fn take(alloc: Global, held: &mut Held, sent: &mut Sent, message: &Message) -> io::Result<()> {
     let len = frame_len(alloc, message)?;
     *sent = sent.and_frame(len);
-    merge(store, message)
+    merge(held, message)
 }
 
 /// Merges the object that a message brings, if it brings one.
-fn merge(store: &mut Store, message: &Message) -> io::Result<()> {
+fn merge(held: &mut Held, message: &Message) -> io::Result<()> {
     if let Message::XObject { key, object } = message {
-        let key = key.copy()?;
-        store.merge(key, object.copy()?).map_err(refused)?;
+        let merged = held.store().preview_merge(key, object).map_err(refused)?;
+        if let Some(merged) = merged {
+            held.hold(key, merged)?;
+        }
     }
     Ok(())
 }
 
-/// What messages are answered from what the store holds.
-fn answers(alloc: Global, store: &Store, messages: &[Message]) -> io::Result<Vec<Message>> {
-    let tree = Tree::from_store(alloc, store)?;
-    answers_by(alloc, store, &tree, messages)
-}
-
-/// The same from the store's tree, which is made once for all of them.
-fn answers_by(
-    alloc: Global,
-    store: &Store,
-    tree: &Tree,
-    messages: &[Message],
-) -> io::Result<Vec<Message>>
-    requires { tree.now ≡ rows_of store.now }
-{
+/// What messages are answered from what is held.
+fn answers(alloc: Global, held: &Held, messages: &[Message]) -> io::Result<Vec<Message>> {
     let mut answers = Vec::new(alloc);
     for message in messages {
-        add_answers(alloc, &mut answers, store, tree, message)?;
+        add_answers(alloc, &mut answers, held, message)?;
     }
     Ok(answers)
 }
@@ -222,13 +194,10 @@ fn answers_by(
 fn add_answers(
     alloc: Global,
     answers: &mut Vec<Message>,
-    store: &Store,
-    tree: &Tree,
+    held: &Held,
     message: &Message,
-) -> io::Result<()>
-    requires { tree.now ≡ rows_of store.now }
-{
-    let mut own = answer(alloc, store, tree, message)?;
+) -> io::Result<()> {
+    let mut own = answer(alloc, held, message)?;
     answers.append(&mut own)?;
     Ok(())
 }

@@ -312,3 +312,15 @@ fn objects_are_held_by_the_rules_and_up_to_the_limits(rt: HostRuntime) {
 fn writes_merges_and_reads_succeed_again_under_refused_memory(rt: HostRuntime) {
     assert!(rt; is_played(&rt, rt.alloc(), &EACH_CALL));
 }
+
+#[test]
+fn a_previewed_write_changes_nothing(rt: HostRuntime) {
+    let alloc = rt.alloc();
+    let store = Store::new(alloc);
+    let (at, red) = (key(&rt, alloc, b'k', 1), value(&rt, alloc, b'r', 1));
+    let previewed = store.preview_put(actor(&rt, 0, 1), &at, red, None);
+    assert!(rt; previewed.is_ok());
+    let (values, vector) = store.get(&at).expect(&rt, "memory");
+    assert!(rt; values.is_empty() & vector.is_empty());
+    assert!(rt; store.has_room_for(&at) & (store == Store::new(alloc)));
+}

@@ -13,7 +13,7 @@ invariant-loop-next l = record {
   own_rest_rises : is_sorted bytes_cmp (map key_row_parts l.own_rest) ≡ true;
   their_rest_named : AreNamed l.their_rest;
   own_rest_named : AreNamed l.own_rest;
-  told : l.answers.items ++ flat_map (λ row. object_if_held l.store (record { prefix = l.prefix; key = row.0 }) ++ want_messages (record { prefix = l.prefix; key = row.0 }) row.1) (differing bytes_cmp (map key_row_parts l.their_rest) (map key_row_parts l.own_rest)) ≡ answer_bucket l.store l.prefix l.leaf l.theirs;
+  told : l.answers.items ++ flat_map (λ row. object_if_held l.held (record { prefix = l.prefix; key = row.0 }) ++ want_messages (record { prefix = l.prefix; key = row.0 }) row.1) (differing bytes_cmp (map key_row_parts l.their_rest) (map key_row_parts l.own_rest)) ≡ answer_bucket l.held l.prefix l.leaf l.theirs;
 }
 
 abbrev pub decreases-loop-next : goal.decreases-loop-next

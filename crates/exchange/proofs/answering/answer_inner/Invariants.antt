@@ -8,4 +8,4 @@ use Rattle.exchange.specs.Sides.{differ}
 use Rattle.exchange.proofs.answering.answer_inner.Given as goal
 
 abbrev pub invariant-loop-inner : goal.invariant-loop-inner
-invariant-loop-inner l = l.answers.items ≡ map (leaves_message l.store l.prefix) (filter (λ place. differ (slice_get l.theirs place) (slice_get (inner_digests (rows_below l.prefix l.store)) place)) (range_with_len 0 l.inner))
+invariant-loop-inner l = l.answers.items ≡ map (leaves_message l.held l.prefix) (filter (λ place. differ (slice_get l.theirs place) (slice_get (inner_digests (rows_below l.prefix l.held)) place)) (range_with_len 0 l.inner))

@@ -14,11 +14,11 @@ use Rattle.exchange.proofs.answering.answer_leaves.Goals.{then-differ_at+in_ok-b
 
 pub loop-place-preserved : goal.loop-place-preserved
 loop-place-preserved c =
-    let f : ℕ → Message = λ place. bucket_message c.args.store.now c.args.prefix.now (16 * c.args.inner + place) in
-    let p : ℕ → Bool = λ place. differ (slice_get c.args.theirs.now place) (slice_get (leaf_digests (rows_below c.args.prefix.now c.args.store.now) c.args.inner) place) in
+    let f : ℕ → Message = λ place. bucket_message c.args.held.now c.args.prefix.now (16 * c.args.inner + place) in
+    let p : ℕ → Bool = λ place. differ (slice_get c.args.theirs.now place) (slice_get (leaf_digests (rows_below c.args.prefix.now c.args.held.now) c.args.inner) place) in
     let n = c.loop-place.place in
-    let own : c.as_slice.result.now ≡ leaf_digests (rows_below c.args.prefix.now c.args.store.now) c.args.inner =
-    c.as_slice.ensures ∙ c.leaves-own.ensures ∙ ap (λ rows. leaf_digests (own_rows c.args.prefix.now rows) c.args.inner) c.requires in
+    let own : c.as_slice.result.now ≡ leaf_digests (rows_below c.args.prefix.now c.args.held.now) c.args.inner =
+    c.as_slice.ensures ∙ c.leaves-own.ensures ∙ ap (λ rows. leaf_digests (own_rows c.args.prefix.now rows) c.args.inner) c.tree.ensures in
     let is : c.differ_at.result ≡ p n = c.differ_at.ensures ∙ ap (λ ds. differ (slice_get c.args.theirs.now n) (slice_get ds n)) own in
     elim c.if-differ_at.branch [
       | then-differ_at+in_ok-bucket_message+in_ok-push w ↦ ap (λ v. v.items) w.answers-is ∙ place_taken f p n c.loop-place.answers.items c.loop-place.invariant w.push.new.self.items w.in_ok-bucket_message.field-0 (sym is ∙ w.if-differ_at.true) w.in_ok-bucket_message.ensures w.in_ok-push.ensures.items
@@ -36,10 +36,10 @@ returns c =
     let least : 16 ≤ c.loop-place.place = c.loop-place-test.false in
     let all : c.loop-place.place ≡ 16 = omega arith in
     c.loop-place.invariant
-    ∙ ap (λ n. map ((λ place. bucket_message c.args.store.now c.args.prefix.now (16 * c.args.inner + place))) (filter (λ place. differ (slice_get c.args.theirs.now place) (slice_get (leaf_digests (rows_below c.args.prefix.now c.args.store.now) c.args.inner) place)) (range_with_len 0 n))) all
-    ∙ sym (of_sixteen [] (told c.args.store.now c.args.prefix.now c.args.inner c.args.theirs.now) c.args.inner c.if-inner-ge16.false)
+    ∙ ap (λ n. map ((λ place. bucket_message c.args.held.now c.args.prefix.now (16 * c.args.inner + place))) (filter (λ place. differ (slice_get c.args.theirs.now place) (slice_get (leaf_digests (rows_below c.args.prefix.now c.args.held.now) c.args.inner) place)) (range_with_len 0 n))) all
+    ∙ sym (of_sixteen [] (told c.args.held.now c.args.prefix.now c.args.inner c.args.theirs.now) c.args.inner c.if-inner-ge16.false)
 
 pub returns-then-inner-ge16 : goal.returns-then-inner-ge16
 unfolding told
 returns-then-inner-ge16 c =
-    c.new-answers.ensures.items ∙ sym (not_of_sixteen [] (told c.args.store.now c.args.prefix.now c.args.inner c.args.theirs.now) c.args.inner c.if-inner-ge16.true)
+    c.new-answers.ensures.items ∙ sym (not_of_sixteen [] (told c.args.held.now c.args.prefix.now c.args.inner c.args.theirs.now) c.args.inner c.if-inner-ge16.true)

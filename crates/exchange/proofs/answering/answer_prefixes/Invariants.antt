@@ -11,7 +11,7 @@ abbrev pub invariant-loop-next : goal.invariant-loop-next
 invariant-loop-next l = record {
   their_rest_rises : is_sorted prefix_cmp (map prefix_row_parts l.their_rest) ≡ true;
   own_rest_rises : is_sorted prefix_cmp (map prefix_row_parts l.own_rest) ≡ true;
-  told : l.answers.items ++ flat_map (λ row. inner_message l.store row.0 ∷ []) (differing prefix_cmp (map prefix_row_parts l.their_rest) (map prefix_row_parts l.own_rest)) ≡ answer_prefixes l.store l.theirs;
+  told : l.answers.items ++ flat_map (λ row. inner_message l.held row.0 ∷ []) (differing prefix_cmp (map prefix_row_parts l.their_rest) (map prefix_row_parts l.own_rest)) ≡ answer_prefixes l.held l.theirs;
 }
 
 abbrev pub decreases-loop-next : goal.decreases-loop-next

@@ -2,7 +2,7 @@ use Rattle.std.proofs.Common.{◌++◌, All, map, subst, sym, ap, ◌∙◌}
 use Rattle.std.proofs.lemmas.List.{append-nil}
 use Rattle.std.proofs.lemmas.List.Elements.{All-head, All-tail}
 use Rattle.meta_store.specs.Kept.{table_of}
-use Rattle.hash_tree.specs.Tree.{digested}
+use Rattle.hash_tree.specs.Tree.{digest_rows}
 use Rattle.hash_tree.specs.Kept.{AreTreeParts}
 use Rattle.hash_tree.proofs.ByPrefix.{HeldPart, are_parts, digested_part, digested_parts, held_parts, part_taken}
 use Rattle.hash_tree.proofs.parts.parts_of.Goals as goal
@@ -52,4 +52,4 @@ pub returns-clause-rows : goal.returns-clause-rows
 returns-clause-rows c =
     let i = c.loop-prefix.invariant in
     ap table_of (sym (append-nil c.loop-prefix.parts.entries) ∙ ap (λ xs. c.loop-prefix.parts.entries ++ map digested_part xs) (sym c.in-None.ensures.steps.0) ∙ i.1.0)
-    ∙ digested_parts i.0 ∙ ap digested i.1.1.0
+    ∙ digested_parts i.0 ∙ ap digest_rows i.1.1.0

@@ -8,6 +8,6 @@ pub returns : goal.returns
 returns c =
     let parts = c.self.inside.parts.entries in
     record {
-      value = rw (← c.self.view_is) (if_ok_more c.roots_of.result (λ roots is. is ∙ sym (roots_of_parts parts c.self.invariant.parts)) c.roots_of.ensures);
-      rising = if_ok_more c.roots_of.result (λ roots is. ap do_prefixes_rise is ∙ roots_rise parts c.self.invariant.parts) c.roots_of.ensures;
+      value = rw (← c.self.view_is) (if_ok_more c.roots_of.result (λ roots is. is ∙ sym (roots_of_parts parts c.self.invariant)) c.roots_of.ensures);
+      rising = if_ok_more c.roots_of.result (λ roots is. ap do_prefixes_rise is ∙ roots_rise parts c.self.invariant) c.roots_of.ensures;
     }

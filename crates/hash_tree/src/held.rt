@@ -1,17 +1,18 @@
-ghost use Rattle.std.specs.Prelude.{◌≡◌, ◌↔◌, IfOk, OnOk, OnErr, IsTrue, false};
+ghost use Rattle.std.specs.Prelude.{◌≡◌, IfOk, IfErr, OnOk, OnErr, false};
 ghost use Rattle.hash_tree.specs.Tree.{rows_of};
 ghost use Rattle.meta_store.specs.Step.{is_full_for};
 ghost use Rattle.meta_store.specs.Table.{IsHeld, Table, with_object};
 
+use crate::object::object_digest;
+use crate::tree::Tree;
 use dvvset::Entries;
-use hash_tree::{Tree, object_digest};
 use meta_store::Store;
 use meta_types::MetaKey;
 use std::alloc::{AllocError, Global};
 use std::marker::Model;
 
 /// What a node holds: its store, with the tree that stands for it. Both change together.
-#[derive(Drop)]
+#[derive(Debug, Drop)]
 pub struct Held {
     store: Store,
     tree: Tree,
@@ -29,13 +30,45 @@ impl Model for Held {
     ghost invariant = { λ h. h.tree ≡ rows_of h.store };
 }
 
+/// What `Held::build` gives back where memory runs out: the store as it came.
+#[derive(Debug, Drop)]
+pub struct Unbuilt {
+    pub store: Store,
+}
+
 impl Held {
-    /// Holds what the store does. Fails only when memory runs out.
+    /// Holds what the store does. Fails only when memory runs out, and then the store is dropped.
     pub fn new(alloc: Global, store: Store) -> Result<Self, AllocError>
         ensures { IfOk result (λ held. held ≡ store) }
     {
         let tree = Tree::from_store(alloc, &store)?;
         Ok(Held { store, tree })
+    }
+
+    /// Holds what the store does. Fails only when memory runs out, and then the store is given back.
+    pub fn build(alloc: Global, store: Store) -> Result<Self, Unbuilt>
+        ensures value { IfOk result (λ held. held ≡ store) }
+        ensures back { IfErr result (λ unbuilt. unbuilt.store ≡ store) }
+    {
+        match Tree::from_store(alloc, &store) {
+            Ok(tree) => Ok(Held { store, tree }),
+            Err(_) => Err(Unbuilt { store }),
+        }
+    }
+
+    /// The store and its tree, without taking memory.
+    pub fn into_parts(self) -> (Store, Tree)
+        ensures store { result.0 ≡ self }
+        ensures tree { result.1 ≡ rows_of self }
+    {
+        (self.store, self.tree)
+    }
+
+    /// The store, without taking memory. The tree is dropped.
+    pub fn into_store(self) -> Store
+        ensures { result ≡ self }
+    {
+        self.store
     }
 
     pub fn store(&self) -> &Store

@@ -9,7 +9,7 @@ use Rattle.meta_store.proofs.Keys.{key_total}
 use Rattle.hash_tree.specs.Tree.{DigestRows, object_digest, rows_of, with_digest}
 use Rattle.hash_tree.proofs.ByPrefix.{digested_put}
 use Rattle.hash_tree.proofs.Lookups.{find_digested}
-use Rattle.node_parts.proofs.held.Held.hold.Goals as goal
+use Rattle.hash_tree.proofs.held.Held.hold.Goals as goal
 
 not_held : (x : Option (List Entry)) → option_map object_digest x ≡ None → x ≡ None
 not_held None e = refl

@@ -1,0 +1,59 @@
+-- The comparisons of rows and of tables: equal exactly where all keys and objects are.
+use Rattle.std.specs.Prelude.{◌≡◌, nat_eq, Bool, ◌&&◌, List}
+use Rattle.std.specs.Bool.{Decides}
+use Rattle.std.specs.Cmp.{IsEquivalence, decided}
+use Rattle.std.specs.Cmp.Lexicographic.{pointwise, pointwise_decides, bytes_decides}
+use Rattle.meta_types.specs.Name.{Prefix, Key}
+use Rattle.meta_types.specs.Ties.{both_decide}
+use Rattle.dvvset.specs.Object.{Entry}
+use Rattle.dvvset.specs.Equal.{entries_eq, entries_eq-Decides}
+use Rattle.frame_fields.specs.Equal.{prefix_eq}
+use Rattle.past_model.specs.Sets.{key_eq}
+use Rattle.meta_store.specs.Table.{Table}
+use Rattle.meta_store.specs.Kept.{Rows}
+
+-- the same key, as `eq` compares them, with an equal object
+abbrev pub row_eq : {K : Type 0} → (K → K → Bool) → K × List Entry → K × List Entry → Bool
+row_eq eq row other = eq row.0 other.0 && entries_eq row.1 other.1
+
+-- of one full prefix
+abbrev pub rows_eq : Rows → Rows → Bool
+rows_eq = pointwise (row_eq (pointwise nat_eq))
+
+abbrev pub table_eq : Table → Table → Bool
+table_eq = pointwise (row_eq key_eq)
+
+-- Each comparison decides equality of all parts, and so meets the laws of `==`.
+pub prefixes_decide : (p q : Prefix) → Decides (prefix_eq p q) (p ≡ q)
+prefixes_decide p q = both_decide
+    (pointwise nat_eq p.prefix q.prefix) (pointwise nat_eq p.sub q.sub)
+    (bytes_decides p.prefix q.prefix) (bytes_decides p.sub q.sub)
+    (λ firsts subs i. record { prefix = firsts i; sub = subs i })
+    (λ same i. (same i).prefix) (λ same i. (same i).sub)
+
+keys_decide : (k l : Key) → Decides (key_eq k l) (k ≡ l)
+keys_decide k l = both_decide
+    (prefix_eq k.prefix l.prefix) (pointwise nat_eq k.key l.key)
+    (prefixes_decide k.prefix l.prefix) (bytes_decides k.key l.key)
+    (λ prefixes keys i. record { prefix = prefixes i; key = keys i })
+    (λ same i. (same i).prefix) (λ same i. (same i).key)
+
+row_eq-Decides : {K : Type 0} (eq : K → K → Bool) → ((k l : K) → Decides (eq k l) (k ≡ l))
+    → (row other : K × List Entry) → Decides (row_eq eq row other) (row ≡ other)
+row_eq-Decides eq keys row other = both_decide
+    (eq row.0 other.0) (entries_eq row.1 other.1)
+    (keys row.0 other.0) (entries_eq-Decides row.1 other.1)
+    (λ names objects i. (names i, objects i))
+    (λ same i. (same i).0) (λ same i. (same i).1)
+
+pub rows_eq-Decides : (rows others : Rows) → Decides (rows_eq rows others) (rows ≡ others)
+rows_eq-Decides = pointwise_decides (row_eq-Decides (pointwise nat_eq) bytes_decides)
+
+pub table_eq-Decides : (table other : Table) → Decides (table_eq table other) (table ≡ other)
+table_eq-Decides = pointwise_decides (row_eq-Decides key_eq keys_decide)
+
+pub rows_equivalence : IsEquivalence rows_eq
+rows_equivalence = decided rows_eq rows_eq-Decides
+
+pub table_equivalence : IsEquivalence table_eq
+table_equivalence = decided table_eq table_eq-Decides
