@@ -1,19 +1,28 @@
-//! Tells rows: a text of commands at standard input, each an event of a node's views or a call of
-//! its broadcast, and at standard output what each gives out. The gate compares that with the
-//! stored text, so rows cost no proof.
+//! Tries rows: at standard input a text of rows, each a scenario, or events of the overlay, and the
+//! output that is wanted of it, and at standard output what differs, and how many rows there were.
+//! The gate compares that with the stored text, so rows cost no proof.
 //!
-//! Read `rows`, then `node`, `views` and `broadcast`, and last `words` and `print`.
+//! Read `rows`, `row` and `report` with `difference`; then `scenarios`, `schedule` and `past`; and
+//! `overlay`, `node`, `views`, `broadcast`, `words` and `print`.
 #![tactic(auto)]
 
 mod broadcast;
+mod difference;
 mod fault;
 mod node;
+mod overlay;
+mod past;
 mod print;
+mod report;
+mod row;
 mod rows;
+mod scenarios;
+mod schedule;
 mod views;
 mod words;
 
-use rows::told;
+use resolvers::{Largest, Lww, Resolver};
+use rows::report_of;
 use std::io::{self, ErrorKind};
 use std::process::ExitCode;
 use streams::{MayFail, StreamFault, write_whole};
@@ -25,10 +34,12 @@ fn main(rt: HostRuntime) -> ExitCode {
     })
 }
 
-/// Tells the rows at standard input.
+/// Tries the rows at standard input.
 fn run(rt: &HostRuntime) -> Result<(), StreamFault> {
     let rows = read_rows(rt)?;
-    let text = told(rt.alloc(), rows.as_str())?;
+    let lww: Box<dyn Resolver> = Box::new(rt.alloc(), Lww)?;
+    let largest: Box<dyn Resolver> = Box::new(rt.alloc(), Largest)?;
+    let text = report_of(rt, rows.as_str(), &[lww, largest])?;
     write_whole(&mut MayFail(rt.stdout()), text.as_slice())
 }
 

@@ -1,6 +1,7 @@
 //! A schedule: commands to four nodes, which are compared with the past by sets meanwhile.
 
 use crate::past::{add_alike, is_right, keys};
+use crate::report::Report;
 use crate::row::{Row, text_of};
 use crate::rows::print_line;
 use meta_types::MetaKey;
@@ -13,25 +14,25 @@ use std::alloc::{AllocError, Global};
 /// How many nodes each schedule has.
 pub const NODES: u64 = 4;
 
-/// Runs the schedule of a row. Tells whether each node showed what the past does
-/// whenever it was compared, and whether there was no less of anything than the row wants.
-pub fn tell_schedule(
+/// Runs the schedule of a row. Adds where a node didn't show what the past does when it was compared,
+/// and what there was less of than the row wants.
+pub fn try_schedule(
     alloc: Global,
     row: &Row,
     resolvers: &[Box<dyn Resolver>],
-    text: &mut Vec<u8>,
+    report: &mut Report,
 ) -> Result<(), AllocError> {
     let mut log = Vec::new(alloc);
-    let is_right = follow(alloc, text_of(row.scenario()), resolvers, &mut log)?;
-    let mut lacking = Vec::new(alloc);
-    add_lacking(text_of(log.as_slice()), text_of(row.wanted()), &mut lacking)?;
-    let same = is_right && lacking.is_empty();
-    text.extend_from_slice(if same { b"same " } else { b"different " })?;
-    print_line(text, "", text_of(row.name()))?;
+    let is_right = follow(alloc, text_of(row.text()), resolvers, &mut log)?;
+    let mut told = Vec::new(alloc);
+    add_lacking(text_of(log.as_slice()), text_of(row.wanted()), &mut told)?;
     if !is_right {
-        print_line(text, "", text_of(log.as_slice()))?;
+        told.extend_from_slice(log.as_slice())?;
     }
-    text.extend_from_slice(lacking.as_slice())
+    if told.is_empty() {
+        return Ok(());
+    }
+    report.add_different(text_of(row.name()), told.as_slice())
 }
 
 /// Adds the lines of what is wanted, as `least 25 deliver fresh`, of which the log has less, and
