@@ -7,8 +7,8 @@ use plumbase::sample::{Sampler, KINDS};
 use std::hint::black_box;
 
 extern "C" {
-    fn frame_bench_decode(bytes: *const u8, len: usize) -> u64;
-    fn frame_bench_encode(bytes: *const u8, len: usize, rounds: u32) -> u64;
+    fn bench_codec_decode(bytes: *const u8, len: usize) -> u64;
+    fn bench_codec_encode(bytes: *const u8, len: usize, rounds: u32) -> u64;
 }
 
 const SEED: u64 = 1;
@@ -17,11 +17,11 @@ const SEED: u64 = 1;
 const ROUNDS: u32 = 8;
 
 fn read(bytes: &[u8]) -> u64 {
-    unsafe { frame_bench_decode(bytes.as_ptr(), bytes.len()) }
+    unsafe { bench_codec_decode(bytes.as_ptr(), bytes.len()) }
 }
 
 fn written(bytes: &[u8], rounds: u32) -> u64 {
-    unsafe { frame_bench_encode(bytes.as_ptr(), bytes.len(), rounds) }
+    unsafe { bench_codec_encode(bytes.as_ptr(), bytes.len(), rounds) }
 }
 
 fn both(name: &str, frames: &[Vec<u8>]) {

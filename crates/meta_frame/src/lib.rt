@@ -1,4 +1,4 @@
-//! Frames: what nodes send each other, as bytes and back. Their tests are the crate `frame_tests`.
+//! Frames: what nodes send each other, as bytes and back. Their tests are the crate `tests_codec`.
 //!
 //! ```
 //! let frame = Frame { from, to, number: 5, message: Message::Prune };

@@ -1,5 +1,5 @@
 //! What the commands of `plumctl` read and print, and how they exit. The program itself only reads
-//! its arguments. Their tests are the crate `text_tests`.
+//! its arguments. Their tests are the crate `tests_text`.
 //!
 //! ```
 //! let status = run_frame(alloc, &mut reader, &mut writer, &mut errors);

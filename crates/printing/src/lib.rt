@@ -8,7 +8,7 @@
 //! ```
 //!
 //! Read `print` first, the public calls; `field`, `list`, `row` and `frame` have the parts. What no
-//! contract says of them is tested by the crate `text_tests` and by the stored run of the program
+//! contract says of them is tested by the crate `tests_text` and by the stored run of the program
 //! `plumctl`.
 #![tactic(auto)]
 

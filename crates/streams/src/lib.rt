@@ -1,6 +1,6 @@
 //! Readers and writers whose faults have a cause, the lines of a reader within a limit, and writing
 //! whole texts: what the commands over standard input and output stand on. Their tests are the
-//! crate `text_tests`.
+//! crate `tests_text`.
 //!
 //! ```
 //! let mut lines = LineBuffer::new(alloc)?;

@@ -1,0 +1,74 @@
+//! What is told of rows: where they differ, and how many there were.
+
+use crate::difference::print_difference;
+use crate::row::{Row, text_of};
+use crate::rows::print_line;
+use printing::print_number;
+use std::alloc::{AllocError, Global};
+
+/// What was told so far.
+#[derive(Drop)]
+pub struct Report {
+    text: Vec<u8>,
+    rows: u64,
+    lines: u64,
+    different: u64,
+}
+
+impl Report {
+    pub fn new(alloc: Global) -> Self {
+        Report {
+            text: Vec::new(alloc),
+            rows: 0,
+            lines: 0,
+            different: 0,
+        }
+    }
+
+    /// Counts a row.
+    pub fn count_row(&mut self) {
+        self.rows = self.rows.saturating_add(1);
+    }
+
+    /// Counts a line that was tried alone.
+    pub fn count_line(&mut self) {
+        self.lines = self.lines.saturating_add(1);
+    }
+
+    /// Adds that something differs, and this of it.
+    pub fn add_different(&mut self, name: &str, told: &[u8]) -> Result<(), AllocError> {
+        self.different = self.different.saturating_add(1);
+        print_line(&mut self.text, "different ", name)?;
+        self.text.extend_from_slice(told)
+    }
+
+    /// Compares what a row printed with what it wants, and adds where they differ.
+    pub fn compare(&mut self, alloc: Global, row: &Row, output: &[u8]) -> Result<(), AllocError> {
+        if is_wanted(row.wanted(), output) {
+            return Ok(());
+        }
+        let mut told = Vec::new(alloc);
+        print_difference(&mut told, text_of(row.wanted()), text_of(output))?;
+        self.add_different(text_of(row.name()), told.as_slice())
+    }
+
+    /// What was told, and in the last line how many rows and lines there were, and how many differ.
+    pub fn end(mut self) -> Result<Vec<u8>, AllocError> {
+        print_number(&mut self.text, self.rows)?;
+        self.text.extend_from_slice(b" rows and ")?;
+        print_number(&mut self.text, self.lines)?;
+        self.text.extend_from_slice(b" lines, different: ")?;
+        print_number(&mut self.text, self.different)?;
+        self.text.extend_from_slice(b"\n")?;
+        Ok(self.text)
+    }
+}
+
+/// Whether the output is what is wanted. Where that begins with a line `..` only its last lines are
+/// wanted.
+fn is_wanted(wanted: &[u8], output: &[u8]) -> bool {
+    match wanted.strip_prefix(b"..\n") {
+        Some(last) => output.ends_with(last),
+        None => output == wanted,
+    }
+}

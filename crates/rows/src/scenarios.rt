@@ -1,0 +1,114 @@
+//! Rows that are scenarios, and lines that are tried alone.
+
+use crate::difference::print_difference;
+use crate::report::Report;
+use crate::row::{Row, text_of};
+use crate::rows::print_line;
+use resolvers::Resolver;
+use scenario::{ScenarioFault, run_over};
+use scenario_explain::explain_over;
+use std::alloc::{AllocError, Global};
+use streams::StreamFault;
+
+/// Runs a scenario, and compares what it prints with what the row wants; and, where it isn't long,
+/// what it prints when it is explained.
+pub fn try_scenario(
+    alloc: Global,
+    row: &Row,
+    scenario: &[u8],
+    resolvers: &[Box<dyn Resolver>],
+    report: &mut Report,
+) -> Result<(), AllocError> {
+    let output = output_of(alloc, scenario, resolvers, false)?;
+    report.compare(alloc, row, output.as_slice())?;
+    if scenario.len() > MAX_EXPLAINED {
+        return Ok(());
+    }
+    let explained = output_of(alloc, scenario, resolvers, true)?;
+    compare_explained(alloc, row, output.as_slice(), explained.as_slice(), report)
+}
+
+/// Runs a scenario, explained, and compares what it prints with what the row wants.
+pub fn try_explained(
+    alloc: Global,
+    row: &Row,
+    resolvers: &[Box<dyn Resolver>],
+    report: &mut Report,
+) -> Result<(), AllocError> {
+    let output = output_of(alloc, row.text(), resolvers, true)?;
+    report.compare(alloc, row, output.as_slice())
+}
+
+/// The most bytes of a scenario that is explained too: what that prints grows with the square of its
+/// length.
+const MAX_EXPLAINED: usize = 4_000;
+
+/// Adds where a scenario, explained, prints something else besides its indented lines than `output`.
+fn compare_explained(
+    alloc: Global,
+    row: &Row,
+    output: &[u8],
+    explained: &[u8],
+    report: &mut Report,
+) -> Result<(), AllocError> {
+    let plain = without_indented(alloc, text_of(explained))?;
+    if plain.as_slice() == output {
+        return Ok(());
+    }
+    let mut told = Vec::from_slice(alloc, b"when explained\n")?;
+    print_difference(&mut told, text_of(output), text_of(plain.as_slice()))?;
+    report.add_different(text_of(row.name()), told.as_slice())
+}
+
+/// The lines of a text that don't begin with two spaces.
+fn without_indented(alloc: Global, text: &str) -> Result<Vec<u8>, AllocError> {
+    let mut plain = Vec::new(alloc);
+    for line in text.lines() {
+        if !line.starts_with("  ") {
+            print_line(&mut plain, "", line)?;
+        }
+    }
+    Ok(plain)
+}
+
+/// What is printed where the second line breaks a rule.
+const BAD_LINE: &[u8] = b"error 70 BadLine 2\n";
+
+/// Tries a line behind `nodes 2`: one after `!` is to be a bad one, and one after `=` isn't. Adds
+/// where it is otherwise.
+pub fn try_line(
+    alloc: Global,
+    tried: &str,
+    resolvers: &[Box<dyn Resolver>],
+    report: &mut Report,
+) -> Result<(), AllocError> {
+    report.count_line();
+    let mut scenario = Vec::from_slice(alloc, b"nodes 2\n")?;
+    print_line(&mut scenario, "", tried.get(2..).unwrap_or(""))?;
+    let output = output_of(alloc, scenario.as_slice(), resolvers, false)?;
+    let is_bad = output.as_slice() == BAD_LINE;
+    if is_bad == tried.starts_with('!') {
+        return Ok(());
+    }
+    report.add_different(tried, b"")
+}
+
+/// What a scenario prints, explained or not.
+fn output_of(
+    alloc: Global,
+    scenario: &[u8],
+    resolvers: &[Box<dyn Resolver>],
+    explained: bool,
+) -> Result<Vec<u8>, AllocError> {
+    let mut output = Vec::new(alloc);
+    let mut reader = scenario;
+    let ended = if explained {
+        explain_over(alloc, &mut reader, &mut output, resolvers)
+    } else {
+        run_over(alloc, &mut reader, &mut output, resolvers)
+    };
+    match ended {
+        Err(ScenarioFault::Stream(StreamFault::Memory)) => Err(AllocError),
+        _ => Ok(output),
+    }
+}

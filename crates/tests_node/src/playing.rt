@@ -1,0 +1,153 @@
+//! A node is asked what the rows tell, with ample memory and under refused memory.
+
+use crate::acts::{Act, event, key_of, put_over};
+use crate::parts::node;
+use crate::rows::{COMING, EACH, Given, LARGE, REFUSED};
+use node_core::{NodeState, Stepped};
+use node_events::StepFault;
+use resolvers::{Lww, Resolver};
+use std::alloc::Global;
+use std::mem::replace;
+use std::process::Abort;
+
+/// Node 0 in its first life, which holds nothing and knows nobody.
+pub fn new_node(rt: &impl Abort, alloc: Global) -> NodeState {
+    match NodeState::new(alloc, node(rt, 0), 1) {
+        Ok(node) => node,
+        Err(_) => NodeState::new(alloc, node(rt, 0), 1).expect(rt, "memory once more"),
+    }
+}
+
+/// A copy goes on in the place of the node.
+fn go_on_as_copy(rt: &impl Abort, node: &mut NodeState) {
+    let copy = match node.copy() {
+        Ok(copy) => copy,
+        Err(_) => node.copy().expect(rt, "memory once more"),
+    };
+    drop(replace(node, copy));
+}
+
+fn fill(rt: &impl Abort, alloc: Global, node: &mut NodeState) {
+    for number in 0..8_191_u16 {
+        let outcome = node.step(put_over(rt, alloc, &number.to_be_bytes(), b'x'));
+        let is_done = outcome.is_ok();
+        drop(outcome);
+        assert!(rt; is_done);
+    }
+}
+
+/// The repair of a key by the last write.
+fn repaired(
+    rt: &impl Abort,
+    alloc: Global,
+    node: &mut NodeState,
+    letter: u8,
+) -> Result<Stepped, StepFault> {
+    let key = key_of(rt, alloc, &[letter]);
+    let boxed = match Box::new(alloc, Lww) {
+        Ok(boxed) => boxed,
+        Err(_) => Box::new(alloc, Lww).expect(rt, "memory once more"),
+    };
+    let lww: Box<dyn Resolver> = boxed;
+    let outcome = node.repair(&key, &lww);
+    drop(lww);
+    drop(key);
+    outcome
+}
+
+/// What a node gives.
+pub fn asked(
+    rt: &impl Abort,
+    alloc: Global,
+    node: &mut NodeState,
+    act: Act,
+) -> Result<Stepped, StepFault> {
+    match act {
+        Act::Repair(letter) => repaired(rt, alloc, node, letter),
+        act => node.step(event(rt, alloc, act)),
+    }
+}
+
+/// The number of the refusal, or 0.
+fn code(outcome: &Result<Stepped, StepFault>) -> u16 {
+    match outcome {
+        Ok(_) => 0,
+        Err(fault) => fault.code(),
+    }
+}
+
+/// The frame that was sent, or nothing. There is one at most.
+fn sent<'a>(rt: &impl Abort, outcome: &'a Result<Stepped, StepFault>) -> &'a [u8] {
+    let Ok(stepped) = outcome else {
+        return b"";
+    };
+    assert!(rt; stepped.outbox.as_slice().len() <= 1);
+    match stepped.outbox.as_slice().first() {
+        Some(frame) => frame.as_slice(),
+        None => b"",
+    }
+}
+
+/// The number of want of memory.
+const MEMORY: u16 = 99;
+
+/// The node is asked, and gives what is told, or is refused memory where it may be. Returns whether
+/// it was. A frame that begins as is told is the frame that is told, since its header has its
+/// length, or that up to a digest at its end.
+fn is_refused_memory(
+    rt: &impl Abort,
+    alloc: Global,
+    node: &mut NodeState,
+    given: &Given,
+    may_refuse: bool,
+) -> bool {
+    let (act, wanted, frame) = given;
+    let outcome = asked(rt, alloc, node, *act);
+    let code = code(&outcome);
+    let is_refused = may_refuse && code == MEMORY;
+    if !is_refused {
+        let sent = sent(rt, &outcome);
+        assert_eq!(rt; code, *wanted);
+        assert!(rt; sent.starts_with(frame) && sent.is_empty() == frame.is_empty());
+    }
+    drop(outcome);
+    is_refused
+}
+
+/// The same, once more where it was refused memory.
+fn follow(rt: &impl Abort, alloc: Global, node: &mut NodeState, given: &Given, may_refuse: bool) {
+    if is_refused_memory(rt, alloc, node, given, may_refuse) {
+        is_refused_memory(rt, alloc, node, given, false);
+    }
+}
+
+fn play(rt: &impl Abort, alloc: Global, rows: &[Given], may_refuse: bool) {
+    let mut node = new_node(rt, alloc);
+    for given in rows {
+        match given.0 {
+            Act::New => drop(replace(&mut node, new_node(rt, alloc))),
+            Act::Copy => go_on_as_copy(rt, &mut node),
+            Act::Fill => fill(rt, alloc, &mut node),
+            _ => follow(rt, alloc, &mut node, given, may_refuse),
+        }
+    }
+    drop(node);
+}
+
+fn play_all(rt: &impl Abort, alloc: Global, may_refuse: bool) {
+    play(rt, alloc, &EACH, may_refuse);
+    play(rt, alloc, &COMING, may_refuse);
+    play(rt, alloc, &REFUSED, may_refuse);
+}
+
+#[test]
+fn a_node_gives_what_the_rows_tell(rt: HostRuntime) {
+    play_all(&rt, rt.alloc(), false);
+    play(&rt, rt.alloc(), &LARGE, false);
+}
+
+/// Holds whichever single allocation is refused.
+#[test]
+fn a_node_gives_what_the_rows_tell_under_refused_memory(rt: HostRuntime) {
+    play_all(&rt, rt.alloc(), true);
+}

@@ -1,0 +1,43 @@
+use crate::parts::key;
+use crate::trees::{grow, is_whole, listed, tree_of, write};
+use meta_store::Store;
+use meta_types::MetaKey;
+use std::alloc::Global;
+use std::process::Abort;
+
+/// The bytes of a number, behind so many letters.
+fn name(rt: &impl Abort, alloc: Global, letters: usize, number: u16) -> Vec<u8> {
+    let mut bytes = vec![in alloc; b'n'; letters].expect(rt, "memory");
+    bytes
+        .extend_from_slice(number.to_be_bytes().as_slice())
+        .expect(rt, "memory");
+    bytes
+}
+
+/// A key of the longest names. Those of the numbers up to 8,000 stand under one full prefix, and
+/// each other one under its own.
+fn numbered(rt: &impl Abort, alloc: Global, number: u16) -> MetaKey {
+    let prefix = name(rt, alloc, 62, number.saturating_sub(8_000));
+    let own = name(rt, alloc, 254, number);
+    key(rt, alloc, &prefix, &prefix, &own)
+}
+
+/// 8,000 keys under one full prefix, and one under each of 40 more.
+fn filled(rt: &impl Abort, alloc: Global) -> Store {
+    let mut store = Store::new(alloc);
+    for number in 1..8_041 {
+        write(rt, alloc, &mut store, 0, &numbered(rt, alloc, number), b'x');
+    }
+    store
+}
+
+#[test]
+fn calls_succeed_on_large_trees(rt: HostRuntime) {
+    let alloc = rt.alloc();
+    let mut store = filled(&rt, alloc);
+    let mut tree = tree_of(&rt, alloc, &store);
+    let key = numbered(&rt, alloc, 0);
+    grow(&rt, alloc, &mut store, &mut tree, &key, b'x');
+    assert!(rt; is_whole(&rt, alloc, &tree, &store, 41));
+    assert!(rt; listed(&rt, &tree, key.prefix()) == 8_001);
+}

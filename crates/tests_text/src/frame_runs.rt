@@ -1,0 +1,265 @@
+//! Runs of `frame` over readers and writers that give and take little at a time, or fail.
+
+use crate::devices::{Device, End, Feed, Lines};
+use plumctl_core::{Ended, frame_lines, run_frame, tell};
+use std::alloc::Global;
+use std::io::ErrorKind;
+use streams::{MayFail, StreamFault};
+
+// A frame, a line that is not all digits, and an empty one: they end at 45, 48 and 49.
+const INPUT: &[u8] = b"50540204 0001 0000 0000000000000005 00000000\n5g\n\n";
+
+// What is printed for them, which ends at 27, 42 and 57.
+const TEXT: &[u8] = b"PRUNE from 1 to 0 number 5\nerror 9 BadHex\nerror 10 Short\n";
+
+const INTERRUPTED: End = End::Fails(ErrorKind::Interrupted);
+
+const BROKEN_PIPE: Option<ErrorKind> = Some(ErrorKind::BrokenPipe);
+
+/// How a run ends.
+type Done = Result<Ended, StreamFault>;
+
+/// Reads the text and writes to the device, of which it answers what became of it.
+fn run(alloc: Global, feed: Feed, device: Device) -> (Done, Device) {
+    let mut writer = MayFail(device);
+    let done = frame_lines(alloc, &mut MayFail(feed), &mut writer);
+    (done, writer.0)
+}
+
+/// Returns whether a text is printed as another, and the run ends so.
+fn prints(alloc: Global, input: &'static [u8], text: &'static [u8], ended: Ended) -> bool {
+    let feed = Feed::new(input);
+    let (done, device) = run(alloc, feed, Device::new(text));
+    done == Ok(ended) && device.is_right && device.unseen == 0
+}
+
+#[test]
+fn a_last_line_feed_starts_no_line(rt: HostRuntime) {
+    let table: [(&[u8], &[u8], Ended); 6] = [
+        (b"", b"", Ended::AllPrinted),
+        (b"\n", b"error 10 Short\n", Ended::SomeRefused),
+        (
+            b"\n\n",
+            b"error 10 Short\nerror 10 Short\n",
+            Ended::SomeRefused,
+        ),
+        (b"  ", b"error 10 Short\n", Ended::SomeRefused),
+        (b"5g", b"error 9 BadHex\n", Ended::SomeRefused),
+        (&INPUT[..44], &TEXT[..27], Ended::AllPrinted),
+    ];
+    for (input, text, ended) in table {
+        assert!(rt; prints(rt.alloc(), input, text, ended), "{input:?}");
+    }
+}
+
+/// How many bytes are seen outside, and how often they were passed on, when this many bytes were
+/// given one by one and the next is waited for; `None` where others were printed.
+fn seen_after(alloc: Global, given: usize) -> Option<(usize, u32)> {
+    let feed = Feed {
+        most: 1,
+        end: INTERRUPTED,
+        ..Feed::new(&INPUT[..given.min(INPUT.len())])
+    };
+    let (done, device) = run(alloc, feed, Device::new(TEXT));
+    if done == Err(StreamFault::Read) && device.is_right {
+        Some((TEXT.len().saturating_sub(device.unseen), device.flushes))
+    } else {
+        None
+    }
+}
+
+#[test]
+fn a_line_is_answered_before_the_next_is_waited_for(rt: HostRuntime) {
+    for given in 0..=49 {
+        let seen = match given {
+            0..45 => (0, 0),
+            45..48 => (27, 1),
+            48 => (42, 2),
+            _ => (57, 3),
+        };
+        assert!(rt;
+            seen_after(rt.alloc(), given) == Some(seen),
+            "{given} bytes"
+        );
+    }
+}
+
+/// How often the device is flushed in a run that reads so many bytes at a time, to its end.
+fn flushes(alloc: Global, most: usize) -> Option<u32> {
+    let feed = Feed {
+        most,
+        ..Feed::new(INPUT)
+    };
+    let (done, device) = run(alloc, feed, Device::new(TEXT));
+    if done == Ok(Ended::SomeRefused) && device.is_right && device.unseen == 0 {
+        Some(device.flushes)
+    } else {
+        None
+    }
+}
+
+#[test]
+fn lines_that_are_read_at_once_are_passed_on_at_once(rt: HostRuntime) {
+    for (most, count) in [(1, 4), (45, 3), (46, 3), (48, 3), (49, 2), (100, 2)] {
+        assert!(rt; flushes(rt.alloc(), most) == Some(count), "{most} bytes");
+    }
+}
+
+#[test]
+fn an_interruption_is_not_tried_again(rt: HostRuntime) {
+    let feed = Feed {
+        most: 1,
+        end: End::FailsOnce(ErrorKind::Interrupted),
+        ..Feed::new(b"")
+    };
+    let (done, _) = run(rt.alloc(), feed, Device::new(b""));
+    assert!(rt; done == Err(StreamFault::Read));
+}
+
+/// How the run ended, and how many bytes a device of so much room took of the text, so many at a
+/// time, until the writer failed; `None` where it took others.
+fn taken_until_full(
+    alloc: Global,
+    room: usize,
+    most: usize,
+    fault: Option<ErrorKind>,
+) -> Option<(Done, usize)> {
+    let feed = Feed::new(INPUT);
+    let device = Device {
+        room,
+        most,
+        fault,
+        ..Device::new(TEXT)
+    };
+    let (done, device) = run(alloc, feed, device);
+    if device.is_right {
+        Some((done, TEXT.len().saturating_sub(device.wanted.len())))
+    } else {
+        None
+    }
+}
+
+#[test]
+fn a_writer_that_is_full_at_any_byte_has_a_front(rt: HostRuntime) {
+    for room in 0..57 {
+        for most in [1, 100] {
+            let full = taken_until_full(rt.alloc(), room, most, None);
+            assert!(rt;
+                full == Some((Err(StreamFault::Write), room)),
+                "{room} bytes"
+            );
+            let closed = taken_until_full(rt.alloc(), room, most, BROKEN_PIPE);
+            assert!(rt;
+                closed == Some((Err(StreamFault::BrokenPipe), room)),
+                "{room} bytes"
+            );
+        }
+    }
+}
+
+#[test]
+fn a_writer_that_can_not_be_flushed_has_failed(rt: HostRuntime) {
+    let taken = taken_until_full(rt.alloc(), 100, 100, BROKEN_PIPE);
+    assert!(rt; taken == Some((Err(StreamFault::Write), 57)));
+}
+
+/// How a run over so many bytes ends, in long lines that are not all digits.
+fn run_of_lines(alloc: Global, left: usize) -> Done {
+    let mut writer = MayFail(Device::new(b""));
+    frame_lines(alloc, &mut MayFail(Lines { left }), &mut writer)
+}
+
+#[test]
+fn an_input_of_67108864_bytes_is_read(rt: HostRuntime) {
+    assert!(rt; run_of_lines(rt.alloc(), 67_108_864) == Ok(Ended::SomeRefused));
+}
+
+#[test]
+fn an_input_of_67108865_bytes_is_too_long(rt: HostRuntime) {
+    assert!(rt; run_of_lines(rt.alloc(), 67_108_865) == Err(StreamFault::InputTooLong));
+}
+
+/// The exit status of a run over a text that goes on so, to a device; `None` where standard error
+/// is told something else.
+fn exit(
+    alloc: Global,
+    text: &'static [u8],
+    end: End,
+    device: Device,
+    told: &'static [u8],
+) -> Option<u8> {
+    let feed = Feed {
+        end,
+        ..Feed::new(text)
+    };
+    let mut errors = MayFail(Device::new(told));
+    let status = run_frame(alloc, &mut MayFail(feed), &mut MayFail(device), &mut errors);
+    is_told(errors.0).then_some(status)
+}
+
+fn is_told(errors: Device) -> bool {
+    errors.is_right && errors.wanted.is_empty()
+}
+
+#[test]
+fn a_run_exits_with_its_status_and_tells_its_fault(rt: HostRuntime) {
+    let full = Device {
+        room: 0,
+        ..Device::new(TEXT)
+    };
+    let closed = Device {
+        fault: BROKEN_PIPE,
+        ..full
+    };
+    let table: [(&[u8], End, Device, u8, &[u8]); 5] = [
+        (&INPUT[..44], End::Over, Device::new(&TEXT[..27]), 0, b""),
+        (INPUT, End::Over, Device::new(TEXT), 1, b""),
+        (INPUT, INTERRUPTED, Device::new(TEXT), 3, b"error 7 Read\n"),
+        (
+            INPUT,
+            End::Over,
+            full,
+            3,
+            b"error: the output could not be written\n",
+        ),
+        (INPUT, End::Over, closed, 3, b""),
+    ];
+    for (text, end, device, status, told) in table {
+        assert!(rt;
+            exit(rt.alloc(), text, end, device, told) == Some(status),
+            "{told:?}"
+        );
+    }
+}
+
+/// The exit status of a run over so many bytes; `None` where standard error is told something else.
+fn exit_after(alloc: Global, left: usize, told: &'static [u8]) -> Option<u8> {
+    let mut errors = MayFail(Device::new(told));
+    let mut writer = MayFail(Device::new(b""));
+    let status = run_frame(
+        alloc,
+        &mut MayFail(Lines { left }),
+        &mut writer,
+        &mut errors,
+    );
+    is_told(errors.0).then_some(status)
+}
+
+#[test]
+fn a_run_over_too_long_an_input_exits_with_1(rt: HostRuntime) {
+    let status = exit_after(rt.alloc(), 67_108_865, b"error 8 InputTooLong\n");
+    assert!(rt; status == Some(1));
+}
+
+/// The exit status of a fault; `None` where standard error is told something else.
+fn status_of(fault: StreamFault, told: &'static [u8]) -> Option<u8> {
+    let mut errors = MayFail(Device::new(told));
+    let status = tell(&mut errors, fault);
+    is_told(errors.0).then_some(status)
+}
+
+#[test]
+fn a_fault_is_told_by_its_number_and_name(rt: HostRuntime) {
+    assert!(rt; status_of(StreamFault::InputTooLong, b"error 8 InputTooLong\n") == Some(1));
+    assert!(rt; status_of(StreamFault::Memory, b"error 99 Memory\n") == Some(4));
+}
