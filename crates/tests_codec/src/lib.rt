@@ -18,4 +18,6 @@ mod kinds;
 #[cfg(test)]
 mod large;
 #[cfg(test)]
+mod old;
+#[cfg(test)]
 mod refused_memory;
