@@ -1,4 +1,4 @@
-ghost use Rattle.std.specs.Prelude.{◌≡◌, ◌↔◌, IfOk, OnOk, OnErr, IsTrue, false};
+ghost use Rattle.std.specs.Prelude.{◌≡◌, ◌↔◌, IfErr, IfOk, OnOk, OnErr, IsTrue, false};
 ghost use Rattle.hash_tree.specs.Tree.{rows_of};
 ghost use Rattle.meta_store.specs.Step.{is_full_for};
 ghost use Rattle.meta_store.specs.Table.{IsHeld, Table, with_object};
@@ -7,7 +7,7 @@ use dvvset::Entries;
 use hash_tree::{Tree, object_digest};
 use meta_store::Store;
 use meta_types::MetaKey;
-use std::alloc::{AllocError, Global};
+use std::alloc::{AllocError, AllocFailed, Global};
 use std::marker::Model;
 
 /// What a node holds: its store, with the tree that stands for it. Both change together.
@@ -36,6 +36,24 @@ impl Held {
     {
         let tree = Tree::from_store(alloc, &store)?;
         Ok(Held { store, tree })
+    }
+
+    /// The same; but where memory runs out, the store comes back.
+    pub fn from_store(alloc: Global, store: Store) -> Result<Self, AllocFailed<Store>>
+        ensures held { IfOk result (λ held. held ≡ store) }
+        ensures back { IfErr result (λ failed. failed.value ≡ store) }
+    {
+        match Tree::from_store(alloc, &store) {
+            Ok(tree) => Ok(Held { store, tree }),
+            Err(_) => Err(AllocFailed { value: store }),
+        }
+    }
+
+    /// The store, without taking memory.
+    pub fn into_store(self) -> Store
+        ensures { result ≡ self }
+    {
+        self.store
     }
 
     pub fn store(&self) -> &Store
