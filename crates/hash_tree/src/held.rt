@@ -1,4 +1,4 @@
-ghost use Rattle.std.specs.Prelude.{◌≡◌, IfOk, IfErr, OnOk, OnErr, false};
+ghost use Rattle.std.specs.Prelude.{◌≡◌, IfErr, IfOk, OnOk, OnErr, false};
 ghost use Rattle.hash_tree.specs.Tree.{rows_of};
 ghost use Rattle.meta_store.specs.Step.{is_full_for};
 ghost use Rattle.meta_store.specs.Table.{IsHeld, Table, with_object};
@@ -8,7 +8,7 @@ use crate::tree::Tree;
 use dvvset::Entries;
 use meta_store::Store;
 use meta_types::MetaKey;
-use std::alloc::{AllocError, Global};
+use std::alloc::{AllocError, AllocFailed, Global};
 use std::marker::Model;
 
 /// What a node holds: its store, with the tree that stands for it. Both change together.
@@ -30,12 +30,6 @@ impl Model for Held {
     ghost invariant = { λ h. h.tree ≡ rows_of h.store };
 }
 
-/// What `Held::build` gives back where memory runs out: the store as it came.
-#[derive(Debug, Drop)]
-pub struct Unbuilt {
-    pub store: Store,
-}
-
 impl Held {
     /// Holds what the store does. Fails only when memory runs out, and then the store is dropped.
     pub fn new(alloc: Global, store: Store) -> Result<Self, AllocError>
@@ -45,14 +39,14 @@ impl Held {
         Ok(Held { store, tree })
     }
 
-    /// Holds what the store does. Fails only when memory runs out, and then the store is given back.
-    pub fn build(alloc: Global, store: Store) -> Result<Self, Unbuilt>
-        ensures value { IfOk result (λ held. held ≡ store) }
-        ensures back { IfErr result (λ unbuilt. unbuilt.store ≡ store) }
+    /// The same; but where memory runs out, the store comes back.
+    pub fn from_store(alloc: Global, store: Store) -> Result<Self, AllocFailed<Store>>
+        ensures held { IfOk result (λ held. held ≡ store) }
+        ensures back { IfErr result (λ failed. failed.value ≡ store) }
     {
         match Tree::from_store(alloc, &store) {
             Ok(tree) => Ok(Held { store, tree }),
-            Err(_) => Err(Unbuilt { store }),
+            Err(_) => Err(AllocFailed { value: store }),
         }
     }
 

@@ -29,6 +29,6 @@ mod prefix_tree;
 mod text_hasher;
 pub mod tree;
 
-pub use held::{Held, Unbuilt};
+pub use held::Held;
 pub use object::object_digest;
 pub use tree::{Tree, plain_root};

@@ -1,4 +1,4 @@
-ghost use Rattle.std.specs.Prelude.{◌≡◌, IfOk, OnErr};
+ghost use Rattle.std.specs.Prelude.{◌≡◌, ◌↔◌, IfOk, IsTrue, OnErr};
 
 use crate::draft::Draft;
 use crate::event::{ViewEvent, ViewOut};
@@ -53,6 +53,14 @@ impl Views {
             asked: IndexSet::new(alloc),
             sent: Nodes::new(Vec::new(alloc)),
         }
+    }
+
+    /// Returns whether they know nobody, asked nobody and sent no list to anybody, as new ones.
+    pub fn is_new(&self) -> bool
+        ensures { IsTrue result ↔ (self.now ≡ empty self.now.node) }
+    {
+        let knows_nobody = self.active.is_empty() && self.passive.is_empty();
+        knows_nobody && self.asked.is_empty() && self.sent.as_slice().is_empty()
     }
 
     /// The neighbours, the one of longest standing first.

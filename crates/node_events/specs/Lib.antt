@@ -1,4 +1,6 @@
 -- What must be believed of the events of a node.
+-- what an event names
+pub mod Event
 -- the numbers and names of refusals
 pub mod Fault
 -- which words and lemmas say that comparisons of lists are equality; impls cite them

@@ -1,4 +1,6 @@
 ghost use Rattle.std.specs.Prelude.{◌≡◌, IfOk};
+ghost use Rattle.std.specs.Option.{option_copied};
+ghost use Rattle.node_events.specs.Event.{other_of, stored_key};
 ghost use Rattle.node_events.specs.declared.event.NodeEvent.TheVariants.{Write, Watch};
 ghost use Rattle.node_events.specs.EqualEvents.{event_eq};
 
@@ -70,6 +72,31 @@ pub enum NodeEvent {
 }
 
 impl NodeEvent {
+    /// The other node that the event names: a contact or a peer.
+    pub fn other(&self) -> Option<NodeId>
+        ensures { result ≡ other_of self.now }
+    {
+        match self {
+            NodeEvent::Join { contact, .. } => Some(*contact),
+            NodeEvent::PeerDown { peer, .. }
+            | NodeEvent::Exchange { peer }
+            | NodeEvent::Hello { peer } => Some(*peer),
+            _ => None,
+        }
+    }
+
+    /// The key under which there is something to be stored once a node accepted the event.
+    pub fn stored_key(&self) -> Option<&MetaKey>
+        ensures { option_copied result ≡ stored_key self.now }
+    {
+        match self {
+            NodeEvent::Write { key, .. }
+            | NodeEvent::PutOver { key, .. }
+            | NodeEvent::Keep { key } => Some(key),
+            _ => None,
+        }
+    }
+
     /// Fails only when memory runs out.
     pub fn copy(&self) -> Result<Self, AllocError>
         ensures { IfOk result (λ copy. copy ≡ self.now) }

@@ -1,4 +1,4 @@
-ghost use Rattle.std.specs.Prelude.{◌≡◌, All, IfOk, OnOk};
+ghost use Rattle.std.specs.Prelude.{◌≡◌, ◌↔◌, All, IfOk, IsTrue, OnOk};
 ghost use Rattle.hyparview.specs.Lawful.{IsOfAnother};
 ghost use Rattle.node_parts.specs.Outbox.{MaySend};
 ghost use Rattle.node_parts.specs.Overlay.{IsOverlay, after_view, alone, follow, messages_of, sent_by_view, talking};
@@ -38,6 +38,13 @@ impl Overlay {
             views: Views::new(alloc, node),
             cast: Cast::new(alloc),
         }
+    }
+
+    /// Returns whether the node knows nobody, and waits for nothing, as a new one.
+    pub fn is_new(&self) -> bool
+        ensures { IsTrue result ↔ (self.now ≡ alone self.now.views.node) }
+    {
+        self.views.is_new() && self.cast.is_new()
     }
 
     pub fn views(&self) -> &Views

@@ -1,4 +1,4 @@
-ghost use Rattle.std.specs.Prelude.{◌≡◌, [], IfOk, OnOk, OnErr, true, false};
+ghost use Rattle.std.specs.Prelude.{◌≡◌, ◌↔◌, [], IfOk, IsTrue, OnOk, OnErr, true, false};
 ghost use Rattle.plumtree.specs.Broadcast.{Broadcasts, Changes, Down, IsCall, TakesGossip};
 ghost use Rattle.plumtree.specs.Broadcast.{TakesGraft, TakesIHave, TakesPrune, Tick, Up};
 
@@ -66,6 +66,15 @@ impl Cast {
             queue: Vec::new(alloc),
             missing: Vec::new(alloc),
         }
+    }
+
+    /// Returns whether it has no peer, nothing to announce and nothing that it waits for, as a new
+    /// one.
+    pub fn is_new(&self) -> bool
+        ensures { IsTrue result ↔ (self.now ≡ empty) }
+    {
+        let has_no_peer = self.eager.is_empty() && self.lazy.is_empty();
+        has_no_peer && self.queue.is_empty() && self.missing.is_empty()
     }
 
     /// The peers that get objects at once, in their order.

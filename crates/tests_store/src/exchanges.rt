@@ -22,9 +22,9 @@ fn numbered(rt: &impl Abort, alloc: Global, number: u16) -> MetaKey {
 
 /// The store with its tree.
 fn built(rt: &impl Abort, alloc: Global, store: Store) -> Held {
-    match Held::build(alloc, store) {
+    match Held::from_store(alloc, store) {
         Ok(held) => held,
-        Err(unbuilt) => Held::new(alloc, unbuilt.store).expect(rt, "memory once more"),
+        Err(failed) => Held::new(alloc, failed.value).expect(rt, "memory once more"),
     }
 }
 
