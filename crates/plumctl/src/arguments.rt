@@ -57,12 +57,13 @@ const RUN_HELP: &str =
   watch N PREFIX CAP                    changes N W         list N PREFIX
   root N             images N           views N             settle
   junk N HEX
-An empty line is skipped, and so is one that begins with #. Each command prints a line, and a line
-for each frame that it sent. Where a line is no command, error 70 BadLine and its number is all that
-is printed.
+KEY is as a/b/k and PREFIX as a/b, of letters, digits, . _ and -; VALUE is of the same, or hex: and
+digits; CAP is 1 to 1024. A carriage return is no part of a command. An empty line is skipped, and so
+is one that begins with #. Each command prints a line, and a line for each frame that it sent. Where
+a line is no command, error 70 BadLine and its number is all that is printed.
 
 Example:
-  printf 'nodes 1\nput 0 a/b/k x\nshow 0 a/b/k\n' | plumctl run
+  printf 'nodes 1\\nput 0 a/b/k x\\nshow 0 a/b/k\\n' | plumctl run
 prints
   ok
   wrote ctx 0.1:1

@@ -1,9 +1,12 @@
-//! Laws of what scenarios print. Each function does nothing: its contract is the law.
+//! Laws of what scenarios print, and of faults. The contract of a function is the law; its body does
+//! nothing, or compares.
 
-ghost use Rattle.std.specs.Prelude.{◌≡◌, ◌++◌, ℕ, List, Option};
+ghost use Rattle.std.specs.Prelude.{◌≡◌, ◌↔◌, ◌++◌, ℕ, List, Option, IsTrue};
 ghost use Rattle.scenario_stage.specs.Obeying.{Choices};
 ghost use Rattle.scenario.specs.Output.{IsFrontOfOutput, IsOutput};
 ghost use Rattle.scenario.specs.declared.fault.ScenarioFault.{ScenarioFault as Fault};
+
+use crate::fault::ScenarioFault;
 
 /// A text has one output at most, and one way to end, by what the resolvers choose.
 pub fn one_output_for_a_text()
@@ -19,3 +22,10 @@ pub fn the_output_begins_with_its_front()
         → IsFrontOfOutput choices text front → IsOutput choices text output ended
         → (more : List ℕ) × (output ≡ front ++ more) }
 {}
+
+/// Faults are equal exactly where they are the same.
+pub fn equal_faults_are_the_same(one: ScenarioFault, other: ScenarioFault) -> bool
+    ensures { IsTrue result ↔ (one ≡ other) }
+{
+    one == other
+}

@@ -1,8 +1,11 @@
-//! Laws of what commands print and leave. Each function does nothing: its contract is the law.
+//! Laws of what commands print and leave, and of faults. The contract of a function is the law; its
+//! body does nothing, or compares.
 
-ghost use Rattle.std.specs.Prelude.{◌≡◌, ℕ, List};
+ghost use Rattle.std.specs.Prelude.{◌≡◌, ◌↔◌, ℕ, List, IsTrue};
 ghost use Rattle.scenario_stage.specs.Obeying.{Choices, Obeys, PassesLimit, Stage};
 ghost use Rattle.scenario_text.specs.Commands.{Command};
+
+use crate::fault::StageFault;
 
 /// A command prints one text and leaves one stage, by what the resolvers choose; and one that is
 /// obeyed doesn't pass the limit of a settling.
@@ -14,3 +17,10 @@ pub fn one_text_and_one_stage_left()
     ensures within { (choices : Choices) (old new : Stage) (command : Command) (text : List ℕ)
         → Obeys choices old command text new → PassesLimit old command → ⊥ }
 {}
+
+/// Faults are equal exactly where they are the same.
+pub fn equal_faults_are_the_same(one: StageFault, other: StageFault) -> bool
+    ensures { IsTrue result ↔ (one ≡ other) }
+{
+    one == other
+}

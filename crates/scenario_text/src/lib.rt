@@ -16,6 +16,7 @@
 pub mod bytes;
 pub mod command;
 pub mod fault;
+pub mod laws;
 mod line;
 pub mod name;
 mod number;

@@ -1,0 +1,12 @@
+//! A law of faults. The function compares, and its contract is the law.
+
+ghost use Rattle.std.specs.Prelude.{◌≡◌, ◌↔◌, IsTrue};
+
+use crate::fault::BadLine;
+
+/// Faults are equal exactly where they are the same.
+pub fn equal_faults_are_the_same(one: BadLine, other: BadLine) -> bool
+    ensures { IsTrue result ↔ (one ≡ other) }
+{
+    one == other
+}

@@ -1,0 +1,87 @@
+//! Runs of the command `run`, explained or not: exit statuses, what is written, and what standard
+//! error is told.
+
+use crate::devices::{Device, End, Feed};
+use crate::scenario_runs::{largest, lww};
+use plumctl_core::{explain_scenario, run_scenario};
+use std::alloc::Global;
+use std::io::ErrorKind;
+use std::process::Abort;
+use streams::MayFail;
+
+/// A run: its text, and how the reader goes on after it; for how many bytes the writer has room;
+/// the exit status, what is written, and what standard error is told.
+struct Run {
+    text: &'static [u8],
+    end: End,
+    room: usize,
+    status: u8,
+    output: &'static [u8],
+    told: &'static [u8],
+}
+
+static RUNS: [Run; 4] = [
+    Run {
+        text: b"nodes 1\n",
+        end: End::Over,
+        room: 100,
+        status: 0,
+        output: b"ok\n",
+        told: b"",
+    },
+    Run {
+        text: b"nonsense\n",
+        end: End::Over,
+        room: 100,
+        status: 1,
+        output: b"error 70 BadLine 1\n",
+        told: b"",
+    },
+    Run {
+        text: b"nodes 1\n",
+        end: End::Fails(ErrorKind::Other),
+        room: 100,
+        status: 3,
+        output: b"",
+        told: b"error 7 Read\n",
+    },
+    Run {
+        text: b"nodes 1\n",
+        end: End::Over,
+        room: 0,
+        status: 3,
+        output: b"",
+        told: b"error: the output could not be written\n",
+    },
+];
+
+/// Returns whether a run ends, writes and tells as is wanted.
+fn is_run(rt: &impl Abort, alloc: Global, run: &Run, explain: bool) -> bool {
+    let resolvers = [lww(rt, alloc), largest(rt, alloc)];
+    let mut reader = MayFail(Feed {
+        end: run.end,
+        ..Feed::new(run.text)
+    });
+    let mut writer = MayFail(Device {
+        room: run.room,
+        ..Device::new(run.output)
+    });
+    let mut errors = MayFail(Device::new(run.told));
+    let status = if explain {
+        explain_scenario(alloc, &mut reader, &mut writer, &mut errors, &resolvers)
+    } else {
+        run_scenario(alloc, &mut reader, &mut writer, &mut errors, &resolvers)
+    };
+    drop(resolvers);
+    let written = writer.0.is_right & writer.0.wanted.is_empty();
+    let told = errors.0.is_right & errors.0.wanted.is_empty();
+    (status == run.status) & written & told
+}
+
+#[test]
+fn each_run_ends_with_its_status_and_tells_its_fault(rt: HostRuntime) {
+    for run in &RUNS {
+        assert!(rt; is_run(&rt, rt.alloc(), run, false));
+        assert!(rt; is_run(&rt, rt.alloc(), run, true));
+    }
+}
