@@ -14,14 +14,15 @@ pub const COUNT: usize = 17;
 /// Of each event the number of its refusal, or 0: there is no node 2, and two bytes are no frame.
 pub static CODES: [u16; COUNT] = [0, 44, 0, 0, 0, 0, 0, 0, 0, 0, 0, 0, 0, 0, 0, 0, 10];
 
-fn bytes(rt: &impl Abort, alloc: Global, text: &[u8]) -> Vec<u8> {
+pub fn bytes(rt: &impl Abort, alloc: Global, text: &[u8]) -> Vec<u8> {
     match text.to_vec(alloc) {
         Ok(bytes) => bytes,
         Err(_) => text.to_vec(alloc).expect(rt, "memory once more"),
     }
 }
 
-fn prefix(rt: &impl Abort, alloc: Global) -> FullPrefix {
+/// The full prefix app/flags.
+pub fn prefix(rt: &impl Abort, alloc: Global) -> FullPrefix {
     let first = bytes(rt, alloc, b"app");
     FullPrefix::new(first, bytes(rt, alloc, b"flags")).expect(rt, "a prefix")
 }

@@ -10,6 +10,8 @@ mod events;
 #[cfg(test)]
 mod example;
 #[cfg(test)]
+mod full;
+#[cfg(test)]
 mod refused_memory;
 #[cfg(test)]
 mod running;
