@@ -12,26 +12,26 @@ use Rattle.past_model.specs.Sets.{set_at, key_eq}
 use Rattle.past_model.proofs.Keys.{key_eq-true, key_eq-self}
 use Rattle.past_model.proofs.Sound.{set_at-here}
 use Rattle.past_model.proofs.Walking.{set_at-other}
-use Rattle.past_objects.specs.Objects.{Objects, Holding, holds_nothing, with_held, sync_by_key, start, writer_of, read_of, happens, run, objects}
+use Rattle.past_objects.specs.Objects.{Objects, Holding, holds_nothing, with_held, sync_by_key, first_objects, writer_in_objects, read_in_objects, next_objects, objects_after, objects}
 use Rattle.past_objects.specs.Laws.{Stays, Becomes, Gains, MakesNoImage, MakesImage, StayInLife, BeginsLife, AfterWrite, AfterLook, AfterSending, AfterDelivery, AfterKeeping, AfterRestart}
 
 -- ---- lists in two parts
 
-pub run_append : (o : Objects) (hs more : List Happening) → run o (hs ++ more) ≡ run (run o hs) more
+pub run_append : (o : Objects) (hs more : List Happening) → objects_after o (hs ++ more) ≡ objects_after (objects_after o hs) more
 run_append o [] more = refl
-run_append o (h ∷ hs) more = run_append (happens o h) hs more
+run_append o (h ∷ hs) more = run_append (next_objects o h) hs more
 
-pub objects_snoc : (hs : List Happening) (h : Happening) → objects (hs ++ h ∷ []) ≡ happens (objects hs) h
-objects_snoc hs h = run_append start hs (h ∷ [])
+pub objects_snoc : (hs : List Happening) (h : Happening) → objects (hs ++ h ∷ []) ≡ next_objects (objects hs) h
+objects_snoc hs h = run_append first_objects hs (h ∷ [])
 
-run-next : (o : Objects) (hs : List Happening) → (run o hs).next ≡ o.next + length hs
+run-next : (o : Objects) (hs : List Happening) → (objects_after o hs).next ≡ o.next + length hs
 run-next o [] = omega arith
 run-next o (h ∷ hs) =
-    let rest : (run (happens o h) hs).next ≡ o.next + 1 + length hs = run-next (happens o h) hs in
+    let rest : (objects_after (next_objects o h) hs).next ≡ o.next + 1 + length hs = run-next (next_objects o h) hs in
     omega arith
 
 pub objects-next : (hs : List Happening) → (objects hs).next ≡ length hs
-objects-next hs = let e : (objects hs).next ≡ 0 + length hs = run-next start hs in omega arith
+objects-next hs = let e : (objects hs).next ≡ 0 + length hs = run-next first_objects hs in omega arith
 
 -- ---- changes
 
@@ -59,30 +59,30 @@ stays f = record { same = λ m l. refl }
 
 -- ---- one field of the machine after one more happening
 
-stays_by : (part : Objects → ℕ → Holding) (hs : List Happening) (h : Happening) → part (happens (objects hs) h) ≡ part (objects hs) → Stays (part (objects hs)) (part (objects (hs ++ h ∷ [])))
+stays_by : (part : Objects → ℕ → Holding) (hs : List Happening) (h : Happening) → part (next_objects (objects hs) h) ≡ part (objects hs) → Stays (part (objects hs)) (part (objects (hs ++ h ∷ [])))
 stays_by part hs h e =
     subst (λ f. Stays (part (objects hs)) f) (sym (ap part (objects_snoc hs h) ∙ e)) (stays (part (objects hs)))
 
 becomes_by : (part : Objects → ℕ → Holding) (hs : List Happening) (h : Happening) (n : ℕ) (there : Holding)
-    → part (happens (objects hs) h) ≡ set_at (part (objects hs)) n there → Becomes (part (objects hs)) (part (objects (hs ++ h ∷ []))) n there
+    → part (next_objects (objects hs) h) ≡ set_at (part (objects hs)) n there → Becomes (part (objects hs)) (part (objects (hs ++ h ∷ []))) n there
 becomes_by part hs h n there e =
     subst (λ f. Becomes (part (objects hs)) f n there) (sym (ap part (objects_snoc hs h) ∙ e)) (becomes_put (part (objects hs)) n there)
 
 gains_by : (part : Objects → ℕ → Holding) (hs : List Happening) (h : Happening) (n : ℕ) (k : Key) (a : List Entry) (rest : Holding)
-    → part (happens (objects hs) h) ≡ set_at (part (objects hs)) n (with_held rest k a) → Gains (part (objects hs)) (part (objects (hs ++ h ∷ []))) n k a rest
+    → part (next_objects (objects hs) h) ≡ set_at (part (objects hs)) n (with_held rest k a) → Gains (part (objects hs)) (part (objects (hs ++ h ∷ []))) n k a rest
 gains_by part hs h n k a rest e =
     subst (λ f. Gains (part (objects hs)) f n k a rest) (sym (ap part (objects_snoc hs h) ∙ e)) (gains_put (part (objects hs)) n k a rest)
 
 -- the place of a happening is their number
 gains_at_place : (part : Objects → ℕ → Holding) (hs : List Happening) (h : Happening) (k : Key) (a : List Entry)
-    → part (happens (objects hs) h) ≡ set_at (part (objects hs)) (objects hs).next (with_held holds_nothing k a) → Gains (part (objects hs)) (part (objects (hs ++ h ∷ []))) (length hs) k a holds_nothing
+    → part (next_objects (objects hs) h) ≡ set_at (part (objects hs)) (objects hs).next (with_held holds_nothing k a) → Gains (part (objects hs)) (part (objects (hs ++ h ∷ []))) (length hs) k a holds_nothing
 gains_at_place part hs h k a e =
     subst (λ p. Gains (part (objects hs)) (part (objects (hs ++ h ∷ []))) p k a holds_nothing) (objects-next hs)
     (gains_by part hs h (objects hs).next k a holds_nothing e)
 
 -- ---- images
 
-no_image : (hs : List Happening) (h : Happening) → (happens (objects hs) h).last ≡ (objects hs).last → (happens (objects hs) h).images ≡ (objects hs).images → MakesNoImage hs h
+no_image : (hs : List Happening) (h : Happening) → (next_objects (objects hs) h).last ≡ (objects hs).last → (next_objects (objects hs) h).images ≡ (objects hs).images → MakesNoImage hs h
 no_image hs h last images = record {
   numbers = λ m. ap (λ o. o.last m) (objects_snoc hs h) ∙ ap (λ f. f m) last;
   images = λ m. stays_by (λ o. o.images m) hs h (ap (λ f. f m) images);
@@ -90,23 +90,23 @@ no_image hs h last images = record {
 
 -- the new image
 abbrev image_after : List Happening → Happening → ℕ → Key → Holding
-image_after hs h n k = with_held ((objects hs).standing n) k ((happens (objects hs) h).held n k)
+image_after hs h n k = with_held ((objects hs).standing n) k ((next_objects (objects hs) h).held n k)
 
 -- what a happening that makes an image does to the images
 record Images (hs : List Happening) (h : Happening) (n : ℕ) (k : Key) : Type 0 where
-  pub last : (happens (objects hs) h).last ≡ set_at (objects hs).last n ((objects hs).last n + 1)
-  pub images : (happens (objects hs) h).images ≡ set_at (objects hs).images n (set_at ((objects hs).images n) ((objects hs).last n + 1) (image_after hs h n k))
-  pub standing : (happens (objects hs) h).standing ≡ set_at (objects hs).standing n (image_after hs h n k)
+  pub last : (next_objects (objects hs) h).last ≡ set_at (objects hs).last n ((objects hs).last n + 1)
+  pub images : (next_objects (objects hs) h).images ≡ set_at (objects hs).images n (set_at ((objects hs).images n) ((objects hs).last n + 1) (image_after hs h n k))
+  pub standing : (next_objects (objects hs) h).standing ≡ set_at (objects hs).standing n (image_after hs h n k)
 
 makes_image : (hs : List Happening) (h : Happening) (n : ℕ) (k : Key) → Images hs h n k → MakesImage hs h n k
 makes_image hs h n k made =
-    let row : (happens (objects hs) h).images n ≡ set_at ((objects hs).images n) ((objects hs).last n + 1) (image_after hs h n k) =
+    let row : (next_objects (objects hs) h).images n ≡ set_at ((objects hs).images n) ((objects hs).last n + 1) (image_after hs h n k) =
     ap (λ f. f n) made.images ∙ set_at-here (objects hs).images n (set_at ((objects hs).images n) ((objects hs).last n + 1) (image_after hs h n k)) in
-    let image : Gains ((objects hs).images n) ((happens (objects hs) h).images n) ((objects hs).last n + 1) k ((happens (objects hs) h).held n k) ((objects hs).standing n) =
-    subst (λ g. Gains ((objects hs).images n) g ((objects hs).last n + 1) k ((happens (objects hs) h).held n k) ((objects hs).standing n)) (sym row)
-    (gains_put ((objects hs).images n) ((objects hs).last n + 1) k ((happens (objects hs) h).held n k) ((objects hs).standing n)) in
-    let standing : Becomes (objects hs).standing (happens (objects hs) h).standing n ((happens (objects hs) h).images n ((objects hs).last n + 1)) =
-    subst (λ f. Becomes (objects hs).standing f n ((happens (objects hs) h).images n ((objects hs).last n + 1))) (sym made.standing)
+    let image : Gains ((objects hs).images n) ((next_objects (objects hs) h).images n) ((objects hs).last n + 1) k ((next_objects (objects hs) h).held n k) ((objects hs).standing n) =
+    subst (λ g. Gains ((objects hs).images n) g ((objects hs).last n + 1) k ((next_objects (objects hs) h).held n k) ((objects hs).standing n)) (sym row)
+    (gains_put ((objects hs).images n) ((objects hs).last n + 1) k ((next_objects (objects hs) h).held n k) ((objects hs).standing n)) in
+    let standing : Becomes (objects hs).standing (next_objects (objects hs) h).standing n ((next_objects (objects hs) h).images n ((objects hs).last n + 1)) =
+    subst (λ f. Becomes (objects hs).standing f n ((next_objects (objects hs) h).images n ((objects hs).last n + 1))) (sym made.standing)
     (subst (λ t. Becomes (objects hs).standing (set_at (objects hs).standing n (image_after hs h n k)) n t)
     (sym (ap (λ g. g ((objects hs).last n + 1)) row ∙ set_at-here ((objects hs).images n) ((objects hs).last n + 1) (image_after hs h n k)))
     (becomes_put (objects hs).standing n (image_after hs h n k))) in
@@ -121,7 +121,7 @@ makes_image hs h n k made =
 
 -- ---- lives
 
-same_lives : (hs : List Happening) (h : Happening) → (happens (objects hs) h).restarts ≡ (objects hs).restarts → StayInLife hs h
+same_lives : (hs : List Happening) (h : Happening) → (next_objects (objects hs) h).restarts ≡ (objects hs).restarts → StayInLife hs h
 same_lives hs h e = record { same = λ m. ap (λ o. o.restarts m + 1) (objects_snoc hs h) ∙ ap (λ f. f m + 1) e }
 
 next_life : (hs : List Happening) (n j : ℕ) → BeginsLife hs (Restarted n j) n
@@ -135,7 +135,7 @@ next_life hs n j = record {
 
 pub after_write : (hs : List Happening) (n : ℕ) (k : Key) (v : ValueParts) (r : Option ℕ) → AfterWrite hs n k v r
 after_write hs n k v r = record {
-  holds = gains_by (λ o. o.held) hs (Wrote n k v r) n k (update (join (read_of (objects hs) k r)) ((objects hs).held n k) (writer_of (objects hs) n) v) ((objects hs).held n) refl;
+  holds = gains_by (λ o. o.held) hs (Wrote n k v r) n k (update (join (read_in_objects (objects hs) k r)) ((objects hs).held n k) (writer_in_objects (objects hs) n) v) ((objects hs).held n) refl;
   seen = stays_by (λ o. o.seen) hs (Wrote n k v r) refl;
   sent = stays_by (λ o. o.load) hs (Wrote n k v r) refl;
   image = makes_image hs (Wrote n k v r) n k (record { last = refl; images = refl; standing = refl });

@@ -49,7 +49,7 @@ set_at-pairs-at : (Q : Key → Places → List Entry → Type 0) (f : ℕ → Kn
 set_at-pairs-at Q f g n i v t same old new m l =
     subst (λ c. Q l (set_at f n v m l) (set_at g c t m l)) (sym same) (set_at-pairs Q f g n v t old new m l)
 
-imaged-pairs : (Q : Key → Places → List Entry → Type 0) (s : Past) (o : Objects) (n : ℕ) (k : Key) → Paired Q s o → Paired Q (with_next_image n k s) (machine.with_next_image n k o)
+imaged-pairs : (Q : Key → Places → List Entry → Type 0) (s : Past) (o : Objects) (n : ℕ) (k : Key) → Paired Q s o → Paired Q (with_next_image n k s) (machine.with_next_held_image n k o)
 imaged-pairs Q s o n k all =
     let image : (l : Key) → Q l (with_set (s.standing n) k (s.known n k) l) (with_held (o.standing n) k (o.held n k) l) =
     with_set-pairs Q (s.standing n) (o.standing n) k (s.known n k) (o.held n k) (all.standing n) (all.known n k) in
@@ -72,7 +72,7 @@ imaged-pairs Q s o n k all =
 
 -- what a node holds once it wrote
 abbrev pub held_after_write : Objects → ℕ → Key → ValueParts → Option ℕ → List Entry
-held_after_write o n k v r = update (join (machine.read_of o k r)) (o.held n k) (machine.writer_of o n) v
+held_after_write o n k v r = update (join (machine.read_in_objects o k r)) (o.held n k) (machine.writer_in_objects o n) v
 
 knows_write-pairs : (Q : Key → Places → List Entry → Type 0) (s : Past) (o : Objects) (n : ℕ) (k : Key) (v : ValueParts) (r : Option ℕ)
     → Paired Q s o → Q k (after_write s n k r) (held_after_write o n k v r) → Paired Q (with_write_known n k v r s) (machine.holds_write n k v r o)
@@ -104,7 +104,7 @@ Paired-weaken Q R s o weaker all =
     }
 
 -- what a write has read
-pub read-paired : (Q : Key → Places → List Entry → Type 0) → IsMerging Q → (s : Past) (o : Objects) → Paired Q s o → (k : Key) (r : Option ℕ) → Q k (read_of s k r) (machine.read_of o k r)
+pub read-paired : (Q : Key → Places → List Entry → Type 0) → IsMerging Q → (s : Past) (o : Objects) → Paired Q s o → (k : Key) (r : Option ℕ) → Q k (read_of s k r) (machine.read_in_objects o k r)
 read-paired Q merging s o all k None = merging.none k
 read-paired Q merging s o all k (Some p) = all.seen p k
 
@@ -119,9 +119,9 @@ NewPaired Q s o (Got n i) = Unit {0}
 NewPaired Q s o (Kept n k) = Unit {0}
 NewPaired Q s o (Restarted n j) = Unit {0}
 
-pub Paired-happens : (Q : Key → Places → List Entry → Type 0) → IsMerging Q → (s : Past) (o : Objects) (h : Happening) → Paired Q s o → NewPaired Q s o h → Paired Q (happens s h) (machine.happens o h)
+pub Paired-happens : (Q : Key → Places → List Entry → Type 0) → IsMerging Q → (s : Past) (o : Objects) (h : Happening) → Paired Q s o → NewPaired Q s o h → Paired Q (happens s h) (machine.next_objects o h)
 Paired-happens Q merging s o (Wrote n k v r) all new =
-    let after : Paired Q (with_next_image n k (with_write_known n k v r s)) (machine.with_next_image n k (machine.holds_write n k v r o)) =
+    let after : Paired Q (with_next_image n k (with_write_known n k v r s)) (machine.with_next_held_image n k (machine.holds_write n k v r o)) =
     imaged-pairs Q (with_write_known n k v r s) (machine.holds_write n k v r o) n k (knows_write-pairs Q s o n k v r all new) in
     record {
       next = ap (λ p. p + 1) all.next;
@@ -170,7 +170,7 @@ Paired-happens Q merging s o (Got n i) all new =
       standing = all.standing;
     }
 Paired-happens Q merging s o (Kept n k) all new =
-    let after : Paired Q (with_next_image n k s) (machine.with_next_image n k o) = imaged-pairs Q s o n k all in
+    let after : Paired Q (with_next_image n k s) (machine.with_next_held_image n k o) = imaged-pairs Q s o n k all in
     record {
       next = ap (λ p. p + 1) all.next;
       last = after.last;
@@ -193,7 +193,7 @@ Paired-happens Q merging s o (Restarted n j) all new =
       standing = set_at-pairs Q s.standing o.standing n (s.images n j) (o.images n j) all.standing (all.images n j);
     }
 
-pub Paired-start : (Q : Key → Places → List Entry → Type 0) → IsMerging Q → Paired Q start machine.start
+pub Paired-start : (Q : Key → Places → List Entry → Type 0) → IsMerging Q → Paired Q start machine.first_objects
 Paired-start Q merging =
     record {
       next = refl;

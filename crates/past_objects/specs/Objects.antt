@@ -40,8 +40,8 @@ pub record Objects : Type 0 where
   pub standing : ℕ → Holding  -- of each node
   pub restarts : ℕ → ℕ  -- how often a node has restarted
 
-abbrev pub start : Objects
-start = record {
+abbrev pub first_objects : Objects
+first_objects = record {
   next = 0;
   held = λ n. holds_nothing;
   seen = λ p. holds_nothing;
@@ -53,25 +53,25 @@ start = record {
 }
 
 -- the life that the node is in: its first is 1, and each restart begins the next
-abbrev pub incarnation_of : Objects → ℕ → ℕ
-incarnation_of o n = o.restarts n + 1
+abbrev pub incarnation_in_objects : Objects → ℕ → ℕ
+incarnation_in_objects o n = o.restarts n + 1
 
 -- the writer of a write that the node makes now: the node in the life that it is in
-abbrev pub writer_of : Objects → ℕ → ℕ
-writer_of o n = writer_number n (incarnation_of o n)
+abbrev pub writer_in_objects : Objects → ℕ → ℕ
+writer_in_objects o n = writer_number n (incarnation_in_objects o n)
 
 -- the object that a write under the key has read: none, or what the Looked at place r saw
-abbrev pub read_of : Objects → Key → Option ℕ → List Entry
-read_of o k None = []
-read_of o k (Some r) = o.seen r k
+abbrev pub read_in_objects : Objects → Key → Option ℕ → List Entry
+read_in_objects o k None = []
+read_in_objects o k (Some r) = o.seen r k
 
 -- the node holds the object under the key, and nothing else changes
 abbrev pub holds : ℕ → Key → List Entry → Objects → Objects
 holds n k object o = record o { held = set_at o.held n (with_held (o.held n) k object) }
 
 -- the node makes its next image: the standing one, with what it holds now under the key
-abbrev pub with_next_image : ℕ → Key → Objects → Objects
-with_next_image n k o =
+abbrev pub with_next_held_image : ℕ → Key → Objects → Objects
+with_next_held_image n k o =
     let image : Holding = with_held (o.standing n) k (o.held n k) in
     record o {
       last = set_at o.last n (o.last n + 1);
@@ -81,11 +81,13 @@ with_next_image n k o =
 
 -- the node holds, under the key, what it held with the write added, which had read that object
 abbrev pub holds_write : ℕ → Key → ValueParts → Option ℕ → Objects → Objects
-holds_write n k v r o = holds n k (update (join (read_of o k r)) (o.held n k) (writer_of o n) v) o
+holds_write n k v r o =
+    holds n k
+    (update (join (read_in_objects o k r)) (o.held n k) (writer_in_objects o n) v) o
 
 -- the node holds what the image has, its images start from that, and its next life begins
-abbrev pub with_image_restored : ℕ → ℕ → Objects → Objects
-with_image_restored n j o =
+abbrev pub with_held_image_restored : ℕ → ℕ → Objects → Objects
+with_held_image_restored n j o =
     record o {
       held = set_at o.held n (o.images n j);
       standing = set_at o.standing n (o.images n j);
@@ -93,27 +95,28 @@ with_image_restored n j o =
     }
 
 -- what a happening changes, but for the next place
-abbrev pub happens_at : Objects → Happening → Objects
-happens_at o (Wrote n k v r) = with_next_image n k (holds_write n k v r o)
-happens_at o (Looked n k) =
+abbrev pub changed_objects : Objects → Happening → Objects
+changed_objects o (Wrote n k v r) = with_next_held_image n k (holds_write n k v r o)
+changed_objects o (Looked n k) =
     record o { seen = set_at o.seen o.next (with_held holds_nothing k (o.held n k)) }
-happens_at o (Sent n k) =
+changed_objects o (Sent n k) =
     record o { load = set_at o.load o.next (with_held holds_nothing k (o.held n k)) }
-happens_at o (Got n i) = record o { held = set_at o.held n (sync_by_key (o.held n) (o.load i)) }
-happens_at o (Kept n k) = with_next_image n k o
-happens_at o (Restarted n j) = with_image_restored n j o
+changed_objects o (Got n i) =
+    record o { held = set_at o.held n (sync_by_key (o.held n) (o.load i)) }
+changed_objects o (Kept n k) = with_next_held_image n k o
+changed_objects o (Restarted n j) = with_held_image_restored n j o
 
-abbrev pub happens : Objects → Happening → Objects
-happens o h = record (happens_at o h) { next = o.next + 1 }
+abbrev pub next_objects : Objects → Happening → Objects
+next_objects o h = record (changed_objects o h) { next = o.next + 1 }
 
-abbrev pub run : Objects → List Happening → Objects
-run o [] = o
-run o (h ∷ hs) = run (happens o h) hs
+abbrev pub objects_after : Objects → List Happening → Objects
+objects_after o [] = o
+objects_after o (h ∷ hs) = objects_after (next_objects o h) hs
 
 -- ---- words over a history
 
 abbrev pub objects : List Happening → Objects
-objects hs = run start hs
+objects hs = objects_after first_objects hs
 
 -- what the node holds under the key
 abbrev pub held_object : List Happening → ℕ → Key → List Entry
@@ -128,14 +131,14 @@ sent_object hs p k = (objects hs).load p k
 
 -- the object that a write under the key would have read, were it made now and named r
 abbrev pub object_of_read : List Happening → Key → Option ℕ → List Entry
-object_of_read hs k r = read_of (objects hs) k r
+object_of_read hs k r = read_in_objects (objects hs) k r
 
 -- the life that the node is in, and the writer of a write that it would make now
 abbrev pub incarnation : List Happening → ℕ → ℕ
-incarnation hs n = incarnation_of (objects hs) n
+incarnation hs n = incarnation_in_objects (objects hs) n
 
 abbrev pub writer : List Happening → ℕ → ℕ
-writer hs n = writer_of (objects hs) n
+writer hs n = writer_in_objects (objects hs) n
 
 -- the number of the node's newest image, and what an image of the node has under the key
 abbrev pub last_image : List Happening → ℕ → ℕ

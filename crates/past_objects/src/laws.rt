@@ -12,7 +12,7 @@ ghost use Rattle.past_model.specs.Sets.{IsSubset};
 ghost use Rattle.past_model.specs.Past.{known, load, image, incarnation_of, past, seen, writer_of, writes};
 ghost use Rattle.past_model.specs.History.{IsHistory};
 ghost use Rattle.past_model.specs.Shown.{IsObjectOf};
-ghost use Rattle.past_objects.specs.Objects.{happens, held_object, image_object, incarnation, last_image, objects, seen_object, sent_object, start, writer};
+ghost use Rattle.past_objects.specs.Objects.{first_objects, held_object, image_object, incarnation, last_image, next_objects, objects, seen_object, sent_object, writer};
 ghost use Rattle.past_objects.specs.Laws.{AfterDelivery, AfterKeeping, AfterLook, AfterRestart, AfterSending, AfterWrite};
 
 /// What a node holds, what a read saw, what was sent, and what an image has are the objects of the
@@ -35,8 +35,8 @@ pub fn each_object_is_that_of_its_set()
 /// The machine starts with nothing and goes on with each happening: what that changes, and that all
 /// else stays. The place of the next happening is their number.
 pub fn the_machine_goes_on_with_each_happening()
-    ensures first { objects [] ≡ start }
-    ensures step { (hs : List H) (h : H) → objects (hs ++ h ∷ []) ≡ happens (objects hs) h }
+    ensures first { objects [] ≡ first_objects }
+    ensures step { (hs : List H) (h : H) → objects (hs ++ h ∷ []) ≡ next_objects (objects hs) h }
     ensures place { (hs : List H) → (objects hs).next ≡ length hs }
     ensures wrote { (hs : List H) (n : ℕ) (k : Key) (v : ValueParts) (r : Option ℕ)
         → AfterWrite hs n k v r }

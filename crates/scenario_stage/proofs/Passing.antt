@@ -13,10 +13,10 @@ use Rattle.world_core.specs.declared.event.Event.{Event}
 use Rattle.world_core.specs.declared.event.Event.TheVariants.{Deliver, Keep}
 use Rattle.world_core.specs.declared.fault.WorldFault.{WorldFault}
 use Rattle.world_core.specs.declared.fault.WorldFault.TheVariants.{Memory}
-use Rattle.world_core.specs.Events.{Begin, Doing, Step, node_of}
+use Rattle.world_core.specs.Events.{Begin, Doing, Step, node_of_event}
 use Rattle.world_core.specs.Outcome.{Makes, Outcome, next_frames}
 use Rattle.world_core.specs.Refusal.{RefusesEvent, doing_in, node_at}
-use Rattle.world_core.specs.Tells.{numbered}
+use Rattle.world_core.specs.Numbers.{numbered}
 use Rattle.world_core.specs.World.{World}
 use Rattle.world_core.proofs.Refusing.{has_frame, some_by}
 use Rattle.scenario_stage.specs.Coded.{AreThere, CanBeMarked, HasSent}
@@ -46,7 +46,7 @@ grows old new n (Begin image) answer makes = record {
 
 grown : (old new : World) (event : Event) (answer : Answer) → Outcome old event (Ok answer) new → Grows old new answer
 unfolding Outcome
-grown old new event answer accepts = grows old new (node_of event) (doing_in old event) answer accepts.makes
+grown old new event answer accepts = grows old new (node_of_event event) (doing_in old event) answer accepts.makes
 
 kept : (old new : World) (event : Event) (fault : WorldFault) → Outcome old event (Err fault) new → new ≡ old
 unfolding Outcome

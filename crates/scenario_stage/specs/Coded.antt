@@ -11,7 +11,7 @@ use Rattle.world_core.specs.declared.event.Event.{Event}
 use Rattle.world_core.specs.declared.event.Event.TheVariants as events
 use Rattle.world_core.specs.declared.fault.WorldFault.{WorldFault}
 use Rattle.world_core.specs.declared.fault.WorldFault.TheVariants as worlds
-use Rattle.world_core.specs.Refusal.{table_of}
+use Rattle.world_core.specs.Refusal.{table_at}
 use Rattle.world_core.specs.World.{World}
 use Rattle.scenario_text.specs.Commands as spoken
 use Rattle.scenario_text.specs.Commands.{Command}
@@ -79,7 +79,7 @@ KeepsOrNot old node text_old text_new new = (added : List ℕ)
 abbrev pub ResolvesAs : Stage → ℕ → Key → Option (List ValueParts → ℕ)
     → (text_old text_new : List ℕ) → Stage → Type 0
 ResolvesAs old node key choice text_old text_new new = (added : List ℕ)
-    × Resolves old node key (chosen_as choice (values_of (object_at (table_of old.world node) key)))
+    × Resolves old node key (chosen_as choice (values_of (object_at (table_at old.world node) key)))
     added new × (text_new ≡ text_old ++ added)
 
 -- of an event, or of looking

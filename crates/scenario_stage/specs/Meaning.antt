@@ -19,8 +19,8 @@ use Rattle.printing.specs.Row.{digest_text, nodes_text}
 use Rattle.world_core.specs.declared.answer.Answer.{Answer}
 use Rattle.world_core.specs.declared.event.Event.{Event}
 use Rattle.world_core.specs.declared.event.Event.TheVariants as events
-use Rattle.world_core.specs.Refusal.{node_at, table_of}
-use Rattle.world_core.specs.Tells.{numbered}
+use Rattle.world_core.specs.Refusal.{node_at, table_at}
+use Rattle.world_core.specs.Numbers.{numbered}
 use Rattle.world_core.specs.World.{World}
 use Rattle.scenario_text.specs.Commands.{Command, Put, Del, Over, Read, Show, Deliver, Junk, Tick, Join, Down, Exchange, Hello, Leave, Restart, Watch, Changes, Keys, Root, Images, Views}
 
@@ -76,9 +76,9 @@ overlay_text overlay = codes "active " ++ nodes_text overlay.views.active
 
 -- what a command reports, if it only looks
 abbrev pub report_of : World → Command → Option Report
-report_of w (Show n k) = Some (record { node = n; text = object_text (object_at (table_of w n) k) })
-report_of w (Keys n p) = Some (record { node = n; text = list_text p (table_of w n) })
-report_of w (Root n) = Some (record { node = n; text = root_text (table_of w n) })
+report_of w (Show n k) = Some (record { node = n; text = object_text (object_at (table_at w n) k) })
+report_of w (Keys n p) = Some (record { node = n; text = list_text p (table_at w n) })
+report_of w (Root n) = Some (record { node = n; text = root_text (table_at w n) })
 report_of w (Images n) = Some (record {
   node = n;
   text = codes "images " ++ decimal (length (node_at w n).images + 1);

@@ -15,7 +15,7 @@ use Rattle.world_core.specs.declared.event.Event.TheVariants as events
 use Rattle.world_core.specs.declared.fault.WorldFault.{WorldFault}
 use Rattle.world_core.specs.declared.fault.WorldFault.TheVariants.{NoSuchFrame, NoSuchNode, Memory, Step}
 use Rattle.world_core.specs.Outcome.{Outcome}
-use Rattle.world_core.specs.Refusal.{table_of}
+use Rattle.world_core.specs.Refusal.{table_at}
 use Rattle.world_core.specs.World.{World, new_world}
 use Rattle.scenario_text.specs.Commands.{Command, Keep, Resolve, Settle, fault_in}
 use Rattle.scenario_stage.specs.Meaning.{Report, addressee, result_text, event_of, report_of}
@@ -119,7 +119,7 @@ KeepsAll old node (key ∷ keys) new = (answer : Answer) × (between : Stage)
 -- all that it holds
 pub record KeepsHeld (old : Stage) (node : ℕ) (text : List ℕ) (new : Stage) : Type 0 where
   pub there : node < length old.world.nodes
-  pub keeps : KeepsAll old node (map (λ row. row.0) (table_of old.world node)) new
+  pub keeps : KeepsAll old node (map (λ row. row.0) (table_at old.world node)) new
   pub text_is : text ≡ line (codes "ok")
 
 -- the sibling that is chosen, where there are two or more, and a resolver
@@ -191,7 +191,7 @@ ActsOrLooks old None None text new = (text ≡ []) × (new ≡ old)
 abbrev pub Acts : Choices → Stage → Command → (text : List ℕ) → Stage → Type 0
 Acts choices old (Keep node) text new = KeepsHeld old node text new ⊎ IsNoNode old node text new
 Acts choices old (Resolve node key by) text new = Resolves old node key
-    (chosen_by choices by (values_of (object_at (table_of old.world node) key))) text new
+    (chosen_by choices by (values_of (object_at (table_at old.world node) key))) text new
 Acts choices old Settle text new = Settles old text new
 Acts choices old command text new =
     ActsOrLooks old (event_of old.world command) (report_of old.world command) text new

@@ -19,6 +19,8 @@ mod example;
 #[cfg(test)]
 mod frames;
 #[cfg(test)]
+mod full;
+#[cfg(test)]
 mod overlay;
 #[cfg(test)]
 mod parts;

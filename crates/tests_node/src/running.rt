@@ -15,6 +15,17 @@ fn have_codes(rt: &impl Abort, outcomes: &[Result<Answer, WorldFault>]) -> bool 
     have
 }
 
+/// Returns whether a copy of each answer equals it.
+fn are_copied(rt: &impl Abort, world: &World) -> bool {
+    let mut equal = true;
+    for accepted in world.accepted() {
+        let copy = accepted.answer.copy().expect(rt, "memory");
+        equal = equal & (copy == accepted.answer);
+        drop(copy);
+    }
+    equal
+}
+
 /// A run goes on after a refused event.
 #[test]
 fn each_kind_of_event_happens_in_a_run(rt: HostRuntime) {
@@ -24,6 +35,7 @@ fn each_kind_of_event_happens_in_a_run(rt: HostRuntime) {
         .run(rt.alloc(), events.as_slice())
         .expect(&rt, "memory");
     assert!(rt; have_codes(&rt, outcomes.as_slice()) & (world.accepted().len() == 15));
+    assert!(rt; are_copied(&rt, &world));
 }
 
 /// How many nodes, and whether there may be a world of them.

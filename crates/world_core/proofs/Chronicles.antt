@@ -10,9 +10,9 @@ use Rattle.world_core.specs.declared.chronicle.Chronicle.{Chronicle}
 use Rattle.world_core.specs.declared.event.Event.{Event}
 use Rattle.world_core.specs.declared.event.Event.TheVariants.{Restart}
 use Rattle.world_core.specs.Chronicle.{IsSame, frames_in, world_in}
-use Rattle.world_core.specs.Events.{node_of}
-use Rattle.world_core.specs.Outcome.{listed, read_after}
-use Rattle.world_core.proofs.Accepting.{answer_of, begun, left, left_begun}
+use Rattle.world_core.specs.Events.{node_of_event}
+use Rattle.world_core.specs.Outcome.{list_of, read_after}
+use Rattle.world_core.proofs.Accepting.{answer_of, restart_answer, left, left_restarted}
 
 -- room changes nothing
 pub same_world : {new_nodes nodes : List ImagedNode} (old new : Chronicle) → IsSame old new → new_nodes ≡ nodes → world_in new_nodes new ≡ world_in nodes old
@@ -45,28 +45,28 @@ pub answered : (nodes : List ImagedNode) (old mid : Chronicle) (given : ImagedSt
 answered nodes old mid given answer same copy is = is ∙ ap (λ reply. answer_in mid reply given) copy ∙ answer_same nodes old mid given same
 
 pub after_step : {new_nodes : List ImagedNode} (nodes : List ImagedNode) (old mid new : Chronicle) (event : Event) (node : ImagedNode) (given : ImagedStep) → IsSame old mid
-    → new_nodes ≡ slice_set nodes (node_of event) node
+    → new_nodes ≡ slice_set nodes (node_of_event event) node
     → new.accepted.items ≡ mid.accepted.items ++ (record { event = event; answer = answer_in mid given.reply given }) ∷ []
-    → frames_in new ≡ frames_in mid ++ given.outbox → new.contexts.items ≡ mid.contexts.items ++ listed given.context
+    → frames_in new ≡ frames_in mid ++ given.outbox → new.contexts.items ≡ mid.contexts.items ++ list_of given.context
     → world_in new_nodes new ≡ left (world_in nodes old) event node given
 after_step nodes old mid new event node given same stepped accepted frames contexts =
     let accepts = accepted ∙ (λ i. same.accepted i ++ (record { event = event; answer = answer_same nodes old mid given same i }) ∷ []) in
     let sends = frames ∙ ap (λ fs. fs ++ given.outbox) same.frames in
-    let reads = contexts ∙ ap (λ cs. cs ++ listed given.context) same.contexts in
+    let reads = contexts ∙ ap (λ cs. cs ++ list_of given.context) same.contexts in
     λ i. record { nodes = stepped i; accepted = accepts i; frames = sends i; contexts = reads i }
 
 -- ---- a restart
 
-pub begun_same : (nodes : List ImagedNode) (old mid : Chronicle) (answer : Answer) → IsSame old mid → answer ≡ begun (world_in nodes mid) → answer ≡ begun (world_in nodes old)
-begun_same nodes old mid answer same is = is ∙ (λ i. begun (record { nodes = nodes; accepted = same.accepted i; frames = same.frames i; contexts = same.contexts i }))
+pub restart_answer_same : (nodes : List ImagedNode) (old mid : Chronicle) (answer : Answer) → IsSame old mid → answer ≡ restart_answer (world_in nodes mid) → answer ≡ restart_answer (world_in nodes old)
+restart_answer_same nodes old mid answer same is = is ∙ (λ i. restart_answer (record { nodes = nodes; accepted = same.accepted i; frames = same.frames i; contexts = same.contexts i }))
 
 pub after_restart : {new_nodes : List ImagedNode} (nodes : List ImagedNode) (old mid new : Chronicle) (n image : ℕ) (node : ImagedNode) (answer : Answer) → IsSame old mid
     → new_nodes ≡ slice_set nodes n node
-    → new.accepted.items ≡ mid.accepted.items ++ (record { event = Restart n image; answer = answer }) ∷ [] → answer ≡ begun (world_in nodes mid)
+    → new.accepted.items ≡ mid.accepted.items ++ (record { event = Restart n image; answer = answer }) ∷ [] → answer ≡ restart_answer (world_in nodes mid)
     → frames_in new ≡ frames_in mid → new.contexts.items ≡ mid.contexts.items
-    → world_in new_nodes new ≡ left_begun (world_in nodes old) n image node
+    → world_in new_nodes new ≡ left_restarted (world_in nodes old) n image node
 after_restart nodes old mid new n image node answer same stepped accepted is frames contexts =
-    let accepts = accepted ∙ (λ i. same.accepted i ++ (record { event = Restart n image; answer = begun_same nodes old mid answer same is i }) ∷ []) in
+    let accepts = accepted ∙ (λ i. same.accepted i ++ (record { event = Restart n image; answer = restart_answer_same nodes old mid answer same is i }) ∷ []) in
     let sends = frames ∙ same.frames in
     let reads = contexts ∙ same.contexts in
     λ i. record { nodes = stepped i; accepted = accepts i; frames = sends i; contexts = reads i }

@@ -17,9 +17,9 @@ use Rattle.world_core.specs.declared.answer.Answer.{Answer}
 use Rattle.world_core.specs.declared.event.Event.{Event}
 use Rattle.world_core.specs.declared.fault.WorldFault.{WorldFault}
 use Rattle.world_core.specs.declared.fault.WorldFault.TheVariants.{IncarnationSpent, LooksLikeFrame, Memory, NoSuchFrame, NoSuchImage, NoSuchNode, NoSuchRead}
-use Rattle.world_core.specs.Events.{Begin, Doing, Step, node_of}
+use Rattle.world_core.specs.Events.{Begin, Doing, Step, node_of_event}
 use Rattle.world_core.specs.Fault.{of_step}
-use Rattle.world_core.specs.Outcome.{Accepts, Makes, MakesRestart, MakesStep, OneOutcomeForEachEvent, Outcome, Rejects, listed, next_frames, read_after, with_node}
+use Rattle.world_core.specs.Outcome.{Accepts, Makes, MakesRestart, MakesStep, OneOutcomeForEachEvent, Outcome, Declines, list_of, next_frames, read_after, with_node}
 use Rattle.world_core.specs.Refusal.{HasNoLifeLeft, IsFrameAsJunk, NamesNoFrame, NamesNoImage, NamesNoNode, NamesNoRead, RefusesDoing, RefusesEvent, RefusesStep, doing_in, first_cause, node_at}
 use Rattle.world_core.specs.World.{World}
 
@@ -55,7 +55,7 @@ one_refusal w event =
     (one_of (NamesNoImage w event) NoSuchImage _
     (one_of (HasNoLifeLeft w event) IncarnationSpent _
     (one_of (IsFrameAsJunk event) LooksLikeFrame _
-    (one_of_doing (node_at w (node_of event)).state (doing_in w event)))))))
+    (one_of_doing (node_at w (node_of_event event)).state (doing_in w event)))))))
 
 -- ---- one world left
 
@@ -107,7 +107,7 @@ one_made old n (Begin image) answer also new other makes again = one_restart old
 
 one_accepted : (old new other : World) (event : Event) (answer also : Answer) → Accepts old event answer new → Accepts old event also other → (answer ≡ also) × (new ≡ other)
 one_accepted old new other event answer also accepts again =
-    let made = one_made old (node_of event) (doing_in old event) answer also new other accepts.makes again.makes in (
+    let made = one_made old (node_of_event event) (doing_in old event) answer also new other accepts.makes again.makes in (
       made.answers,
       λ i. record {
         nodes = made.nodes i;
@@ -127,11 +127,11 @@ refused : (old : World) (event : Event) (fault : WorldFault) → (fault ≡ Memo
 refused old event fault (inl memory) not = absurd (not memory)
 refused old event fault (inr refuses) not = refuses
 
-never_both : (old new other : World) (event : Event) (answer : Answer) (fault : WorldFault) → Accepts old event answer new → Rejects old event fault other → fault ≢ Memory → ⊥
+never_both : (old new other : World) (event : Event) (answer : Answer) (fault : WorldFault) → Accepts old event answer new → Declines old event fault other → fault ≢ Memory → ⊥
 never_both old new other event answer fault accepts rejects not =
     accepts.no_refusal fault (refused old event fault rejects.cause not)
 
-one_rejected : (old new other : World) (event : Event) (f g : WorldFault) → Rejects old event f new → Rejects old event g other → f ≢ Memory → g ≢ Memory → (f ≡ g) × (new ≡ other)
+one_rejected : (old new other : World) (event : Event) (f g : WorldFault) → Declines old event f new → Declines old event g other → f ≢ Memory → g ≢ Memory → (f ≡ g) × (new ≡ other)
 one_rejected old new other event f g rejects again not_f not_g = (
   one_refusal old event f g not_f not_g (refused old event f rejects.cause not_f) (refused old event g again.cause not_g),
   rejects.same ∙ sym again.same,

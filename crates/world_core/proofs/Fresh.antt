@@ -31,9 +31,11 @@ use Rattle.world_core.specs.declared.event.Event.TheVariants.{Deliver}
 use Rattle.world_core.specs.declared.fault.WorldFault.{WorldFault}
 use Rattle.world_core.specs.Knowledge.{FreshExactly, TellsFreshness}
 use Rattle.world_core.specs.Outcome.{Accepts, MakesStep, Outcome}
-use Rattle.world_core.specs.Refusal.{IsFrameOf, node_at, table_of}
-use Rattle.world_core.specs.Tells.{numbered, sending_of}
-use Rattle.world_core.specs.World.{IsTold, IsWholeWorld, IsWorld, World}
+use Rattle.world_core.specs.Refusal.{IsFrameOf, node_at, table_at}
+use Rattle.world_core.specs.Numbers.{numbered}
+use Rattle.world_core.specs.Tells.{sending_of}
+use Rattle.world_core.specs.World.{World}
+use Rattle.world_core.specs.Invariant.{IsTold, IsWholeWorld, IsWorld}
 use Rattle.world_core.proofs.Named.{IsToldAs}
 use Rattle.world_core.proofs.Outcomes.{world_of}
 use Rattle.world_core.proofs.Refusing.{has_frame, has_node}
@@ -92,7 +94,7 @@ fresh_at w is number n place m k f reply low of answers named sent told =
           let key : told.key ≡ k = same_sent hs place m f.from k told.key sent (subst (λ p. slice_get hs p ≡ Some (Sent f.from told.key)) here told.sent) in
           let carries : carried_object f.message ≡ Some (k, sent_object hs place k) =
           told.carries ∙ (λ i. Some (key i, sent_object hs (here i) (key i))) in
-          let shown : object_at (table_of w n) k ≡ held_object hs n k = (stands w is n low).holds k in
+          let shown : object_at (table_at w n) k ≡ held_object hs n k = (stands w is n low).holds k in
           let b : Bool = descends (join (held_object hs n k)) (join (sent_object hs place k)) in
           fresh_by hs n place k reply b
           (answers ∙ reply_by (node_at w n).state f.message k (sent_object hs place k) carries

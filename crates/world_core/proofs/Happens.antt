@@ -38,13 +38,14 @@ use Rattle.node_images.specs.Follows.{Follows}
 use Rattle.node_images.proofs.Noding.{held_at, put_grows}
 use Rattle.world_core.specs.declared.event.Event.{Event}
 use Rattle.world_core.specs.declared.event.Event.TheVariants.{Put, Get, PutOver, Deliver, Junk, Tick, Join, PeerDown, Exchange, Keep, Watch, Changes, Hello, Leave, Restart}
-use Rattle.world_core.specs.Events.{Begin, Doing, Step, context_of, doing_of, node_of}
-use Rattle.world_core.specs.Outcome.{listed, read_after}
-use Rattle.world_core.specs.Tells.{NamesEarlier, Pairwise, Told, look_of, next_read, numbered, sending_of, tell, tell_event, tell_got, tell_look}
-use Rattle.world_core.specs.World.{IsRead, IsState, IsTold}
+use Rattle.world_core.specs.Events.{Begin, Doing, Step, context_of, doing_of, node_of_event}
+use Rattle.world_core.specs.Outcome.{list_of, read_after}
+use Rattle.world_core.specs.Numbers.{numbered}
+use Rattle.world_core.specs.Tells.{NamesEarlier, Pairwise, Told, look_of, next_read, sending_of, tell, tell_event, tell_got, tell_look}
+use Rattle.world_core.specs.Invariant.{IsRead, IsState, IsTold}
 use Rattle.world_core.proofs.Named.{can_read, not_both, same_object, told_as}
-use Rattle.world_core.proofs.Lists.{pair_length}
-use Rattle.world_core.proofs.States.{slice_get_end, state_keep, state_look, state_take, state_write}
+use Rattle.world_core.proofs.Lists.{pair_length, slice_get_end}
+use Rattle.world_core.proofs.States.{state_keep, state_look, state_take, state_write}
 
 -- ---- the life that a node is in, by the node and by the history
 
@@ -212,13 +213,13 @@ IsNamed contexts spellings event = Unit {0}
 
 -- before what it sends: the state after it, and that it names what is there
 pub record Happens (ns : List Keeping) (contexts : List Reading) (sent : List Frame) (t : Told) (event : Event) (doing : Doing) (old : ImagedNode) (state : NodeParts) : Type 0 where
-  pub state_is : IsState (slice_set ns (node_of event) (keeping (arrived state (key_of doing) old))) (contexts ++ listed (context_in doing old.state)) sent (tell_event event t)
+  pub state_is : IsState (slice_set ns (node_of_event event) (keeping (arrived state (key_of doing) old))) (contexts ++ list_of (context_in doing old.state)) sent (tell_event event t)
   pub named : NamesEarlier t event
   pub read : read_after contexts (context_in doing old.state) ≡ next_read t event
 
 pub happens : (ns : List Keeping) (contexts : List Reading) (spellings : List (List ℕ)) (sent : List Frame) (t : Told) (event : Event) (old : ImagedNode) (state : NodeParts) (s : Stepped)
     → Pairwise Spells sent spellings → IsState ns contexts sent t → IsNamed contexts spellings event
-    → ForStep (doing_of contexts spellings event) (λ step. Stepping ns (node_of event) old step state s)
+    → ForStep (doing_of contexts spellings event) (λ step. Stepping ns (node_of_event event) old step state s)
     → Happens ns contexts sent t event (doing_of contexts spellings event) old state
 happens ns contexts spellings sent t (Put n k v read) old state s spelled is named st =
     let context = context_of contexts read in

@@ -30,5 +30,7 @@ pub mod Shown
 pub mod Fresh
 -- 21 is never the cause
 pub mod Never
+-- an accepted event is one deed more of its node
+pub mod Deeds
 -- events one after the other
 pub mod Running

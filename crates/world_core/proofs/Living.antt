@@ -15,10 +15,10 @@ use Rattle.std.proofs.lemmas.List.{length-append}
 use Rattle.world_core.specs.declared.answer.Accepted.{Accepted}
 use Rattle.world_core.specs.declared.event.Event.{Event}
 use Rattle.world_core.specs.declared.event.Event.TheVariants.{Put, Get, PutOver, Deliver, Junk, Tick, Join, PeerDown, Exchange, Keep, Watch, Changes, Hello, Leave, Restart}
-use Rattle.world_core.specs.Events.{Begin, Doing, Step, context_of, doing_of, node_of}
-use Rattle.world_core.specs.Lives.{Live, begun, deed_of, deeds_of}
+use Rattle.world_core.specs.Events.{Begin, Doing, Step, context_of, doing_of, node_of_event}
+use Rattle.world_core.specs.Lives.{Live, given_by_restart, deed_of, deeds_of}
 use Rattle.world_core.specs.Tells.{SendInOrder}
-use Rattle.world_core.specs.World.{IsFrameWithin, IsReadWithin}
+use Rattle.world_core.specs.Invariant.{IsFrameWithin, IsReadWithin}
 use Rattle.world_core.proofs.Lists.{frames_at_end, frames_at_more, numbered_more}
 use Rattle.std.proofs.lemmas.Bool.{eq-eqb, eqb-true}
 use Rattle.world_core.proofs.Telling.{first_within}
@@ -32,7 +32,7 @@ live_step images old ((Step e, g) ∷ deeds) mid event given new lives makes = (
 live_step images old ((Begin i, g) ∷ deeds) mid event given new lives makes = (lives.0, (lives.1.0, live_step images lives.0 deeds mid event given new lives.1.1 makes))
 
 pub live_begin : (images : List Image) (old : NodeParts) (deeds : List (Doing × Stepped)) (mid : NodeParts) (image : ℕ) (given : Stepped) (new : NodeParts)
-    → Live images old deeds mid → BeginsFrom images image mid new → given ≡ begun → Live images old (deeds ++ (Begin image, given) ∷ []) new
+    → Live images old deeds mid → BeginsFrom images image mid new → given ≡ given_by_restart → Live images old (deeds ++ (Begin image, given) ∷ []) new
 live_begin images old [] mid image given new lives begins gave = (new, ((subst (λ s. BeginsFrom images image s new) lives begins, gave), refl))
 live_begin images old ((Step e, g) ∷ deeds) mid image given new lives begins gave = (lives.0, (lives.1.0, live_begin images lives.0 deeds mid image given new lives.1.1 begins gave))
 live_begin images old ((Begin i, g) ∷ deeds) mid image given new lives begins gave = (lives.0, (lives.1.0, live_begin images lives.0 deeds mid image given new lives.1.1 begins gave))
@@ -100,7 +100,7 @@ deeds_more contexts more frames others n sent [] order within = refl
 deeds_more contexts more frames others n sent (a ∷ later) order within =
     let first = deed_more contexts more frames others a (All-head (λ a. Within contexts frames a.event) a later within) (first_within sent (length frames) a later order) in
     let rest = deeds_more contexts more frames others n (sent + a.answer.sent.count) later order.1 (All-tail (λ a. Within contexts frames a.event) a later within) in
-    λ i. cond (eqb (node_of a.event) n) (first i ∷ rest i) (rest i)
+    λ i. cond (eqb (node_of_event a.event) n) (first i ∷ rest i) (rest i)
 
 -- ---- one more event
 
@@ -112,19 +112,19 @@ pub deeds_append : (contexts : List Reading) (frames : List (List ℕ)) (n : ℕ
     → deeds_of contexts frames n (later ++ bs) ≡ deeds_of contexts frames n later ++ deeds_of contexts frames n bs
 deeds_append contexts frames n [] bs = refl
 deeds_append contexts frames n (a ∷ later) bs =
-    ap (λ ds. cond (eqb (node_of a.event) n) (deed_of contexts frames a ∷ ds) ds) (deeds_append contexts frames n later bs)
-    ∙ by_test (eqb (node_of a.event) n) (deed_of contexts frames a) (deeds_of contexts frames n later) (deeds_of contexts frames n bs)
+    ap (λ ds. cond (eqb (node_of_event a.event) n) (deed_of contexts frames a ∷ ds) ds) (deeds_append contexts frames n later bs)
+    ∙ by_test (eqb (node_of_event a.event) n) (deed_of contexts frames a) (deeds_of contexts frames n later) (deeds_of contexts frames n bs)
 
 -- the deed of an event is its node's own
-pub own_deed : (contexts : List Reading) (frames : List (List ℕ)) (n : ℕ) (a : Accepted) → node_of a.event ≡ n → deeds_of contexts frames n (a ∷ []) ≡ deed_of contexts frames a ∷ []
-own_deed contexts frames n a own = ap (λ b. cond b (deed_of contexts frames a ∷ []) []) (eq-eqb (node_of a.event) n own)
+pub own_deed : (contexts : List Reading) (frames : List (List ℕ)) (n : ℕ) (a : Accepted) → node_of_event a.event ≡ n → deeds_of contexts frames n (a ∷ []) ≡ deed_of contexts frames a ∷ []
+own_deed contexts frames n a own = ap (λ b. cond b (deed_of contexts frames a ∷ []) []) (eq-eqb (node_of_event a.event) n own)
 
 other_by : {A : Type 0} (m n : ℕ) (x : A) (b : Bool) → eqb m n ≡ b → m ≢ n → cond b (x ∷ []) [] ≡ []
 other_by m n x true e ne = absurd (ne (eqb-true m n e))
 other_by m n x false e ne = refl
 
-pub other_deed : (contexts : List Reading) (frames : List (List ℕ)) (m : ℕ) (a : Accepted) → node_of a.event ≢ m → deeds_of contexts frames m (a ∷ []) ≡ []
-other_deed contexts frames m a ne = other_by (node_of a.event) m (deed_of contexts frames a) (eqb (node_of a.event) m) refl ne
+pub other_deed : (contexts : List Reading) (frames : List (List ℕ)) (m : ℕ) (a : Accepted) → node_of_event a.event ≢ m → deeds_of contexts frames m (a ∷ []) ≡ []
+other_deed contexts frames m a ne = other_by (node_of_event a.event) m (deed_of contexts frames a) (eqb (node_of_event a.event) m) refl ne
 
 -- what an event was, with what it sent
 pub new_deed : (contexts more : List Reading) (frames others : List (List ℕ)) (a : Accepted) (doing : Doing) (given : Stepped)

@@ -22,8 +22,9 @@ use Rattle.past_model.specs.History.{Fits}
 use Rattle.past_objects.specs.Objects.{object_of_read, seen_object}
 use Rattle.world_core.specs.declared.event.Event.TheVariants.{Put}
 use Rattle.world_core.specs.Events.{context_of}
-use Rattle.world_core.specs.Tells.{NamesEarlier, Pairwise, Told, look_of, numbered}
-use Rattle.world_core.specs.World.{IsRead, IsTold}
+use Rattle.world_core.specs.Numbers.{numbered}
+use Rattle.world_core.specs.Tells.{NamesEarlier, Pairwise, Told, look_of}
+use Rattle.world_core.specs.Invariant.{IsRead, IsTold}
 use Rattle.world_core.proofs.Lists.{pair_first, pair_second}
 
 -- ---- the read of a write

@@ -34,11 +34,12 @@ use Rattle.world_core.specs.declared.event.Event.{Event}
 use Rattle.world_core.specs.declared.event.Event.TheVariants.{Put, Get, PutOver, Deliver, Junk, Tick, Join, PeerDown, Exchange, Keep, Watch, Changes, Hello, Leave, Restart}
 use Rattle.world_core.specs.declared.fault.WorldFault.{WorldFault}
 use Rattle.world_core.specs.declared.fault.WorldFault.TheVariants as OfWorld
-use Rattle.world_core.specs.Events.{node_of}
+use Rattle.world_core.specs.Events.{node_of_event}
 use Rattle.world_core.specs.Fault.{of_step}
-use Rattle.world_core.specs.Refusal.{IsFrameAsJunk, IsFrameOf, NamesNoFrame, RefusesDoing, RefusesEvent, RefusesStep, doing_in, node_at, table_of}
-use Rattle.world_core.specs.Tells.{numbered}
-use Rattle.world_core.specs.World.{IsTold, IsWholeWorld, IsWorld, World}
+use Rattle.world_core.specs.Refusal.{IsFrameAsJunk, IsFrameOf, NamesNoFrame, RefusesDoing, RefusesEvent, RefusesStep, doing_in, node_at, table_at}
+use Rattle.world_core.specs.Numbers.{numbered}
+use Rattle.world_core.specs.World.{World}
+use Rattle.world_core.specs.Invariant.{IsTold, IsWholeWorld, IsWorld}
 use Rattle.world_core.proofs.Named.{not_both, same_object}
 use Rattle.world_core.proofs.Outcomes.{world_of}
 use Rattle.world_core.proofs.Refusing.{node_is_there, some_by}
@@ -96,34 +97,34 @@ nothing_came (x ∷ xs) (y ∷ ys) e = absurd (some_entry (ltb y.id x.id) (eqb x
 then_stale : (mine came : List Entry) → sync mine came ≡ [] → descends (join mine) (join came) ≡ true
 then_stale mine came e = ap (λ c. descends (join mine) (join c)) (nothing_came mine came e)
 
-shows : (w : World) (is : IsWorld w) (n at : ℕ) (k : Key) → n < length w.nodes → is_stale (table_of w n) k (join (sent_object is.told.history at k)) ≡ false
-    → has_value (merge_of (table_of w n) k (sent_object is.told.history at k)) ≡ true
+shows : (w : World) (is : IsWorld w) (n at : ℕ) (k : Key) → n < length w.nodes → is_stale (table_at w n) k (join (sent_object is.told.history at k)) ≡ false
+    → has_value (merge_of (table_at w n) k (sent_object is.told.history at k)) ≡ true
 shows w is n at k low fresh =
     let hs = is.told.history in
-    let mine : object_at (table_of w n) k ≡ held_object hs n k = (stands w is n low).holds k in
-    has_value_from_values (merge_of (table_of w n) k (sent_object hs at k))
+    let mine : object_at (table_at w n) k ≡ held_object hs n k = (stands w is n low).holds k in
+    has_value_from_values (merge_of (table_at w n) k (sent_object hs at k))
     (λ no_cause.
     merged_shows hs is.state.is_history n at k
     (λ e.
-    let stale : is_stale (table_of w n) k (join (sent_object hs at k)) ≡ true = then_stale (object_at (table_of w n) k) (sent_object hs at k) (ap (λ o. sync o (sent_object hs at k)) mine ∙ e) in
+    let stale : is_stale (table_at w n) k (join (sent_object hs at k)) ≡ true = then_stale (object_at (table_at w n) k) (sent_object hs at k) (ap (λ o. sync o (sent_object hs at k)) mine ∙ e) in
     let both : true ≡ false = sym stale ∙ fresh in
     cc)
     (ap (λ o. values_of (sync o (sent_object hs at k))) (sym mine) ∙ no_cause))
 
 merge_never : (w : World) (is : IsWorld w) (n at : ℕ) (k : Key) (came : List Entry) → n < length w.nodes → came ≡ sent_object is.told.history at k
-    → refusal_of_merge (table_of w n) k came ≡ Some OfStore.BadEntries → ⊥
+    → refusal_of_merge (table_at w n) k came ≡ Some OfStore.BadEntries → ⊥
 merge_never w is n at k came low sent refused =
     let o : List Entry = sent_object is.told.history at k in
-    let sent_refused : refusal_of_merge (table_of w n) k o ≡ Some OfStore.BadEntries = ap (refusal_of_merge (table_of w n) k) (sym sent) ∙ refused in
-    let by : (is_stale (table_of w n) k (join o) ≡ false) × (has_value (merge_of (table_of w n) k o) ≡ false) =
-    merge_by (is_stale (table_of w n) k (join o)) (has_value (merge_of (table_of w n) k o)) (is_full_for (table_of w n) k) (is_small_enough most_merged (merge_of (table_of w n) k o)) sent_refused in
+    let sent_refused : refusal_of_merge (table_at w n) k o ≡ Some OfStore.BadEntries = ap (refusal_of_merge (table_at w n) k) (sym sent) ∙ refused in
+    let by : (is_stale (table_at w n) k (join o) ≡ false) × (has_value (merge_of (table_at w n) k o) ≡ false) =
+    merge_by (is_stale (table_at w n) k (join o)) (has_value (merge_of (table_at w n) k o)) (is_full_for (table_at w n) k) (is_small_enough most_merged (merge_of (table_at w n) k o)) sent_refused in
     let both : true ≡ false = sym (shows w is n at k low by.0) ∙ by.1 in
     cc
 
 -- ---- a frame that was sent
 
 object_never : (w : World) (is : IsWorld w) (n : ℕ) (f : Frame) (k : Key) (came : List Entry) (entry : Option ℕ) → n < length w.nodes → IsTold is.told.history f entry
-    → carried_object f.message ≡ Some (k, came) → refusal_of_merge (table_of w n) k came ≡ Some OfStore.BadEntries → ⊥
+    → carried_object f.message ≡ Some (k, came) → refusal_of_merge (table_at w n) k came ≡ Some OfStore.BadEntries → ⊥
 object_never w is n f k came None low told carries refused = not_both (carried_object f.message) (k, came) told carries
 object_never w is n f k came (Some at) low told carries refused =
     let same : (told.key ≡ k) × (came ≡ sent_object is.told.history at told.key) = same_object (carried_object f.message) k told.key came (sent_object is.told.history at told.key) carries told.carries in
@@ -133,10 +134,10 @@ message_never : (w : World) (is : IsWorld w) (n number : ℕ) (f : Frame) (m : M
     → refusal_of_message m (node_at w n).state ≡ Some (OfStep.Store OfStore.BadEntries) → ⊥
 message_never w is n number f (Gossip round key object) low of carries refused =
     let told = frame_told w is number f of in
-    object_never w is n f key object told.sending low told.told (ap carried_object carries) (of_the_store (refusal_of_merge (table_of w n) key object) refused)
+    object_never w is n f key object told.sending low told.told (ap carried_object carries) (of_the_store (refusal_of_merge (table_at w n) key object) refused)
 message_never w is n number f (XObject key object) low of carries refused =
     let told = frame_told w is number f of in
-    object_never w is n f key object told.sending low told.told (ap carried_object carries) (of_the_store (refusal_of_merge (table_of w n) key object) refused)
+    object_never w is n f key object told.sending low told.told (ap carried_object carries) (of_the_store (refusal_of_merge (table_at w n) key object) refused)
 message_never w is n number f m low of carries refused = let no : None ≡ Some (OfStep.Store OfStore.BadEntries) = refused in cc
 
 addressed_by : (b : Bool) (rest : Option StepFault) → cond b rest (Some OfStep.NotAddressed) ≡ Some (OfStep.Store OfStore.BadEntries) → rest ≡ Some (OfStep.Store OfStore.BadEntries)
@@ -207,8 +208,8 @@ sent_by : (w : World) (number : ℕ) (bytes : List ℕ) → numbered w.frames nu
 sent_by w number bytes there f spelled =
     (number, record { bytes = bytes; there = there; spelled = subst (Spells f) (ap (λ o. unwrap_or o []) there) spelled })
 
-last_never : (w : World) (is : IsWorld w) (event : Event) → node_of event < length w.nodes → (NamesNoFrame w event → ⊥) → (IsFrameAsJunk event → ⊥)
-    → RefusesDoing (node_at w (node_of event)).state (doing_in w event) no_value → ⊥
+last_never : (w : World) (is : IsWorld w) (event : Event) → node_of_event event < length w.nodes → (NamesNoFrame w event → ⊥) → (IsFrameAsJunk event → ⊥)
+    → RefusesDoing (node_at w (node_of_event event)).state (doing_in w event) no_value → ⊥
 last_never w is (Put n k v read) low frame junk by = step_never w is n low _ tt by
 last_never w is (Get n k) low frame junk by = step_never w is n low _ tt by
 last_never w is (PutOver n k v) low frame junk by = step_never w is n low _ tt by

@@ -9,10 +9,11 @@ use Rattle.world_core.specs.declared.answer.Answer.{Answer}
 use Rattle.world_core.specs.declared.event.Event.{Event}
 use Rattle.world_core.specs.declared.fault.WorldFault.{WorldFault}
 use Rattle.world_core.specs.declared.fault.WorldFault.TheVariants.{Memory}
-use Rattle.world_core.specs.Outcome.{Accepts, Outcome, Rejects}
+use Rattle.world_core.specs.Outcome.{Accepts, Outcome, Declines}
 use Rattle.world_core.specs.Refusal.{node_at}
 use Rattle.world_core.specs.Steps.{MayRefuse}
-use Rattle.world_core.specs.World.{IsWholeWorld, IsWorld, World}
+use Rattle.world_core.specs.World.{World}
+use Rattle.world_core.specs.Invariant.{IsWholeWorld, IsWorld}
 
 pub kept : (w : World) → IsWorld w → IsWholeWorld w
 unfolding IsWholeWorld
@@ -37,7 +38,7 @@ world_is w n a f c = λ i. record { nodes = n i; accepted = a i; frames = f i; c
 
 -- ---- refused
 
-rejected : (old new : World) (event : Event) (fault : WorldFault) → Rejects old event fault new → Outcome old event (Err fault) new
+rejected : (old new : World) (event : Event) (fault : WorldFault) → Declines old event fault new → Outcome old event (Err fault) new
 unfolding Outcome
 rejected old new event fault is = is
 

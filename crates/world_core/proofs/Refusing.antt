@@ -18,11 +18,11 @@ use Rattle.world_core.specs.declared.event.Event.{Event}
 use Rattle.world_core.specs.declared.event.Event.TheVariants.{Put, Deliver, Junk, Join, PeerDown, Exchange, Hello, Restart}
 use Rattle.world_core.specs.declared.fault.WorldFault.{WorldFault}
 use Rattle.world_core.specs.declared.fault.WorldFault.TheVariants.{IncarnationSpent, LooksLikeFrame, NoSuchFrame, NoSuchImage, NoSuchNode, NoSuchRead}
-use Rattle.world_core.specs.Events.{Step, node_of, other_node_of}
+use Rattle.world_core.specs.Events.{Step, node_of_event, other_node_of}
 use Rattle.world_core.specs.Fault.{of_step}
 use Rattle.world_core.specs.Refusal.{HasNoLifeLeft, HasNoNode, IsFrame, IsFrameAsJunk, NamesNoFrame, NamesNoImage, NamesNoNode, NamesNoRead, RefusesDoing, RefusesEvent, RefusesStep, doing_in, first_cause, node_at}
 use Rattle.world_core.specs.Steps.{HasNamed, IsOfStep, JunkFails, MayRefuse}
-use Rattle.world_core.specs.Tells.{numbered}
+use Rattle.world_core.specs.Numbers.{numbered}
 use Rattle.world_core.specs.World.{World}
 use Rattle.world_core.proofs.Happens.{IsNamed}
 
@@ -42,7 +42,7 @@ pub record AllThere (w : World) (event : Event) : Type 0 where
   pub life : HasNoLifeLeft w event → ⊥
   pub junk : IsFrameAsJunk event → ⊥
 
-pub no_refusal : (w : World) (event : Event) → AllThere w event → ((fault : WorldFault) → RefusesDoing (node_at w (node_of event)).state (doing_in w event) fault → ⊥)
+pub no_refusal : (w : World) (event : Event) → AllThere w event → ((fault : WorldFault) → RefusesDoing (node_at w (node_of_event event)).state (doing_in w event) fault → ⊥)
     → (fault : WorldFault) → RefusesEvent w event fault → ⊥
 no_refusal w event there rest =
     passes (NamesNoNode w event) NoSuchNode _ there.node
@@ -52,7 +52,7 @@ no_refusal w event there rest =
     (passes (HasNoLifeLeft w event) IncarnationSpent _ there.life
     (passes (IsFrameAsJunk event) LooksLikeFrame _ there.junk rest)))))
 
-pub refuses_by_step : (w : World) (event : Event) → AllThere w event → (fault : WorldFault) → RefusesDoing (node_at w (node_of event)).state (doing_in w event) fault → RefusesEvent w event fault
+pub refuses_by_step : (w : World) (event : Event) → AllThere w event → (fault : WorldFault) → RefusesDoing (node_at w (node_of_event event)).state (doing_in w event) fault → RefusesEvent w event fault
 refuses_by_step w event there fault by =
     inr (there.node, inr (there.frame, inr (there.read, inr (there.image, inr (there.life, inr (there.junk, by))))))
 
@@ -68,8 +68,8 @@ other_there w (Exchange n peer) named none = node_there w peer named none
 other_there w (Hello n peer) named none = node_there w peer named none
 other_there w event named none = none
 
-both_there : (w : World) (event : Event) → node_of event < length w.nodes → (HasNoNode w (other_node_of event) → ⊥) → NamesNoNode w event → ⊥
-both_there w event low other (inl absent) = node_there w (node_of event) low absent
+both_there : (w : World) (event : Event) → node_of_event event < length w.nodes → (HasNoNode w (other_node_of event) → ⊥) → NamesNoNode w event → ⊥
+both_there w event low other (inl absent) = node_there w (node_of_event event) low absent
 both_there w event low other (inr absent) = other absent
 
 something : {A : Type 0} (o : Option A) (x : A) → o ≡ Some x → o ≡ None → ⊥
@@ -96,7 +96,7 @@ no_junk : (w : World) (event : Event) → HasNamed w event → IsFrameAsJunk eve
 no_junk w (Junk n bytes) named is = named
 no_junk w event named is = is
 
-pub all_there : (w : World) (event : Event) → IsOfStep event → node_of event < length w.nodes → HasNamed w event → AllThere w event
+pub all_there : (w : World) (event : Event) → IsOfStep event → node_of_event event < length w.nodes → HasNamed w event → AllThere w event
 all_there w event of low named = record {
   node = both_there w event low (other_there w event named);
   frame = frame_there w event named;
@@ -112,22 +112,22 @@ not_refused : (s state : NodeParts) (step : NodeEvent) (given : Stepped) → IsN
 not_refused s state step given makes fault by = no_cause by.by_step makes by.cause
 
 pub step_accepted : (w : World) (event : Event) (step : NodeEvent) (state : NodeParts) (given : Stepped) → AllThere w event → doing_in w event ≡ Step step
-    → IsNodeStep (node_at w (node_of event)).state step state given → (fault : WorldFault) → RefusesEvent w event fault → ⊥
+    → IsNodeStep (node_at w (node_of_event event)).state step state given → (fault : WorldFault) → RefusesEvent w event fault → ⊥
 step_accepted w event step state given there doing makes =
     no_refusal w event there
-    (λ fault by. not_refused (node_at w (node_of event)).state state step given makes fault
-    (subst (λ d. RefusesDoing (node_at w (node_of event)).state d fault) doing by))
+    (λ fault by. not_refused (node_at w (node_of_event event)).state state step given makes fault
+    (subst (λ d. RefusesDoing (node_at w (node_of_event event)).state d fault) doing by))
 
 pub step_refused : (w : World) (event : Event) (step : NodeEvent) (by : StepFault) → AllThere w event → doing_in w event ≡ Step step
-    → CanComeOf (node_at w (node_of event)).state step by → MayRefuse w event (of_step by)
+    → CanComeOf (node_at w (node_of_event event)).state step by → MayRefuse w event (of_step by)
 step_refused w event step by there doing (inl memory) = inl (ap of_step memory)
 step_refused w event step by there doing (inr cause) =
     inr (refuses_by_step w event there (of_step by)
-    (subst (λ d. RefusesDoing (node_at w (node_of event)).state d (of_step by)) (sym doing) (record { by_step = by; cause = cause; is = refl })))
+    (subst (λ d. RefusesDoing (node_at w (node_of_event event)).state d (of_step by)) (sym doing) (record { by_step = by; cause = cause; is = refl })))
 
 -- ---- what a step names isn't there
 
-pub no_node : (w : World) (event : Event) → length w.nodes ≤ node_of event → RefusesEvent w event NoSuchNode
+pub no_node : (w : World) (event : Event) → length w.nodes ≤ node_of_event event → RefusesEvent w event NoSuchNode
 no_node w event past = inl (inl past, refl)
 
 pub no_other : (w : World) (event : Event) → HasNoNode w (other_node_of event) → RefusesEvent w event NoSuchNode
@@ -136,7 +136,7 @@ no_other w event none = inl (inr none, refl)
 pub no_frame : (w : World) (frame n word : ℕ) → n < length w.nodes → numbered w.frames frame ≡ None → RefusesEvent w (Deliver frame n word) NoSuchFrame
 no_frame w frame n word low none = inr (both_there w (Deliver frame n word) low (λ never. never), inl (none, refl))
 
-pub no_read : (w : World) (event : Event) → node_of event < length w.nodes → (HasNoNode w (other_node_of event) → ⊥) → (NamesNoFrame w event → ⊥) → NamesNoRead w event
+pub no_read : (w : World) (event : Event) → node_of_event event < length w.nodes → (HasNoNode w (other_node_of event) → ⊥) → (NamesNoFrame w event → ⊥) → NamesNoRead w event
     → RefusesEvent w event NoSuchRead
 no_read w event low other frame none = inr (both_there w event low other, inr (frame, inl (none, refl)))
 
@@ -218,12 +218,12 @@ named_of w event named = tt
 
 -- ---- what an accepted event names is there
 
-there_by : (w : World) (event : Event) (b : Bool) → ltb (node_of event) (length w.nodes) ≡ b → ((fault : WorldFault) → RefusesEvent w event fault → ⊥) → node_of event < length w.nodes
-there_by w event true e accepted = ltb-true (node_of event) (length w.nodes) e
-there_by w event false e accepted = absurd (accepted NoSuchNode (no_node w event (ltb-false (node_of event) (length w.nodes) e)))
+there_by : (w : World) (event : Event) (b : Bool) → ltb (node_of_event event) (length w.nodes) ≡ b → ((fault : WorldFault) → RefusesEvent w event fault → ⊥) → node_of_event event < length w.nodes
+there_by w event true e accepted = ltb-true (node_of_event event) (length w.nodes) e
+there_by w event false e accepted = absurd (accepted NoSuchNode (no_node w event (ltb-false (node_of_event event) (length w.nodes) e)))
 
-pub has_node : (w : World) (event : Event) → ((fault : WorldFault) → RefusesEvent w event fault → ⊥) → node_of event < length w.nodes
-has_node w event accepted = there_by w event (ltb (node_of event) (length w.nodes)) refl accepted
+pub has_node : (w : World) (event : Event) → ((fault : WorldFault) → RefusesEvent w event fault → ⊥) → node_of_event event < length w.nodes
+has_node w event accepted = there_by w event (ltb (node_of_event event) (length w.nodes)) refl accepted
 
 pub some_by : {A : Type 0} (o : Option A) → (o ≡ None → ⊥) → (x : A) × (o ≡ Some x)
 some_by None never = absurd (never refl)
@@ -233,9 +233,9 @@ pub has_frame : (w : World) (frame n word : ℕ) → ((fault : WorldFault) → R
 has_frame w frame n word accepted =
     some_by (numbered w.frames frame) (λ none. accepted NoSuchFrame (no_frame w frame n word (has_node w (Deliver frame n word) accepted) none))
 
-node_by : (w : World) (event : Event) (b : Bool) → ltb (node_of event) (length w.nodes) ≡ b → (NamesNoNode w event → ⊥) → node_of event < length w.nodes
-node_by w event true e named = ltb-true (node_of event) (length w.nodes) e
-node_by w event false e named = absurd (named (inl (ltb-false (node_of event) (length w.nodes) e)))
+node_by : (w : World) (event : Event) (b : Bool) → ltb (node_of_event event) (length w.nodes) ≡ b → (NamesNoNode w event → ⊥) → node_of_event event < length w.nodes
+node_by w event true e named = ltb-true (node_of_event event) (length w.nodes) e
+node_by w event false e named = absurd (named (inl (ltb-false (node_of_event event) (length w.nodes) e)))
 
-pub node_is_there : (w : World) (event : Event) → (NamesNoNode w event → ⊥) → node_of event < length w.nodes
-node_is_there w event named = node_by w event (ltb (node_of event) (length w.nodes)) refl named
+pub node_is_there : (w : World) (event : Event) → (NamesNoNode w event → ⊥) → node_of_event event < length w.nodes
+node_is_there w event named = node_by w event (ltb (node_of_event event) (length w.nodes)) refl named

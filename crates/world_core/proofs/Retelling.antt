@@ -16,19 +16,21 @@ use Rattle.past_model.specs.declared.happening.Happening.{Happening}
 use Rattle.past_model.specs.History.{IsHistory}
 use Rattle.world_core.specs.declared.answer.Accepted.{Accepted}
 use Rattle.world_core.specs.declared.answer.FrameNumbers.{FrameNumbers}
-use Rattle.world_core.specs.Events.{node_of}
+use Rattle.world_core.specs.Events.{node_of_event}
 use Rattle.world_core.specs.Knowledge.{OfAllTold}
 use Rattle.world_core.specs.Refusal.{IsFrameOf}
-use Rattle.world_core.specs.Tells.{Pairwise, SendInOrder, Told, frames_at, nothing_told, numbered, tell_each, tell_event, tell_frames, tell_sending}
-use Rattle.world_core.specs.World.{IsWithin, IsWorld, World}
+use Rattle.world_core.specs.Numbers.{frames_at, numbered}
+use Rattle.world_core.specs.Tells.{Pairwise, SendInOrder, Told, nothing_told, tell_each, tell_event, tell_frames, tell_sending}
+use Rattle.world_core.specs.World.{World}
+use Rattle.world_core.specs.Invariant.{IsWithin, IsWorld}
 use Rattle.world_core.proofs.Lists.{numbered_at, pair_first, pair_length}
 use Rattle.world_core.proofs.Telling.{first_within, tell_each_snoc}
 
 -- ---- frames
 
-tell_frames_snoc : (fs : List Frame) (f : Frame) (t : Told) → tell_frames (fs ++ f ∷ []) t ≡ tell_sending f.from (carried_object f.message) (tell_frames fs t)
-tell_frames_snoc [] f t = refl
-tell_frames_snoc (g ∷ fs) f t = tell_frames_snoc fs f (tell_sending g.from (carried_object g.message) t)
+tell_frames_snoc : (n : ℕ) (fs : List Frame) (f : Frame) (t : Told) → tell_frames n (fs ++ f ∷ []) t ≡ tell_sending n (carried_object f.message) (tell_frames n fs t)
+tell_frames_snoc n [] f t = refl
+tell_frames_snoc n (g ∷ fs) f t = tell_frames_snoc n fs f (tell_sending n (carried_object g.message) t)
 
 -- the frame of a number stands at its place
 frame_here : (w : World) (frames : List Frame) → Pairwise Spells frames w.frames → (number place : ℕ) → number ≡ place + 1 → (f : Frame) → IsFrameOf w number f
@@ -38,10 +40,10 @@ frame_here w frames spelled number place e f is =
     found.1.0 ∙ ap (λ (g : Frame). Some g) (one_frame found.0 f is.bytes found.1.1 is.spelled)
 
 -- so many of an event's frames are told, and then one more
-pub next_told : (w : World) (frames : List Frame) → Pairwise Spells frames w.frames → (numbers : FrameNumbers) → 1 ≤ numbers.first → (done : ℕ) (f : Frame)
-    → IsFrameOf w (numbers.first + done) f → (t told : Told) → told ≡ tell_frames (take done (drop (numbers.first - 1) frames)) t
-    → tell_sending f.from (carried_object f.message) told ≡ tell_frames (take (done + 1) (drop (numbers.first - 1) frames)) t
-next_told w frames spelled numbers first done f is t told so_far =
+pub next_told : (w : World) (frames : List Frame) → Pairwise Spells frames w.frames → (n : ℕ) (numbers : FrameNumbers) → 1 ≤ numbers.first → (done : ℕ) (f : Frame)
+    → IsFrameOf w (numbers.first + done) f → (t told : Told) → told ≡ tell_frames n (take done (drop (numbers.first - 1) frames)) t
+    → tell_sending n (carried_object f.message) told ≡ tell_frames n (take (done + 1) (drop (numbers.first - 1) frames)) t
+next_told w frames spelled n numbers first done f is t told so_far =
     let place : ℕ = (numbers.first - 1) + done in
     let rest : List Frame = drop (numbers.first - 1) frames in
     let here : slice_get frames place ≡ Some f = frame_here w frames spelled (numbers.first + done) place (omega (arith, first)) f is in
@@ -49,8 +51,8 @@ next_told w frames spelled numbers first done f is t told so_far =
     let long : length rest ≡ length frames - (numbers.first - 1) = length-drop (numbers.first - 1) frames in
     let low : done < length rest = omega (arith, within, long) in
     let at : get_or rest done f ≡ f = get_or-drop (numbers.first - 1) frames done f ∙ get_or_from_slice_get frames place f f here in
-    ap (tell_sending f.from (carried_object f.message)) so_far ∙ sym (tell_frames_snoc (take done rest) f t)
-    ∙ ap (λ fs. tell_frames fs t) (sym (take_more rest done f low ∙ ap (λ g. take done rest ++ g ∷ []) at))
+    ap (tell_sending n (carried_object f.message)) so_far ∙ sym (tell_frames_snoc n (take done rest) f t)
+    ∙ ap (λ fs. tell_frames n fs t) (sym (take_more rest done f low ∙ ap (λ g. take done rest ++ g ∷ []) at))
 
 -- a sent frame has its bytes, and they spell it
 pub record IsSent (w : World) (number : ℕ) : Type 0 where
@@ -98,7 +100,7 @@ in_order_at before all (a ∷ later) order (suc at) d low = in_order_at (before 
 
 -- what is asked of an accepted event before it is told
 pub record CanTell (w : World) (a : Accepted) : Type 0 where
-  pub node : node_of a.event < 16
+  pub node : node_of_event a.event < 16
   pub first : 1 ≤ a.answer.sent.first
   pub there : a.answer.sent.first + a.answer.sent.count ≤ length w.frames + 1
 
@@ -108,7 +110,7 @@ can_tell w is at a low here =
     let long : length frames ≡ length w.frames = pair_length Spells frames w.frames is.telling.spelled in
     let order = in_order_at 0 (length frames) w.accepted is.telling.in_order at a low in
     let within : IsWithin w (get_or w.accepted at a).event = All-get_or (λ b. IsWithin w b.event) w.accepted at a low is.within in
-    let of : node_of a.event < length w.nodes = subst (λ (b : Accepted). node_of b.event < length w.nodes) here within.node in
+    let of : node_of_event a.event < length w.nodes = subst (λ (b : Accepted). node_of_event b.event < length w.nodes) here within.node in
     let few : length w.nodes ≤ 16 = is.few in
     let first : 1 ≤ a.answer.sent.first = subst (λ (b : Accepted). 1 ≤ b.answer.sent.first) here order.0 in
     let last : a.answer.sent.first + a.answer.sent.count ≤ length frames + 1 = subst (λ (b : Accepted). b.answer.sent.first + b.answer.sent.count ≤ length frames + 1) here order.1 in
@@ -119,11 +121,12 @@ abbrev pub ToldOf : World → ℕ → Told → Type 0
 ToldOf w count told = (frames : List Frame) → Pairwise Spells frames w.frames → told ≡ tell_each frames (take count w.accepted) nothing_told
 
 pub next_event : (w : World) (at : ℕ) (a : Accepted) → at < length w.accepted → get_or w.accepted at a ≡ a → (told event new : Told) → ToldOf w at told
-    → event ≡ tell_event a.event told → ((frames : List Frame) → Pairwise Spells frames w.frames → new ≡ tell_frames (frames_at a.answer.sent frames) event)
+    → event ≡ tell_event a.event told → (n : ℕ) → n ≡ node_of_event a.event
+    → ((frames : List Frame) → Pairwise Spells frames w.frames → new ≡ tell_frames n (frames_at a.answer.sent frames) event)
     → ToldOf w (at + 1) new
-next_event w at a low here told event new so_far told_event told_frames = λ frames spelled.
+next_event w at a low here told event new so_far told_event n whose told_frames = λ frames spelled.
     told_frames frames spelled
-    ∙ ap (λ t. tell_frames (frames_at a.answer.sent frames) t) (told_event ∙ ap (tell_event a.event) (so_far frames spelled))
+    ∙ (λ i. tell_frames (whose i) (frames_at a.answer.sent frames) ((told_event ∙ ap (tell_event a.event) (so_far frames spelled)) i))
     ∙ sym (tell_each_snoc frames (take at w.accepted) a nothing_told)
     ∙ ap (λ events. tell_each frames events nothing_told) (sym (take_more w.accepted at a low ∙ ap (λ b. take at w.accepted ++ b ∷ []) here))
 

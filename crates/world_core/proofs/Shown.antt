@@ -18,21 +18,23 @@ use Rattle.node_core.specs.Leaving.{carried_object}
 use Rattle.past_model.specs.declared.happening.Happening.{Happening}
 use Rattle.past_model.specs.declared.happening.Happening.TheVariants.{Sent}
 use Rattle.past_model.specs.History.{IsHistory}
-use Rattle.past_model.specs.Past.{image, known, load, past, writes}
+use Rattle.past_model.specs.Past.{image, incarnation_of, known, load, past, writes}
 use Rattle.past_model.specs.Shown.{IsObjectOf}
 use Rattle.past_model.proofs.Entries.{one_object}
 use Rattle.past_model.proofs.Placed.{ordered}
 use Rattle.past_model.proofs.Showing.{object_shows}
 use Rattle.past_objects.specs.Objects.{seen_object, sent_object}
-use Rattle.past_objects.proofs.Matching.{matches, same_numbers}
+use Rattle.past_objects.proofs.Matching.{matches, same_lives, same_numbers}
 use Rattle.node_core.specs.Node.{NodeParts}
 use Rattle.node_images.specs.Images.{Image, holdings}
 use Rattle.node_images.specs.Node.{keeping, new_node}
 use Rattle.node_images.specs.Follows.{Follows}
 use Rattle.world_core.specs.Knowledge.{CarriesLoad, CountsSeen, OfAllTold, ShowWhatTheyKnow, ShowsKnown}
-use Rattle.world_core.specs.Refusal.{IsFrameOf, node_at, table_of}
-use Rattle.world_core.specs.Tells.{Told, numbered}
-use Rattle.world_core.specs.World.{IsRead, IsTold, IsWorld, World}
+use Rattle.world_core.specs.Refusal.{IsFrameOf, node_at, table_at}
+use Rattle.world_core.specs.Numbers.{numbered}
+use Rattle.world_core.specs.Tells.{Told}
+use Rattle.world_core.specs.World.{World}
+use Rattle.world_core.specs.Invariant.{IsRead, IsTold, IsWorld}
 use Rattle.world_core.proofs.Lists.{pair_first}
 use Rattle.world_core.proofs.Named.{IsToldAs, not_both, same_object, told_as}
 use Rattle.world_core.proofs.Telling.{one_told}
@@ -50,7 +52,7 @@ stands w is n low =
     subst (Follows is.told.history n) (sym (seen w.nodes n low)) (is.state.nodes n (keeping (node_at w n)) (kept_low w.nodes n low))
 
 pub holds : (w : World) (is : IsWorld w) (n : ℕ) → n < length w.nodes → (k : Key)
-    → IsObjectOf (writes is.told.history) k (known is.told.history n k) (object_at (table_of w n) k)
+    → IsObjectOf (writes is.told.history) k (known is.told.history n k) (object_at (table_at w n) k)
 holds w is n low k =
     let hs = is.told.history in
     subst (IsObjectOf (writes hs) k (known hs n k)) (sym ((stands w is n low).holds k)) ((matches hs is.state.is_history).known n k)
@@ -67,12 +69,12 @@ shows_all w is = of_told w is _ (λ n key low. holds w is n low key)
 
 -- what is known determines what is held
 pub equally : (w : World) (is : IsWorld w) (m n : ℕ) (k : Key) → m < length w.nodes → n < length w.nodes
-    → ((p : ℕ) → known is.told.history m k p ≡ known is.told.history n k p) → object_at (table_of w m) k ≡ object_at (table_of w n) k
+    → ((p : ℕ) → known is.told.history m k p ≡ known is.told.history n k p) → object_at (table_at w m) k ≡ object_at (table_at w n) k
 equally w is m n k low there same =
     let hs = is.told.history in
     let sets : known hs m k ≡ known hs n k = λ i p. same p i in
-    one_object (writes hs) k (known hs n k) (object_at (table_of w m) k) (object_at (table_of w n) k)
-    (subst (λ S. IsObjectOf (writes hs) k S (object_at (table_of w m) k)) sets (holds w is m low k)) (holds w is n there k)
+    one_object (writes hs) k (known hs n k) (object_at (table_at w m) k) (object_at (table_at w n) k)
+    (subst (λ S. IsObjectOf (writes hs) k S (object_at (table_at w m) k)) sets (holds w is m low k)) (holds w is n there k)
 
 -- ---- tables with equal objects are equal
 
@@ -93,10 +95,10 @@ one_table a b is js same =
 
 pub equal_roots : (w : World) (is : IsWorld w) (m n : ℕ) → m < length w.nodes → n < length w.nodes
     → ((k : Key) (p : ℕ) → known is.told.history m k p ≡ known is.told.history n k p)
-    → tree_root (rows_of (table_of w m)) ≡ tree_root (rows_of (table_of w n))
+    → tree_root (rows_of (table_at w m)) ≡ tree_root (rows_of (table_at w n))
 equal_roots w is m n low there same =
     ap (λ t. tree_root (rows_of t))
-    (one_table (table_of w m) (table_of w n) (is.lived m (new_node m) low).held (is.lived n (new_node n) there).held
+    (one_table (table_at w m) (table_at w n) (is.lived m (new_node m) low).held (is.lived n (new_node n) there).held
     (λ k. equally w is m n k low there (same k)))
 
 -- ---- images
@@ -178,3 +180,9 @@ pub state_shows : (w : World) → IsWorld w → (n : ℕ) → n < length w.nodes
 state_shows w is n low state lent =
     let shows : OfAllTold w (λ t. (key : Key) → IsObjectOf (writes t.history) key (known t.history n key) (object_at state.table key)) = state_holds w is n low state lent in
     λ t tells key. shows_known t.history n key (object_at state.table key) (shows t tells key)
+
+pub state_life : (w : World) → IsWorld w → (n : ℕ) → n < length w.nodes → (state : NodeParts) → state ≡ (node_at w n).state
+    → OfAllTold w (λ t. state.incarnation ≡ incarnation_of (past t.history) n)
+state_life w is n low state lent =
+    of_told w is (λ t. state.incarnation ≡ incarnation_of (past t.history) n)
+    (ap (λ (s : NodeParts). s.incarnation) lent ∙ (stands w is n low).life ∙ same_lives is.told.history n)

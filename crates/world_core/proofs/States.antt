@@ -28,8 +28,8 @@ use Rattle.node_images.proofs.Keepings.{new_keeping, with_kept, with_merge, with
 use Rattle.node_images.specs.Follows.{Follows}
 use Rattle.node_images.proofs.Following.{follows_look, follows_sending, follows_write, follows_keep, follows_take, follows_restart, write_elsewhere, keeping_elsewhere, delivery_elsewhere, restart_elsewhere}
 use Rattle.world_core.specs.Tells.{Pairwise, Told, nothing_told, tell, tell_frames, tell_look, tell_sending}
-use Rattle.world_core.specs.World.{IsRead, IsSending, IsState, IsTold}
-use Rattle.world_core.proofs.Lists.{pairwise_map, pairwise_snoc, slice_get_more}
+use Rattle.world_core.specs.Invariant.{IsRead, IsSending, IsState, IsTold}
+use Rattle.world_core.proofs.Lists.{pairwise_map, pairwise_snoc, slice_get_end, slice_get_more}
 
 -- ---- reads and sendings in a longer history
 
@@ -119,10 +119,6 @@ state_restart nodes contexts sent t n j table node s low at image restored fits 
     (follows_restart t.history n j node table (subst (Follows t.history n) (sym at) (s.nodes n node low)) image restored)
     (λ m d within ne. restart_elsewhere t.history n j m (get_or nodes m d) ne (s.nodes m d within)))
 
-pub slice_get_end : (hs : List Happening) (h : Happening) → slice_get (hs ++ h ∷ []) (length hs) ≡ Some h
-slice_get_end [] h = refl
-slice_get_end (g ∷ hs) h = slice_get_end hs h
-
 -- a read: its context is of the key and what the node holds there
 pub state_look : (nodes : List Keeping) (contexts : List Reading) (sent : List Frame) (t : Told) (n : ℕ) (k : Key) (context : Reading)
     → IsState nodes contexts sent t → node_of_writer context.source.actor ≡ n → context.key ≡ k → context.vector ≡ join (held_object t.history n k) → IsState nodes (contexts ++ context ∷ []) sent (tell_look n k t)
@@ -186,14 +182,16 @@ state_frame nodes contexts sent t n node frame low at from held s (Some (k, o)) 
 -- the frames of a node, each of which carries what it holds
 pub state_frames : (nodes : List Keeping) (contexts : List Reading) (sent : List Frame) (t : Told) (n : ℕ) (node : Keeping) (frames : List Frame) (bytes : List (List ℕ))
     → n < length nodes → node ≡ get_or nodes n node → AreOfHeld n node.table frames bytes → IsState nodes contexts sent t
-    → IsState nodes contexts (sent ++ frames) (tell_frames frames t)
+    → IsState nodes contexts (sent ++ frames) (tell_frames n frames t)
 state_frames nodes contexts sent t n node [] [] low at are s = subst (λ fs. IsState nodes contexts fs t) (sym (append-nil sent)) s
 state_frames nodes contexts sent t n node [] (b ∷ bytes) low at are s = absurd are
 state_frames nodes contexts sent t n node (f ∷ frames) [] low at are s = absurd are
 state_frames nodes contexts sent t n node (f ∷ frames) (b ∷ bytes) low at are s =
-    let first = state_frame nodes contexts sent t n node f low at are.0.1.0 are.0.1.1 s (carried_object f.message) refl in
-    subst (λ fs. IsState nodes contexts fs (tell_frames (f ∷ frames) t)) (append_assoc sent (f ∷ []) frames)
-    (state_frames nodes contexts (sent ++ f ∷ []) (tell_sending f.from (carried_object f.message) t) n node frames bytes low at are.1 first)
+    let first : IsState nodes contexts (sent ++ f ∷ []) (tell_sending n (carried_object f.message) t) =
+    subst (λ m. IsState nodes contexts (sent ++ f ∷ []) (tell_sending m (carried_object f.message) t)) are.0.1.0
+    (state_frame nodes contexts sent t n node f low at are.0.1.0 are.0.1.1 s (carried_object f.message) refl) in
+    subst (λ fs. IsState nodes contexts fs (tell_frames n (f ∷ frames) t)) (append_assoc sent (f ∷ []) frames)
+    (state_frames nodes contexts (sent ++ f ∷ []) (tell_sending n (carried_object f.message) t) n node frames bytes low at are.1 first)
 
 -- their spellings
 pub spelled_frames : (n : ℕ) (table : Table) (frames : List Frame) (bytes : List (List ℕ)) → AreOfHeld n table frames bytes → Pairwise Spells frames bytes

@@ -5,6 +5,7 @@ use Rattle.meta_frame.specs.Frame.{Spells}
 use Rattle.meta_frame.specs.declared.message.Frame.{Frame}
 use Rattle.meta_frame.proofs.Frames.{one_frame}
 use Rattle.world_core.specs.declared.answer.Accepted.{Accepted}
+use Rattle.world_core.specs.Events.{node_of_event}
 use Rattle.world_core.specs.Tells.{EachNames, NamesEarlier, Pairwise, SendInOrder, Tells, Told, next_read, nothing_told, tell_accepted, tell_all, tell_each, tell_event, tell_frames}
 use Rattle.world_core.proofs.Lists.{frames_at_end, frames_at_more, pairwise_append, pairwise_one}
 
@@ -46,7 +47,7 @@ first_within sent all a later order =
 
 accepted_more : (frames more : List Frame) (a : Accepted) (t : Told) → (a.answer.sent.first - 1) + a.answer.sent.count ≤ length frames
     → tell_accepted (frames ++ more) a t ≡ tell_accepted frames a t
-accepted_more frames more a t within = ap (λ fs. tell_frames fs (tell_event a.event t)) (frames_at_more a.answer.sent frames more within)
+accepted_more frames more a t within = ap (λ fs. tell_frames (node_of_event a.event) fs (tell_event a.event t)) (frames_at_more a.answer.sent frames more within)
 
 -- more frames change nothing that earlier ones told
 pub tell_each_more : (frames more : List Frame) (sent : ℕ) (later : List Accepted) (t : Told) → SendInOrder sent later (length frames)
@@ -70,7 +71,7 @@ each_names_more frames more sent (a ∷ later) t order all = (
 unfoldable pub telling_more : (accepted : List Accepted) (spellings : List (List ℕ)) (t : Told) (is : Tells accepted spellings t) (a : Accepted) (frames : List Frame) (bytes : List (List ℕ))
     → Pairwise Spells frames bytes → a.answer.sent ≡ record { first = length is.frames + 1; count = length frames }
     → NamesEarlier t a.event → a.answer.read ≡ next_read t a.event
-    → Tells (accepted ++ a ∷ []) (spellings ++ bytes) (tell_frames frames (tell_event a.event t))
+    → Tells (accepted ++ a ∷ []) (spellings ++ bytes) (tell_frames (node_of_event a.event) frames (tell_event a.event t))
 telling_more accepted spellings t is a frames bytes spelled sent named read =
     let all = is.frames ++ frames in
     let long : length all ≡ length is.frames + length frames = length-append is.frames frames in
@@ -84,7 +85,7 @@ telling_more accepted spellings t is a frames bytes spelled sent named read =
       names = each_names_snoc all accepted a nothing_told (each_names_more is.frames frames 0 accepted nothing_told is.in_order is.names)
           (subst (λ u. NamesEarlier u a.event) (sym told) named) (read ∙ ap (λ u. next_read u a.event) (sym told));
       tells = tell_each_snoc all accepted a nothing_told ∙ ap (tell_accepted all a) told
-          ∙ ap (λ fs. tell_frames fs (tell_event a.event t)) (frames_at_end a.answer.sent is.frames frames sent);
+          ∙ ap (λ fs. tell_frames (node_of_event a.event) fs (tell_event a.event t)) (frames_at_end a.answer.sent is.frames frames sent);
     }
 
 -- ---- what is told is one

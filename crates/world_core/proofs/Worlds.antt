@@ -10,38 +10,50 @@ use Rattle.std.proofs.lemmas.List.FromFn.{get_or-map-range_with_len, length-rang
 use Rattle.std.proofs.lemmas.Option.{slice_get_within}
 use Rattle.std.proofs.Math.ListN as list
 use Rattle.meta_types.specs.Name.{IsKey, Key}
+use Rattle.meta_types.specs.Value.{ValueParts}
 use Rattle.dvvset.specs.Object.{Entry}
+use Rattle.dvvset.specs.Clock.{join, values_of}
 use Rattle.meta_frame.specs.Frame.{Spells}
 use Rattle.meta_frame.specs.declared.message.Frame.{Frame}
 use Rattle.meta_store.specs.Context.{Reading}
-use Rattle.meta_store.specs.Table.{IsHeld, IsTable}
+use Rattle.meta_store.specs.Table.{IsHeld, IsTable, object_at}
+use Rattle.subscriptions.specs.Watching.{Watching}
 use Rattle.node_events.specs.declared.event.NodeEvent.{NodeEvent}
+use Rattle.node_events.specs.declared.event.NodeEvent.TheVariants as OfNode
+use Rattle.node_events.specs.declared.reply.Reply.{Reply}
+use Rattle.node_events.specs.declared.reply.Reply.TheVariants as OfReply
 use Rattle.node_events.specs.declared.reply.Reply.TheVariants.{Done}
 use Rattle.node_core.specs.declared.state.Stepped.{Stepped}
 use Rattle.node_core.specs.Leaving.{AreOfHeld, StepLeaves}
-use Rattle.node_core.specs.Node.{NodeParts, opening}
+use Rattle.node_parts.specs.Watches.{at_number, reply_of_changes}
+use Rattle.node_core.specs.Node.{NodeParts, opening, present}
 use Rattle.node_core.specs.Step.{IsNodeStep}
 use Rattle.past_model.specs.declared.happening.Happening.TheVariants.{Restarted}
 use Rattle.past_model.specs.History.{most_restarts}
 use Rattle.past_model.specs.Past.{past}
 use Rattle.past_objects.proofs.Matching.{same_lives, same_numbers}
+use Rattle.node_images.specs.Ahead.{IsPlain, IsReady, object_written, reply_ahead}
 use Rattle.node_images.specs.Images.{Image}
 use Rattle.node_images.specs.Keeping.{IsRestorable, Keeping, change_at, most_incarnation}
 use Rattle.node_images.proofs.Keepings.{with_restart}
+use Rattle.node_images.proofs.Ready.{ready}
 use Rattle.node_images.specs.Node.{BeginsFrom, ImagedNode, IsRestarted, arrived, context_read, image_key, images_with, keeping, new_node}
 use Rattle.node_images.specs.Follows.{Follows}
 use Rattle.world_core.specs.declared.answer.Accepted.{Accepted}
 use Rattle.world_core.specs.declared.answer.Answer.{Answer}
 use Rattle.world_core.specs.declared.event.Event.{Event}
 use Rattle.world_core.specs.declared.event.Event.TheVariants.{Put, Deliver, Restart}
-use Rattle.world_core.specs.Events.{Begin, Doing, Step, node_of}
+use Rattle.world_core.specs.Events.{Begin, Doing, Step, node_of_event}
 use Rattle.world_core.specs.Lives.{Live, deed_of, deeds_of}
-use Rattle.world_core.specs.Outcome.{listed, next_frames, read_after}
+use Rattle.world_core.specs.Knowledge.{HandsOut}
+use Rattle.world_core.specs.Outcome.{list_of, next_frames, read_after}
 use Rattle.world_core.specs.Refusal.{doing_in, node_at}
-use Rattle.world_core.specs.Tells.{NamesEarlier, Pairwise, SendInOrder, next_read, nothing_told, numbered, tell, tell_event, tell_frames}
-use Rattle.world_core.specs.World.{HasLived, IsFrameWithin, IsReadWithin, IsState, IsWithin, IsWorld, World, new_world}
+use Rattle.world_core.specs.Numbers.{numbered}
+use Rattle.world_core.specs.Tells.{NamesEarlier, Pairwise, SendInOrder, next_read, nothing_told, tell, tell_event, tell_frames}
+use Rattle.world_core.specs.World.{HasLived, World, new_world}
+use Rattle.world_core.specs.Invariant.{IsFrameWithin, IsReadWithin, IsState, IsWithin, IsWorld}
 use Rattle.world_core.proofs.Happens.{ForStep, Happens, IsNamed, Stepping, happens}
-use Rattle.world_core.proofs.Lists.{pair_length}
+use Rattle.world_core.proofs.Lists.{numbered_at, numbered_more, pair_length, slice_get_end}
 use Rattle.world_core.proofs.Living.{Within, deeds_append, deeds_more, live_begin, live_more, live_step, new_deed, other_deed, own_deed}
 use Rattle.world_core.proofs.States.{spelled_frames, state_frames, state_new, state_restart}
 use Rattle.world_core.proofs.Telling.{telling_more}
@@ -107,7 +119,7 @@ up xs ys = let long : length (xs ++ ys) ≡ length xs + length ys = length-appen
 within_more : (w : World) (a : Accepted) (n : ℕ) (node : ImagedNode) (bytes : List (List ℕ)) (contexts : List Reading) (event : Event)
     → IsWithin w event → IsWithin (after w a n node bytes contexts) event
 within_more w a n node bytes contexts event is = record {
-  node = subst (λ m. node_of event < m) (sym (length-set w.nodes n node)) is.node;
+  node = subst (λ m. node_of_event event < m) (sym (length-set w.nodes n node)) is.node;
   read = read_up (length w.contexts) (length (w.contexts ++ contexts)) event (up w.contexts contexts) is.read;
   frame = frame_up (length w.frames) (length (w.frames ++ bytes)) event (up w.frames bytes) is.frame;
 }
@@ -120,10 +132,45 @@ all_within w a n node bytes contexts all is =
     (All-weaker (λ b. IsWithin w b.event) (λ b. IsWithin (after w a n node bytes contexts) b.event) (λ b. within_more w a n node bytes contexts b.event) w.accepted all)
     (within_more w a n node bytes contexts a.event is)
 
+-- ---- contexts that were handed out
+
+handed_more : (w : World) (a : Accepted) (n : ℕ) (node : ImagedNode) (bytes : List (List ℕ)) (contexts : List Reading) (answer : Answer)
+    → HandsOut w answer → HandsOut (after w a n node bytes contexts) answer
+handed_more w a n node bytes contexts answer handed = λ values context reply.
+    let old = handed values context reply in
+    (old.0, (old.1.0, numbered_more w.contexts contexts old.0 (within_numbered w.contexts old.0 context old.1.1) ∙ old.1.1))
+
+all_handed : (w : World) (a : Accepted) (n : ℕ) (node : ImagedNode) (bytes : List (List ℕ)) (contexts : List Reading)
+    → All (λ b. HandsOut w b.answer) w.accepted → HandsOut (after w a n node bytes contexts) a.answer
+    → All (λ b. HandsOut (after w a n node bytes contexts) b.answer) (w.accepted ++ a ∷ [])
+all_handed w a n node bytes contexts all is =
+    All-push (λ b. HandsOut (after w a n node bytes contexts) b.answer) w.accepted a
+    (All-weaker (λ b. HandsOut w b.answer) (λ b. HandsOut (after w a n node bytes contexts) b.answer) (λ b. handed_more w a n node bytes contexts b.answer) w.accepted all)
+    is
+
+no_context : (watch : Option Watching) (values : List ValueParts) (context : Reading) → reply_of_changes watch ≡ OfReply.Looked values context → ⊥
+no_context None values context e = cc
+no_context (Some watch) values context e = cc
+
+-- the context that a step's reply hands out is the one that it reads with
+reads_with : (s : NodeParts) (step : NodeEvent) (reply : Reply) (values : List ValueParts) (context : Reading) → IsReady (reply_ahead step s) reply → reply ≡ OfReply.Looked values context
+    → context_read step s ≡ Some context
+reads_with s (OfNode.Read k) reply values context ready is =
+    let both : OfReply.Looked (values_of (object_at s.table k)) (present k s) ≡ OfReply.Looked values context = ready ∙ is in
+    cc
+reads_with s (OfNode.Write k v read) reply values context ready is =
+    let both : OfReply.Wrote (join (object_written s k v read)) ≡ OfReply.Looked values context = ready ∙ is in
+    absurd (cc)
+reads_with s (OfNode.PutOver k v) reply values context ready is =
+    let both : OfReply.Wrote (join (object_written s k v (Some (present k s)))) ≡ OfReply.Looked values context = ready ∙ is in
+    absurd (cc)
+reads_with s (OfNode.Changes number) reply values context ready is = absurd (no_context (at_number s.watches number) values context (ready ∙ is))
+reads_with s step reply values context ready is = absurd (subst IsPlain is ready)
+
 -- ---- lives
 
 -- what was done so far, in the longer lists
-deeds_same : (w : World) (is : IsWorld w) (bytes : List (List ℕ)) (contexts : List Reading) (m : ℕ)
+pub deeds_same : (w : World) (is : IsWorld w) (bytes : List (List ℕ)) (contexts : List Reading) (m : ℕ)
     → deeds_of (w.contexts ++ contexts) (w.frames ++ bytes) m w.accepted ≡ deeds_of w.contexts w.frames m w.accepted
 deeds_same w is bytes contexts m =
     let many : length is.telling.frames ≡ length w.frames = pair_length Spells is.telling.frames w.frames is.telling.spelled in
@@ -131,10 +178,10 @@ deeds_same w is bytes contexts m =
     (All-weaker (λ b. IsWithin w b.event) (λ b. Within w.contexts w.frames b.event) (λ b within. record { read = within.read; frame = within.frame }) w.accepted is.within)
 
 lived_other : (w : World) (is : IsWorld w) (a : Accepted) (n m : ℕ) (node : ImagedNode) (bytes : List (List ℕ)) (contexts : List Reading) (d : ImagedNode)
-    → node_of a.event ≡ n → m ≢ n → m < length w.nodes → HasLived (after w a n node bytes contexts) m (get_or w.nodes m d)
+    → node_of_event a.event ≡ n → m ≢ n → m < length w.nodes → HasLived (after w a n node bytes contexts) m (get_or w.nodes m d)
 lived_other w is a n m node bytes contexts d whose other low =
     let old = is.lived m d low in
-    let not_its : node_of a.event ≢ m = λ e. other (sym e ∙ whose) in
+    let not_its : node_of_event a.event ≢ m = λ e. other (sym e ∙ whose) in
     let deeds : deeds_of (w.contexts ++ contexts) (w.frames ++ bytes) m (w.accepted ++ a ∷ []) ≡ deeds_of w.contexts w.frames m w.accepted =
     deeds_append (w.contexts ++ contexts) (w.frames ++ bytes) m w.accepted (a ∷ [])
     ∙ (λ i. deeds_same w is bytes contexts m i ++ other_deed (w.contexts ++ contexts) (w.frames ++ bytes) m a not_its i)
@@ -146,7 +193,7 @@ lived_other w is a n m node bytes contexts d whose other low =
     }
 
 -- those of its node, by its deed
-deeds_own : (w : World) (is : IsWorld w) (a : Accepted) (n : ℕ) (bytes : List (List ℕ)) (contexts : List Reading) (doing : Doing) (given : Stepped) → node_of a.event ≡ n
+pub deeds_own : (w : World) (is : IsWorld w) (a : Accepted) (n : ℕ) (bytes : List (List ℕ)) (contexts : List Reading) (doing : Doing) (given : Stepped) → node_of_event a.event ≡ n
     → deed_of (w.contexts ++ contexts) (w.frames ++ bytes) a ≡ (doing, given)
     → deeds_of (w.contexts ++ contexts) (w.frames ++ bytes) n (w.accepted ++ a ∷ []) ≡ deeds_of w.contexts w.frames n w.accepted ++ (doing, given) ∷ []
 deeds_own w is a n bytes contexts doing given whose deed =
@@ -159,7 +206,7 @@ images_kept : (images : List Image) (standing : ℕ) (change : Option (Option (K
 images_kept images standing None old deeds new lives = lives
 images_kept images standing (Some change) old deeds new lives = live_more images (record { base = standing; change = change }) old deeds new lives
 
-lived_by : (w : World) (is : IsWorld w) (a : Accepted) (n : ℕ) (node : ImagedNode) (bytes : List (List ℕ)) (contexts : List Reading) → node_of a.event ≡ n → n < length w.nodes
+lived_by : (w : World) (is : IsWorld w) (a : Accepted) (n : ℕ) (node : ImagedNode) (bytes : List (List ℕ)) (contexts : List Reading) → node_of_event a.event ≡ n → n < length w.nodes
     → HasLived (after w a n node bytes contexts) n node → (m : ℕ) (d : ImagedNode) (b : Bool) → eqb m n ≡ b → m < length w.nodes
     → HasLived (after w a n node bytes contexts) m (get_or (slice_set w.nodes n node) m d)
 lived_by w is a n node bytes contexts whose low own m d true e within =
@@ -175,7 +222,7 @@ lived_by w is a n node bytes contexts whose low own m d false e within =
 
 -- what is to be shown of an event
 record Goes (w : World) (is : IsWorld w) (a : Accepted) (n : ℕ) (node : ImagedNode) (bytes : List (List ℕ)) (contexts : List Reading) : Type 0 where
-  whose : node_of a.event ≡ n
+  whose : node_of_event a.event ≡ n
   low : n < length w.nodes
   within : IsWithin w a.event
   frames : List Frame
@@ -183,8 +230,9 @@ record Goes (w : World) (is : IsWorld w) (a : Accepted) (n : ℕ) (node : Imaged
   sent : a.answer.sent ≡ record { first = length w.frames + 1; count = length bytes }
   named : NamesEarlier is.told a.event
   read : a.answer.read ≡ next_read is.told a.event
-  state_is : IsState (slice_set (map keeping w.nodes) n (keeping node)) (w.contexts ++ contexts) (is.telling.frames ++ frames) (tell_frames frames (tell_event a.event is.told))
+  state_is : IsState (slice_set (map keeping w.nodes) n (keeping node)) (w.contexts ++ contexts) (is.telling.frames ++ frames) (tell_frames (node_of_event a.event) frames (tell_event a.event is.told))
   lived : HasLived (after w a n node bytes contexts) n node
+  handed : HandsOut (after w a n node bytes contexts) a.answer
 
 goes : (w : World) (is : IsWorld w) (a : Accepted) (n : ℕ) (node : ImagedNode) (bytes : List (List ℕ)) (contexts : List Reading) → Goes w is a n node bytes contexts
     → IsWorld (after w a n node bytes contexts)
@@ -196,12 +244,13 @@ goes w is a n node bytes contexts g =
     g.sent ∙ (λ i. record { first = sym many i + 1; count = sym as_many i }) in
     let long : length (slice_set w.nodes n node) ≡ length w.nodes = length-set w.nodes n node in
     record {
-      told = tell_frames g.frames (tell_event a.event is.told);
+      told = tell_frames (node_of_event a.event) g.frames (tell_event a.event is.told);
       telling = telling_more w.accepted w.frames is.told is.telling a g.frames bytes g.spelled sent g.named g.read;
-      state = subst (λ ns. IsState ns (w.contexts ++ contexts) (is.telling.frames ++ g.frames) (tell_frames g.frames (tell_event a.event is.told)))
+      state = subst (λ ns. IsState ns (w.contexts ++ contexts) (is.telling.frames ++ g.frames) (tell_frames (node_of_event a.event) g.frames (tell_event a.event is.told)))
           (sym (set_keeping w.nodes n node)) g.state_is;
       lived = λ m d within. lived_by w is a n node bytes contexts g.whose g.low g.lived m d (eqb m n) refl (subst (λ l. m < l) long within);
       within = all_within w a n node bytes contexts is.within g.within;
+      handed = all_handed w a n node bytes contexts is.handed g.handed;
       some = subst (λ l. 1 ≤ l) (sym long) is.some;
       few = subst (λ l. l ≤ 16) (sym long) is.few;
     }
@@ -210,20 +259,20 @@ goes w is a n node bytes contexts g =
 
 -- a step of the event's node, which is accepted with this answer
 pub record Steps (w : World) (a : Accepted) (step : NodeEvent) (state : NodeParts) (s : Stepped) : Type 0 where
-  pub low : node_of a.event < length w.nodes
+  pub low : node_of_event a.event < length w.nodes
   pub named : IsNamed w.contexts w.frames a.event
   pub doing : doing_in w a.event ≡ Step step
-  pub restorable : IsRestorable (keeping (node_at w (node_of a.event)))
+  pub restorable : IsRestorable (keeping (node_at w (node_of_event a.event)))
   pub is_table : IsTable state.table
-  pub makes : IsNodeStep (node_at w (node_of a.event)).state step state s
-  pub leaves : StepLeaves (node_at w (node_of a.event)).state step state s
+  pub makes : IsNodeStep (node_at w (node_of_event a.event)).state step state s
+  pub leaves : StepLeaves (node_at w (node_of_event a.event)).state step state s
   pub reply : a.answer.reply ≡ s.reply
-  pub read : a.answer.read ≡ read_after w.contexts (context_read step (node_at w (node_of a.event)).state)
+  pub read : a.answer.read ≡ read_after w.contexts (context_read step (node_at w (node_of_event a.event)).state)
   pub sent : a.answer.sent ≡ next_frames w (length s.outbox)
 
 -- the node after it
 abbrev pub node_after : World → Event → NodeEvent → NodeParts → ImagedNode
-node_after w event step state = arrived state (image_key step) (node_at w (node_of event))
+node_after w event step state = arrived state (image_key step) (node_at w (node_of_event event))
 
 for_doing : (doing : Doing) (step : NodeEvent) (P : NodeEvent → Type 0) → doing ≡ Step step → P step → ForStep doing P
 for_doing doing step P is p = subst (λ d. ForStep d P) (sym is) p
@@ -242,9 +291,9 @@ set_low : (ns : List Keeping) (n : ℕ) (k : Keeping) → n < length ns → n < 
 set_low ns n k low = subst (λ l. n < l) (sym (length-set ns n k)) low
 
 happens_step : (w : World) (is : IsWorld w) (a : Accepted) (step : NodeEvent) (state : NodeParts) (s : Stepped) → Steps w a step state s
-    → Happens (map keeping w.nodes) w.contexts is.telling.frames is.told a.event (Step step) (node_at w (node_of a.event)) state
+    → Happens (map keeping w.nodes) w.contexts is.telling.frames is.told a.event (Step step) (node_at w (node_of_event a.event)) state
 happens_step w is a step state s st =
-    let n = node_of a.event in
+    let n = node_of_event a.event in
     let old = node_at w n in
     let ns = map keeping w.nodes in
     let stepping : Stepping ns n old step state s = record {
@@ -260,14 +309,29 @@ happens_step w is a step state s st =
     (happens ns w.contexts w.frames is.telling.frames is.told a.event old state s is.telling.spelled is.state st.named
     (for_doing (doing_in w a.event) step (λ step. Stepping ns n old step state s) st.doing stepping))
 
+-- the context that it hands out has the number of the read
+handed_step : (w : World) (a : Accepted) (step : NodeEvent) (state : NodeParts) (s : Stepped) → Steps w a step state s → (bytes : List (List ℕ)) (node : ImagedNode)
+    → HandsOut (after w a (node_of_event a.event) node bytes (list_of (context_read step (node_at w (node_of_event a.event)).state))) a.answer
+handed_step w a step state s st bytes node = λ values context reply.
+    let old = (node_at w (node_of_event a.event)).state in
+    let read : context_read step old ≡ Some context = reads_with old step s.reply values context (ready old step state s st.makes) (sym st.reply ∙ reply) in (
+      length w.contexts + 1,
+      (
+        st.read ∙ ap (read_after w.contexts) read,
+        ap (λ c. numbered (w.contexts ++ list_of c) (length w.contexts + 1)) read
+            ∙ numbered_at (w.contexts ++ context ∷ []) (length w.contexts + 1) (length w.contexts) refl
+            ∙ slice_get_end w.contexts context,
+      ),
+    )
+
 lived_step : (w : World) (is : IsWorld w) (a : Accepted) (step : NodeEvent) (state : NodeParts) (s : Stepped) → Steps w a step state s → IsWithin w a.event
-    → HasLived (after w a (node_of a.event) (node_after w a.event step state) s.outbox (listed (context_read step (node_at w (node_of a.event)).state)))
-    (node_of a.event) (node_after w a.event step state)
+    → HasLived (after w a (node_of_event a.event) (node_after w a.event step state) s.outbox (list_of (context_read step (node_at w (node_of_event a.event)).state)))
+    (node_of_event a.event) (node_after w a.event step state)
 lived_step w is a step state s st within =
-    let n = node_of a.event in
+    let n = node_of_event a.event in
     let old = node_at w n in
     let node = node_after w a.event step state in
-    let contexts = listed (context_read step old.state) in
+    let contexts = list_of (context_read step old.state) in
     let lived = is.lived n (new_node n) st.low in
     let deed : deed_of (w.contexts ++ contexts) (w.frames ++ s.outbox) a ≡ (Step step, s) =
     new_deed w.contexts contexts w.frames s.outbox a (Step step) s within.read within.frame st.doing st.reply refl st.sent in
@@ -280,9 +344,9 @@ lived_step w is a step state s st within =
     }
 
 pub world_step : (w : World) (is : IsWorld w) (a : Accepted) (step : NodeEvent) (state : NodeParts) (s : Stepped) → Steps w a step state s
-    → IsWorld (after w a (node_of a.event) (node_after w a.event step state) s.outbox (listed (context_read step (node_at w (node_of a.event)).state)))
+    → IsWorld (after w a (node_of_event a.event) (node_after w a.event step state) s.outbox (list_of (context_read step (node_at w (node_of_event a.event)).state)))
 world_step w is a step state s st =
-    let n = node_of a.event in
+    let n = node_of_event a.event in
     let old = node_at w n in
     let node = node_after w a.event step state in
     let ns = map keeping w.nodes in
@@ -296,7 +360,7 @@ world_step w is a step state s st =
     let number : state.node ≡ n = st.leaves.node ∙ (is.lived n (new_node n) st.low).number in
     let are : AreOfHeld n state.table st.leaves.frames s.outbox =
     subst (λ m. AreOfHeld m state.table st.leaves.frames s.outbox) number st.leaves.sent in
-    goes w is a n node s.outbox (listed (context_read step old.state))
+    goes w is a n node s.outbox (list_of (context_read step old.state))
     (record {
       whose = refl;
       low = st.low;
@@ -306,9 +370,10 @@ world_step w is a step state s st =
       sent = st.sent;
       named = h.named;
       read = st.read ∙ h.read;
-      state_is = state_frames (slice_set ns n (keeping node)) (w.contexts ++ listed (context_read step old.state)) is.telling.frames (tell_event a.event is.told) n (keeping node)
+      state_is = state_frames (slice_set ns n (keeping node)) (w.contexts ++ list_of (context_read step old.state)) is.telling.frames (tell_event a.event is.told) n (keeping node)
           st.leaves.frames s.outbox (set_low ns n (keeping node) low) (sym (get_or-set_same ns n (keeping node) (keeping node) low)) are h.state_is;
       lived = lived_step w is a step state s st within;
+      handed = handed_step w a step state s st s.outbox node;
     })
 
 -- ---- a restart
@@ -375,6 +440,7 @@ world_restart w is n image answer node r =
         held = subst IsTable (sym (ap (λ (s : NodeParts). s.table) b.begins)) b.is_table;
         lives = subst (λ ds. Live node.images (opening n 1 []) ds node.state) (sym (deeds_own w is a n [] [] (Begin image) given refl deed)) lives;
       };
+      handed = λ values context reply. absurd (let done : Done ≡ OfReply.Looked values context = sym r.reply ∙ reply in cc);
     })
 
 -- ---- the first world
@@ -403,6 +469,7 @@ world_new count some few =
           sym (at_new nodes n d low_here) ∙ ap keeping (no_node count n (new_node n) low_here));
       lived = λ n d low. subst (HasLived (new_world count) n) (sym (no_node count n d low)) (new_lived (new_world count) n refl);
       within = All-nil (λ a. IsWithin (new_world count) a.event);
+      handed = All-nil (λ a. HandsOut (new_world count) a.answer);
       some = subst (λ l. 1 ≤ l) (sym long) some;
       few = subst (λ l. l ≤ 16) (sym long) few;
     }

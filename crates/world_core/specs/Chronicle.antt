@@ -25,7 +25,7 @@ pub record IsSame (old new : Chronicle) : Type 0 where
   pub contexts : new.contexts.items ≡ old.contexts.items
 
 -- each list takes what one event adds, without more memory
-pub record HasRoom (c : Chronicle) : Type 0 where
+pub record HasRoomForEvent (c : Chronicle) : Type 0 where
   pub accepted : c.accepted.len + 1 ≤ c.accepted.cap
   pub contexts : c.contexts.len + 1 ≤ c.contexts.cap
   pub settled : c.last.items ≡ []

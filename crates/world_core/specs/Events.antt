@@ -6,25 +6,25 @@ use Rattle.node_events.specs.declared.event.NodeEvent.{NodeEvent}
 use Rattle.node_events.specs.declared.event.NodeEvent.TheVariants as OfNode
 use Rattle.world_core.specs.declared.event.Event.{Event}
 use Rattle.world_core.specs.declared.event.Event.TheVariants.{Put, Get, PutOver, Deliver, Junk, Tick, Join, PeerDown, Exchange, Keep, Watch, Changes, Hello, Leave, Restart}
-use Rattle.world_core.specs.Tells.{numbered}
+use Rattle.world_core.specs.Numbers.{numbered}
 
 -- whose event it is
-abbrev pub node_of : Event → ℕ
-node_of (Put n k v read) = n
-node_of (Get n k) = n
-node_of (PutOver n k v) = n
-node_of (Deliver frame n word) = n
-node_of (Junk n bytes) = n
-node_of (Tick n word) = n
-node_of (Join n contact word) = n
-node_of (PeerDown n peer word) = n
-node_of (Exchange n peer) = n
-node_of (Keep n k) = n
-node_of (Watch n prefix capacity) = n
-node_of (Changes n number) = n
-node_of (Hello n peer) = n
-node_of (Leave n) = n
-node_of (Restart n image) = n
+abbrev pub node_of_event : Event → ℕ
+node_of_event (Put n k v read) = n
+node_of_event (Get n k) = n
+node_of_event (PutOver n k v) = n
+node_of_event (Deliver frame n word) = n
+node_of_event (Junk n bytes) = n
+node_of_event (Tick n word) = n
+node_of_event (Join n contact word) = n
+node_of_event (PeerDown n peer word) = n
+node_of_event (Exchange n peer) = n
+node_of_event (Keep n k) = n
+node_of_event (Watch n prefix capacity) = n
+node_of_event (Changes n number) = n
+node_of_event (Hello n peer) = n
+node_of_event (Leave n) = n
+node_of_event (Restart n image) = n
 
 -- the other node that it names, if it names one
 abbrev pub other_node_of : Event → Option ℕ

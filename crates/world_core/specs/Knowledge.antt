@@ -3,12 +3,13 @@
 use Rattle.std.specs.Prelude.{◌≡◌, ℕ, ◌<◌, List, length, Some, slice_get, ◌↔◌}
 use Rattle.meta_types.specs.Actor.{node_of_writer}
 use Rattle.meta_types.specs.Name.{Key}
+use Rattle.meta_types.specs.Value.{ValueParts}
 use Rattle.dvvset.specs.Object.{Entry}
 use Rattle.dvvset.specs.Clock.{join, values_of}
 use Rattle.meta_store.specs.Context.{Reading}
 use Rattle.meta_store.specs.Table.{object_at}
 use Rattle.node_events.specs.declared.reply.Reply.{Reply}
-use Rattle.node_events.specs.declared.reply.Reply.TheVariants.{TookFresh, TookStale}
+use Rattle.node_events.specs.declared.reply.Reply.TheVariants.{Looked as HasLooked, TookFresh, TookStale}
 use Rattle.past_model.specs.declared.happening.Happening.{Happening}
 use Rattle.past_model.specs.declared.happening.Happening.TheVariants.{Looked, Sent}
 use Rattle.past_model.specs.Sets.{IsSubset}
@@ -17,9 +18,10 @@ use Rattle.past_model.specs.Shown.{IsContext, IsObjectOf, Shows}
 use Rattle.world_core.specs.declared.answer.Answer.{Answer}
 use Rattle.world_core.specs.declared.event.Event.{Event}
 use Rattle.world_core.specs.declared.event.Event.TheVariants.{Deliver}
-use Rattle.world_core.specs.Tells.{Told, Tells, numbered, sending_of}
+use Rattle.world_core.specs.Numbers.{numbered}
+use Rattle.world_core.specs.Tells.{Told, Tells, sending_of}
 use Rattle.world_core.specs.World.{World}
-use Rattle.world_core.specs.Refusal.{table_of}
+use Rattle.world_core.specs.Refusal.{table_at}
 
 -- what holds of all that the accepted events of a world tell
 abbrev pub OfAllTold : World → (Told → Type 0) → Type 0
@@ -34,7 +36,7 @@ pub record ShowsKnown (hs : List Happening) (n : ℕ) (key : Key) (object : List
 -- each node holds, under each key, the object of the writes that it knows there
 abbrev pub ShowWhatTheyKnow : World → Type 0
 ShowWhatTheyKnow w = OfAllTold w (λ t. (n : ℕ) (key : Key) → n < length w.nodes
-    → IsObjectOf (writes t.history) key (known t.history n key) (object_at (table_of w n) key))
+    → IsObjectOf (writes t.history) key (known t.history n key) (object_at (table_at w n) key))
 
 -- the context of a read counts what its node knew under its key, which was a closed set of writes
 pub record CountsSeen (t : Told) (read : ℕ) (context : Reading) : Type 0 where
@@ -45,6 +47,12 @@ pub record CountsSeen (t : Told) (read : ℕ) (context : Reading) : Type 0 where
   pub object : List Entry
   pub of_seen : IsObjectOf (writes t.history) context.key (seen t.history place context.key) object
   pub vector : context.vector ≡ join object
+
+-- the context that an answer hands out is the one of its read number
+abbrev pub HandsOut : World → Answer → Type 0
+HandsOut w answer = (values : List ValueParts) (context : Reading)
+    → answer.reply ≡ HasLooked values context
+    → (read : ℕ) × ((answer.read ≡ Some read) × (numbered w.contexts read ≡ Some context))
 
 -- the object of a frame is that of what its sender knew under its key
 pub record CarriesLoad (t : Told) (number from : ℕ) (key : Key) (object : List Entry) : Type 0 where

@@ -12,20 +12,20 @@ pub use Rattle.past_model.specs.Shown
 pub use Rattle.meta_frame.specs.Frame
 pub use Rattle.meta_store.specs.Table
 pub use Rattle.meta_store.specs.Step
-pub use Rattle.past_objects.specs.Objects
 pub use Rattle.node_core.specs.Step as NodeStep
 pub use Rattle.node_core.specs.Leaving
 pub use Rattle.node_images.specs.Images
 pub use Rattle.node_images.specs.Keeping
 pub use Rattle.node_images.specs.Node
-pub use Rattle.node_images.specs.Follows
--- how accepted events tell a history
-pub mod Tells
+-- reads and frames by their number
+pub mod Numbers
 -- what an event is to its node
 pub mod Events
--- the lives of a node
+-- how accepted events tell a history
+pub mod Tells
+-- what the accepted events were to a node, and its lives
 pub mod Lives
--- a world, and what it keeps to
+-- a world
 pub mod World
 -- the refusals
 pub mod Fault
@@ -35,6 +35,11 @@ pub mod Refusal
 pub mod Knowledge
 -- what a world answers, and what it then is
 pub mod Outcome
+-- what need not be believed: what a world always keeps to, which stands on the machine of objects
+-- (of which images alone are read, by `Holding`)
+pub use Rattle.past_objects.specs.Objects
+pub use Rattle.node_images.specs.Follows
+pub mod Invariant
 -- what the view of a world and private functions cite: the lists of a world
 pub mod Chronicle
 -- what private functions alone cite: that what an event names is there

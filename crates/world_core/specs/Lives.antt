@@ -9,8 +9,8 @@ use Rattle.node_events.specs.declared.reply.Reply.TheVariants.{Done}
 use Rattle.node_images.specs.Images.{Image}
 use Rattle.node_images.specs.Node.{BeginsFrom}
 use Rattle.world_core.specs.declared.answer.Accepted.{Accepted}
-use Rattle.world_core.specs.Events.{Begin, Doing, Step, doing_of, node_of}
-use Rattle.world_core.specs.Tells.{frames_at}
+use Rattle.world_core.specs.Events.{Begin, Doing, Step, doing_of, node_of_event}
+use Rattle.world_core.specs.Numbers.{frames_at}
 
 -- what an accepted event was to its node, and what it gave: the reply, and the bytes that it sent
 abbrev pub deed_of : List Reading → List (List ℕ) → Accepted → Doing × Stepped
@@ -23,13 +23,13 @@ deed_of contexts frames a = (
 abbrev pub deeds_of : List Reading → List (List ℕ) → ℕ → List Accepted → List (Doing × Stepped)
 deeds_of contexts frames n [] = []
 deeds_of contexts frames n (a ∷ later) =
-    if node_of a.event == n
+    if node_of_event a.event == n
     then deed_of contexts frames a ∷ deeds_of contexts frames n later
     else deeds_of contexts frames n later
 
 -- what a restart gives
-abbrev pub begun : Stepped
-begun = record { reply = Done; outbox = [] }
+abbrev pub given_by_restart : Stepped
+given_by_restart = record { reply = Done; outbox = [] }
 
 -- these take the old node to the new one: each step as the node makes it, with what it gave, and
 -- each life from an image, which gives nothing
@@ -38,5 +38,5 @@ Live images old [] new = new ≡ old
 Live images old ((Step event, given) ∷ later) new =
     (mid : NodeParts) × (IsNodeStep old event mid given × Live images mid later new)
 Live images old ((Begin image, given) ∷ later) new =
-    (mid : NodeParts) × ((BeginsFrom images image old mid × (given ≡ begun))
+    (mid : NodeParts) × ((BeginsFrom images image old mid × (given ≡ given_by_restart))
     × Live images mid later new)

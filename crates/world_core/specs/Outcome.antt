@@ -14,8 +14,9 @@ use Rattle.world_core.specs.declared.answer.FrameNumbers.{FrameNumbers}
 use Rattle.world_core.specs.declared.event.Event.{Event}
 use Rattle.world_core.specs.declared.fault.WorldFault.{WorldFault}
 use Rattle.world_core.specs.declared.fault.WorldFault.TheVariants.{Memory, Step as OfStepFault}
-use Rattle.world_core.specs.Events.{Begin, Doing, Step, node_of}
-use Rattle.world_core.specs.World.{World}
+use Rattle.world_core.specs.Events.{Begin, Doing, Step, node_of_event}
+use Rattle.world_core.specs.Numbers.{frames_at}
+use Rattle.world_core.specs.World.{World, deeds_in}
 use Rattle.world_core.specs.Knowledge.{FreshExactly, ShowWhatTheyKnow}
 use Rattle.world_core.specs.Refusal.{RefusesEvent, doing_in, node_at}
 
@@ -28,9 +29,10 @@ abbrev pub read_after : List Reading → Option Reading → Option ℕ
 read_after contexts None = None
 read_after contexts (Some context) = Some (length contexts + 1)
 
-abbrev pub listed : {A : Type 0} → Option A → List A
-listed None = []
-listed (Some x) = x ∷ []
+-- none or one, as a list
+abbrev pub list_of : {A : Type 0} → Option A → List A
+list_of None = []
+list_of (Some x) = x ∷ []
 
 -- so many frames get the next numbers
 abbrev pub next_frames : World → ℕ → FrameNumbers
@@ -47,7 +49,7 @@ pub record MakesStep (old : World) (n : ℕ) (step : NodeEvent) (answer : Answer
   pub makes : IsNodeStep (node_at old n).state step state given
   pub nodes : new.nodes ≡ with_node old n (arrived state (image_key step) (node_at old n))
   pub frames : new.frames ≡ old.frames ++ given.outbox
-  pub contexts : new.contexts ≡ old.contexts ++ listed (context_read step (node_at old n).state)
+  pub contexts : new.contexts ≡ old.contexts ++ list_of (context_read step (node_at old n).state)
   pub answers : answer ≡ record {
     reply = given.reply;
     read = read_after old.contexts (context_read step (node_at old n).state);
@@ -75,11 +77,11 @@ Makes old n (Begin image) answer new = MakesRestart old n image answer new
 -- among the accepted ones
 pub record Accepts (old : World) (event : Event) (answer : Answer) (new : World) : Type 0 where
   pub no_refusal : (fault : WorldFault) → RefusesEvent old event fault → ⊥
-  pub makes : Makes old (node_of event) (doing_in old event) answer new
+  pub makes : Makes old (node_of_event event) (doing_in old event) answer new
   pub accepted : new.accepted ≡ old.accepted ++ (record { event = event; answer = answer }) ∷ []
 
 -- an event was refused, for its first cause or for want of memory, and nothing changed
-pub record Rejects (old : World) (event : Event) (fault : WorldFault) (new : World) : Type 0 where
+pub record Declines (old : World) (event : Event) (fault : WorldFault) (new : World) : Type 0 where
   pub cause : (fault ≡ Memory) ⊎ RefusesEvent old event fault
   pub same : new ≡ old
 
@@ -87,14 +89,30 @@ pub record Rejects (old : World) (event : Event) (fault : WorldFault) (new : Wor
 -- into which proofs do not look by themselves)
 unfoldable pub Outcome : World → Event → Result Answer WorldFault → World → Type 0
 Outcome old event (Ok answer) new = Accepts old event answer new
-Outcome old event (Err fault) new = Rejects old event fault new
+Outcome old event (Err fault) new = Declines old event fault new
 
--- one event: its outcome; a delivery is answered fresh exactly where it brought something; what a
--- merge leaves shows a value, so that 21 is never the cause of a refusal; and in what is left each
--- node shows what it knows
+-- ---- deeds
+
+-- what an event gave, by its answer
+abbrev pub given_in : World → Answer → Stepped
+given_in w answer = record { reply = answer.reply; outbox = frames_at answer.sent w.frames }
+
+-- the event's node has one deed more, what the event was to it with what it gave; of all other
+-- nodes the deeds are as before
+pub record AddsDeed (old : World) (event : Event) (answer : Answer) (new : World) : Type 0 where
+  pub own : deeds_in new (node_of_event event)
+      ≡ deeds_in old (node_of_event event) ++ (doing_in old event, given_in new answer) ∷ []
+  pub others : (n : ℕ) → node_of_event event ≢ n → deeds_in new n ≡ deeds_in old n
+
+-- ---- all of one event, and events one after the other
+
+-- one event: its outcome; where it is accepted it is one deed more of its node; a delivery is
+-- answered fresh exactly where it brought something; what a merge leaves shows a value, so that 21
+-- is never the cause of a refusal; and in what is left each node shows what it knows
 pub record Passes (old : World) (event : Event) (outcome : Result Answer WorldFault) (new : World)
     : Type 0 where
   pub comes : Outcome old event outcome new
+  pub deeds : IfOk outcome (λ answer. AddsDeed old event answer new)
   pub fresh : IfOk outcome (FreshExactly old event)
   pub never : RefusesEvent old event (OfStepFault (OfStep.Store BadEntries)) → ⊥
   pub shows : ShowWhatTheyKnow new
@@ -106,6 +124,15 @@ Outcomes old [] (o ∷ os) new = ⊥
 Outcomes old (e ∷ es) [] new = ⊥
 Outcomes old (e ∷ es) (o ∷ os) new =
     (between : World) × (Passes old e o between × Outcomes between es os new)
+
+-- a run begins with no event, and goes on by one event with its outcome
+pub record WorldRunsGoOn : Type 0 where
+  pub begins : (w : World) → Outcomes w [] [] w
+  pub goes_on : (old mid new : World) (events : List Event)
+      (outcomes : List (Result Answer WorldFault)) (event : Event)
+      (outcome : Result Answer WorldFault) → Outcomes old events outcomes mid
+      → Passes mid event outcome new
+      → Outcomes old (events ++ event ∷ []) (outcomes ++ outcome ∷ []) new
 
 -- what a world was and the event determine its outcome and the world that is left, but that memory
 -- may be wanting at any time

@@ -14,9 +14,9 @@ use Rattle.world_core.specs.declared.event.Event.{Event}
 use Rattle.world_core.specs.declared.event.Event.TheVariants.{Put, Deliver, Junk, Restart}
 use Rattle.world_core.specs.declared.fault.WorldFault.{WorldFault}
 use Rattle.world_core.specs.declared.fault.WorldFault.TheVariants.{IncarnationSpent, NoSuchFrame, NoSuchRead, NoSuchNode, LooksLikeFrame, NoSuchImage}
-use Rattle.world_core.specs.Events.{Begin, Doing, Step, doing_of, node_of, other_node_of}
+use Rattle.world_core.specs.Events.{Begin, Doing, Step, doing_of, node_of_event, other_node_of}
 use Rattle.world_core.specs.Fault.{of_step}
-use Rattle.world_core.specs.Tells.{numbered}
+use Rattle.world_core.specs.Numbers.{numbered}
 use Rattle.world_core.specs.World.{World}
 
 -- ---- what there is
@@ -24,8 +24,8 @@ use Rattle.world_core.specs.World.{World}
 abbrev pub node_at : World → ℕ → ImagedNode
 node_at w n = get_or w.nodes n (new_node n)
 
-abbrev pub table_of : World → ℕ → Table
-table_of w n = (node_at w n).state.table
+abbrev pub table_at : World → ℕ → Table
+table_at w n = (node_at w n).state.table
 
 abbrev pub doing_in : World → Event → Doing
 doing_in w event = doing_of w.contexts w.frames event
@@ -45,7 +45,7 @@ HasNoNode w (Some n) = length w.nodes ≤ n
 
 -- the event is of, or names, a node that the world hasn't
 abbrev pub NamesNoNode : World → Event → Type 0
-NamesNoNode w event = HasNoNode w (Some (node_of event)) ⊎ HasNoNode w (other_node_of event)
+NamesNoNode w event = HasNoNode w (Some (node_of_event event)) ⊎ HasNoNode w (other_node_of event)
 
 -- a frame is to be delivered that wasn't sent
 abbrev pub NamesNoFrame : World → Event → Type 0
@@ -103,4 +103,4 @@ RefusesEvent w event =
     first_cause (NamesNoImage w event) NoSuchImage (
     first_cause (HasNoLifeLeft w event) IncarnationSpent (
     first_cause (IsFrameAsJunk event) LooksLikeFrame (
-    RefusesDoing (node_at w (node_of event)).state (doing_in w event)))))))
+    RefusesDoing (node_at w (node_of_event event)).state (doing_in w event)))))))

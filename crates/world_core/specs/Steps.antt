@@ -10,7 +10,7 @@ use Rattle.world_core.specs.declared.fault.WorldFault.{WorldFault}
 use Rattle.world_core.specs.declared.fault.WorldFault.TheVariants.{LooksLikeFrame, Memory}
 use Rattle.world_core.specs.Fault.{of_step}
 use Rattle.world_core.specs.Refusal.{IsFrame, RefusesEvent}
-use Rattle.world_core.specs.Tells.{numbered}
+use Rattle.world_core.specs.Numbers.{numbered}
 use Rattle.world_core.specs.World.{World}
 
 -- any event but a restart

@@ -1,7 +1,7 @@
 -- How accepted events, with their answers and the frames that were sent, tell a history: each event
 -- adds its happenings in their order, and then each frame that it sent with an object adds one
 -- Sent.
-use Rattle.std.specs.Prelude.{◌≡◌, ℕ, zero, suc, ◌+◌, ◌-◌, List, [], ◌∷◌, ◌++◌, length, take, drop, slice_get, Option, Some, None}
+use Rattle.std.specs.Prelude.{◌≡◌, ℕ, ◌+◌, List, [], ◌∷◌, ◌++◌, length, Option, Some, None}
 use Rattle.std.specs.Option.{option_flatten}
 use Rattle.meta_types.specs.Name.{Key}
 use Rattle.dvvset.specs.Object.{Entry}
@@ -11,9 +11,10 @@ use Rattle.past_model.specs.declared.happening.Happening.{Happening}
 use Rattle.past_model.specs.declared.happening.Happening.TheVariants.{Wrote, Looked, Sent, Got, Kept, Restarted}
 use Rattle.node_core.specs.Leaving.{carried_object}
 use Rattle.world_core.specs.declared.answer.Accepted.{Accepted}
-use Rattle.world_core.specs.declared.answer.FrameNumbers.{FrameNumbers}
 use Rattle.world_core.specs.declared.event.Event.{Event}
 use Rattle.world_core.specs.declared.event.Event.TheVariants.{Put, Get, PutOver, Deliver, Junk, Keep, Restart}
+use Rattle.world_core.specs.Numbers.{frames_at, numbered}
+use Rattle.world_core.specs.Events.{node_of_event}
 
 -- what was told so far: the history; of each read, by its number from 1, the place of its Looked;
 -- of each frame, by its number from 1, the place of its Sent, or none where it carries no object
@@ -24,11 +25,6 @@ pub record Told : Type 0 where
 
 abbrev pub nothing_told : Told
 nothing_told = record { history = []; looks = []; sendings = [] }
-
--- what has this number, where the first has number 1
-abbrev pub numbered : {A : Type 0} → List A → ℕ → Option A
-numbered xs zero = None
-numbered xs (suc before) = slice_get xs before
 
 -- ---- happenings
 
@@ -75,19 +71,16 @@ tell_sending n (Some object) t = record t {
   sendings = t.sendings ++ Some (length t.history) ∷ [];
 }
 
--- frames, in their order
-abbrev pub tell_frames : List Frame → Told → Told
-tell_frames [] t = t
-tell_frames (f ∷ fs) t = tell_frames fs (tell_sending f.from (carried_object f.message) t)
-
--- the frames of these numbers
-abbrev pub frames_at : {A : Type 0} → FrameNumbers → List A → List A
-frames_at numbers frames = take numbers.count (drop (numbers.first - 1) frames)
+-- the node's frames, in their order
+abbrev pub tell_frames : ℕ → List Frame → Told → Told
+tell_frames n [] t = t
+tell_frames n (f ∷ fs) t = tell_frames n fs (tell_sending n (carried_object f.message) t)
 
 -- ---- accepted events
 
 abbrev pub tell_accepted : List Frame → Accepted → Told → Told
-tell_accepted frames a t = tell_frames (frames_at a.answer.sent frames) (tell_event a.event t)
+tell_accepted frames a t =
+    tell_frames (node_of_event a.event) (frames_at a.answer.sent frames) (tell_event a.event t)
 
 abbrev pub tell_each : List Frame → List Accepted → Told → Told
 tell_each frames [] t = t

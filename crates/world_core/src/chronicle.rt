@@ -1,11 +1,11 @@
 //! What a world keeps of what it has accepted.
 
-ghost use Rattle.std.specs.Prelude.{◌≡◌, ◌+◌, ◌≤◌, ◌∷◌, ◌++◌, [], None, OnOk, length};
+ghost use Rattle.std.specs.Prelude.{◌≡◌, ◌+◌, ◌≤◌, ◌∷◌, ◌++◌, [], None, OnOk, drop, length, take};
 ghost use Rattle.std.specs.Option.{option_copied};
 ghost use Rattle.node_events.specs.declared.reply.Reply.TheVariants.{Done};
-ghost use Rattle.world_core.specs.Chronicle.{HasRoom, IsSame, frames_in};
-ghost use Rattle.world_core.specs.Outcome.{listed, read_after};
-ghost use Rattle.world_core.specs.Tells.{numbered};
+ghost use Rattle.world_core.specs.Chronicle.{HasRoomForEvent, IsSame, frames_in};
+ghost use Rattle.world_core.specs.Outcome.{list_of, read_after};
+ghost use Rattle.world_core.specs.Numbers.{frames_at, numbered};
 ghost use Rattle.world_core.specs.declared.event.Event.TheVariants.{Restart};
 
 use crate::answer::{Accepted, Answer, FrameNumbers};
@@ -46,7 +46,7 @@ impl Chronicle {
     /// Makes room for all that one event may add.
     pub(crate) fn reserve(&mut self) -> Result<(), AllocError>
         ensures same { IsSame self.old self.new }
-        ensures room { OnOk result (HasRoom self.new) }
+        ensures room { OnOk result (HasRoomForEvent self.new) }
     {
         self.sent.append(&mut self.last)?;
         self.accepted.reserve(1)?;
@@ -76,9 +76,23 @@ impl Chronicle {
         }
     }
 
+    /// The bytes of the frames of these numbers, as many as there are: in two parts, since those of
+    /// the last event stand apart.
+    #[tactic(auto, using(crate::proofs::Lists::parts_at))]
+    pub(crate) fn frames_at(&self, numbers: FrameNumbers) -> (&[ByteString], &[ByteString])
+        ensures { result.0.now ++ result.1.now ≡ frames_at numbers (frames_in self.now) }
+    {
+        let place = numbers.first.saturating_sub(1);
+        let settled = self.sent.len() as u64;
+        let first = part(self.sent.as_slice(), place, numbers.count);
+        let left = numbers.count - first.len() as u64;
+        let rest = part(self.last.as_slice(), place.saturating_sub(settled), left);
+        (first, rest)
+    }
+
     /// Adds an event, with what its step gave. There is room for it.
     pub(crate) fn accept(&mut self, event: Event, given: ImagedStep) -> Answer
-        requires { HasRoom self.old }
+        requires { HasRoomForEvent self.old }
         ensures accepted { self.new.accepted.items ≡ self.old.accepted.items
             ++ (record {
               event = event;
@@ -93,7 +107,7 @@ impl Chronicle {
             }) ∷ [] }
         ensures frames { frames_in self.new ≡ frames_in self.old ++ given.outbox }
         ensures contexts { self.new.contexts.items
-            ≡ self.old.contexts.items ++ listed given.context }
+            ≡ self.old.contexts.items ++ list_of given.context }
         ensures answer { result ≡ record {
           reply = given.copy;
           read = read_after self.old.contexts.items given.context;
@@ -120,7 +134,7 @@ impl Chronicle {
 
     /// Adds a restart. There is room for it.
     pub(crate) fn accept_restart(&mut self, node: u64, image: u64) -> Answer
-        requires { HasRoom self.old }
+        requires { HasRoomForEvent self.old }
         ensures accepted { self.new.accepted.items ≡ self.old.accepted.items
             ++ (record { event = Restart node image; answer = result }) ∷ [] }
         ensures frames { frames_in self.new ≡ frames_in self.old }
@@ -145,7 +159,7 @@ impl Chronicle {
 
     /// Adds the frames of a step. Answers their numbers.
     fn send(&mut self, outbox: Outbox) -> FrameNumbers
-        requires { HasRoom self.old }
+        requires { HasRoomForEvent self.old }
         ensures frames { frames_in self.new ≡ frames_in self.old ++ outbox }
         ensures accepted { self.new.accepted ≡ self.old.accepted }
         ensures contexts { self.new.contexts ≡ self.old.contexts }
@@ -162,7 +176,7 @@ impl Chronicle {
     /// Adds the context of a read, if there is one. Answers the number of the read.
     fn look(&mut self, context: Option<Context>) -> Option<u64>
         requires { self.old.contexts.len + 1 ≤ self.old.contexts.cap }
-        ensures contexts { self.new.contexts.items ≡ self.old.contexts.items ++ listed context }
+        ensures contexts { self.new.contexts.items ≡ self.old.contexts.items ++ list_of context }
         ensures accepted { self.new.accepted ≡ self.old.accepted }
         ensures frames { frames_in self.new ≡ frames_in self.old }
         ensures number { result ≡ read_after self.old.contexts.items context }
@@ -182,4 +196,20 @@ fn done(sent: FrameNumbers) -> Answer
         read: None,
         sent,
     }
+}
+
+/// So many frames from the place on, or as many as there are.
+#[tactic(auto, using(crate::proofs::Lists::none_at, crate::proofs::Lists::all_at))]
+fn part(frames: &[ByteString], place: u64, count: u64) -> &[ByteString]
+    ensures { result.now ≡ take count (drop place frames.now) }
+{
+    let len = frames.len() as u64;
+    if len <= place {
+        return &[];
+    }
+    let behind = &frames[place as usize..];
+    if len - place <= count {
+        return behind;
+    }
+    &behind[..count as usize]
 }

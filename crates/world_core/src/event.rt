@@ -1,5 +1,5 @@
 ghost use Rattle.std.specs.Prelude.{◌≡◌, IfOk};
-ghost use Rattle.world_core.specs.Events.{node_of};
+ghost use Rattle.world_core.specs.Events.{node_of_event};
 ghost use Rattle.world_core.specs.declared.event.Event.TheVariants.{Put};
 
 use meta_types::{ByteString, FullPrefix, MetaKey, Value};
@@ -97,7 +97,7 @@ pub enum Event {
 impl Event {
     /// Whose event it is.
     pub fn node(&self) -> u64
-        ensures { result ≡ node_of self.now }
+        ensures { result ≡ node_of_event self.now }
     {
         match self {
             Event::Put { node, .. }

@@ -12,10 +12,11 @@ ghost use Rattle.past_model.specs.History.{IsHistory};
 ghost use Rattle.past_model.specs.declared.happening.Happening.TheVariants.{Kept, Wrote};
 ghost use Rattle.past_model.specs.Past.{known};
 ghost use Rattle.past_model.specs.Shown.{ArePlaces};
-ghost use Rattle.world_core.specs.Events.{node_of};
+ghost use Rattle.world_core.specs.Events.{node_of_event};
 ghost use Rattle.world_core.specs.Knowledge.{CountsSeen, OfAllTold};
 ghost use Rattle.world_core.specs.Refusal.{IsFrameOf};
-ghost use Rattle.world_core.specs.Tells.{Pairwise, Tells, Told, frames_at, look_of, nothing_told, numbered};
+ghost use Rattle.world_core.specs.Numbers.{frames_at, numbered};
+ghost use Rattle.world_core.specs.Tells.{Pairwise, Tells, Told, look_of, nothing_told};
 ghost use Rattle.world_core.specs.Tells.{sending_of, tell, tell_event, tell_frames, tell_got, tell_look, tell_sending};
 ghost use Rattle.world_core.specs.declared.fault.WorldFault.TheVariants.{Memory, NoSuchNode};
 
@@ -91,10 +92,10 @@ impl Telling {
 
     /// What an event tells, before what it sends.
     fn event(&mut self, event: &Event) -> Result<(), AllocError>
-        requires { node_of event.now < 16 }
+        requires { node_of_event event.now < 16 }
         ensures { OnOk result (self.new ≡ tell_event event.now self.old) }
     {
-        let node = NodeId::new(event.node() as u16).unwrap();
+        let node = id_of(event);
         match event {
             Event::Put {
                 key,
@@ -161,23 +162,28 @@ impl Telling {
         }
     }
 
-    /// A frame: a `Sent`, where it carries an object.
-    fn frame(&mut self, frame: &Frame) -> Result<(), AllocError>
+    /// A frame of the node: a `Sent`, where it carries an object.
+    fn frame(&mut self, node: NodeId, frame: &Frame) -> Result<(), AllocError>
         ensures { OnOk result (self.new
-            ≡ tell_sending frame.now.from (carried_object frame.now.message) self.old) }
+            ≡ tell_sending node (carried_object frame.now.message) self.old) }
     {
         match &frame.message {
             Message::Gossip { key, .. } | Message::XObject { key, .. } => {
                 let key = key.copy()?;
                 self.sendings.push(Some(self.history.len()))?;
-                self.tell(Happening::Sent {
-                    node: frame.from,
-                    key,
-                })
+                self.tell(Happening::Sent { node, key })
             }
             _ => Ok(self.sendings.push(None)?),
         }
     }
+}
+
+/// The id of the event's node.
+fn id_of(event: &Event) -> NodeId
+    requires { node_of_event event.now < 16 }
+    ensures { result ≡ node_of_event event.now }
+{
+    NodeId::new(event.node() as u16).unwrap()
 }
 
 /// What has this number, from 1, if anything has.
@@ -224,41 +230,49 @@ impl World {
     {
         let mut told = Telling::new(alloc);
         for accepted in self.chronicle.accepted.as_slice() {
+            let node = id_of(&accepted.event);
             told.event(&accepted.event)?;
-            self.tell_frames(&mut told, alloc, accepted.answer.sent)?;
+            self.tell_frames(&mut told, alloc, node, accepted.answer.sent)?;
         }
         Ok(told.into_history())
     }
 
-    /// Tells of the frames of these numbers.
+    /// Tells of the node's frames of these numbers.
     fn tell_frames(
         &self,
         told: &mut Telling,
         alloc: Global,
+        node: NodeId,
         numbers: FrameNumbers,
     ) -> Result<(), AllocError>
         requires first { 1 ≤ numbers.first }
         requires there { numbers.first + numbers.count ≤ length self.now.frames + 1 }
         ensures { OnOk result ((frames : List F) → Pairwise Spells frames self.now.frames
-            → told.new ≡ tell_frames (frames_at numbers frames) told.old) }
+            → told.new ≡ tell_frames node (frames_at numbers frames) told.old) }
     {
         // Read for what it tells: each frame has a number of 64 bits.
         let _ = self.chronicle.frame_count();
         for offset in 0..numbers.count {
-            self.tell_frame(told, alloc, numbers.first + offset)?;
+            self.tell_frame(told, alloc, node, numbers.first + offset)?;
         }
         Ok(())
     }
 
-    /// Tells of the frame of that number, which was sent.
-    fn tell_frame(&self, told: &mut Telling, alloc: Global, number: u64) -> Result<(), AllocError>
+    /// Tells of the node's frame of that number, which was sent.
+    fn tell_frame(
+        &self,
+        told: &mut Telling,
+        alloc: Global,
+        node: NodeId,
+        number: u64,
+    ) -> Result<(), AllocError>
         requires first { 1 ≤ number }
         requires there { number ≤ length self.now.frames }
         ensures { OnOk result ((frame : F) × (IsFrameOf self.now number frame
-            × (told.new ≡ tell_sending frame.from (carried_object frame.message) told.old))) }
+            × (told.new ≡ tell_sending node (carried_object frame.message) told.old))) }
     {
         let frame = self.sent_frame(alloc, number)?;
-        let outcome = told.frame(&frame);
+        let outcome = told.frame(node, &frame);
         // Dropped by a call: no case of the proof then takes it apart.
         drop(frame);
         outcome

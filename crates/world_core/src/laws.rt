@@ -1,5 +1,5 @@
-//! The laws of telling, of outcomes, of equal knowledge and of faults. The contract of a function is the law;
-//! its body does nothing, or compares.
+//! The laws of telling, of outcomes, of runs, of equal knowledge and of faults. The contract of a
+//! function is the law; its body does nothing, or compares.
 
 ghost use Rattle.std.specs.Prelude.{◌≡◌, ◌↔◌, ◌<◌, ℕ, List, length, IsTrue};
 ghost use Rattle.meta_types.specs.Name.{Key};
@@ -8,8 +8,8 @@ ghost use Rattle.meta_store.specs.Table.{object_at};
 ghost use Rattle.past_model.specs.Past.{known};
 ghost use Rattle.world_core.specs.declared.answer.Accepted.{Accepted};
 ghost use Rattle.world_core.specs.Knowledge.{OfAllTold};
-ghost use Rattle.world_core.specs.Outcome.{OneOutcomeForEachEvent};
-ghost use Rattle.world_core.specs.Refusal.{table_of};
+ghost use Rattle.world_core.specs.Outcome.{OneOutcomeForEachEvent, WorldRunsGoOn};
+ghost use Rattle.world_core.specs.Refusal.{table_at};
 ghost use Rattle.world_core.specs.Tells.{Told, Tells};
 
 use crate::fault::WorldFault;
@@ -27,6 +27,12 @@ pub fn one_outcome_for_each_event()
     ensures { OneOutcomeForEachEvent }
 {}
 
+/// A run of events begins with nothing applied, and goes on by one event with its outcome: so what
+/// is made by one `apply` after the other is a run.
+pub fn runs_go_on()
+    ensures { WorldRunsGoOn }
+{}
+
 /// Nodes that know the same writes under a key hold equal objects there, and so show equal values
 /// and contexts; nodes that know the same writes under every key hold equal tables, whose trees
 /// have equal roots.
@@ -34,11 +40,11 @@ pub fn equal_knowledge_shows_equally(world: &World)
     ensures objects { OfAllTold world.now (λ t. (m n : ℕ) (key : Key)
         → m < length world.now.nodes → n < length world.now.nodes
         → ((place : ℕ) → known t.history m key place ≡ known t.history n key place)
-        → object_at (table_of world.now m) key ≡ object_at (table_of world.now n) key) }
+        → object_at (table_at world.now m) key ≡ object_at (table_at world.now n) key) }
     ensures roots { OfAllTold world.now (λ t. (m n : ℕ)
         → m < length world.now.nodes → n < length world.now.nodes
         → ((key : Key) (place : ℕ) → known t.history m key place ≡ known t.history n key place)
-        → tree_root (rows_of (table_of world.now m)) ≡ tree_root (rows_of (table_of world.now n))) }
+        → tree_root (rows_of (table_at world.now m)) ≡ tree_root (rows_of (table_at world.now n))) }
 {
     // Read for what it tells: this is a world.
     let _ = world.nodes.len();

@@ -4,11 +4,11 @@ ghost use Rattle.std.specs.Prelude.{◌≡◌, ◌<◌, ℕ, List, None, Some, E
 ghost use Rattle.std.specs.Option.{option_copied};
 ghost use Rattle.meta_types.specs.Failing.{FailsWith};
 ghost use Rattle.node_events.specs.declared.event.NodeEvent.TheVariants.{Take, Write};
-ghost use Rattle.world_core.specs.Events.{Step, context_of, node_of};
+ghost use Rattle.world_core.specs.Events.{Step, context_of, node_of_event};
 ghost use Rattle.world_core.specs.Outcome.{Outcome};
 ghost use Rattle.world_core.specs.Refusal.{doing_in};
 ghost use Rattle.world_core.specs.Steps.{HasNamed, HasNoRead, HasRead, IsOfStep, JunkFails, MayRefuse};
-ghost use Rattle.world_core.specs.Tells.{numbered};
+ghost use Rattle.world_core.specs.Numbers.{numbered};
 ghost use Rattle.world_core.specs.declared.fault.WorldFault.TheVariants.{Memory, NoSuchFrame, NoSuchRead};
 
 use crate::answer::Answer;
@@ -46,7 +46,7 @@ impl World {
     fn step_at(&self, event: &Event) -> Result<(usize, NodeEvent), WorldFault>
         requires { IsOfStep event.now }
         ensures place { IfOk result
-            (λ found. (found.0 ≡ node_of event.now) × (found.0 < length self.now.nodes)) }
+            (λ found. (found.0 ≡ node_of_event event.now) × (found.0 < length self.now.nodes)) }
         ensures step { IfOk result (λ found. doing_in self.now event.now ≡ Step found.1) }
         ensures named { OnOk result (HasNamed self.now event.now) }
         ensures refused { IfErr result (MayRefuse self.now event.now) }
@@ -59,7 +59,7 @@ impl World {
     /// The step, with what it names: a copy. Refused where that isn't there.
     fn step_of(&self, event: &Event) -> Result<NodeEvent, WorldFault>
         requires of_step { IsOfStep event.now }
-        requires node { node_of event.now < length self.now.nodes }
+        requires node { node_of_event event.now < length self.now.nodes }
         ensures step { IfOk result (λ step. doing_in self.now event.now ≡ Step step) }
         ensures named { OnOk result (HasNamed self.now event.now) }
         ensures refused { IfErr result (MayRefuse self.now event.now) }

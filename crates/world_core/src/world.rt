@@ -1,6 +1,6 @@
 //! All nodes of a cluster, in one value.
 
-ghost use Rattle.std.specs.Prelude.{◌≡◌, ◌≤◌, ◌<◌, ◌⊎◌, ◌↔◌, ◌++◌, ℕ, List, Some, length, map, IfOk, IfErr, IfSome, IsNone};
+ghost use Rattle.std.specs.Prelude.{◌≡◌, ◌≤◌, ◌<◌, ◌⊎◌, ◌↔◌, ◌++◌, ℕ, All, List, Some, length, map, IfOk, IfErr, IfSome, IsNone};
 ghost use Rattle.std.specs.List.{range_with_len};
 ghost use Rattle.std.specs.Option.{option_copied};
 ghost use Rattle.meta_types.specs.Failing.{FailsWith};
@@ -9,18 +9,18 @@ ghost use Rattle.dvvset.specs.Object.{Entry};
 ghost use Rattle.meta_frame.specs.Frame.{Spells};
 ghost use Rattle.meta_frame.specs.declared.message.Frame.{Frame as F};
 ghost use Rattle.meta_store.specs.Table.{object_at};
-ghost use Rattle.past_model.specs.Past.{image, known, past, writes};
+ghost use Rattle.past_model.specs.Past.{image, incarnation_of, known, past, writes};
 ghost use Rattle.past_model.specs.Shown.{IsObjectOf};
 ghost use Rattle.node_core.specs.Leaving.{carried_object};
 ghost use Rattle.node_images.specs.Images.{ChangeEarlier, holdings};
 ghost use Rattle.node_images.specs.Node.{new_node};
-ghost use Rattle.world_core.specs.Knowledge.{CarriesLoad, OfAllTold, ShowsKnown};
+ghost use Rattle.world_core.specs.Knowledge.{CarriesLoad, HandsOut, OfAllTold, ShowsKnown};
 ghost use Rattle.world_core.specs.Refusal.{IsFrameOf, node_at};
-ghost use Rattle.world_core.specs.Tells.{numbered};
+ghost use Rattle.world_core.specs.Numbers.{frames_at, numbered};
 ghost use Rattle.world_core.specs.World.{HasLived, new_world};
 ghost use Rattle.world_core.specs.declared.fault.WorldFault.TheVariants.{Memory, NoSuchNode};
 
-use crate::answer::Accepted;
+use crate::answer::{Accepted, FrameNumbers};
 use crate::chronicle::Chronicle;
 use crate::fault::WorldFault;
 use meta_types::{ByteString, NodeId};
@@ -40,7 +40,8 @@ pub struct World {
 }
 
 impl Model for World {
-    ghost use Rattle.world_core.specs.World.{World as Parts, IsWholeWorld};
+    ghost use Rattle.world_core.specs.World.{World as Parts};
+    ghost use Rattle.world_core.specs.Invariant.{IsWholeWorld};
     ghost use Rattle.world_core.specs.Chronicle.{world_in};
 
     ghost Value = { Parts };
@@ -72,10 +73,14 @@ impl World {
         *self.chronicle.accepted.allocator()
     }
 
-    /// The accepted events with their answers, in their order.
+    /// The accepted events with their answers, in their order. A context that was handed out is the
+    /// one of the answer's read number.
     pub fn accepted(&self) -> &[Accepted]
-        ensures { result.now ≡ self.now.accepted }
+        ensures value { result.now ≡ self.now.accepted }
+        ensures contexts { All (λ a. HandsOut self.now a.answer) self.now.accepted }
     {
+        // Read for what it tells: this is a world.
+        let _ = self.nodes.len();
         self.chronicle.accepted.as_slice()
     }
 
@@ -102,6 +107,14 @@ impl World {
         // Read for what it tells: this is a world.
         let _ = self.nodes.len();
         self.chronicle.frame(number)
+    }
+
+    /// The bytes of the frames of these numbers, as those that an answer has, without memory: in two
+    /// parts, as `frames` gives them. Of numbers that no frame has there is nothing.
+    pub fn frames_at(&self, numbers: FrameNumbers) -> (&[ByteString], &[ByteString])
+        ensures { result.0.now ++ result.1.now ≡ frames_at numbers self.now.frames }
+    {
+        self.chronicle.frames_at(numbers)
     }
 
     /// How many frames were sent.
@@ -132,7 +145,8 @@ impl World {
 
     /// The node; `None` for one that the world doesn't have, and only then. Under each key it holds
     /// the object of the writes that it knows, whose values are those of them that none of them had
-    /// read. What the accepted events were to it took it there from a new node, life after life.
+    /// read. What the accepted events were to it took it there from a new node, life after life, and
+    /// the number of its life is that of the history.
     pub fn state(&self, node: u64) -> Option<&NodeState>
         ensures node { IsNone result ↔ (length self.now.nodes ≤ node) }
         ensures lends { IfSome result (λ state. state.now ≡ (node_at self.now node).state) }
@@ -143,6 +157,8 @@ impl World {
             (object_at state.now.table key))) }
         ensures lived { IfSome result
             (λ state. HasLived self.now node (node_at self.now node)) }
+        ensures life { IfSome result (λ state. OfAllTold self.now
+            (λ t. state.now.incarnation ≡ incarnation_of (past t.history) node)) }
     {
         match usize::try_from(node) {
             Ok(at) if at < self.nodes.len() => Some(self.nodes[at].state()),

@@ -1,5 +1,5 @@
 use Rattle.std.proofs.Common.{subst}
-use Rattle.world_core.specs.World.{IsWholeWorld}
+use Rattle.world_core.specs.Invariant.{IsWholeWorld}
 use Rattle.world_core.proofs.Running.{passes}
 use Rattle.world_core.proofs.world.World.apply.Goals as goal
 

@@ -1,5 +1,5 @@
 use Rattle.std.proofs.Common.{Err, refl, subst}
-use Rattle.world_core.specs.World.{IsWholeWorld}
+use Rattle.world_core.specs.Invariant.{IsWholeWorld}
 use Rattle.world_core.specs.declared.fault.WorldFault.TheVariants.{Memory}
 use Rattle.world_core.proofs.Outcomes.{memory}
 use Rattle.world_core.proofs.Running.{passes}

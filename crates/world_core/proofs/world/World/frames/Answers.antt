@@ -1,6 +1,6 @@
 use Rattle.std.proofs.Common.{subst}
 use Rattle.world_core.specs.Knowledge.{CarriesLoad}
-use Rattle.world_core.specs.World.{IsWholeWorld, IsWorld}
+use Rattle.world_core.specs.Invariant.{IsWholeWorld, IsWorld}
 use Rattle.world_core.proofs.Outcomes.{world_of}
 use Rattle.world_core.proofs.Shown.{carries_load, of_told}
 use Rattle.world_core.proofs.world.World.frames.Goals as goal

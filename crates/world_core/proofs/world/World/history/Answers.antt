@@ -1,7 +1,7 @@
 use Rattle.std.proofs.Common.{subst}
 use Rattle.past_model.specs.History.{IsHistory}
 use Rattle.world_core.specs.Knowledge.{CountsSeen}
-use Rattle.world_core.specs.World.{IsWholeWorld, IsWorld}
+use Rattle.world_core.specs.Invariant.{IsWholeWorld, IsWorld}
 use Rattle.world_core.proofs.Outcomes.{world_of}
 use Rattle.world_core.proofs.Retelling.{replays}
 use Rattle.world_core.proofs.Shown.{counts_seen, of_told}

@@ -1,7 +1,8 @@
 use Rattle.std.proofs.Common.{rules, ◌≡◌, ◌<◌, length, sym, subst, ap, ◌∙◌}
 use Rattle.node_images.specs.Images.{ChangeEarlier}
 use Rattle.world_core.specs.Refusal.{node_at}
-use Rattle.world_core.specs.World.{IsWholeWorld, World}
+use Rattle.world_core.specs.World.{World}
+use Rattle.world_core.specs.Invariant.{IsWholeWorld}
 use Rattle.world_core.specs.contracts.world.World.{the_view}
 use Rattle.world_core.proofs.Outcomes.{same_node, world_of}
 use Rattle.world_core.proofs.Shown.{images_number, images_show}

@@ -2,12 +2,13 @@ use Rattle.std.proofs.Common.{rules, ◌≡◌, inr, refl, sym, ap, subst, ◌�
 use Rattle.std.specs.Prelude.{slice_set}
 use Rattle.world_core.specs.Outcome.{Accepts}
 use Rattle.world_core.specs.Refusal.{RefusesEvent}
-use Rattle.world_core.specs.World.{IsWorld, World}
+use Rattle.world_core.specs.World.{World}
+use Rattle.world_core.specs.Invariant.{IsWorld}
 use Rattle.world_core.specs.contracts.world.World.{the_view}
 use Rattle.world_core.specs.declared.event.Event.TheVariants.{Restart}
 use Rattle.world_core.specs.declared.fault.WorldFault.TheVariants.{NoSuchNode}
-use Rattle.world_core.proofs.Accepting.{Begins, begins, begun, left_begun, restart_accepts, restart_world}
-use Rattle.world_core.proofs.Chronicles.{after_restart, begun_same, put_back, same_world}
+use Rattle.world_core.proofs.Accepting.{Begins, begins, restart_answer, left_restarted, restart_accepts, restart_world}
+use Rattle.world_core.proofs.Chronicles.{after_restart, restart_answer_same, put_back, same_world}
 use Rattle.world_core.proofs.Outcomes.{accepts_left, kept, memory, refused, world_of}
 use Rattle.world_core.proofs.Refusing.{no_node}
 use Rattle.world_core.proofs.world.World.restart.Goals as goal
@@ -54,9 +55,9 @@ returns c =
     (begins w c.args.self.now c.self.view_is c.args.node c.in_ok-id.id c.from.result c.args.image c.in_ok-number.number c.index_mut.result.now c.restart.new.self
     (search rules) (search rules) (search rules) (search rules) c.in_ok-number.ensures.value.0 c.in_ok-number.ensures.value.1 c.in_ok-number.ensures.left
     c.in_ok-restart.ensures.restarted) in
-    let left : World = left_begun w c.args.node c.args.image c.restart.new.self in
-    let answer : c.accept_restart.result ≡ begun w =
-    begun_same w.nodes c.self.inside.chronicle c.reserve.new.self c.accept_restart.result c.reserve.ensures.same c.accept_restart.ensures.answer in
+    let left : World = left_restarted w c.args.node c.args.image c.restart.new.self in
+    let answer : c.accept_restart.result ≡ restart_answer w =
+    restart_answer_same w.nodes c.self.inside.chronicle c.reserve.new.self c.accept_restart.result c.reserve.ensures.same c.accept_restart.ensures.answer in
     accepts_left (Restart c.args.node c.args.image) c.accept_restart.result refl
     (after_restart w.nodes c.self.inside.chronicle c.reserve.new.self c.accept_restart.new.self c.args.node c.args.image c.restart.new.self c.accept_restart.result
     c.reserve.ensures.same (ap (λ m. slice_set w.nodes m c.restart.new.self) place) c.accept_restart.ensures.accepted c.accept_restart.ensures.answer

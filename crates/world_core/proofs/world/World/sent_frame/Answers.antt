@@ -1,6 +1,7 @@
 use Rattle.std.proofs.Common.{rules, ◌≡◌, Some, inl, inr, subst}
-use Rattle.world_core.specs.Tells.{numbered}
-use Rattle.world_core.specs.World.{IsWholeWorld, IsWorld, World}
+use Rattle.world_core.specs.Numbers.{numbered}
+use Rattle.world_core.specs.World.{World}
+use Rattle.world_core.specs.Invariant.{IsWholeWorld, IsWorld}
 use Rattle.world_core.proofs.Outcomes.{world_of}
 use Rattle.world_core.proofs.Retelling.{never_refused, sent}
 use Rattle.world_core.proofs.world.World.sent_frame.Goals as goal

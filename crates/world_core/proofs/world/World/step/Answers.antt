@@ -2,7 +2,8 @@ use Rattle.std.proofs.Common.{rules, refl, sym, ap, subst, ◌∙◌}
 use Rattle.std.specs.Prelude.{slice_set}
 use Rattle.world_core.specs.Outcome.{Accepts}
 use Rattle.world_core.specs.Steps.{MayRefuse}
-use Rattle.world_core.specs.World.{IsWorld, World}
+use Rattle.world_core.specs.World.{World}
+use Rattle.world_core.specs.Invariant.{IsWorld}
 use Rattle.world_core.specs.contracts.world.World.{the_view}
 use Rattle.world_core.proofs.Accepting.{Arrives, arrives, left, refuses, step_accepts, step_world}
 use Rattle.world_core.proofs.Chronicles.{after_step, answered, put_back, same_world}

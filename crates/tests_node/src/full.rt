@@ -1,0 +1,42 @@
+//! A node that holds as many keys as it may: that takes more events than a text has lines.
+
+use crate::events::apply;
+use crate::parts::key;
+use meta_types::Value;
+use std::alloc::Global;
+use std::process::Abort;
+use world_core::{Event, World};
+
+/// Node 0 writes under the key app/flags/#, where # is a number in two bytes.
+fn write(rt: &impl Abort, alloc: Global, world: &mut World, number: u16) -> u16 {
+    let key = key(rt, alloc, b"app", b"flags", &number.to_be_bytes());
+    let value = Value::new(0, None).expect(rt, "a value");
+    let read = None;
+    apply(
+        world,
+        Event::Put {
+            node: 0,
+            key,
+            value,
+            read,
+        },
+    )
+}
+
+/// Returns whether node 0 takes 8,192 keys.
+fn is_filled(rt: &impl Abort, alloc: Global, world: &mut World) -> bool {
+    let mut taken = true;
+    for number in 0..8_192 {
+        taken = taken & (write(rt, alloc, world, number) == 0);
+    }
+    taken
+}
+
+/// One more is refused, and a key that is there is not.
+#[test]
+fn a_full_node_takes_no_new_key(rt: HostRuntime) {
+    let mut world = World::new(rt.alloc(), 1).expect(&rt, "memory");
+    assert!(rt; is_filled(&rt, rt.alloc(), &mut world));
+    assert_eq!(rt; write(&rt, rt.alloc(), &mut world, 8_192), 25);
+    assert_eq!(rt; write(&rt, rt.alloc(), &mut world, 8_191), 0);
+}
