@@ -4,7 +4,7 @@ use Rattle.std.specs.Ordering.{on, eq_of_both}
 use Rattle.std.specs.Bool.{Decides}
 use Rattle.std.specs.Cmp.{IsEquivalence, decided}
 use Rattle.std.specs.Cmp.Lexicographic.{pointwise, pointwise_decides, bytes_decides}
-use Rattle.meta_types.specs.Name.{Prefix}
+use Rattle.meta_types.specs.Equal.{prefix_parts_eq, prefixes_decide}
 use Rattle.meta_types.specs.Ties.{both_decide}
 use Rattle.frame_fields.specs.declared.prefixes.PrefixDigest.{PrefixDigest}
 use Rattle.frame_fields.specs.declared.keys.KeyDigest.{KeyDigest}
@@ -15,11 +15,8 @@ nodes_eq = pointwise nat_eq
 abbrev pub digests_eq : List (List ℕ) → List (List ℕ) → Bool
 digests_eq = pointwise (pointwise nat_eq)
 
-abbrev pub prefix_eq : Prefix → Prefix → Bool
-prefix_eq = eq_of_both (on (λ p. p.prefix) (pointwise nat_eq)) (on (λ p. p.sub) (pointwise nat_eq))
-
 abbrev pub prefix_row_eq : PrefixDigest → PrefixDigest → Bool
-prefix_row_eq = eq_of_both (on (λ r. r.prefix) prefix_eq) (on (λ r. r.digest) (pointwise nat_eq))
+prefix_row_eq = eq_of_both (on (λ r. r.prefix) prefix_parts_eq) (on (λ r. r.digest) (pointwise nat_eq))
 
 abbrev pub prefixes_eq : List PrefixDigest → List PrefixDigest → Bool
 prefixes_eq = pointwise prefix_row_eq
@@ -42,17 +39,10 @@ digests_eq-Decides = pointwise_decides bytes_decides
 pub digests_equivalence : IsEquivalence digests_eq
 digests_equivalence = decided digests_eq digests_eq-Decides
 
-prefix_eq-Decides : (p q : Prefix) → Decides (prefix_eq p q) (p ≡ q)
-prefix_eq-Decides p q = both_decide
-    (pointwise nat_eq p.prefix q.prefix) (pointwise nat_eq p.sub q.sub)
-    (bytes_decides p.prefix q.prefix) (bytes_decides p.sub q.sub)
-    (λ firsts subs i. record { prefix = firsts i; sub = subs i })
-    (λ same i. (same i).prefix) (λ same i. (same i).sub)
-
 prefix_row_eq-Decides : (r s : PrefixDigest) → Decides (prefix_row_eq r s) (r ≡ s)
 prefix_row_eq-Decides r s = both_decide
-    (prefix_eq r.prefix s.prefix) (pointwise nat_eq r.digest s.digest)
-    (prefix_eq-Decides r.prefix s.prefix) (bytes_decides r.digest s.digest)
+    (prefix_parts_eq r.prefix s.prefix) (pointwise nat_eq r.digest s.digest)
+    (prefixes_decide r.prefix s.prefix) (bytes_decides r.digest s.digest)
     (λ prefixes digests i. record { prefix = prefixes i; digest = digests i })
     (λ same i. (same i).prefix) (λ same i. (same i).digest)
 

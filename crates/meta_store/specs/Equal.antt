@@ -3,12 +3,10 @@ use Rattle.std.specs.Prelude.{◌≡◌, nat_eq, Bool, ◌&&◌, List}
 use Rattle.std.specs.Bool.{Decides}
 use Rattle.std.specs.Cmp.{IsEquivalence, decided}
 use Rattle.std.specs.Cmp.Lexicographic.{pointwise, pointwise_decides, bytes_decides}
-use Rattle.meta_types.specs.Name.{Prefix, Key}
 use Rattle.meta_types.specs.Ties.{both_decide}
 use Rattle.dvvset.specs.Object.{Entry}
 use Rattle.dvvset.specs.Equal.{entries_eq, entries_eq-Decides}
-use Rattle.frame_fields.specs.Equal.{prefix_eq}
-use Rattle.past_model.specs.Sets.{key_eq}
+use Rattle.meta_types.specs.Equal.{key_eq, keys_decide}
 use Rattle.meta_store.specs.Table.{Table}
 use Rattle.meta_store.specs.Kept.{Rows}
 
@@ -24,20 +22,6 @@ abbrev pub table_eq : Table → Table → Bool
 table_eq = pointwise (row_eq key_eq)
 
 -- Each comparison decides equality of all parts, and so meets the laws of `==`.
-pub prefixes_decide : (p q : Prefix) → Decides (prefix_eq p q) (p ≡ q)
-prefixes_decide p q = both_decide
-    (pointwise nat_eq p.prefix q.prefix) (pointwise nat_eq p.sub q.sub)
-    (bytes_decides p.prefix q.prefix) (bytes_decides p.sub q.sub)
-    (λ firsts subs i. record { prefix = firsts i; sub = subs i })
-    (λ same i. (same i).prefix) (λ same i. (same i).sub)
-
-keys_decide : (k l : Key) → Decides (key_eq k l) (k ≡ l)
-keys_decide k l = both_decide
-    (prefix_eq k.prefix l.prefix) (pointwise nat_eq k.key l.key)
-    (prefixes_decide k.prefix l.prefix) (bytes_decides k.key l.key)
-    (λ prefixes keys i. record { prefix = prefixes i; key = keys i })
-    (λ same i. (same i).prefix) (λ same i. (same i).key)
-
 row_eq-Decides : {K : Type 0} (eq : K → K → Bool) → ((k l : K) → Decides (eq k l) (k ≡ l))
     → (row other : K × List Entry) → Decides (row_eq eq row other) (row ≡ other)
 row_eq-Decides eq keys row other = both_decide

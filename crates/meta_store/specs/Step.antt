@@ -10,7 +10,7 @@ use Rattle.dvvset.specs.Object.{Entry}
 use Rattle.dvvset.specs.Clock.{count_for, join, sync, update}
 use Rattle.dvvset.specs.Writer.{count_of}
 use Rattle.frame_fields.specs.Field.{has_value, greatest_count}
-use Rattle.past_model.specs.Sets.{key_eq}
+use Rattle.meta_types.specs.Equal.{key_eq}
 use Rattle.meta_store.specs.Table.{Table, object_at, with_object, is_stale, is_small_enough, most_keys, most_written, most_merged}
 use Rattle.meta_store.specs.Context.{Reading, vector_read}
 use Rattle.meta_store.specs.declared.fault.StoreFault.{StoreFault}

@@ -11,6 +11,8 @@ pub mod Value
 pub mod Order
 -- lemmas, which stand here since impls cite them: two values tie exactly where they are equal
 pub mod Ties
+-- the comparisons of `==`, which are equality
+pub mod Equal
 -- how a call fails
 pub mod Failing
 -- which of several refusals comes first

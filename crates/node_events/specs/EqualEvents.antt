@@ -9,8 +9,8 @@ use Rattle.meta_types.specs.Ties.{both_decide}
 use Rattle.dvvset.specs.Equal.{counters_eq, counters_eq-Decides, value_eq, value_eq-Decides, values_eq, values_eq-Decides}
 use Rattle.meta_store.specs.Context.{Reading}
 use Rattle.meta_store.specs.declared.source.Source.{Source}
-use Rattle.frame_fields.specs.Equal.{prefix_eq}
-use Rattle.node_events.specs.Equal.{prefix_eq-Decides, key_eq, key_eq-Decides, changes_eq, changes_eq-Decides}
+use Rattle.meta_types.specs.Equal.{key_eq, keys_decide, prefix_parts_eq, prefixes_decide}
+use Rattle.node_events.specs.Equal.{changes_eq, changes_eq-Decides}
 use Rattle.node_events.specs.declared.event.NodeEvent.{NodeEvent}
 use Rattle.node_events.specs.declared.event.NodeEvent.TheVariants.{Read, Write, PutOver, Take, Tick, Join, PeerDown, Exchange, Keep, Watch, Changes, Hello, Leave}
 use Rattle.node_events.specs.declared.reply.Reply.{Reply}
@@ -34,7 +34,7 @@ event_eq (Join p n) (Join q m) = nat_eq p q && nat_eq n m
 event_eq (PeerDown p n) (PeerDown q m) = nat_eq p q && nat_eq n m
 event_eq (Exchange p) (Exchange q) = nat_eq p q
 event_eq (Keep k) (Keep l) = key_eq k l
-event_eq (Watch p n) (Watch q m) = prefix_eq p q && nat_eq n m
+event_eq (Watch p n) (Watch q m) = prefix_parts_eq p q && nat_eq n m
 event_eq (Changes n) (Changes m) = nat_eq n m
 event_eq (Hello p) (Hello q) = nat_eq p q
 event_eq Leave Leave = true
@@ -74,7 +74,7 @@ source_eq-Decides s t = both_decide
 pub reading_eq-Decides : (r s : Reading) → Decides (reading_eq r s) (r ≡ s)
 reading_eq-Decides r s = three_decide
     (key_eq r.key s.key) (counters_eq r.vector s.vector) (source_eq r.source s.source)
-    (key_eq-Decides r.key s.key) (counters_eq-Decides r.vector s.vector)
+    (keys_decide r.key s.key) (counters_eq-Decides r.vector s.vector)
     (source_eq-Decides r.source s.source)
     (λ keys vectors sources i. record { key = keys i; vector = vectors i; source = sources i })
     (λ same i. (same i).key) (λ same i. (same i).vector) (λ same i. (same i).source)
@@ -88,14 +88,14 @@ option_decides (Some x) (Some y) =
 
 pub event_eq-Decides : (e f : NodeEvent) → Decides (event_eq e f) (e ≡ f)
 event_eq-Decides (Read k) (Read l) =
-    part_decides (key_eq k l) (key_eq-Decides k l) (λ keys i. Read (keys i)) (λ same. cc)
+    part_decides (key_eq k l) (keys_decide k l) (λ keys i. Read (keys i)) (λ same. cc)
 event_eq-Decides (Write k v c) (Write l w d) = three_decide
     (key_eq k l) (value_eq v w) (option_eq reading_eq c d)
-    (key_eq-Decides k l) (value_eq-Decides v w) (option_decides c d)
+    (keys_decide k l) (value_eq-Decides v w) (option_decides c d)
     (λ keys values contexts i. Write (keys i) (values i) (contexts i))
     (λ same. cc) (λ same. cc) (λ same. cc)
 event_eq-Decides (PutOver k v) (PutOver l w) = both_decide
-    (key_eq k l) (value_eq v w) (key_eq-Decides k l) (value_eq-Decides v w)
+    (key_eq k l) (value_eq v w) (keys_decide k l) (value_eq-Decides v w)
     (λ keys values i. PutOver (keys i) (values i)) (λ same. cc) (λ same. cc)
 event_eq-Decides (Take f n) (Take g m) = both_decide
     (pointwise nat_eq f g) (nat_eq n m) (bytes_decides f g) (unsigned_Decides n m)
@@ -111,9 +111,9 @@ event_eq-Decides (PeerDown p n) (PeerDown q m) = both_decide
 event_eq-Decides (Exchange p) (Exchange q) =
     part_decides (nat_eq p q) (unsigned_Decides p q) (λ peers i. Exchange (peers i)) (λ same. cc)
 event_eq-Decides (Keep k) (Keep l) =
-    part_decides (key_eq k l) (key_eq-Decides k l) (λ keys i. Keep (keys i)) (λ same. cc)
+    part_decides (key_eq k l) (keys_decide k l) (λ keys i. Keep (keys i)) (λ same. cc)
 event_eq-Decides (Watch p n) (Watch q m) = both_decide
-    (prefix_eq p q) (nat_eq n m) (prefix_eq-Decides p q) (unsigned_Decides n m)
+    (prefix_parts_eq p q) (nat_eq n m) (prefixes_decide p q) (unsigned_Decides n m)
     (λ prefixes sizes i. Watch (prefixes i) (sizes i)) (λ same. cc) (λ same. cc)
 event_eq-Decides (Changes n) (Changes m) =
     part_decides (nat_eq n m) (unsigned_Decides n m) (λ numbers i. Changes (numbers i)) (λ same. cc)

@@ -3,7 +3,8 @@ use Rattle.std.proofs.Common.{◌≡◌, ℕ, zero, suc, ◌+◌, ◌-◌, ◌<�
 use Rattle.meta_types.specs.Name.{Key}
 use Rattle.std.specs.Option.{unwrap_or}
 use Rattle.dvvset.specs.Object.{Entry}
-use Rattle.past_model.specs.Sets.{set_at, key_eq}
+use Rattle.past_model.specs.Sets.{set_at}
+use Rattle.meta_types.specs.Equal.{key_eq}
 use Rattle.past_model.proofs.Sound.{set_at-here}
 use Rattle.past_model.proofs.Walking.{set_at-other}
 use Rattle.past_objects.specs.Objects.{Holding, holds_nothing}

@@ -13,7 +13,7 @@ use Rattle.dvvset.specs.Object.{Entry}
 use Rattle.dvvset.specs.Clock.{descends, join, sync, update}
 use Rattle.past_model.specs.declared.happening.Happening.{Happening}
 use Rattle.past_model.specs.declared.happening.Happening.TheVariants.{Wrote, Looked, Sent, Got, Kept, Restarted}
-use Rattle.past_model.specs.Sets.{key_eq}
+use Rattle.meta_types.specs.Equal.{key_eq}
 use Rattle.past_model.specs.History.{IsHistory}
 use Rattle.past_model.proofs.Keys.{key_eq-true, key_eq-self}
 use Rattle.meta_store.specs.Context.{Reading, vector_read}

@@ -12,7 +12,7 @@ use Rattle.meta_types.specs.Name.{Key, IsKey}
 use Rattle.meta_types.specs.Order.{key_cmp}
 use Rattle.dvvset.specs.Object.{Entry}
 use Rattle.dvvset.specs.Clock.{join, sync}
-use Rattle.past_model.specs.Sets.{key_eq}
+use Rattle.meta_types.specs.Equal.{key_eq}
 use Rattle.past_model.proofs.Keys.{key_eq-true, key_eq-self}
 use Rattle.past_model.proofs.Sound.{set_at-here}
 use Rattle.past_model.proofs.Walking.{set_at-other}

@@ -10,7 +10,7 @@ use Rattle.std.specs.FinMap.Entries.{find-put}
 use Rattle.meta_types.specs.Name.{Key}
 use Rattle.meta_types.specs.Order.{key_cmp}
 use Rattle.dvvset.specs.Object.{Entry}
-use Rattle.past_model.specs.Sets.{key_eq}
+use Rattle.meta_types.specs.Equal.{key_eq}
 use Rattle.past_model.proofs.Keys.{key_eq-true, key_eq-self}
 use Rattle.meta_store.specs.Table.{Table, IsHeld, IsTable, object_at, with_object}
 use Rattle.meta_store.proofs.Keys.{key_total, same_key}

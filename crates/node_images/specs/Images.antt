@@ -4,7 +4,8 @@
 use Rattle.std.specs.Prelude.{◌≡◌, ℕ, ◌+◌, ◌<◌, ◌≤◌, List, [], ◌∷◌, length, get_or, Option, Some, None, if◌then◌else◌}
 use Rattle.meta_types.specs.Name.{Key}
 use Rattle.dvvset.specs.Object.{Entry}
-use Rattle.past_model.specs.Sets.{set_at, key_eq}
+use Rattle.past_model.specs.Sets.{set_at}
+use Rattle.meta_types.specs.Equal.{key_eq}
 use Rattle.meta_store.specs.Table.{Table, IsHeld, IsTable, object_at}
 use Rattle.past_objects.specs.Objects.{Holding, holds_nothing, with_held}
 

@@ -5,7 +5,8 @@ use Rattle.std.proofs.lemmas.Bool.{and_from, and_parts, or_left, or_right, or_ca
 use Rattle.meta_types.specs.Name.{Key}
 use Rattle.dvvset.specs.Object.{Entry}
 use Rattle.dvvset.proofs.Writers.{sync_at}
-use Rattle.past_model.specs.Sets.{Places, union, key_eq}
+use Rattle.past_model.specs.Sets.{Places, union}
+use Rattle.meta_types.specs.Equal.{key_eq}
 use Rattle.past_model.specs.Past.{Write, In}
 use Rattle.past_model.specs.Shown.{IsClosed, was_read, is_sibling, count_in, siblings_by}
 use Rattle.past_model.proofs.Orderly.{IsFalling, Orderly}

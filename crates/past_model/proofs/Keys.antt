@@ -4,7 +4,7 @@ use Rattle.std.specs.Prelude.{◌&&◌, nat_eq}
 use Rattle.std.specs.Cmp.Lexicographic.{pointwise, same_text}
 use Rattle.std.proofs.lemmas.Bool.{and_parts, and_from, eq-eqb}
 use Rattle.meta_types.specs.Name.{Key}
-use Rattle.past_model.specs.Sets.{key_eq}
+use Rattle.meta_types.specs.Equal.{key_eq}
 
 pub pointwise-self : (xs : List ℕ) → pointwise nat_eq xs xs ≡ true
 pointwise-self [] = refl

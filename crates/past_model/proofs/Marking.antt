@@ -7,7 +7,8 @@ use Rattle.std.proofs.lemmas.Option.{slice_get_past, slice_get_read}
 use Rattle.meta_types.specs.Name.{Key}
 use Rattle.past_model.specs.declared.happening.Happening.{Happening}
 use Rattle.past_model.specs.declared.happening.Happening.TheVariants.{Wrote, Looked, Sent, Got, Kept, Restarted}
-use Rattle.past_model.specs.Sets.{Places, Knowledge, singleton, union, key_eq, with_set}
+use Rattle.past_model.specs.Sets.{Places, Knowledge, singleton, union, with_set}
+use Rattle.meta_types.specs.Equal.{key_eq}
 use Rattle.past_model.specs.Moment.{marked_places, is_write_under, is_sending, GivesSets}
 use Rattle.past_model.proofs.Keys.{key_eq-true}
 

@@ -9,7 +9,8 @@ use Rattle.meta_types.specs.Name.{Key}
 use Rattle.meta_types.specs.Value.{ValueParts}
 use Rattle.past_model.specs.declared.happening.Happening.{Happening}
 use Rattle.past_model.specs.declared.happening.Happening.TheVariants.{Wrote, Looked, Sent, Got, Kept, Restarted}
-use Rattle.past_model.specs.Sets.{Knowledge, key_eq, knows_nothing, singleton, union, with_set, union_by_key}
+use Rattle.past_model.specs.Sets.{Knowledge, knows_nothing, singleton, union, with_set, union_by_key}
+use Rattle.meta_types.specs.Equal.{key_eq}
 use Rattle.past_model.specs.Past.{Past, happens, past, read_of, with_write_known}
 use Rattle.past_model.specs.History.{Fits, IsHistory}
 use Rattle.past_model.specs.Moment.{Marks, GivesSets, GivesBoth, AreMoments, IsAccount, node_of, moment_read, is_write_under}

@@ -5,7 +5,8 @@ use Rattle.std.proofs.lemmas.Bool.{cases_eq, and_from, and_parts, or_left, or_ri
 use Rattle.meta_types.specs.Name.{Key}
 use Rattle.dvvset.specs.Object.{Entry, Counter, RisesFrom, ids_counted}
 use Rattle.dvvset.specs.Clock.{join, count_for, descends}
-use Rattle.past_model.specs.Sets.{Places, IsSubset, union, key_eq}
+use Rattle.past_model.specs.Sets.{Places, IsSubset, union}
+use Rattle.meta_types.specs.Equal.{key_eq}
 use Rattle.past_model.specs.Past.{Write, In}
 use Rattle.past_model.specs.Shown.{IsClosed, IsObjectOf, count_in}
 use Rattle.past_model.proofs.Orderly.{IsFalling}

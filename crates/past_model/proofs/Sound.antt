@@ -8,7 +8,8 @@ use Rattle.meta_types.specs.Name.{Key}
 use Rattle.meta_types.specs.Value.{ValueParts}
 use Rattle.past_model.specs.declared.happening.Happening.{Happening}
 use Rattle.past_model.specs.declared.happening.Happening.TheVariants.{Wrote, Looked, Sent, Got, Kept, Restarted}
-use Rattle.past_model.specs.Sets.{Places, Knowledge, with_set, union_by_key, set_at, key_eq}
+use Rattle.past_model.specs.Sets.{Places, Knowledge, with_set, union_by_key, set_at}
+use Rattle.meta_types.specs.Equal.{key_eq}
 use Rattle.past_model.specs.Past.{Past, Write, In, start, read_of, happens, run, past, writer_of, writes}
 use Rattle.past_model.specs.History.{IsHistory, most_restarts}
 use Rattle.past_model.specs.Shown.{IsClosed}

@@ -8,7 +8,8 @@ use Rattle.meta_types.specs.Name.{Key}
 use Rattle.dvvset.specs.Object.{RisesFrom}
 use Rattle.past_model.specs.declared.happening.Happening.{Happening}
 use Rattle.past_model.specs.declared.happening.Happening.TheVariants.{Wrote, Looked, Sent, Got, Kept, Restarted}
-use Rattle.past_model.specs.Sets.{Places, Knowledge, key_eq}
+use Rattle.past_model.specs.Sets.{Places, Knowledge}
+use Rattle.meta_types.specs.Equal.{key_eq}
 use Rattle.past_model.specs.Past.{Past, Write, In, past, next_write, writer_of}
 use Rattle.past_model.specs.History.{IsHistory}
 

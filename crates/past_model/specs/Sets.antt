@@ -1,7 +1,7 @@
 -- Sets of places in one list of happenings.
-use Rattle.std.specs.Prelude.{◌≡◌, ℕ, ◌==◌, nat_eq, if◌then◌else◌, Bool, true, false, ◌&&◌, ◌||◌}
-use Rattle.std.specs.Cmp.Lexicographic.{pointwise}
+use Rattle.std.specs.Prelude.{◌≡◌, ℕ, ◌==◌, if◌then◌else◌, Bool, true, false, ◌||◌}
 use Rattle.meta_types.specs.Name.{Key}
+use Rattle.meta_types.specs.Equal.{key_eq}
 
 -- a set of places in the list of happenings
 abbrev pub Places : Type 0
@@ -25,11 +25,6 @@ Knowledge = Key → Places
 
 abbrev pub knows_nothing : Knowledge
 knows_nothing k = empty
-
--- the keys have the same bytes
-abbrev pub key_eq : Key → Key → Bool
-key_eq a b = (pointwise nat_eq a.prefix.prefix b.prefix.prefix
-    && pointwise nat_eq a.prefix.sub b.prefix.sub) && pointwise nat_eq a.key b.key
 
 -- the set S under k, and under each other key what there was
 abbrev pub with_set : Knowledge → Key → Places → Knowledge

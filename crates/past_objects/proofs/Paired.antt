@@ -6,7 +6,8 @@ use Rattle.dvvset.specs.Object.{Entry}
 use Rattle.dvvset.specs.Clock.{join, sync, update}
 use Rattle.past_model.specs.declared.happening.Happening.{Happening}
 use Rattle.past_model.specs.declared.happening.Happening.TheVariants.{Wrote, Looked, Sent, Got, Kept, Restarted}
-use Rattle.past_model.specs.Sets.{Places, Knowledge, empty, union, knows_nothing, with_set, union_by_key, set_at, key_eq}
+use Rattle.past_model.specs.Sets.{Places, Knowledge, empty, union, knows_nothing, with_set, union_by_key, set_at}
+use Rattle.meta_types.specs.Equal.{key_eq}
 use Rattle.past_model.specs.Past.{Past, start, read_of, with_next_image, with_write_known, happens}
 use Rattle.past_model.proofs.Keys.{key_eq-true}
 use Rattle.past_model.proofs.Reached.{after_write}

@@ -11,7 +11,8 @@ use Rattle.dvvset.specs.Object.{Entry}
 use Rattle.dvvset.specs.Clock.{join, sync, update}
 use Rattle.past_model.specs.declared.happening.Happening.{Happening}
 use Rattle.past_model.specs.declared.happening.Happening.TheVariants.{Wrote, Looked, Sent, Got, Kept, Restarted}
-use Rattle.past_model.specs.Sets.{key_eq, set_at}
+use Rattle.past_model.specs.Sets.{set_at}
+use Rattle.meta_types.specs.Equal.{key_eq}
 
 -- an object under each key; the empty list is the absent one
 abbrev pub Holding : Type 0

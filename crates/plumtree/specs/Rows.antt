@@ -7,7 +7,7 @@ use Rattle.meta_types.specs.Name.{Key}
 use Rattle.dvvset.specs.Object.{Counter}
 use Rattle.dvvset.specs.Clock.{descends}
 use Rattle.dvvset.specs.Equal.{counters_eq}
-use Rattle.frame_fields.specs.Equal.{prefix_eq}
+use Rattle.meta_types.specs.Equal.{prefix_parts_eq}
 use Rattle.meta_frame.specs.declared.message.Message.TheVariants.{IHave, Graft, Prune}
 use Rattle.plumtree.specs.declared.entry.Announcement.{Announcement}
 use Rattle.plumtree.specs.declared.entry.Announcer.{Announcer}
@@ -77,7 +77,7 @@ on_prune from t = becomes_lazy from t
 -- ---- IHAVE: an object that isn't here is waited for
 
 abbrev pub is_same_key : Key → Key → Bool
-is_same_key a b = prefix_eq a.prefix b.prefix && pointwise nat_eq a.key b.key
+is_same_key a b = prefix_parts_eq a.prefix b.prefix && pointwise nat_eq a.key b.key
 
 -- of the same key and the same vector
 abbrev pub is_of : Key → List Counter → MissingObject → Bool

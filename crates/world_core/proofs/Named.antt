@@ -15,7 +15,7 @@ use Rattle.meta_store.specs.Table.{Table, is_small_enough, most_written}
 use Rattle.meta_store.specs.Step.{is_full_for, is_spent, refusal_of_put, object_after_put}
 use Rattle.meta_store.specs.declared.fault.StoreFault.{StoreFault}
 use Rattle.meta_store.specs.declared.fault.StoreFault.TheVariants.{CounterSpent, StoreFull, WrongKey, ObjectTooLarge}
-use Rattle.past_model.specs.Sets.{key_eq}
+use Rattle.meta_types.specs.Equal.{key_eq}
 use Rattle.past_model.proofs.Keys.{key_eq-true}
 use Rattle.past_model.specs.declared.happening.Happening.TheVariants.{Wrote, Looked}
 use Rattle.past_model.specs.History.{Fits}

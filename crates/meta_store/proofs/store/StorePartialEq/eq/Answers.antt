@@ -1,6 +1,7 @@
 use Rattle.std.proofs.lemmas.Bool.Decides.{same_from_decides}
 use Rattle.std.proofs.lemmas.Map.Lookups.{btree_map_eq-Decides}
-use Rattle.meta_store.specs.Equal.{prefixes_decide, rows_eq-Decides, table_eq, table_eq-Decides}
+use Rattle.meta_types.specs.Equal.{prefixes_decide}
+use Rattle.meta_store.specs.Equal.{rows_eq-Decides, table_eq, table_eq-Decides}
 use Rattle.meta_store.proofs.Same.{tables_decide}
 use Rattle.meta_store.proofs.store.StorePartialEq.eq.Goals as goal
 
