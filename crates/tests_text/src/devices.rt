@@ -36,14 +36,14 @@ impl Feed {
         }
     }
 
-    /// What is read behind the text.
-    fn end(&mut self) -> io::Result<usize> {
+    /// How it fails behind its text, if it does.
+    fn fault(&mut self) -> Option<ErrorKind> {
         match self.end {
-            End::Over => Ok(0),
-            End::Fails(kind) => Err(io::Error::from(kind)),
+            End::Over => None,
+            End::Fails(kind) => Some(kind),
             End::FailsOnce(kind) => {
                 self.end = End::Over;
-                Err(io::Error::from(kind))
+                Some(kind)
             }
         }
     }
@@ -57,7 +57,10 @@ impl Read for Feed {
         }
         let n = piece.len().min(self.most).min(self.left.len());
         if n == 0 {
-            return self.end();
+            return match self.fault() {
+                Some(kind) => Err(io::Error::from(kind)),
+                None => Ok(0),
+            };
         }
         piece[..n].copy_from_slice(&self.left[..n]);
         self.left = &self.left[n..];
