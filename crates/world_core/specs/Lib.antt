@@ -35,8 +35,8 @@ pub mod Refusal
 pub mod Knowledge
 -- what a world answers, and what it then is
 pub mod Outcome
--- what need not be believed: what a world always keeps to, which stands on the machine of objects
--- (of which images alone are read, by `Holding`)
+-- what need not be believed: what a world always keeps to, by the machine of objects (of which
+-- `Images` above takes the word `Holding`)
 pub use Rattle.past_objects.specs.Objects
 pub use Rattle.node_images.specs.Follows
 pub mod Invariant

@@ -1,5 +1,5 @@
--- A world: its nodes, what it has accepted and sent, and the contexts of its reads; and the lives of
--- its nodes.
+-- A world: its nodes, what it has accepted and sent, and the contexts of its reads; and the lives
+-- of its nodes.
 use Rattle.std.specs.Prelude.{◌≡◌, ℕ, List, [], map}
 use Rattle.std.specs.List.{range_with_len}
 use Rattle.meta_store.specs.Context.{Reading}

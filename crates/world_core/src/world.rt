@@ -109,8 +109,8 @@ impl World {
         self.chronicle.frame(number)
     }
 
-    /// The bytes of the frames of these numbers, as those that an answer has, without memory: in two
-    /// parts, as `frames` gives them. Of numbers that no frame has there is nothing.
+    /// The bytes of the frames of these numbers, such as an answer has: in two parts, as `frames`
+    /// gives them. Numbers that no frame has give nothing. It takes no memory.
     pub fn frames_at(&self, numbers: FrameNumbers) -> (&[ByteString], &[ByteString])
         ensures { result.0.now ++ result.1.now ≡ frames_at numbers self.now.frames }
     {
@@ -145,8 +145,8 @@ impl World {
 
     /// The node; `None` for one that the world doesn't have, and only then. Under each key it holds
     /// the object of the writes that it knows, whose values are those of them that none of them had
-    /// read. What the accepted events were to it took it there from a new node, life after life, and
-    /// the number of its life is that of the history.
+    /// read. What the accepted events were to it took it there from a new node, life after life. The
+    /// number of its life is that of the history.
     pub fn state(&self, node: u64) -> Option<&NodeState>
         ensures node { IsNone result ↔ (length self.now.nodes ≤ node) }
         ensures lends { IfSome result (λ state. state.now ≡ (node_at self.now node).state) }
