@@ -27,6 +27,11 @@ use Rattle.world_core.specs.Refusal.{table_at}
 abbrev pub OfAllTold : World → (Told → Type 0) → Type 0
 OfAllTold w P = (t : Told) → Tells w.accepted w.frames t → P t
 
+-- two nodes know the same writes under a key
+abbrev pub KnowTheSame : Told → (m n : ℕ) → Key → Type 0
+KnowTheSame t m n key =
+    (place : ℕ) → known t.history m key place ≡ known t.history n key place
+
 -- the object shows what the node knows under the key by the history: the values are those of the
 -- writes that it knows and that no write it knows had read, and the vector counts all that it knows
 pub record ShowsKnown (hs : List Happening) (n : ℕ) (key : Key) (object : List Entry) : Type 0 where

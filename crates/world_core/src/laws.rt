@@ -5,9 +5,8 @@ ghost use Rattle.std.specs.Prelude.{◌≡◌, ◌↔◌, ◌<◌, ℕ, List, le
 ghost use Rattle.meta_types.specs.Name.{Key};
 ghost use Rattle.hash_tree.specs.Tree.{rows_of, tree_root};
 ghost use Rattle.meta_store.specs.Table.{object_at};
-ghost use Rattle.past_model.specs.Past.{known};
 ghost use Rattle.world_core.specs.declared.answer.Accepted.{Accepted};
-ghost use Rattle.world_core.specs.Knowledge.{OfAllTold};
+ghost use Rattle.world_core.specs.Knowledge.{KnowTheSame, OfAllTold};
 ghost use Rattle.world_core.specs.Outcome.{OneOutcomeForEachEvent, WorldRunsGoOn};
 ghost use Rattle.world_core.specs.Refusal.{table_at};
 ghost use Rattle.world_core.specs.Tells.{Told, Tells};
@@ -39,11 +38,11 @@ pub fn runs_go_on()
 pub fn equal_knowledge_shows_equally(world: &World)
     ensures objects { OfAllTold world.now (λ t. (m n : ℕ) (key : Key)
         → m < length world.now.nodes → n < length world.now.nodes
-        → ((place : ℕ) → known t.history m key place ≡ known t.history n key place)
+        → KnowTheSame t m n key
         → object_at (table_at world.now m) key ≡ object_at (table_at world.now n) key) }
     ensures roots { OfAllTold world.now (λ t. (m n : ℕ)
         → m < length world.now.nodes → n < length world.now.nodes
-        → ((key : Key) (place : ℕ) → known t.history m key place ≡ known t.history n key place)
+        → ((key : Key) → KnowTheSame t m n key)
         → tree_root (rows_of (table_at world.now m)) ≡ tree_root (rows_of (table_at world.now n))) }
 {
     // Read for what it tells: this is a world.
