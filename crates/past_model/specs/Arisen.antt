@@ -6,7 +6,7 @@ use Rattle.dvvset.specs.Object.{Entry}
 use Rattle.past_model.specs.declared.happening.Happening.{Happening}
 use Rattle.past_model.specs.declared.happening.Happening.TheVariants.{Wrote}
 use Rattle.past_model.specs.Sets.{Places, IsSubset}
-use Rattle.past_model.specs.Past.{Write, In, past, writes, known, seen, load, image, writer_of}
+use Rattle.past_model.specs.Past.{Write, In, past, writes, known, read, seen, load, image, writer_of}
 use Rattle.past_model.specs.History.{IsHistory}
 use Rattle.past_model.specs.Shown.{IsClosed, IsObjectOf, count_in}
 
@@ -44,3 +44,24 @@ abbrev pub counter_of : List Happening → ℕ → Key → ValueParts → Option
 counter_of before n k v r =
     let after : List Happening = before ++ Wrote n k v r ∷ [] in
     count_in (writes after) (known after n k) (writer_of (past before) n)
+
+-- the writer that the node is after these happenings
+abbrev pub writer_after : List Happening → ℕ → ℕ
+writer_after before n = writer_of (past before) n
+
+-- the object of what the node knows under the key
+abbrev pub IsObjectKnown : List Happening → ℕ → Key → List Entry → Type 0
+IsObjectKnown hs n k es = IsObjectOf (writes hs) k (known hs n k) es
+
+-- the object of what a write under the key has read
+abbrev pub IsObjectRead : List Happening → Option ℕ → Key → List Entry → Type 0
+IsObjectRead hs r k es = IsObjectOf (writes hs) k (read hs k r) es
+
+-- after these happenings the history has a write of the node under the key, and this is its counter
+pub record HasWriteAfter (hs before : List Happening) (n : ℕ) (k : Key) (counter : ℕ)
+    : Type 0 where
+  pub value : ValueParts
+  pub read_at : Option ℕ
+  pub later : List Happening
+  pub split : hs ≡ before ++ Wrote n k value read_at ∷ later
+  pub counted : counter ≡ counter_of before n k value read_at

@@ -10,10 +10,10 @@ ghost use Rattle.dvvset.specs.Writer.{count_of};
 ghost use Rattle.past_model.specs.declared.happening.Happening.{Happening as H};
 ghost use Rattle.past_model.specs.declared.happening.Happening.TheVariants.{Got, Wrote};
 ghost use Rattle.past_model.specs.Sets.{IsSubset, Places, empty, singleton, union};
-ghost use Rattle.past_model.specs.Past.{known, load, past, read, writer_of, writes};
+ghost use Rattle.past_model.specs.Past.{known, load, read, writes};
 ghost use Rattle.past_model.specs.History.{IsHistory, NoRestart};
 ghost use Rattle.past_model.specs.Shown.{IsClosed, IsContext, IsObjectOf, Shows};
-ghost use Rattle.past_model.specs.Arisen.{IsArisen, IsBelow, IsLeastUpperBound, ReachesClosed, counter_of};
+ghost use Rattle.past_model.specs.Arisen.{HasWriteAfter, IsArisen, IsBelow, IsLeastUpperBound, IsObjectKnown, IsObjectRead, ReachesClosed, counter_of, writer_after};
 
 /// What a node knows, what a read saw, what was sent, what a write had read, and what an image
 /// holds is a closed set of writes.
@@ -106,8 +106,8 @@ pub fn a_delivery_adds_what_was_sent()
         → known (hs ++ Got n i ∷ []) n k ≡ union (known hs n k) (load hs i k) }
     ensures object { (hs : List H) → IsHistory hs
         → (n i : ℕ) (k : Key) (a b : List Entry)
-        → IsObjectOf (writes hs) k (known hs n k) a → IsObjectOf (writes hs) k (load hs i k) b
-        → IsObjectOf (writes (hs ++ Got n i ∷ [])) k (known (hs ++ Got n i ∷ []) n k) (sync a b) }
+        → IsObjectKnown hs n k a → IsObjectOf (writes hs) k (load hs i k) b
+        → IsObjectKnown (hs ++ Got n i ∷ []) n k (sync a b) }
 {}
 
 /// Once a node wrote, it knows also what the write had read, and the write; its object is the
@@ -119,23 +119,21 @@ pub fn a_write_adds_what_it_read_and_itself()
         ≡ union (known hs n k) (union (read hs k r) (singleton (length hs))) }
     ensures object { (hs : List H) → IsHistory hs
         → (n : ℕ) (k : Key) (v : ValueParts) (r : Option ℕ) (a b : List Entry)
-        → IsObjectOf (writes hs) k (known hs n k) a → IsObjectOf (writes hs) k (read hs k r) b
-        → IsObjectOf (writes (hs ++ Wrote n k v r ∷ [])) k (known (hs ++ Wrote n k v r ∷ []) n k)
-        (update (join b) a (writer_of (past hs) n) v) }
+        → IsObjectKnown hs n k a → IsObjectRead hs r k b
+        → IsObjectKnown (hs ++ Wrote n k v r ∷ []) n k
+        (update (join b) a (writer_after hs n) v) }
     ensures counter { (hs : List H) → IsHistory hs
         → (n : ℕ) (k : Key) (v : ValueParts) (r : Option ℕ) (a b : List Entry)
-        → IsObjectOf (writes hs) k (known hs n k) a → IsObjectOf (writes hs) k (read hs k r) b
-        → count_of (update (join b) a (writer_of (past hs) n) v) (writer_of (past hs) n)
+        → IsObjectKnown hs n k a → IsObjectRead hs r k b
+        → count_of (update (join b) a (writer_after hs n) v) (writer_after hs n)
         ≡ counter_of hs n k v r }
 {}
 
 /// Two writes of one writer under one key have unequal counters.
 pub fn no_two_writes_share_a_counter()
-    ensures { (hs : List H) → IsHistory hs → (n m : ℕ) (k : Key)
-        → (before after earlier later : List H) (v u : ValueParts) (r q : Option ℕ)
-        → hs ≡ before ++ Wrote n k v r ∷ after → hs ≡ earlier ++ Wrote m k u q ∷ later
-        → writer_of (past before) n ≡ writer_of (past earlier) m
-        → counter_of before n k v r ≡ counter_of earlier m k u q → before ≡ earlier }
+    ensures { (hs : List H) → IsHistory hs → (before earlier : List H) (n m counter : ℕ) (k : Key)
+        → HasWriteAfter hs before n k counter → HasWriteAfter hs earlier m k counter
+        → writer_after before n ≡ writer_after earlier m → before ≡ earlier }
 {}
 
 /// No incarnation number is used twice by a node: at two places of a history a node, and only it,
@@ -143,6 +141,6 @@ pub fn no_two_writes_share_a_counter()
 pub fn no_incarnation_is_used_twice()
     ensures { (before between after : List H) → IsHistory (before ++ between ++ after)
         → (n m : ℕ)
-        → (writer_of (past before) n ≡ writer_of (past (before ++ between)) m)
+        → (writer_after before n ≡ writer_after (before ++ between) m)
         ↔ ((n ≡ m) × NoRestart n between) }
 {}
