@@ -37,22 +37,26 @@ use Rattle.node_core.proofs.Giving.{HoldsHeld, answers_carry_held, bare, broadca
 
 -- ---- a node in the midst of a step, which began with these parts and holds this table now
 
-record Leaves (s : NodeParts) (table : Table) (t : Draft) : Type 0 where
-  node : t.parts.node ≡ s.node
-  life : t.parts.incarnation ≡ s.incarnation
-  held : t.parts.table ≡ table
-  sent : All (HoldsHeld t.parts.table) t.sent
+pub record Leaves (s : NodeParts) (table : Table) (t : Draft) : Type 0 where
+  pub node : t.parts.node ≡ s.node
+  pub life : t.parts.incarnation ≡ s.incarnation
+  pub steps : t.parts.steps ≡ s.steps
+  pub frames : t.parts.frames ≡ s.frames
+  pub held : t.parts.table ≡ table
+  pub sent : All (HoldsHeld t.parts.table) t.sent
 
 module _ (s : NodeParts) where
   -- a step begins with nothing sent
   Leaves-begun : Leaves s s.table (begun s)
-  Leaves-begun = record { node = refl; life = refl; held = refl; sent = All-nil (HoldsHeld s.table) }
+  Leaves-begun = record { node = refl; life = refl; steps = refl; frames = refl; held = refl; sent = All-nil (HoldsHeld s.table) }
 
   module _ (table : Table) where
     Leaves-send : (to : ℕ) (m : Message) (t : Draft) → carried_object m ≡ None → Leaves s table t → Leaves s table (send to m t)
     Leaves-send to m t none h = record {
       node = h.node;
       life = h.life;
+      steps = h.steps;
+      frames = h.frames;
       held = h.held;
       sent = All-push (HoldsHeld t.parts.table) t.sent (envelope to m) h.sent (bare t.parts.table m none);
     }
@@ -61,6 +65,8 @@ module _ (s : NodeParts) where
     Leaves-call call t h = record {
       node = h.node;
       life = h.life;
+      steps = h.steps;
+      frames = h.frames;
       held = h.held;
       sent =
           All-append (HoldsHeld t.parts.table) t.sent (map (envelope_of t.parts.table) (out_of call t.parts.overlay)) h.sent
@@ -71,6 +77,8 @@ module _ (s : NodeParts) where
     Leaves-views event word t h = record {
       node = h.node;
       life = h.life;
+      steps = h.steps;
+      frames = h.frames;
       held = h.held;
       sent =
           All-append (HoldsHeld t.parts.table) t.sent (sent_by_view event word t.parts.overlay) h.sent
@@ -84,7 +92,7 @@ module _ (s : NodeParts) where
       let new = hold key object (begun s) in
       let table = with_object key object s.table in
       Leaves-call table (calls.Changes key (vector_under key new.parts)) (note (change_under key new.parts) new)
-      (record { node = refl; life = refl; held = refl; sent = All-nil (HoldsHeld table) })
+      (record { node = refl; life = refl; steps = refl; frames = refl; held = refl; sent = All-nil (HoldsHeld table) })
 
   Leaves-write : (key : Key) (value : ValueParts) (context : Option Reading)
       → Leaves s (with_object key (object_after_put s.table (writer s) key value context) s.table) (write key value context (begun s))
@@ -112,25 +120,25 @@ module _ (s : NodeParts) where
   Leaves-on_hello : (from life word : ℕ) → Leaves s s.table (on_hello from life word (begun s))
   Leaves-on_hello from life word =
       let heard = hear from life (begun s) in
-      let known : Leaves s s.table heard = record { node = refl; life = refl; held = refl; sent = All-nil (HoldsHeld s.table) } in
+      let known : Leaves s s.table heard = record { node = refl; life = refl; steps = refl; frames = refl; held = refl; sent = All-nil (HoldsHeld s.table) } in
       cond_both (nat_lt (slice_index s.heard from) life) (drop_neighbour from word heard) (begun s) (Leaves s s.table)
       (λ _. cond_both (has s.overlay.views.active from) (step_views (OfViews.PeerDown from) word heard) heard (Leaves s s.table)
       (λ _. Leaves-views s.table (OfViews.PeerDown from) word heard known) (λ _. known))
       (λ _. Leaves-begun)
 
   Leaves-reply : (from : ℕ) (m : Message) → Leaves s s.table (send_all from (answers_to s.table m) (begun s))
-  Leaves-reply from m = record { node = refl; life = refl; held = refl; sent = answers_carry_held s.table from m }
+  Leaves-reply from m = record { node = refl; life = refl; steps = refl; frames = refl; held = refl; sent = answers_carry_held s.table from m }
 
   Leaves-tick : (word : ℕ) → Leaves s s.table (tick word (begun s))
   Leaves-tick word =
       let counted = count_tick (begun s) in
       let cast = call_broadcast calls.Tick counted in
       let after =
-      Leaves-call s.table calls.Tick counted (record { node = refl; life = refl; held = refl; sent = All-nil (HoldsHeld s.table) }) in
+      Leaves-call s.table calls.Tick counted (record { node = refl; life = refl; steps = refl; frames = refl; held = refl; sent = All-nil (HoldsHeld s.table) }) in
       cond_both (is_due cast.parts.ticks) (step_views OfViews.ShuffleDue word cast) cast (Leaves s s.table)
       (λ _. Leaves-views s.table OfViews.ShuffleDue word cast after) (λ _. after)
 
-  Leaves-on_message : (from word : ℕ) (m : Message)
+  pub Leaves-on_message : (from word : ℕ) (m : Message)
       → Leaves s (with_carried (carried_object m) s.table) (on_message from word m (begun s))
   Leaves-on_message from word (Gossip round key object) = Leaves-on_gossip from round key object
   Leaves-on_message from word (IHave round key vector) =
@@ -150,24 +158,26 @@ module _ (s : NodeParts) where
 
 -- ---- the table
 
-record LeavesBy (s : NodeParts) (event : NodeEvent) (t : Draft) : Type 0 where
-  node : t.parts.node ≡ s.node
-  life : t.parts.incarnation ≡ s.incarnation
-  held : LeavesHeld s event t.parts.table
-  sent : All (HoldsHeld t.parts.table) t.sent
+pub record LeavesBy (s : NodeParts) (event : NodeEvent) (t : Draft) : Type 0 where
+  pub node : t.parts.node ≡ s.node
+  pub life : t.parts.incarnation ≡ s.incarnation
+  pub steps : t.parts.steps ≡ s.steps
+  pub frames : t.parts.frames ≡ s.frames
+  pub held : LeavesHeld s event t.parts.table
+  pub sent : All (HoldsHeld t.parts.table) t.sent
 
 quiet : (s : NodeParts) (event : NodeEvent) (t : Draft) → Leaves s s.table t → (t.parts.table ≡ s.table → LeavesHeld s event t.parts.table)
     → LeavesBy s event t
-quiet s event t h held = record { node = h.node; life = h.life; held = held h.held; sent = h.sent }
+quiet s event t h held = record { node = h.node; life = h.life; steps = h.steps; frames = h.frames; held = held h.held; sent = h.sent }
 
 own_event : (s : NodeParts) (event : NodeEvent) → IsInput event (Local event) → LeavesBy s event (row_of_event event (begun s))
 own_event s (Read key) is = quiet s (Read key) (begun s) (Leaves-begun s) (λ e. e)
 own_event s (Write key value context) is =
     let h = Leaves-write s key value context in
-    record { node = h.node; life = h.life; held = h.held; sent = h.sent }
+    record { node = h.node; life = h.life; steps = h.steps; frames = h.frames; held = h.held; sent = h.sent }
 own_event s (PutOver key value) is =
     let h = Leaves-write s key value (Some (present key s)) in
-    record { node = h.node; life = h.life; held = h.held; sent = h.sent }
+    record { node = h.node; life = h.life; steps = h.steps; frames = h.frames; held = h.held; sent = h.sent }
 own_event s (Take bytes word) is = absurd is
 own_event s (Tick word) is = quiet s (Tick word) (tick word (begun s)) (Leaves-tick s word) (λ e. e)
 own_event s (JoinThrough contact word) is =
@@ -180,18 +190,18 @@ own_event s (Exchange peer) is =
     let root = XRoot (tree_root (rows_of s.table)) in
     quiet s (Exchange peer) (send peer root (begun s)) (Leaves-send s s.table peer root (begun s) refl (Leaves-begun s)) (λ e. e)
 own_event s (Keep key) is = quiet s (Keep key) (begun s) (Leaves-begun s) (λ e. e)
-own_event s (Watch prefix capacity) is = record { node = refl; life = refl; held = refl; sent = All-nil (HoldsHeld s.table) }
-own_event s (Changes number) is = record { node = refl; life = refl; held = refl; sent = All-nil (HoldsHeld s.table) }
+own_event s (Watch prefix capacity) is = record { node = refl; life = refl; steps = refl; frames = refl; held = refl; sent = All-nil (HoldsHeld s.table) }
+own_event s (Changes number) is = record { node = refl; life = refl; steps = refl; frames = refl; held = refl; sent = All-nil (HoldsHeld s.table) }
 own_event s (SayHello peer) is =
     quiet s (SayHello peer) (send peer (Hello s.incarnation) (begun s))
     (Leaves-send s s.table peer (Hello s.incarnation) (begun s) refl (Leaves-begun s)) (λ e. e)
 own_event s Leave is =
     quiet s Leave (step_views OfViews.Leave 0 (begun s)) (Leaves-views s s.table OfViews.Leave 0 (begun s) (Leaves-begun s)) (λ e. e)
 
-of_input : (s : NodeParts) (event : NodeEvent) (input : Input) → IsInput event input → LeavesBy s event (row input (begun s))
+pub of_input : (s : NodeParts) (event : NodeEvent) (input : Input) → IsInput event input → LeavesBy s event (row input (begun s))
 of_input s (Take bytes word) (Received frame w) is =
     let h = Leaves-on_message s frame.from w frame.message in
-    record { node = h.node; life = h.life; held = record { frame = frame; spelled = is.0; merged = h.held }; sent = h.sent }
+    record { node = h.node; life = h.life; steps = h.steps; frames = h.frames; held = record { frame = frame; spelled = is.0; merged = h.held }; sent = h.sent }
 of_input s (Take bytes word) (Local own) is = absurd is
 of_input s event (Local own) is = subst (λ own. LeavesBy s event (row_of_event own (begun s))) (sym is) (own_event s event refl)
 of_input s event (Received frame w) is = absurd is

@@ -24,3 +24,9 @@ pub mod Repairing
 pub mod Giving
 -- what a step leaves is what its event does
 pub mod Leaves
+-- runs: their events determine them, they join and split, and they count
+pub mod Runs
+-- what a step changes, and that what is held only grows
+pub mod Growing
+-- a store that is filled in the order of a table holds what was gone over
+pub mod Filling

@@ -44,7 +44,7 @@ rejected old new (Err fault) event own same is fails kept =
 
 -- ---- one outcome
 
-one_input : (event : NodeEvent) (i j : Input) → IsInput event i → IsInput event j → i ≡ j
+pub one_input : (event : NodeEvent) (i j : Input) → IsInput event i → IsInput event j → i ≡ j
 one_input (Take bytes word) (Received f w) (Received g v) is other =
     λ i. Received (one_frame f g bytes is.0 other.0 i) ((is.1 ∙ sym other.1) i)
 one_input (Take bytes word) (Local e) j is other = absurd is

@@ -19,6 +19,8 @@ pub mod Run
 pub mod Repair
 -- what a step leaves, in the words of the table: what is held, and what the frames carry
 pub mod Leaving
+-- what a step changes of what is held, and that this only grows
+pub mod Growing
 -- equality of what steps give
 pub mod Equal
 -- ---- not needed to believe the public contracts: what private functions say of a message, of a

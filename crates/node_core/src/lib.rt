@@ -12,6 +12,7 @@ mod repair;
 mod saying;
 pub mod state;
 mod step;
+mod table;
 mod taking;
 mod ticking;
 mod watching;

@@ -1,16 +1,20 @@
-ghost use Rattle.std.specs.Prelude.{◌≡◌, ◌≤◌, [], IfOk};
+ghost use Rattle.std.specs.Prelude.{◌≡◌, ◌↔◌, ◌≤◌, [], IfErr, IfOk, IsTrue, replicate};
 ghost use Rattle.hash_tree.specs.Tree.{rows_of};
+ghost use Rattle.meta_store.specs.Table.{IsTable};
 ghost use Rattle.node_core.specs.Node.{IsNodeState, opening};
 ghost use Rattle.node_parts.specs.Overlay.{ArePeers};
 
+use crate::table::store_of;
+use dvvset::Entries;
 use hash_tree::{Held, Tree};
 use hyparview::Views;
 use meta_store::Store;
-use meta_types::NodeId;
+use meta_types::node::MAX_NODES;
+use meta_types::{MetaKey, NodeId};
 use node_events::{Outbox, Reply};
 use node_parts::{Overlay, Watches, both};
 use plumtree::Cast;
-use std::alloc::{AllocError, Global};
+use std::alloc::{AllocError, AllocFailed, Global};
 use std::marker::Model;
 use subscriptions::Watch;
 
@@ -44,9 +48,6 @@ impl Eq for Stepped {
     ghost laws = { stepped_equivalence };
 }
 
-/// How many nodes there may be.
-const NODES: usize = 16;
-
 /// One node in one of its lives: what it holds, whom it talks to, who watches it, and the counts of
 /// its life.
 #[derive(Drop)]
@@ -58,7 +59,7 @@ pub struct NodeState {
     pub(crate) overlay: Overlay,
     pub(crate) watches: Watches,
     /// The greatest life that was heard of each node, by its number.
-    pub(crate) heard: [u32; NODES],
+    pub(crate) heard: [u32; MAX_NODES as usize],
     pub(crate) steps: u64,
     pub(crate) frames: u64,
     pub(crate) ticks: u64,
@@ -98,18 +99,83 @@ impl NodeState {
         ensures { IfOk result (λ state. state ≡ opening node incarnation store) }
     {
         let held = Held::new(alloc, store)?;
-        Ok(NodeState {
+        Ok(NodeState::of_held(alloc, node, incarnation, held))
+    }
+
+    /// A node that begins the life of this number with these keys and their objects, and knows
+    /// nobody. Fails only when memory runs out.
+    pub fn from_table(
+        alloc: Global,
+        node: NodeId,
+        incarnation: u32,
+        rows: Vec<(MetaKey, Entries)>,
+    ) -> Result<Self, AllocError>
+        requires life { 1 ≤ incarnation }
+        requires table { IsTable rows.items }
+        ensures { IfOk result (λ state. state ≡ opening node incarnation rows.items) }
+    {
+        let store = store_of(alloc, rows)?;
+        NodeState::from_store(alloc, node, incarnation, store)
+    }
+
+    /// As `from_store`; but where memory runs out, the store comes back.
+    pub fn begin(
+        alloc: Global,
+        node: NodeId,
+        incarnation: u32,
+        store: Store,
+    ) -> Result<Self, AllocFailed<Store>>
+        requires { 1 ≤ incarnation }
+        ensures begun { IfOk result (λ state. state ≡ opening node incarnation store) }
+        ensures back { IfErr result (λ failed. failed.value ≡ store) }
+    {
+        match Held::from_store(alloc, store) {
+            Ok(held) => Ok(NodeState::of_held(alloc, node, incarnation, held)),
+            Err(failed) => Err(failed),
+        }
+    }
+
+    /// A node that begins the life of this number, holds this, and knows nobody.
+    fn of_held(alloc: Global, node: NodeId, incarnation: u32, held: Held) -> Self
+        requires { 1 ≤ incarnation }
+        ensures { result ≡ opening node incarnation held }
+    {
+        NodeState {
             alloc,
             node,
             incarnation,
             held,
             overlay: Overlay::new(alloc, node),
             watches: Watches::new(alloc),
-            heard: [0; NODES],
+            heard: [0; MAX_NODES as usize],
             steps: 0,
             frames: 0,
             ticks: 0,
-        })
+        }
+    }
+
+    /// Returns whether a life begins so: the node made no step and knows nobody, whatever it holds.
+    pub fn is_opening(&self) -> bool
+        ensures { IsTrue result
+            ↔ (self.now ≡ opening self.now.node self.now.incarnation self.now.table) }
+    {
+        let uncounted = self.steps == 0 && self.frames == 0 && self.ticks == 0;
+        let unwatched = self.watches.as_slice().is_empty();
+        uncounted && unwatched && self.overlay.is_new() && has_heard_none(&self.heard)
+    }
+
+    /// How many steps it made in its life; at the greatest number, the count stays.
+    pub fn steps(&self) -> u64
+        ensures { result ≡ self.now.steps }
+    {
+        self.steps
+    }
+
+    /// What it holds, without taking memory.
+    pub fn into_store(self) -> Store
+        ensures { result ≡ self.table }
+    {
+        self.held.into_store()
     }
 
     /// Which node it is.
@@ -184,4 +250,11 @@ impl NodeState {
             ticks: self.ticks,
         })
     }
+}
+
+/// Returns whether no life was heard of.
+fn has_heard_none(heard: &[u32; MAX_NODES as usize]) -> bool
+    ensures { IsTrue result ↔ (heard.now ≡ replicate 16 0) }
+{
+    *heard == [0; MAX_NODES as usize]
 }

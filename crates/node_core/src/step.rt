@@ -22,8 +22,8 @@ impl NodeState {
         stepped
     }
 
-    /// The same, by the event's row.
-    fn step_on(&mut self, event: &NodeEvent) -> Result<Stepped, StepFault>
+    /// The same, of an event that stays with the caller.
+    pub fn step_on(&mut self, event: &NodeEvent) -> Result<Stepped, StepFault>
         ensures step { IfOk result (IsNodeStep self.old event.now self.new) }
         ensures refused { IfErr result (λ fault. Rejects self.old event.now fault self.new) }
     {
