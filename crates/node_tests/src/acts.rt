@@ -38,6 +38,8 @@ pub enum Act {
     Copy,
     /// Writes under 8,191 keys of two bytes, none of which is refused.
     Fill,
+    /// Twenty-one ticks, none of which is refused.
+    Ticks,
 }
 
 pub fn node(rt: &impl Abort, number: u16) -> NodeId {
@@ -63,7 +65,7 @@ pub fn key(rt: &impl Abort, alloc: Global, letters: &[u8]) -> MetaKey {
     MetaKey::new(prefix, bytes(rt, alloc, letters)).expect(rt, "a key")
 }
 
-fn value(rt: &impl Abort, alloc: Global, letter: u8) -> Value {
+pub fn value(rt: &impl Abort, alloc: Global, letter: u8) -> Value {
     let body = if letter == b'~' {
         None
     } else {

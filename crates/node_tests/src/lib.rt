@@ -10,7 +10,11 @@
 #[cfg(test)]
 mod acts;
 #[cfg(test)]
+mod copies;
+#[cfg(test)]
 mod frames;
+#[cfg(test)]
+mod lives;
 #[cfg(test)]
 mod playing;
 #[cfg(test)]
