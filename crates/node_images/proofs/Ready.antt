@@ -13,6 +13,7 @@ use Rattle.meta_frame.specs.declared.message.Message.{Message}
 use Rattle.meta_frame.specs.declared.message.Message.TheVariants.{Gossip, XObject}
 use Rattle.meta_store.specs.Table.{Table}
 use Rattle.meta_store.proofs.Tables.{object_at-here}
+use Rattle.node_events.specs.Event.{stored_key}
 use Rattle.node_events.specs.declared.event.NodeEvent.{NodeEvent}
 use Rattle.node_events.specs.declared.event.NodeEvent.TheVariants.{Changes, Keep, PutOver, Read, Take, Write}
 use Rattle.node_events.specs.declared.reply.Reply.TheVariants.{Wrote, TookFresh, TookStale}
@@ -24,7 +25,6 @@ use Rattle.node_core.specs.Step.{CanComeOf, IsNodeStep, IsStepOf, refusal_of, re
 use Rattle.node_images.specs.Ahead.{IsAhead, IsPlain, IsReady, change_left, object_written, reply_ahead}
 use Rattle.node_images.specs.declared.ahead.Ahead.{Ahead}
 use Rattle.node_images.specs.Keeping.{change_at}
-use Rattle.node_images.specs.Node.{image_key}
 use Rattle.node_images.proofs.Noding.{change_at-put}
 
 -- ---- the change
@@ -34,7 +34,7 @@ put_change : (old new : Table) (key : Key) (o : List Entry) (t : Table) → new 
 put_change old new key o t is put = ap (λ c. Some c) (sym (ap (λ t. change_at t key) is ∙ put))
 
 pub change_is : (old : NodeParts) (event : NodeEvent) (new : Table) → LeavesHeld old event new
-    → change_left event old ≡ option_map (change_at new) (image_key event)
+    → change_left event old ≡ option_map (change_at new) (stored_key event)
 change_is old (Write key value context) new held =
     put_change old.table new key (object_written old key value context) _ held (change_at-put old.table key (object_written old key value context))
 change_is old (PutOver key value) new held =

@@ -4,6 +4,7 @@ use Rattle.std.specs.Option.{option_map}
 use Rattle.meta_types.specs.Name.{Key}
 use Rattle.dvvset.specs.Object.{Entry}
 use Rattle.meta_store.specs.Table.{Table, IsTable, object_at, with_object}
+use Rattle.node_events.specs.Event.{stored_key}
 use Rattle.node_events.specs.declared.event.NodeEvent.{NodeEvent}
 use Rattle.node_events.specs.declared.event.NodeEvent.TheVariants.{Write, PutOver, Take}
 use Rattle.node_core.specs.declared.state.Stepped.{Stepped}
@@ -11,7 +12,7 @@ use Rattle.node_core.specs.Leaving.{LeavesHeld, StepLeaves, carried_object, with
 use Rattle.node_core.specs.Node.{NodeParts, opening}
 use Rattle.node_images.specs.Images.{holdings}
 use Rattle.node_images.specs.Keeping.{IsRestorable, change_at, most_incarnation}
-use Rattle.node_images.specs.Node.{ImagedNode, arrived, image_key, images_with, keeping, standing_with, with_images}
+use Rattle.node_images.specs.Node.{ImagedNode, arrived, images_with, keeping, standing_with, with_images}
 use Rattle.node_images.proofs.Noding.{held_at, is_node-image, is_node-restart, is_node-table, merge_grows, put_grows}
 
 -- ---- what is held never loses a key in a step
@@ -53,24 +54,24 @@ restorable_at old state (Some key) is is_table more life =
     (is_node-image (keeping old) state.table key is is_table more)
 
 pub step_restorable : (old : ImagedNode) (event : NodeEvent) (state : NodeParts) (s : Stepped) → IsRestorable (keeping old)
-    → IsTable state.table → StepLeaves old.state event state s → IsRestorable (keeping (arrived state (image_key event) old))
+    → IsTable state.table → StepLeaves old.state event state s → IsRestorable (keeping (arrived state (stored_key event) old))
 step_restorable old event state s is is_table leaves =
-    restorable_at old state (image_key event) is is_table (grows old.state event state.table is_table leaves.held) leaves.life
+    restorable_at old state (stored_key event) is is_table (grows old.state event state.table is_table leaves.held) leaves.life
 
 -- ---- what the code left
 
 -- the node that the code left, by what it did to the images
 pub left_is : (old new : ImagedNode) (event : NodeEvent) (change : Option (Option (Key × List Entry)))
-    → change ≡ option_map (change_at new.state.table) (image_key event)
+    → change ≡ option_map (change_at new.state.table) (stored_key event)
     → new.images ≡ images_with change old.standing old.images → new.standing ≡ standing_with change old.standing old.images
-    → new ≡ arrived new.state (image_key event) old
+    → new ≡ arrived new.state (stored_key event) old
 left_is old new event change left images standing = λ i.
     with_images new.state ((images ∙ ap (λ c. images_with c old.standing old.images) left) i)
     ((standing ∙ ap (λ c. standing_with c old.standing old.images) left) i)
 
 pub left_restorable : (old new : ImagedNode) (event : NodeEvent) (s : Stepped) (change : Option (Option (Key × List Entry)))
     → IsRestorable (keeping old) → IsTable new.state.table → StepLeaves old.state event new.state s
-    → change ≡ option_map (change_at new.state.table) (image_key event)
+    → change ≡ option_map (change_at new.state.table) (stored_key event)
     → new.images ≡ images_with change old.standing old.images → new.standing ≡ standing_with change old.standing old.images
     → IsRestorable (keeping new)
 left_restorable old new event s change is is_table leaves left images standing =

@@ -5,8 +5,9 @@ use Rattle.meta_types.specs.Name.{Key}
 use Rattle.dvvset.specs.Object.{Entry}
 use Rattle.meta_store.specs.Context.{Reading}
 use Rattle.meta_store.specs.Table.{Table, IsTable, object_at}
+use Rattle.node_events.specs.Event.{stored_key}
 use Rattle.node_events.specs.declared.event.NodeEvent.{NodeEvent}
-use Rattle.node_events.specs.declared.event.NodeEvent.TheVariants.{Read, Write, PutOver, Keep}
+use Rattle.node_events.specs.declared.event.NodeEvent.TheVariants.{Read, PutOver}
 use Rattle.node_core.specs.declared.state.Stepped.{Stepped}
 use Rattle.node_core.specs.Node.{NodeParts, opening, present}
 use Rattle.node_core.specs.Step.{IsNodeStep}
@@ -34,13 +35,6 @@ abbrev pub new_node : ℕ → ImagedNode
 new_node number = record { state = opening number 1 []; images = []; standing = 0 }
 
 -- ---- a step
-
--- the key under which an event leaves an image: a write, and a keeping
-abbrev pub image_key : NodeEvent → Option Key
-image_key (Write key value context) = Some key
-image_key (PutOver key value) = Some key
-image_key (Keep key) = Some key
-image_key event = None
 
 -- the context that an event reads with: a read hands it out, and a write over all has read it
 abbrev pub context_read : NodeEvent → NodeParts → Option Reading
@@ -80,7 +74,7 @@ pub record IsImagedStep (old : ImagedNode) (event : NodeEvent) (new : ImagedNode
     (given : ImagedStep) : Type 0 where
   pub state : NodeParts
   pub step : IsNodeStep old.state event state (stepped_of given)
-  pub arrives : new ≡ arrived state (image_key event) old
+  pub arrives : new ≡ arrived state (stored_key event) old
   pub copy : given.copy ≡ given.reply
   pub context : given.context ≡ context_read event old.state
 

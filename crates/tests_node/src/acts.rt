@@ -39,6 +39,8 @@ pub enum Act {
     Copy,
     /// Writes under 8,191 keys of two bytes, none of which is refused.
     Fill,
+    /// Twenty-one ticks, none of which is refused.
+    Ticks,
 }
 
 /// The key of these letters under p/s.

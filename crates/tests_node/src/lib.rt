@@ -11,6 +11,8 @@
 #[cfg(test)]
 mod acts;
 #[cfg(test)]
+mod copies;
+#[cfg(test)]
 mod events;
 #[cfg(test)]
 mod events_again;
@@ -20,6 +22,8 @@ mod example;
 mod frames;
 #[cfg(test)]
 mod full;
+#[cfg(test)]
+mod lives;
 #[cfg(test)]
 mod overlay;
 #[cfg(test)]

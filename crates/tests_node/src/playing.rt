@@ -2,7 +2,7 @@
 
 use crate::acts::{Act, event, key_of, put_over};
 use crate::parts::node;
-use crate::rows::{COMING, EACH, Given, LARGE, REFUSED};
+use crate::rows::{COMING, EACH, Given, LARGE, LONG, REFUSED};
 use node_core::{NodeState, Stepped};
 use node_events::StepFault;
 use resolvers::{Lww, Resolver};
@@ -30,6 +30,15 @@ fn go_on_as_copy(rt: &impl Abort, node: &mut NodeState) {
 fn fill(rt: &impl Abort, alloc: Global, node: &mut NodeState) {
     for number in 0..8_191_u16 {
         let outcome = node.step(put_over(rt, alloc, &number.to_be_bytes(), b'x'));
+        let is_done = outcome.is_ok();
+        drop(outcome);
+        assert!(rt; is_done);
+    }
+}
+
+fn tick_on(rt: &impl Abort, alloc: Global, node: &mut NodeState) {
+    for _ in 0..21 {
+        let outcome = node.step(event(rt, alloc, Act::Tick));
         let is_done = outcome.is_ok();
         drop(outcome);
         assert!(rt; is_done);
@@ -128,6 +137,7 @@ fn play(rt: &impl Abort, alloc: Global, rows: &[Given], may_refuse: bool) {
             Act::New => drop(replace(&mut node, new_node(rt, alloc))),
             Act::Copy => go_on_as_copy(rt, &mut node),
             Act::Fill => fill(rt, alloc, &mut node),
+            Act::Ticks => tick_on(rt, alloc, &mut node),
             _ => follow(rt, alloc, &mut node, given, may_refuse),
         }
     }
@@ -144,6 +154,7 @@ fn play_all(rt: &impl Abort, alloc: Global, may_refuse: bool) {
 fn a_node_gives_what_the_rows_tell(rt: HostRuntime) {
     play_all(&rt, rt.alloc(), false);
     play(&rt, rt.alloc(), &LARGE, false);
+    play(&rt, rt.alloc(), &LONG, false);
 }
 
 /// Holds whichever single allocation is refused.

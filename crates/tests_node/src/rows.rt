@@ -13,7 +13,7 @@ pub type Given = (Act, u16, &'static [u8]);
 const NONE: &[u8] = b"";
 
 /// Each event, a repair and a copy.
-pub static EACH: [Given; 25] = [
+pub static EACH: [Given; 27] = [
     (Act::New, 0, NONE),
     (Act::Join(1), 0, JOIN_1),
     (Act::Take(JOIN), 0, NONE),
@@ -28,6 +28,9 @@ pub static EACH: [Given; 25] = [
     (Act::Exchange(1), 0, XROOT_5),
     (Act::PeerDown(1), 0, NONE),
     (Act::Leave, 0, NONE),
+    // Keeping and repairing what isn't held is done.
+    (Act::Keep(b'q'), 0, NONE),
+    (Act::Repair(b'q'), 0, NONE),
     // Who leaves says so, and a copy knows the same and counts on.
     (Act::New, 0, NONE),
     (Act::Join(1), 0, JOIN_1),
@@ -153,4 +156,12 @@ pub static LARGE: [Given; 14] = [
     (Act::Write(b'k', b'x'), 27, NONE),
     (Act::Keep(b'k'), 0, NONE),
     (Act::Hello(1), 0, HELLO_2),
+];
+
+/// A node ticks on: it shuffles at the tenth tick and at the twentieth.
+pub static LONG: [Given; 4] = [
+    (Act::New, 0, NONE),
+    (Act::Join(1), 0, JOIN_1),
+    (Act::Ticks, 0, NONE),
+    (Act::Hello(1), 0, HELLO_4),
 ];

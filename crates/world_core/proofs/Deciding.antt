@@ -8,11 +8,12 @@ use Rattle.node_core.specs.Node.{NodeParts, opening}
 use Rattle.node_core.specs.Step.{CanComeOf, IsNodeStep}
 use Rattle.node_core.specs.Run.{IsOneCause}
 use Rattle.node_core.proofs.Outcomes.{one_outcome as one_outcome_of_step}
+use Rattle.node_events.specs.Event.{stored_key}
 use Rattle.node_events.specs.declared.event.NodeEvent.{NodeEvent}
 use Rattle.node_events.specs.declared.fault.StepFault.{StepFault}
 use Rattle.node_events.specs.declared.fault.StepFault.TheVariants as OfStep
 use Rattle.node_images.specs.Images.{Image}
-use Rattle.node_images.specs.Node.{BeginsFrom, ImagedNode, IsRestarted, arrived, context_read, image_key}
+use Rattle.node_images.specs.Node.{BeginsFrom, ImagedNode, IsRestarted, arrived, context_read}
 use Rattle.world_core.specs.declared.answer.Answer.{Answer}
 use Rattle.world_core.specs.declared.event.Event.{Event}
 use Rattle.world_core.specs.declared.fault.WorldFault.{WorldFault}
@@ -74,7 +75,7 @@ one_step old n step answer also new other makes again =
         read = read_after old.contexts (context_read step (node_at old n).state);
         sent = next_frames old (length s.outbox);
       }) same.1 ∙ sym again.answers;
-      nodes = makes.nodes ∙ ap (λ s. with_node old n (arrived s (image_key step) (node_at old n))) same.0 ∙ sym again.nodes;
+      nodes = makes.nodes ∙ ap (λ s. with_node old n (arrived s (stored_key step) (node_at old n))) same.0 ∙ sym again.nodes;
       frames = makes.frames ∙ ap (λ (s : Stepped). old.frames ++ s.outbox) same.1 ∙ sym again.frames;
       contexts = makes.contexts ∙ sym again.contexts;
     }

@@ -15,6 +15,7 @@ use Rattle.meta_store.specs.Table.{IsTable, Table, with_object}
 use Rattle.meta_store.specs.Step.{object_after_put, refusal_of_put}
 use Rattle.meta_store.specs.declared.fault.StoreFault.{StoreFault}
 use Rattle.node_events.specs.Fault.{of_store}
+use Rattle.node_events.specs.Event.{stored_key}
 use Rattle.node_events.specs.declared.event.NodeEvent.{NodeEvent}
 use Rattle.node_events.specs.declared.event.NodeEvent.TheVariants as OfNode
 use Rattle.node_core.specs.declared.state.Stepped.{Stepped}
@@ -33,7 +34,7 @@ use Rattle.past_objects.proofs.Changes.{after_look}
 use Rattle.past_objects.proofs.Matching.{same_lives}
 use Rattle.node_images.specs.Keeping.{IsRestorable, Keeping, change_at}
 use Rattle.node_images.proofs.Keepings.{with_image, with_merge}
-use Rattle.node_images.specs.Node.{ImagedNode, arrived, context_read, image_key, keeping}
+use Rattle.node_images.specs.Node.{ImagedNode, arrived, context_read, keeping}
 use Rattle.node_images.specs.Follows.{Follows}
 use Rattle.node_images.proofs.Noding.{held_at, put_grows}
 use Rattle.world_core.specs.declared.event.Event.{Event}
@@ -196,7 +197,7 @@ ForStep (Step step) P = P step
 ForStep (Begin image) P = ⊥
 
 abbrev pub key_of : Doing → Option Key
-key_of (Step step) = image_key step
+key_of (Step step) = stored_key step
 key_of (Begin image) = None
 
 abbrev pub context_in : Doing → NodeParts → Option Reading

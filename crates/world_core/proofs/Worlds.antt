@@ -18,6 +18,7 @@ use Rattle.meta_frame.specs.declared.message.Frame.{Frame}
 use Rattle.meta_store.specs.Context.{Reading}
 use Rattle.meta_store.specs.Table.{IsHeld, IsTable, object_at}
 use Rattle.subscriptions.specs.Watching.{Watching}
+use Rattle.node_events.specs.Event.{stored_key}
 use Rattle.node_events.specs.declared.event.NodeEvent.{NodeEvent}
 use Rattle.node_events.specs.declared.event.NodeEvent.TheVariants as OfNode
 use Rattle.node_events.specs.declared.reply.Reply.{Reply}
@@ -37,7 +38,7 @@ use Rattle.node_images.specs.Images.{Image}
 use Rattle.node_images.specs.Keeping.{IsRestorable, Keeping, change_at, most_incarnation}
 use Rattle.node_images.proofs.Keepings.{with_restart}
 use Rattle.node_images.proofs.Ready.{ready}
-use Rattle.node_images.specs.Node.{BeginsFrom, ImagedNode, IsRestarted, arrived, context_read, image_key, images_with, keeping, new_node}
+use Rattle.node_images.specs.Node.{BeginsFrom, ImagedNode, IsRestarted, arrived, context_read, images_with, keeping, new_node}
 use Rattle.node_images.specs.Follows.{Follows}
 use Rattle.world_core.specs.declared.answer.Accepted.{Accepted}
 use Rattle.world_core.specs.declared.answer.Answer.{Answer}
@@ -272,7 +273,7 @@ pub record Steps (w : World) (a : Accepted) (step : NodeEvent) (state : NodePart
 
 -- the node after it
 abbrev pub node_after : World → Event → NodeEvent → NodeParts → ImagedNode
-node_after w event step state = arrived state (image_key step) (node_at w (node_of_event event))
+node_after w event step state = arrived state (stored_key step) (node_at w (node_of_event event))
 
 for_doing : (doing : Doing) (step : NodeEvent) (P : NodeEvent → Type 0) → doing ≡ Step step → P step → ForStep doing P
 for_doing doing step P is p = subst (λ d. ForStep d P) (sym is) p
@@ -336,7 +337,7 @@ lived_step w is a step state s st within =
     let deed : deed_of (w.contexts ++ contexts) (w.frames ++ s.outbox) a ≡ (Step step, s) =
     new_deed w.contexts contexts w.frames s.outbox a (Step step) s within.read within.frame st.doing st.reply refl st.sent in
     let lives = live_step node.images (opening n 1 []) (deeds_of w.contexts w.frames n w.accepted) old.state step s state
-    (images_kept old.images old.standing (option_map (change_at state.table) (image_key step)) (opening n 1 []) (deeds_of w.contexts w.frames n w.accepted) old.state lived.lives) st.makes in
+    (images_kept old.images old.standing (option_map (change_at state.table) (stored_key step)) (opening n 1 []) (deeds_of w.contexts w.frames n w.accepted) old.state lived.lives) st.makes in
     record {
       number = st.leaves.node ∙ lived.number;
       held = st.is_table;

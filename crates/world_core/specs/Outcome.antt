@@ -5,10 +5,11 @@ use Rattle.meta_store.specs.declared.fault.StoreFault.TheVariants.{BadEntries}
 use Rattle.node_core.specs.declared.state.Stepped.{Stepped}
 use Rattle.node_core.specs.Node.{NodeParts}
 use Rattle.node_core.specs.Step.{IsNodeStep}
+use Rattle.node_events.specs.Event.{stored_key}
 use Rattle.node_events.specs.declared.event.NodeEvent.{NodeEvent}
 use Rattle.node_events.specs.declared.fault.StepFault.TheVariants as OfStep
 use Rattle.node_events.specs.declared.reply.Reply.TheVariants.{Done}
-use Rattle.node_images.specs.Node.{ImagedNode, IsRestarted, arrived, context_read, image_key}
+use Rattle.node_images.specs.Node.{ImagedNode, IsRestarted, arrived, context_read}
 use Rattle.world_core.specs.declared.answer.Answer.{Answer}
 use Rattle.world_core.specs.declared.answer.FrameNumbers.{FrameNumbers}
 use Rattle.world_core.specs.declared.event.Event.{Event}
@@ -47,7 +48,7 @@ pub record MakesStep (old : World) (n : ℕ) (step : NodeEvent) (answer : Answer
   pub state : NodeParts
   pub given : Stepped
   pub makes : IsNodeStep (node_at old n).state step state given
-  pub nodes : new.nodes ≡ with_node old n (arrived state (image_key step) (node_at old n))
+  pub nodes : new.nodes ≡ with_node old n (arrived state (stored_key step) (node_at old n))
   pub frames : new.frames ≡ old.frames ++ given.outbox
   pub contexts : new.contexts ≡ old.contexts ++ list_of (context_read step (node_at old n).state)
   pub answers : answer ≡ record {
