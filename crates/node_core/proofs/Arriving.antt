@@ -24,10 +24,10 @@ use Rattle.node_parts.specs.Outbox.{HasSpelling, frames_from}
 use Rattle.node_parts.specs.Overlay.{Overlay, envelope, told}
 use Rattle.node_core.specs.declared.state.Stepped.{Stepped}
 use Rattle.node_core.specs.Node.{NodeParts, vector_under, with_overlay}
-use Rattle.node_core.specs.Draft.{Draft}
-use Rattle.node_core.specs.Rows.{is_fresh, merge, on_gossip}
+use Rattle.node_core.specs.Draft.{NodeDraft}
+use Rattle.node_core.specs.Rows.{is_fresh, merge, row_of_gossip}
 use Rattle.node_core.specs.Messages.{IsStepOfMessage}
-use Rattle.node_core.specs.Step.{begun, counted, refusal_of_object, reply_of_object}
+use Rattle.node_core.specs.Step.{begun, with_counts, refusal_of_object, reply_of_object}
 use Rattle.node_core.specs.Changing.{change_to, gossips, holding, noting, spreading}
 use Rattle.node_core.proofs.Changing.{fresh_gossip, fresh_object, stale_gossip}
 use Rattle.node_core.proofs.Making.{made}
@@ -101,18 +101,18 @@ pub stale_taken : {old : NodeParts} {outbox : List (List ℕ)} (from round : ℕ
     → stepped ≡ record { reply = TookStale; outbox = outbox }
     → outbox ≡ map spelling (frames_from old.node old.frames (envelope from Prune ∷ []))
     → All HasSpelling (frames_from old.node old.frames (envelope from Prune ∷ []))
-    → new ≡ counted (length outbox) (with_overlay (told (TakesGossip from round key (vector_under key old) false) old.overlay) old)
+    → new ≡ with_counts (length outbox) (with_overlay (told (TakesGossip from round key (vector_under key old) false) old.overlay) old)
     → IsStepOfMessage old from 0 (Gossip round key came) new stepped
 stale_taken {old = old} from round key came new stepped stale is sends frames counts =
     let after = with_overlay (told (TakesGossip from round key (vector_under key old) false) old.overlay) old in
     let known = stale_so key came old stale in
     let outbox_is = ap (λ (s : Stepped). s.outbox) is in
-    made old after new (refusal_of_object key came old) (on_gossip from round key came (begun old))
+    made old after new (refusal_of_object key came old) (row_of_gossip from round key came (begun old))
     (reply_of_object key came old) (envelope from Prune ∷ []) stepped
     (accepted_if_stale old key came stale) (stale_gossip from round key came old known)
     (ap (λ (s : Stepped). s.reply) is ∙ sym (stale_reply old key came known))
     (outbox_is ∙ sends) frames
-    (counts ∙ ap (λ outbox. counted (length outbox) after) (sym outbox_is))
+    (counts ∙ ap (λ outbox. with_counts (length outbox) after) (sym outbox_is))
 
 -- the same, where the overlay was told so
 pub overlay_told : {old s : NodeParts} {overlay : Overlay} {vector : List Counter} (from round : ℕ) (key : Key) → s ≡ old
@@ -128,25 +128,25 @@ pub fresh_taken : {old : NodeParts} {store : Table} {outbox : List (List ℕ)} (
     → stepped ≡ record { reply = TookFresh; outbox = outbox }
     → outbox ≡ map spelling (frames_from old.node old.frames (gossips (OfOrigin.Gossip from round) key entries old))
     → All HasSpelling (frames_from old.node old.frames (gossips (OfOrigin.Gossip from round) key entries old))
-    → new ≡ counted (length outbox) (noting (change_to key entries) (spreading (OfOrigin.Gossip from round) key entries old))
+    → new ≡ with_counts (length outbox) (noting (change_to key entries) (spreading (OfOrigin.Gossip from round) key entries old))
     → IsStepOfMessage old from 0 (Gossip round key came) new stepped
 fresh_taken {old = old} from round key came entries new stepped store_is merged accepted is sends frames counts =
     let origin = OfOrigin.Gossip from round in
     let foreseen = merge_if_some old.table key came entries (merged ∙ ap (λ table. merged_if_fresh table key came) store_is) in
     let fresh = fresh_so key came old foreseen.fresh in
-    let after = λ (entries : List Entry). let draft : Draft = record {
+    let after = λ (entries : List Entry). let draft : NodeDraft = record {
       parts = noting (change_to key entries) (spreading origin key entries old);
       sent = gossips origin key entries old;
     } in draft in
     let outbox_is = ap (λ (s : Stepped). s.outbox) is in
     made old (noting (change_to key entries) (spreading origin key entries old)) new
-    (refusal_of_object key came old) (on_gossip from round key came (begun old)) (reply_of_object key came old)
+    (refusal_of_object key came old) (row_of_gossip from round key came (begun old)) (reply_of_object key came old)
     (gossips origin key entries old) stepped
     (ap (λ table. option_map of_store (refusal_of_merge table key came)) (sym store_is) ∙ ap (option_map of_store) accepted)
     (fresh_gossip from round key came old fresh ∙ ap after (sym foreseen.merged))
     (ap (λ (s : Stepped). s.reply) is ∙ sym (fresh_reply old key came fresh))
     (outbox_is ∙ sends) frames
-    (counts ∙ ap (λ outbox. counted (length outbox) (noting (change_to key entries) (spreading origin key entries old))) (sym outbox_is))
+    (counts ∙ ap (λ outbox. with_counts (length outbox) (noting (change_to key entries) (spreading origin key entries old))) (sym outbox_is))
 
 -- ---- XOBJECT
 
@@ -154,12 +154,12 @@ pub fresh_kept : {old : NodeParts} {store : Table} {outbox : List (List ℕ)} (k
     (new : NodeParts) (stepped : Stepped) → store ≡ old.table
     → Some entries ≡ merged_if_fresh store key came → refusal_of_merge store key came ≡ None
     → stepped ≡ record { reply = TookFresh; outbox = outbox } → outbox ≡ []
-    → new ≡ counted (length outbox) (noting (change_to key entries) (holding key entries old))
+    → new ≡ with_counts (length outbox) (noting (change_to key entries) (holding key entries old))
     → IsStepOfMessage old 0 0 (XObject key came) new stepped
 fresh_kept {old = old} key came entries new stepped store_is merged accepted is none counts =
     let foreseen = merge_if_some old.table key came entries (merged ∙ ap (λ table. merged_if_fresh table key came) store_is) in
     let fresh = fresh_so key came old foreseen.fresh in
-    let after = λ (entries : List Entry). let draft : Draft = record {
+    let after = λ (entries : List Entry). let draft : NodeDraft = record {
       parts = noting (change_to key entries) (holding key entries old);
       sent = [];
     } in draft in
@@ -170,4 +170,4 @@ fresh_kept {old = old} key came entries new stepped store_is merged accepted is 
     (fresh_object key came old fresh ∙ ap after (sym foreseen.merged))
     (ap (λ (s : Stepped). s.reply) is ∙ sym (fresh_reply old key came fresh))
     (outbox_is ∙ none) (All-nil HasSpelling)
-    (counts ∙ ap (λ outbox. counted (length outbox) (noting (change_to key entries) (holding key entries old))) (sym outbox_is))
+    (counts ∙ ap (λ outbox. with_counts (length outbox) (noting (change_to key entries) (holding key entries old))) (sym outbox_is))

@@ -26,21 +26,21 @@ use Rattle.node_parts.specs.Outbox.{HasSpelling, IsSpelledVector, frames_from}
 use Rattle.node_parts.specs.Overlay.{Overlay, envelope, told}
 use Rattle.node_core.specs.declared.state.Stepped.{Stepped}
 use Rattle.node_core.specs.Node.{NodeParts, with_overlay}
-use Rattle.node_core.specs.Draft.{Draft, call_broadcast}
-use Rattle.node_core.specs.Rows.{on_graft, on_ihave, on_message}
+use Rattle.node_core.specs.Draft.{NodeDraft, call_broadcast}
+use Rattle.node_core.specs.Rows.{row_of_graft, row_of_ihave, row_of_message}
 use Rattle.node_core.specs.Messages.{IsQuestion, IsStepOfMessage}
-use Rattle.node_core.specs.Step.{IsStepTo, begun, counted, refusal_of_message, reply_of_message}
+use Rattle.node_core.specs.Step.{IsStepTo, begun, with_counts, refusal_of_message, reply_of_message}
 use Rattle.node_core.proofs.Making.{made}
 
 -- ---- a step in which the broadcast alone was told something, and these bytes are sent
 
-pub told_step : (call : CastCall) (old inside new : NodeParts) (overlay : Overlay) (done : Draft) (sent : List Envelope) (outbox : Outbox) (stepped : Stepped)
+pub told_step : (call : CastCall) (old inside new : NodeParts) (overlay : Overlay) (done : NodeDraft) (sent : List Envelope) (outbox : Outbox) (stepped : Stepped)
     → inside ≡ old → overlay ≡ told call inside.overlay
     → done ≡ record { parts = with_overlay (told call old.overlay) old; sent = sent }
     → stepped ≡ record { reply = Took; outbox = outbox }
     → outbox ≡ map spelling (frames_from old.node old.frames sent)
     → All HasSpelling (frames_from old.node old.frames sent)
-    → new ≡ counted (length outbox) (with_overlay overlay inside)
+    → new ≡ with_counts (length outbox) (with_overlay overlay inside)
     → IsStepTo old None done Took new stepped
 told_step call old inside new overlay done sent outbox stepped same told_is is value sends frames counts =
     let gives : stepped.outbox ≡ outbox = ap (λ (s : Stepped). s.outbox) value in
@@ -48,15 +48,15 @@ told_step call old inside new overlay done sent outbox stepped same told_is is v
     let mid = ap (with_overlay overlay) same ∙ ap (λ o. with_overlay o old) told_old in
     made old (with_overlay (told call old.overlay) old) new None done Took sent stepped refl is
     (ap (λ (s : Stepped). s.reply) value) (gives ∙ sends) frames
-    (counts ∙ ap (λ (sent : List (List ℕ)). counted (length sent) (with_overlay overlay inside)) (sym gives)
-    ∙ ap (counted (length stepped.outbox)) mid)
+    (counts ∙ ap (λ (sent : List (List ℕ)). with_counts (length sent) (with_overlay overlay inside)) (sym gives)
+    ∙ ap (with_counts (length stepped.outbox)) mid)
 
 -- nothing is sent
-pub told_quietly : (call : CastCall) (old inside new : NodeParts) (overlay : Overlay) (done : Draft) (outbox : Outbox) (stepped : Stepped)
+pub told_quietly : (call : CastCall) (old inside new : NodeParts) (overlay : Overlay) (done : NodeDraft) (outbox : Outbox) (stepped : Stepped)
     → inside ≡ old → overlay ≡ told call inside.overlay
     → done ≡ record { parts = with_overlay (told call old.overlay) old; sent = [] }
     → stepped ≡ record { reply = Took; outbox = outbox } → outbox ≡ []
-    → new ≡ counted (length outbox) (with_overlay overlay inside)
+    → new ≡ with_counts (length outbox) (with_overlay overlay inside)
     → IsStepTo old None done Took new stepped
 told_quietly call old inside new overlay done outbox stepped same told_is is value nothing counts =
     told_step call old inside new overlay done [] outbox stepped same told_is is value nothing
@@ -81,7 +81,7 @@ ihave_where from round key vector s false = refl
 
 pub after_ihave : (from round : ℕ) (key : Key) (vector : List Counter) (s : NodeParts) (stale : Bool)
     → stale ≡ is_stale s.table key vector
-    → on_ihave from round key vector (begun s)
+    → row_of_ihave from round key vector (begun s)
     ≡ record { parts = with_overlay (told (TakesIHave from round key vector stale) s.overlay) s; sent = [] }
 after_ihave from round key vector s stale is =
     ap (λ known. call_broadcast (TakesIHave from round key vector known) (begun s)) (sym is)
@@ -89,7 +89,7 @@ after_ihave from round key vector s stale is =
 
 pub after_graft : (from round : ℕ) (key : Key) (vector : List Counter) (s : NodeParts)
     → is_stale s.table key vector ≡ true
-    → on_graft from round key vector (begun s) ≡ record {
+    → row_of_graft from round key vector (begun s) ≡ record {
       parts = with_overlay (told (TakesGraft from round key true) s.overlay) s;
       sent = envelope from (Gossip round key (object_at s.table key)) ∷ [];
     }
@@ -99,7 +99,7 @@ after_graft from round key vector s held =
 
 pub after_bare_graft : (from round : ℕ) (key : Key) (vector : List Counter) (s : NodeParts)
     → is_stale s.table key vector ≡ false
-    → on_graft from round key vector (begun s)
+    → row_of_graft from round key vector (begun s)
     ≡ record { parts = with_overlay (told (TakesGraft from round key false) s.overlay) s; sent = [] }
 unfolding cast.on_graft
 after_bare_graft from round key vector s absent =
@@ -122,7 +122,7 @@ held_if_stale table key vector fits stale absent =
 -- ---- questions
 
 pub after_question : (from : ℕ) (m : Message) (s : NodeParts) → IsQuestion m
-    → on_message from 0 m (begun s) ≡ record { parts = s; sent = map (envelope from) (answers_to s.table m) }
+    → row_of_message from 0 m (begun s) ≡ record { parts = s; sent = map (envelope from) (answers_to s.table m) }
 after_question from (XRoot root) s is = refl
 after_question from (XPrefixes prefixes) s is = refl
 after_question from (XInner prefix digests) s is = refl
@@ -154,11 +154,11 @@ pub asked_step : (from : ℕ) (m : Message) (old new : NodeParts) (sent : List E
     → stepped ≡ record { reply = Took; outbox = outbox }
     → outbox ≡ map spelling (frames_from old.node old.frames sent)
     → All HasSpelling (frames_from old.node old.frames sent)
-    → new ≡ counted (length outbox) old
+    → new ≡ with_counts (length outbox) old
     → IsStepOfMessage old from 0 m new stepped
 asked_step from m old new sent outbox stepped is sent_is value sends frames counts =
     let gives : stepped.outbox ≡ outbox = ap (λ (s : Stepped). s.outbox) value in
-    made old old new (refusal_of_message m old) (on_message from 0 m (begun old)) (reply_of_message m old) sent stepped
+    made old old new (refusal_of_message m old) (row_of_message from 0 m (begun old)) (reply_of_message m old) sent stepped
     (question_accepted m old is) (after_question from m old is ∙ ap (λ sent. record { parts = old; sent = sent }) (sym sent_is))
     (ap (λ (s : Stepped). s.reply) value ∙ question_reply m old is) (gives ∙ sends) frames
-    (counts ∙ ap (λ (sent : List (List ℕ)). counted (length sent) old) (sym gives))
+    (counts ∙ ap (λ (sent : List (List ℕ)). with_counts (length sent) old) (sym gives))

@@ -17,8 +17,8 @@ use Rattle.node_parts.specs.declared.origin.Origin.TheVariants.{Write, Gossip}
 use Rattle.node_parts.specs.Origin.{call_of, with_object}
 use Rattle.node_parts.specs.Overlay.{envelope, told}
 use Rattle.node_core.specs.Node.{NodeParts, vector_under, with_overlay}
-use Rattle.node_core.specs.Draft.{Draft, call_broadcast, change, envelope_of}
-use Rattle.node_core.specs.Rows.{is_fresh, merge, on_gossip}
+use Rattle.node_core.specs.Draft.{NodeDraft, call_broadcast, change, envelope_of}
+use Rattle.node_core.specs.Rows.{is_fresh, merge, row_of_gossip}
 use Rattle.node_core.specs.Step.{begun}
 use Rattle.node_core.specs.Changing.{change_to, gossips, holding, noting, spreading}
 
@@ -30,7 +30,7 @@ carried t key object round (peer ∷ peers) held = λ i.
     with_object (held i) (OfCast.Gossip peer round key) ∷ carried t key object round peers held i
 
 -- the node after a change that is told with this vector, and then its peers
-then_told : Origin → Key → List Entry → NodeParts → List Counter → Draft
+then_told : Origin → Key → List Entry → NodeParts → List Counter → NodeDraft
 then_told origin key object s vector =
     let t = table.with_object key object s.table in
     call_broadcast (call_of origin key vector) (record {
@@ -42,7 +42,7 @@ then_told origin key object s vector =
       sent = [];
     })
 
-after_spreading : Origin → Key → List Entry → NodeParts → Draft
+after_spreading : Origin → Key → List Entry → NodeParts → NodeDraft
 after_spreading origin key object s = record {
   parts = noting (change_to key object) (spreading origin key object s);
   sent = gossips origin key object s;
@@ -79,16 +79,16 @@ changed_quietly key object s =
 
 -- ---- an object that came
 
-merged_where : Key → List Entry → NodeParts → Bool → Draft
+merged_where : Key → List Entry → NodeParts → Bool → NodeDraft
 merged_where key came s fresh = if fresh then change key (merge_of s.table key came) (begun s) else begun s
 
-gossip_where : ℕ → ℕ → Key → List Entry → NodeParts → Bool → Draft
+gossip_where : ℕ → ℕ → Key → List Entry → NodeParts → Bool → NodeDraft
 gossip_where from round key came s fresh =
     let merged = merged_where key came s fresh in
     call_broadcast (TakesGossip from round key (vector_under key merged.parts) fresh) merged
 
 pub fresh_gossip : (from round : ℕ) (key : Key) (came : List Entry) (s : NodeParts) → is_fresh key came s ≡ true
-    → on_gossip from round key came (begun s) ≡ record {
+    → row_of_gossip from round key came (begun s) ≡ record {
       parts = noting (change_to key (merge_of s.table key came)) (spreading (Gossip from round) key (merge_of s.table key came) s);
       sent = gossips (Gossip from round) key (merge_of s.table key came) s;
     }
@@ -97,7 +97,7 @@ fresh_gossip from round key came s fresh =
     ap (gossip_where from round key came s) fresh ∙ changed (Gossip from round) key (merge_of s.table key came) s
 
 pub stale_gossip : (from round : ℕ) (key : Key) (came : List Entry) (s : NodeParts) → is_fresh key came s ≡ false
-    → on_gossip from round key came (begun s) ≡ record {
+    → row_of_gossip from round key came (begun s) ≡ record {
       parts = with_overlay (told (TakesGossip from round key (vector_under key s) false) s.overlay) s;
       sent = envelope from Prune ∷ [];
     }

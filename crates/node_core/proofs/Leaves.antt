@@ -29,15 +29,15 @@ use Rattle.node_parts.specs.Outbox.{HasSpelling, count_on, frame_of, frames_from
 use Rattle.node_parts.specs.Overlay.{envelope, out_of, sent_by_view}
 use Rattle.node_core.specs.declared.state.Stepped.{Stepped}
 use Rattle.node_core.specs.Node.{NodeParts, present, vector_under, writer}
-use Rattle.node_core.specs.Draft.{Draft, call_broadcast, change, change_under, envelope_of, hold, note, send, send_all, step_views}
-use Rattle.node_core.specs.Rows.{Input, IsInput, Local, Received, count_tick, drop_neighbour, hear, is_fresh, merge, on_gossip, on_hello, on_message, row, row_of_event, tick, write}
+use Rattle.node_core.specs.Draft.{NodeDraft, call_broadcast, change, change_under, envelope_of, hold, note, send_one, send_all, step_views}
+use Rattle.node_core.specs.Rows.{Input, IsInput, Local, Received, count_tick, drop_neighbour, hear, is_fresh, merge, row_of_gossip, row_of_hello, row_of_message, row_of_input, row_of_event, tick, write}
 use Rattle.node_core.specs.Step.{IsStepTo, begun}
 use Rattle.node_core.specs.Leaving.{AreOfHeld, EachStepLeaves, LeavesHeld, StepLeaves, carried_object, with_carried}
 use Rattle.node_core.proofs.Giving.{HoldsHeld, answers_carry_held, bare, broadcast_carries_held, views_carry_none}
 
 -- ---- a node in the midst of a step, which began with these parts and holds this table now
 
-pub record Leaves (s : NodeParts) (table : Table) (t : Draft) : Type 0 where
+pub record Leaves (s : NodeParts) (table : Table) (t : NodeDraft) : Type 0 where
   pub node : t.parts.node ≡ s.node
   pub life : t.parts.incarnation ≡ s.incarnation
   pub steps : t.parts.steps ≡ s.steps
@@ -51,8 +51,8 @@ module _ (s : NodeParts) where
   Leaves-begun = record { node = refl; life = refl; steps = refl; frames = refl; held = refl; sent = All-nil (HoldsHeld s.table) }
 
   module _ (table : Table) where
-    Leaves-send : (to : ℕ) (m : Message) (t : Draft) → carried_object m ≡ None → Leaves s table t → Leaves s table (send to m t)
-    Leaves-send to m t none h = record {
+    Leaves-send_one : (to : ℕ) (m : Message) (t : NodeDraft) → carried_object m ≡ None → Leaves s table t → Leaves s table (send_one to m t)
+    Leaves-send_one to m t none h = record {
       node = h.node;
       life = h.life;
       steps = h.steps;
@@ -61,7 +61,7 @@ module _ (s : NodeParts) where
       sent = All-push (HoldsHeld t.parts.table) t.sent (envelope to m) h.sent (bare t.parts.table m none);
     }
 
-    Leaves-call : (call : CastCall) (t : Draft) → Leaves s table t → Leaves s table (call_broadcast call t)
+    Leaves-call : (call : CastCall) (t : NodeDraft) → Leaves s table t → Leaves s table (call_broadcast call t)
     Leaves-call call t h = record {
       node = h.node;
       life = h.life;
@@ -73,7 +73,7 @@ module _ (s : NodeParts) where
           (broadcast_carries_held t.parts.table call t.parts.overlay.cast);
     }
 
-    Leaves-views : (event : ViewEvent) (word : ℕ) (t : Draft) → Leaves s table t → Leaves s table (step_views event word t)
+    Leaves-views : (event : ViewEvent) (word : ℕ) (t : NodeDraft) → Leaves s table t → Leaves s table (step_views event word t)
     Leaves-views event word t h = record {
       node = h.node;
       life = h.life;
@@ -110,15 +110,15 @@ module _ (s : NodeParts) where
   Leaves-merge : (key : Key) (came : List Entry) → Leaves s (table_after_merge s.table key came) (merge key came (begun s))
   Leaves-merge key came = merged_where key came (is_stale s.table key (join came))
 
-  Leaves-on_gossip : (from round : ℕ) (key : Key) (came : List Entry)
-      → Leaves s (table_after_merge s.table key came) (on_gossip from round key came (begun s))
-  Leaves-on_gossip from round key came =
+  Leaves-row_of_gossip : (from round : ℕ) (key : Key) (came : List Entry)
+      → Leaves s (table_after_merge s.table key came) (row_of_gossip from round key came (begun s))
+  Leaves-row_of_gossip from round key came =
       let merged = merge key came (begun s) in
       Leaves-call (table_after_merge s.table key came)
       (calls.TakesGossip from round key (vector_under key merged.parts) (is_fresh key came s)) merged (Leaves-merge key came)
 
-  Leaves-on_hello : (from life word : ℕ) → Leaves s s.table (on_hello from life word (begun s))
-  Leaves-on_hello from life word =
+  Leaves-row_of_hello : (from life word : ℕ) → Leaves s s.table (row_of_hello from life word (begun s))
+  Leaves-row_of_hello from life word =
       let heard = hear from life (begun s) in
       let known : Leaves s s.table heard = record { node = refl; life = refl; steps = refl; frames = refl; held = refl; sent = All-nil (HoldsHeld s.table) } in
       cond_both (nat_lt (slice_index s.heard from) life) (drop_neighbour from word heard) (begun s) (Leaves s s.table)
@@ -138,27 +138,27 @@ module _ (s : NodeParts) where
       cond_both (is_due cast.parts.ticks) (step_views OfViews.ShuffleDue word cast) cast (Leaves s s.table)
       (λ _. Leaves-views s.table OfViews.ShuffleDue word cast after) (λ _. after)
 
-  pub Leaves-on_message : (from word : ℕ) (m : Message)
-      → Leaves s (with_carried (carried_object m) s.table) (on_message from word m (begun s))
-  Leaves-on_message from word (Gossip round key object) = Leaves-on_gossip from round key object
-  Leaves-on_message from word (IHave round key vector) =
+  pub Leaves-row_of_message : (from word : ℕ) (m : Message)
+      → Leaves s (with_carried (carried_object m) s.table) (row_of_message from word m (begun s))
+  Leaves-row_of_message from word (Gossip round key object) = Leaves-row_of_gossip from round key object
+  Leaves-row_of_message from word (IHave round key vector) =
       Leaves-call s.table (calls.TakesIHave from round key vector (is_stale s.table key vector)) (begun s) Leaves-begun
-  Leaves-on_message from word (Graft round key vector) =
+  Leaves-row_of_message from word (Graft round key vector) =
       Leaves-call s.table (calls.TakesGraft from round key (is_stale s.table key vector)) (begun s) Leaves-begun
-  Leaves-on_message from word Prune = Leaves-call s.table (calls.TakesPrune from) (begun s) Leaves-begun
-  Leaves-on_message from word (XRoot root) = Leaves-reply from (XRoot root)
-  Leaves-on_message from word (XPrefixes prefixes) = Leaves-reply from (XPrefixes prefixes)
-  Leaves-on_message from word (XInner prefix digests) = Leaves-reply from (XInner prefix digests)
-  Leaves-on_message from word (XLeaves prefix inner digests) = Leaves-reply from (XLeaves prefix inner digests)
-  Leaves-on_message from word (XBucket prefix leaf keys) = Leaves-reply from (XBucket prefix leaf keys)
-  Leaves-on_message from word (XWant key) = Leaves-reply from (XWant key)
-  Leaves-on_message from word (XObject key object) = Leaves-merge key object
-  Leaves-on_message from word (Hello life) = Leaves-on_hello from life word
-  Leaves-on_message from word message = Leaves-views s.table (OfViews.Taken from message) word (begun s) Leaves-begun
+  Leaves-row_of_message from word Prune = Leaves-call s.table (calls.TakesPrune from) (begun s) Leaves-begun
+  Leaves-row_of_message from word (XRoot root) = Leaves-reply from (XRoot root)
+  Leaves-row_of_message from word (XPrefixes prefixes) = Leaves-reply from (XPrefixes prefixes)
+  Leaves-row_of_message from word (XInner prefix digests) = Leaves-reply from (XInner prefix digests)
+  Leaves-row_of_message from word (XLeaves prefix inner digests) = Leaves-reply from (XLeaves prefix inner digests)
+  Leaves-row_of_message from word (XBucket prefix leaf keys) = Leaves-reply from (XBucket prefix leaf keys)
+  Leaves-row_of_message from word (XWant key) = Leaves-reply from (XWant key)
+  Leaves-row_of_message from word (XObject key object) = Leaves-merge key object
+  Leaves-row_of_message from word (Hello life) = Leaves-row_of_hello from life word
+  Leaves-row_of_message from word message = Leaves-views s.table (OfViews.Taken from message) word (begun s) Leaves-begun
 
 -- ---- the table
 
-pub record LeavesBy (s : NodeParts) (event : NodeEvent) (t : Draft) : Type 0 where
+pub record LeavesBy (s : NodeParts) (event : NodeEvent) (t : NodeDraft) : Type 0 where
   pub node : t.parts.node ≡ s.node
   pub life : t.parts.incarnation ≡ s.incarnation
   pub steps : t.parts.steps ≡ s.steps
@@ -166,7 +166,7 @@ pub record LeavesBy (s : NodeParts) (event : NodeEvent) (t : Draft) : Type 0 whe
   pub held : LeavesHeld s event t.parts.table
   pub sent : All (HoldsHeld t.parts.table) t.sent
 
-quiet : (s : NodeParts) (event : NodeEvent) (t : Draft) → Leaves s s.table t → (t.parts.table ≡ s.table → LeavesHeld s event t.parts.table)
+quiet : (s : NodeParts) (event : NodeEvent) (t : NodeDraft) → Leaves s s.table t → (t.parts.table ≡ s.table → LeavesHeld s event t.parts.table)
     → LeavesBy s event t
 quiet s event t h held = record { node = h.node; life = h.life; steps = h.steps; frames = h.frames; held = held h.held; sent = h.sent }
 
@@ -188,19 +188,19 @@ own_event s (PeerDown peer word) is =
     (Leaves-views s s.table (OfViews.PeerDown peer) word (begun s) (Leaves-begun s)) (λ e. e)
 own_event s (Exchange peer) is =
     let root = XRoot (tree_root (rows_of s.table)) in
-    quiet s (Exchange peer) (send peer root (begun s)) (Leaves-send s s.table peer root (begun s) refl (Leaves-begun s)) (λ e. e)
+    quiet s (Exchange peer) (send_one peer root (begun s)) (Leaves-send_one s s.table peer root (begun s) refl (Leaves-begun s)) (λ e. e)
 own_event s (Keep key) is = quiet s (Keep key) (begun s) (Leaves-begun s) (λ e. e)
 own_event s (Watch prefix capacity) is = record { node = refl; life = refl; steps = refl; frames = refl; held = refl; sent = All-nil (HoldsHeld s.table) }
 own_event s (Changes number) is = record { node = refl; life = refl; steps = refl; frames = refl; held = refl; sent = All-nil (HoldsHeld s.table) }
 own_event s (SayHello peer) is =
-    quiet s (SayHello peer) (send peer (Hello s.incarnation) (begun s))
-    (Leaves-send s s.table peer (Hello s.incarnation) (begun s) refl (Leaves-begun s)) (λ e. e)
+    quiet s (SayHello peer) (send_one peer (Hello s.incarnation) (begun s))
+    (Leaves-send_one s s.table peer (Hello s.incarnation) (begun s) refl (Leaves-begun s)) (λ e. e)
 own_event s Leave is =
     quiet s Leave (step_views OfViews.Leave 0 (begun s)) (Leaves-views s s.table OfViews.Leave 0 (begun s) (Leaves-begun s)) (λ e. e)
 
-pub of_input : (s : NodeParts) (event : NodeEvent) (input : Input) → IsInput event input → LeavesBy s event (row input (begun s))
+pub of_input : (s : NodeParts) (event : NodeEvent) (input : Input) → IsInput event input → LeavesBy s event (row_of_input input (begun s))
 of_input s (Take bytes word) (Received frame w) is =
-    let h = Leaves-on_message s frame.from w frame.message in
+    let h = Leaves-row_of_message s frame.from w frame.message in
     record { node = h.node; life = h.life; steps = h.steps; frames = h.frames; held = record { frame = frame; spelled = is.0; merged = h.held }; sent = h.sent }
 of_input s (Take bytes word) (Local own) is = absurd is
 of_input s event (Local own) is = subst (λ own. LeavesBy s event (row_of_event own (begun s))) (sym is) (own_event s event refl)
@@ -219,7 +219,7 @@ spelled_out node number table (e ∷ es) held spelled =
       spelled_out node next table es (All-tail (HoldsHeld table) e es held) (All-tail HasSpelling first (frames_from node next es) spelled),
     )
 
-step_leaves : (old new : NodeParts) (event : NodeEvent) (refusal : Option StepFault) (done : Draft) (reply : Reply) (s : Stepped)
+step_leaves : (old new : NodeParts) (event : NodeEvent) (refusal : Option StepFault) (done : NodeDraft) (reply : Reply) (s : Stepped)
     → LeavesBy old event done → IsStepTo old refusal done reply new s → StepLeaves old event new s
 step_leaves old new event refusal done reply s leaves step =
     let frames = frames_from old.node old.frames done.sent in
@@ -239,4 +239,4 @@ step_leaves old new event refusal done reply s leaves step =
 
 pub each_step_leaves : EachStepLeaves
 each_step_leaves old event new s is =
-    step_leaves old new event _ (row is.input (begun old)) _ s (of_input old event is.input is.is_input) is.step
+    step_leaves old new event _ (row_of_input is.input (begun old)) _ s (of_input old event is.input is.is_input) is.step

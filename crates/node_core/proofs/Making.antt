@@ -8,27 +8,27 @@ use Rattle.node_parts.specs.declared.envelope.Envelope.{Envelope}
 use Rattle.node_parts.specs.Outbox.{HasSpelling, count_on, frames_from}
 use Rattle.node_core.specs.declared.state.Stepped.{Stepped}
 use Rattle.node_core.specs.Node.{NodeParts}
-use Rattle.node_core.specs.Draft.{Draft}
-use Rattle.node_core.specs.Step.{IsStepTo, counted}
+use Rattle.node_core.specs.Draft.{NodeDraft}
+use Rattle.node_core.specs.Step.{IsStepTo, with_counts}
 
 pub frames_counted : (node number : ℕ) (es : List Envelope) → length (map spelling (frames_from node number es)) ≡ length es
 frames_counted node number [] = refl
 frames_counted node number (e ∷ es) = ap suc (frames_counted node (count_on number 1) es)
 
 -- of a step that did this: its parts and what it sent, before it was counted
-pub made : (old mid new : NodeParts) (refusal : Option StepFault) (done : Draft) (reply : Reply) (sent : List Envelope) (stepped : Stepped)
+pub made : (old mid new : NodeParts) (refusal : Option StepFault) (done : NodeDraft) (reply : Reply) (sent : List Envelope) (stepped : Stepped)
     → refusal ≡ None → done ≡ record { parts = mid; sent = sent } → stepped.reply ≡ reply
     → stepped.outbox ≡ map spelling (frames_from old.node old.frames sent)
     → All HasSpelling (frames_from old.node old.frames sent)
-    → new ≡ counted (length stepped.outbox) mid
+    → new ≡ with_counts (length stepped.outbox) mid
     → IsStepTo old refusal done reply new stepped
 made old mid new refusal done reply sent stepped accepted is replies sends frames counts = record {
   accepted = accepted;
-  node = counts ∙ ap (λ outbox. counted (length outbox) mid) sends
-      ∙ ap (λ n. counted n mid) (frames_counted old.node old.frames sent) ∙ ap (λ (t : Draft). counted (length t.sent) t.parts) (sym is);
+  node = counts ∙ ap (λ outbox. with_counts (length outbox) mid) sends
+      ∙ ap (λ n. with_counts n mid) (frames_counted old.node old.frames sent) ∙ ap (λ (t : NodeDraft). with_counts (length t.sent) t.parts) (sym is);
   replies = replies;
-  sends = sends ∙ ap (λ (t : Draft). map spelling (frames_from old.node old.frames t.sent)) (sym is);
+  sends = sends ∙ ap (λ (t : NodeDraft). map spelling (frames_from old.node old.frames t.sent)) (sym is);
   frames =
       All-same HasSpelling (frames_from old.node old.frames done.sent) (frames_from old.node old.frames sent)
-      (ap (λ (t : Draft). frames_from old.node old.frames t.sent) is) frames;
+      (ap (λ (t : NodeDraft). frames_from old.node old.frames t.sent) is) frames;
 }

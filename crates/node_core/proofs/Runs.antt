@@ -6,9 +6,9 @@ use Rattle.node_events.specs.declared.fault.StepFault.{StepFault}
 use Rattle.node_parts.specs.Outbox.{count_on}
 use Rattle.node_core.specs.declared.state.Stepped.{Stepped}
 use Rattle.node_core.specs.Node.{NodeParts}
-use Rattle.node_core.specs.Draft.{Draft}
-use Rattle.node_core.specs.Rows.{row}
-use Rattle.node_core.specs.Step.{IsNodeStep, IsStepTo, begun, counted}
+use Rattle.node_core.specs.Draft.{NodeDraft}
+use Rattle.node_core.specs.Rows.{row_of_input}
+use Rattle.node_core.specs.Step.{IsNodeStep, IsStepTo, begun, with_counts}
 use Rattle.node_core.specs.Run.{CountsOn, EachStepCounts, EventsDetermineARun, IsRun, RunsJoinAndSplit, events_of, frames_sent}
 use Rattle.node_core.proofs.Leaves.{LeavesBy, of_input}
 use Rattle.node_core.proofs.Making.{frames_counted}
@@ -66,7 +66,7 @@ count_none a low = omega (arith, low)
 count_low : (a n : ℕ) → count_on a n < 2 ^ 64
 count_low a n = omega arith
 
-step_counts : (old new : NodeParts) (event : NodeEvent) (refusal : Option StepFault) (done : Draft) (reply : Reply) (s : Stepped)
+step_counts : (old new : NodeParts) (event : NodeEvent) (refusal : Option StepFault) (done : NodeDraft) (reply : Reply) (s : Stepped)
     → LeavesBy old event done → IsStepTo old refusal done reply new s → CountsOn 1 (length s.outbox) old new
 step_counts old new event refusal done reply s leaves step =
     let sent : length s.outbox ≡ length done.sent = ap length step.sends ∙ frames_counted old.node old.frames done.sent in
@@ -82,7 +82,7 @@ step_counts old new event refusal done reply s leaves step =
 each_step : (old : NodeParts) (event : NodeEvent) (new : NodeParts) (s : Stepped)
     → IsNodeStep old event new s → CountsOn 1 (length s.outbox) old new
 each_step old event new s is =
-    step_counts old new event _ (row is.input (begun old)) _ s (of_input old event is.input is.is_input) is.step
+    step_counts old new event _ (row_of_input is.input (begun old)) _ s (of_input old event is.input is.is_input) is.step
 
 each_run : (steps : List (NodeEvent × Stepped)) (old new : NodeParts) → old.steps < 2 ^ 64 → old.frames < 2 ^ 64
     → IsRun old steps new → CountsOn (length steps) (frames_sent steps) old new

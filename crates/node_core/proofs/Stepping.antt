@@ -16,9 +16,9 @@ use Rattle.node_parts.specs.declared.origin.Origin.TheVariants as OfOrigin
 use Rattle.node_parts.specs.Outbox.{HasSpelling, frames_from}
 use Rattle.node_core.specs.declared.state.Stepped.{Stepped}
 use Rattle.node_core.specs.Node.{NodeParts, vector_under, writer}
-use Rattle.node_core.specs.Draft.{Draft}
+use Rattle.node_core.specs.Draft.{NodeDraft}
 use Rattle.node_core.specs.Rows.{write}
-use Rattle.node_core.specs.Step.{begun, counted, refusal_of_write}
+use Rattle.node_core.specs.Step.{begun, with_counts, refusal_of_write}
 use Rattle.node_core.specs.Changing.{change_to, gossips, noting, spreading}
 use Rattle.node_core.specs.Writing.{IsWrite}
 use Rattle.node_core.proofs.Changing.{changed}
@@ -26,7 +26,7 @@ use Rattle.node_core.proofs.Making.{made}
 
 -- ---- a write
 
-after_write : Key → NodeParts → List Entry → Draft
+after_write : Key → NodeParts → List Entry → NodeDraft
 after_write key old entries = record {
   parts = noting (change_to key entries) (spreading OfOrigin.Write key entries old);
   sent = gossips OfOrigin.Write key entries old;
@@ -40,7 +40,7 @@ wrote : (old : NodeParts) (key : Key) (value : ValueParts) (context : Option Rea
     → vector ≡ join entries
     → outbox ≡ map spelling (frames_from old.node old.frames (gossips OfOrigin.Write key entries old))
     → All HasSpelling (frames_from old.node old.frames (gossips OfOrigin.Write key entries old))
-    → new ≡ counted (length outbox) (noting (change_to key entries) (spreading OfOrigin.Write key entries old))
+    → new ≡ with_counts (length outbox) (noting (change_to key entries) (spreading OfOrigin.Write key entries old))
     → IsWrite old key value context new stepped
 unfolding after_write
 wrote old key value context entries vector outbox new stepped accepted object_is is vector_is sends frames counts =
@@ -49,7 +49,7 @@ wrote old key value context entries vector outbox new stepped accepted object_is
     let done_is : done ≡ after_write key old entries =
     changed OfOrigin.Write key (object_after_put old.table (writer old) key value context) old ∙ ap (after_write key old) (sym object_is) in
     let vector_so : vector_under key done.parts ≡ join entries =
-    ap (λ (t : Draft). vector_under key t.parts) done_is ∙ ap join (object_at-here key entries old.table) in
+    ap (λ (t : NodeDraft). vector_under key t.parts) done_is ∙ ap join (object_at-here key entries old.table) in
     let outbox_is : stepped.outbox ≡ outbox = ap (λ (s : Stepped). s.outbox) is in
     made old mid new
     (refusal_of_write key value context old) done (Wrote (vector_under key done.parts))
@@ -57,7 +57,7 @@ wrote old key value context entries vector outbox new stepped accepted object_is
     (ap (option_map of_store) accepted) done_is
     (ap (λ (s : Stepped). s.reply) is ∙ ap Wrote (vector_is ∙ sym vector_so))
     (outbox_is ∙ sends) frames
-    (counts ∙ ap (λ outbox. counted (length outbox) mid) (sym outbox_is))
+    (counts ∙ ap (λ outbox. with_counts (length outbox) mid) (sym outbox_is))
 
 -- the same of what the code read, which is what the node's parts are
 pub write_done : {old : NodeParts} {store : Table} {id : ℕ} {copied value : ValueParts} {vector : List Counter}
@@ -69,7 +69,7 @@ pub write_done : {old : NodeParts} {store : Table} {id : ℕ} {copied value : Va
     → vector ≡ join entries
     → outbox ≡ map spelling (frames_from old.node old.frames (gossips OfOrigin.Write key entries old))
     → All HasSpelling (frames_from old.node old.frames (gossips OfOrigin.Write key entries old))
-    → new ≡ counted (length outbox) (noting (change_to key entries) (spreading OfOrigin.Write key entries old))
+    → new ≡ with_counts (length outbox) (noting (change_to key entries) (spreading OfOrigin.Write key entries old))
     → IsWrite old key value context new stepped
 write_done {old = old} {value = value} {vector = vector} {outbox = outbox} key context entries new stepped
     store_is id_is value_is accepted object_is =

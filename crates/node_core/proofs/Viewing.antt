@@ -30,24 +30,24 @@ use Rattle.node_parts.specs.Outbox.{HasSpelling, count_on, frames_from}
 use Rattle.node_parts.specs.Overlay.{IsOverlay, Overlay, after_view, envelope, out_of, sent_by_view, told}
 use Rattle.node_parts.proofs.Naming.{names_others_on}
 use Rattle.node_core.specs.Node.{IsInLife, NodeParts, with_overlay}
-use Rattle.node_core.specs.Draft.{Draft, envelope_of, step_views}
-use Rattle.node_core.specs.Rows.{drop_neighbour, hear, on_hello, on_message, shuffle_if_due, tick}
-use Rattle.node_core.specs.Step.{IsStepTo, begun, counted, refusal_of_message, reply_of_message}
+use Rattle.node_core.specs.Draft.{NodeDraft, envelope_of, step_views}
+use Rattle.node_core.specs.Rows.{drop_neighbour, hear, row_of_hello, row_of_message, shuffle_if_due, tick}
+use Rattle.node_core.specs.Step.{IsStepTo, begun, with_counts, refusal_of_message, reply_of_message}
 use Rattle.node_core.proofs.Making.{made}
 
 -- ---- a step that ends with this outbox
 
-pub finished : (old mid new : NodeParts) (refusal : Option StepFault) (done : Draft) (reply : Reply) (outbox : List (List ℕ)) (stepped : Stepped)
+pub finished : (old mid new : NodeParts) (refusal : Option StepFault) (done : NodeDraft) (reply : Reply) (outbox : List (List ℕ)) (stepped : Stepped)
     → refusal ≡ None → mid ≡ done.parts
     → outbox ≡ map spelling (frames_from old.node old.frames done.sent)
     → All HasSpelling (frames_from old.node old.frames done.sent)
-    → new ≡ counted (length outbox) mid → stepped ≡ record { reply = reply; outbox = outbox }
+    → new ≡ with_counts (length outbox) mid → stepped ≡ record { reply = reply; outbox = outbox }
     → IsStepTo old refusal done reply new stepped
 finished old mid new refusal done reply outbox stepped accepted is sends frames counts value =
     let same : stepped.outbox ≡ outbox = ap (λ (s : Stepped). s.outbox) value in
     made old done.parts new refusal done reply done.sent stepped accepted refl (ap (λ (s : Stepped). s.reply) value)
     (same ∙ sends) frames
-    (counts ∙ ap (counted (length outbox)) is ∙ ap (λ outbox. counted (length outbox) done.parts) (sym same))
+    (counts ∙ ap (with_counts (length outbox)) is ∙ ap (λ outbox. with_counts (length outbox) done.parts) (sym same))
 
 -- ---- the views stay the node's own
 
@@ -71,8 +71,8 @@ IsInLife-same o same h = record { own_views = same ∙ h.own_views; lives = h.li
 
 -- ---- a message of the views
 
-pub views_taken : (from word : ℕ) (message : Message) (t : Draft) → IsOfViews message
-    → on_message from word message t ≡ step_views (Taken from message) word t
+pub views_taken : (from word : ℕ) (message : Message) (t : NodeDraft) → IsOfViews message
+    → row_of_message from word message t ≡ step_views (Taken from message) word t
 views_taken from word Join t of = refl
 views_taken from word (ForwardJoin node ttl) t of = refl
 views_taken from word Disconnect t of = refl
@@ -144,7 +144,7 @@ as_envelopes table (OfCast.Send to message ∷ outs) h =
 -- ---- a tick
 
 -- after the broadcast's tick, with what is sent by then
-cast_ticked : ℕ → List Envelope → NodeParts → Draft
+cast_ticked : ℕ → List Envelope → NodeParts → NodeDraft
 cast_ticked ticks sent s = record {
   parts = record s { ticks = ticks; overlay = told Tick s.overlay };
   sent = sent;
@@ -189,13 +189,13 @@ dropped_where : (neighbour : Bool) (from life word : ℕ) (s : NodeParts)
 dropped_where true from life word s = refl
 dropped_where false from life word s = refl
 
-hello_where : Bool → ℕ → ℕ → ℕ → NodeParts → Draft
+hello_where : Bool → ℕ → ℕ → ℕ → NodeParts → NodeDraft
 hello_where older from life word s =
     if older then drop_neighbour from word (hear from life (begun s)) else begun s
 
 -- a greater life than was heard
 pub came_anew : (from life word : ℕ) (s : NodeParts) → nat_lt (slice_index s.heard from) life ≡ true
-    → on_hello from life word (begun s) ≡
+    → row_of_hello from life word (begun s) ≡
     (let done = drop_neighbour from word (begun s) in record {
       parts = record done.parts { heard = slice_set done.parts.heard from life };
       sent = done.sent;
@@ -206,6 +206,6 @@ came_anew from life word s older =
 
 -- a life no greater than was heard
 pub known_life : (from life word : ℕ) (s : NodeParts) → nat_lt (slice_index s.heard from) life ≡ false
-    → on_hello from life word (begun s) ≡ begun s
+    → row_of_hello from life word (begun s) ≡ begun s
 unfolding hello_where
 known_life from life word s known = ap (λ is. hello_where is from life word s) known

@@ -16,22 +16,22 @@ use Rattle.node_core.specs.Node.{NodeParts, vector_under, with_overlay}
 use Rattle.node_parts.specs.Overlay.{after_view, envelope, out_of, sent_by_view, told}
 use Rattle.node_parts.specs.declared.envelope.Envelope.{Envelope}
 
-pub record Draft : Type 0 where
+pub record NodeDraft : Type 0 where
   pub parts : NodeParts
   pub sent : List Envelope
 
 infixl 5 ◌▷◌
 -- and then
-abbrev pub ◌▷◌ : Draft → (Draft → Draft) → Draft
+abbrev pub ◌▷◌ : NodeDraft → (NodeDraft → NodeDraft) → NodeDraft
 t ▷ f = f t
 
 -- ---- what is sent goes last
 
-abbrev pub send : ℕ → Message → Draft → Draft
-send to message t = record t { sent = t.sent ++ envelope to message ∷ [] }
+abbrev pub send_one : ℕ → Message → NodeDraft → NodeDraft
+send_one to message t = record t { sent = t.sent ++ envelope to message ∷ [] }
 
 -- all of these go to one node
-abbrev pub send_all : ℕ → List Message → Draft → Draft
+abbrev pub send_all : ℕ → List Message → NodeDraft → NodeDraft
 send_all to messages t = record t { sent = t.sent ++ map (envelope to) messages }
 
 -- ---- the broadcast, which holds no objects: a GOSSIP that it gives out takes the one held then
@@ -41,7 +41,7 @@ envelope_of table (OfCast.Gossip to round key) =
     envelope to (Gossip round key (object_at table key))
 envelope_of table (OfCast.Send to message) = envelope to message
 
-abbrev pub call_broadcast : CastCall → Draft → Draft
+abbrev pub call_broadcast : CastCall → NodeDraft → NodeDraft
 call_broadcast call t =
     record t {
       parts = with_overlay (told call t.parts.overlay) t.parts;
@@ -50,7 +50,7 @@ call_broadcast call t =
 
 -- ---- the views, of which the broadcast hears who came and who went
 
-abbrev pub step_views : ViewEvent → ℕ → Draft → Draft
+abbrev pub step_views : ViewEvent → ℕ → NodeDraft → NodeDraft
 step_views event word t =
     record t {
       parts = with_overlay (after_view event word t.parts.overlay) t.parts;
@@ -60,24 +60,24 @@ step_views event word t =
 -- ---- the table, and who hears of a change: the watches, and the broadcast, which waits no longer
 -- for what is known
 
-abbrev pub hold : Key → List Entry → Draft → Draft
+abbrev pub hold : Key → List Entry → NodeDraft → NodeDraft
 hold key object t =
     record t { parts = record t.parts { table = with_object key object t.parts.table } }
 
 abbrev pub change_under : Key → NodeParts → Change
 change_under key s = record { key = key; vector = vector_under key s }
 
-abbrev pub note : Change → Draft → Draft
+abbrev pub note : Change → NodeDraft → NodeDraft
 note change t =
     record t { parts = record t.parts { watches = map (with_change change) t.parts.watches } }
 
 -- the object under the key is this one now
-abbrev pub change : Key → List Entry → Draft → Draft
+abbrev pub change : Key → List Entry → NodeDraft → NodeDraft
 change key object t =
     let new = hold key object t in
     new ▷ note (change_under key new.parts)
     ▷ call_broadcast (Changes key (vector_under key new.parts))
 
 -- what is held under the key goes to each eager peer; for each lazy one its announcement waits
-abbrev pub broadcast_held : Key → Draft → Draft
+abbrev pub broadcast_held : Key → NodeDraft → NodeDraft
 broadcast_held key t = call_broadcast (Broadcasts key (vector_under key t.parts)) t

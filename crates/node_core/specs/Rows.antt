@@ -24,11 +24,11 @@ use Rattle.node_parts.specs.Origin.{is_due}
 use Rattle.node_parts.specs.Outbox.{count_on}
 use Rattle.node_parts.specs.Watches.{hand_out}
 use Rattle.node_core.specs.Node.{NodeParts, present, vector_under, writer}
-use Rattle.node_core.specs.Draft.{Draft, ◌▷◌, send, send_all, call_broadcast, step_views, change, broadcast_held}
+use Rattle.node_core.specs.Draft.{NodeDraft, ◌▷◌, send_one, send_all, call_broadcast, step_views, change, broadcast_held}
 
 -- ---- a write: what is held changes, and is broadcast
 
-abbrev pub write : Key → ValueParts → Option Reading → Draft → Draft
+abbrev pub write : Key → ValueParts → Option Reading → NodeDraft → NodeDraft
 write key value context t =
     t ▷ change key (object_after_put t.parts.table (writer t.parts) key value context)
     ▷ broadcast_held key
@@ -39,40 +39,40 @@ write key value context t =
 abbrev pub is_fresh : Key → List Entry → NodeParts → Bool
 is_fresh key object s = not (is_stale s.table key (join object))
 
-abbrev pub merge : Key → List Entry → Draft → Draft
+abbrev pub merge : Key → List Entry → NodeDraft → NodeDraft
 merge key object t =
     if is_fresh key object t.parts then change key (merge_of t.parts.table key object) t else t
 
 -- ---- GOSSIP: the merge, and then its row of the broadcast
 
-abbrev pub on_gossip : ℕ → ℕ → Key → List Entry → Draft → Draft
-on_gossip from round key object t =
+abbrev pub row_of_gossip : ℕ → ℕ → Key → List Entry → NodeDraft → NodeDraft
+row_of_gossip from round key object t =
     let merged = merge key object t in
     let fresh = is_fresh key object t.parts in
     call_broadcast (TakesGossip from round key (vector_under key merged.parts) fresh) merged
 
 -- ---- IHAVE and GRAFT, whose vector is compared with what is held
 
-abbrev pub on_ihave : ℕ → ℕ → Key → List Counter → Draft → Draft
-on_ihave from round key vector t =
+abbrev pub row_of_ihave : ℕ → ℕ → Key → List Counter → NodeDraft → NodeDraft
+row_of_ihave from round key vector t =
     call_broadcast (TakesIHave from round key vector (is_stale t.parts.table key vector)) t
 
-abbrev pub on_graft : ℕ → ℕ → Key → List Counter → Draft → Draft
-on_graft from round key vector t =
+abbrev pub row_of_graft : ℕ → ℕ → Key → List Counter → NodeDraft → NodeDraft
+row_of_graft from round key vector t =
     call_broadcast (TakesGraft from round key (is_stale t.parts.table key vector)) t
 
 -- ---- HELLO: a life greater than any heard of its sender is noted, and the sender, if a neighbour,
 -- is taken down: it came anew
 
-abbrev pub hear : ℕ → ℕ → Draft → Draft
+abbrev pub hear : ℕ → ℕ → NodeDraft → NodeDraft
 hear from life t = record t { parts = record t.parts { heard = slice_set t.parts.heard from life } }
 
-abbrev pub drop_neighbour : ℕ → ℕ → Draft → Draft
+abbrev pub drop_neighbour : ℕ → ℕ → NodeDraft → NodeDraft
 drop_neighbour node word t =
     if has t.parts.overlay.views.active node then step_views (OfViews.PeerDown node) word t else t
 
-abbrev pub on_hello : ℕ → ℕ → ℕ → Draft → Draft
-on_hello from life word t =
+abbrev pub row_of_hello : ℕ → ℕ → ℕ → NodeDraft → NodeDraft
+row_of_hello from life word t =
     if nat_lt (slice_index t.parts.heard from) life
     then t ▷ hear from life ▷ drop_neighbour from word
     else t
@@ -80,42 +80,42 @@ on_hello from life word t =
 -- ---- a frame that came, by its message: those of an exchange are answered to their sender, an
 -- object in one is merged and not broadcast, and those of the views go to the views
 
-abbrev pub reply_to : ℕ → Message → Draft → Draft
+abbrev pub reply_to : ℕ → Message → NodeDraft → NodeDraft
 reply_to from message t = send_all from (answers_to t.parts.table message) t
 
-abbrev pub on_message : ℕ → ℕ → Message → Draft → Draft
-on_message from word (Gossip round key object) = on_gossip from round key object
-on_message from word (IHave round key vector) = on_ihave from round key vector
-on_message from word (Graft round key vector) = on_graft from round key vector
-on_message from word Prune = call_broadcast (TakesPrune from)
-on_message from word (XRoot root) = reply_to from (XRoot root)
-on_message from word (XPrefixes prefixes) = reply_to from (XPrefixes prefixes)
-on_message from word (XInner prefix digests) = reply_to from (XInner prefix digests)
-on_message from word (XLeaves prefix inner digests) = reply_to from (XLeaves prefix inner digests)
-on_message from word (XBucket prefix leaf keys) = reply_to from (XBucket prefix leaf keys)
-on_message from word (XWant key) = reply_to from (XWant key)
-on_message from word (XObject key object) = merge key object
-on_message from word (Hello life) = on_hello from life word
-on_message from word message = step_views (OfViews.Taken from message) word
+abbrev pub row_of_message : ℕ → ℕ → Message → NodeDraft → NodeDraft
+row_of_message from word (Gossip round key object) = row_of_gossip from round key object
+row_of_message from word (IHave round key vector) = row_of_ihave from round key vector
+row_of_message from word (Graft round key vector) = row_of_graft from round key vector
+row_of_message from word Prune = call_broadcast (TakesPrune from)
+row_of_message from word (XRoot root) = reply_to from (XRoot root)
+row_of_message from word (XPrefixes prefixes) = reply_to from (XPrefixes prefixes)
+row_of_message from word (XInner prefix digests) = reply_to from (XInner prefix digests)
+row_of_message from word (XLeaves prefix inner digests) = reply_to from (XLeaves prefix inner digests)
+row_of_message from word (XBucket prefix leaf keys) = reply_to from (XBucket prefix leaf keys)
+row_of_message from word (XWant key) = reply_to from (XWant key)
+row_of_message from word (XObject key object) = merge key object
+row_of_message from word (Hello life) = row_of_hello from life word
+row_of_message from word message = step_views (OfViews.Taken from message) word
 
 -- ---- a tick: announcements go out, what is overdue is asked for, and each tenth tick shuffles
 
-abbrev pub count_tick : Draft → Draft
+abbrev pub count_tick : NodeDraft → NodeDraft
 count_tick t = record t { parts = record t.parts { ticks = count_on t.parts.ticks 1 } }
 
-abbrev pub shuffle_if_due : ℕ → Draft → Draft
+abbrev pub shuffle_if_due : ℕ → NodeDraft → NodeDraft
 shuffle_if_due word t = if is_due t.parts.ticks then step_views OfViews.ShuffleDue word t else t
 
-abbrev pub tick : ℕ → Draft → Draft
+abbrev pub tick : ℕ → NodeDraft → NodeDraft
 tick word t = t ▷ count_tick ▷ call_broadcast CastTick ▷ shuffle_if_due word
 
 -- ---- watches, which are numbered from 1
 
-abbrev pub watch : Prefix → ℕ → Draft → Draft
+abbrev pub watch : Prefix → ℕ → NodeDraft → NodeDraft
 watch prefix capacity t =
     record t { parts = record t.parts { watches = t.parts.watches ++ empty prefix capacity ∷ [] } }
 
-abbrev pub hand_out_changes : ℕ → Draft → Draft
+abbrev pub hand_out_changes : ℕ → NodeDraft → NodeDraft
 hand_out_changes number t =
     record t { parts = record t.parts { watches = hand_out number t.parts.watches } }
 
@@ -134,7 +134,7 @@ IsInput event (Local same) = same ≡ event
 IsInput event (Received frame word) = ⊥
 
 -- leaving makes no choice, so any word would do
-abbrev pub row_of_event : NodeEvent → Draft → Draft
+abbrev pub row_of_event : NodeEvent → NodeDraft → NodeDraft
 row_of_event (Read key) t = t
 row_of_event (Write key value context) t = write key value context t
 row_of_event (PutOver key value) t = write key value (Some (present key t.parts)) t
@@ -142,13 +142,13 @@ row_of_event (Take bytes word) t = t
 row_of_event (Tick word) t = tick word t
 row_of_event (Join contact word) t = step_views (OfViews.JoinThrough contact) word t
 row_of_event (PeerDown peer word) t = step_views (OfViews.PeerDown peer) word t
-row_of_event (Exchange peer) t = send peer (XRoot (tree_root (rows_of t.parts.table))) t
+row_of_event (Exchange peer) t = send_one peer (XRoot (tree_root (rows_of t.parts.table))) t
 row_of_event (Keep key) t = t
 row_of_event (Watch prefix capacity) t = watch prefix capacity t
 row_of_event (Changes number) t = hand_out_changes number t
-row_of_event (SayHello peer) t = send peer (Hello t.parts.incarnation) t
+row_of_event (SayHello peer) t = send_one peer (Hello t.parts.incarnation) t
 row_of_event Leave t = step_views OfViews.Leave 0 t
 
-abbrev pub row : Input → Draft → Draft
-row (Local event) = row_of_event event
-row (Received frame word) = on_message frame.from word frame.message
+abbrev pub row_of_input : Input → NodeDraft → NodeDraft
+row_of_input (Local event) = row_of_event event
+row_of_input (Received frame word) = row_of_message frame.from word frame.message

@@ -25,8 +25,8 @@ use Rattle.node_core.specs.declared.state.Stepped.{Stepped}
 use Rattle.node_parts.specs.Outbox.{HasSpelling, count_on, frames_from}
 use Rattle.node_parts.specs.Watches.{at_number, refusal_of_changes, refusal_of_watch, reply_of_changes}
 use Rattle.node_core.specs.Node.{NodeParts, present, vector_under, writer}
-use Rattle.node_core.specs.Draft.{Draft}
-use Rattle.node_core.specs.Rows.{Local, Received, Input, IsInput, is_fresh, row}
+use Rattle.node_core.specs.Draft.{NodeDraft}
+use Rattle.node_core.specs.Rows.{Local, Received, Input, IsInput, is_fresh, row_of_input}
 
 -- ---- what refuses it
 
@@ -66,18 +66,18 @@ refusal_of (Received frame word) = refusal_of_frame frame
 
 -- ---- what the node is then
 
-abbrev pub begun : NodeParts → Draft
+abbrev pub begun : NodeParts → NodeDraft
 begun s = record { parts = s; sent = [] }
 
-abbrev pub draft_after : Input → NodeParts → Draft
-draft_after input s = row input (begun s)
+abbrev pub node_draft_after : Input → NodeParts → NodeDraft
+node_draft_after input s = row_of_input input (begun s)
 
 -- the step counts, and so does each frame
-abbrev pub counted : ℕ → NodeParts → NodeParts
-counted sent s = record s { steps = count_on s.steps 1; frames = count_on s.frames sent }
+abbrev pub with_counts : ℕ → NodeParts → NodeParts
+with_counts sent s = record s { steps = count_on s.steps 1; frames = count_on s.frames sent }
 
 abbrev pub node_after : Input → NodeParts → NodeParts
-node_after input s = let t = draft_after input s in counted (length t.sent) t.parts
+node_after input s = let t = node_draft_after input s in with_counts (length t.sent) t.parts
 
 -- ---- what it replies
 
@@ -105,10 +105,10 @@ reply_of (Received frame word) s = reply_of_message frame.message s
 -- it isn't refused; the old node becomes what is left when all is done, with this reply, and what
 -- is to be sent goes out as frames, as bytes, numbered over the life from 1, in order; each frame
 -- is lawful, and so one to another node, and its bytes are no more than a frame may have
-pub record IsStepTo (old : NodeParts) (refusal : Option StepFault) (done : Draft) (reply : Reply)
+pub record IsStepTo (old : NodeParts) (refusal : Option StepFault) (done : NodeDraft) (reply : Reply)
     (new : NodeParts) (stepped : Stepped) : Type 0 where
   pub accepted : refusal ≡ None
-  pub node : new ≡ counted (length done.sent) done.parts
+  pub node : new ≡ with_counts (length done.sent) done.parts
   pub replies : stepped.reply ≡ reply
   pub sends : stepped.outbox ≡ map spelling (frames_from old.node old.frames done.sent)
   pub frames : All HasSpelling (frames_from old.node old.frames done.sent)
@@ -116,7 +116,7 @@ pub record IsStepTo (old : NodeParts) (refusal : Option StepFault) (done : Draft
 -- what was asked takes the old node to the new one, and gives this
 abbrev pub IsStepOf : NodeParts → Input → NodeParts → Stepped → Type 0
 IsStepOf old input =
-    IsStepTo old (refusal_of input old) (draft_after input old) (reply_of input old)
+    IsStepTo old (refusal_of input old) (node_draft_after input old) (reply_of input old)
 
 -- the step of an event: of itself, or of the frame that its bytes spell
 pub record IsNodeStep (old : NodeParts) (event : NodeEvent) (new : NodeParts) (stepped : Stepped)

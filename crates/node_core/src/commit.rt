@@ -5,7 +5,7 @@ ghost use Rattle.std.specs.Prelude.{◌≡◌, ◌∷◌, [], All, IfOk, IfErr, 
 ghost use Rattle.meta_frame.specs.Frame.{spelling};
 ghost use Rattle.node_parts.specs.Outbox.{HasSpelling, MaySend, frames_from};
 ghost use Rattle.node_parts.specs.Overlay.{envelope};
-ghost use Rattle.node_core.specs.Step.{counted};
+ghost use Rattle.node_core.specs.Step.{with_counts};
 ghost use Rattle.node_events.specs.declared.fault.StepFault.TheVariants.{Memory};
 
 use crate::state::{NodeState, Stepped};
@@ -51,7 +51,7 @@ impl NodeState {
 
     /// The step is made: it counts, and so does each of its frames.
     pub(crate) fn finish(&mut self, reply: Reply, outbox: Outbox) -> Stepped
-        ensures counts { self.new ≡ counted (length outbox) self.old }
+        ensures counts { self.new ≡ with_counts (length outbox) self.old }
         ensures value { result ≡ record { reply = reply; outbox = outbox } }
     {
         self.steps = self.steps.saturating_add(1);

@@ -25,7 +25,7 @@ use Rattle.past_objects.specs.Laws.{MakesImage}
 use Rattle.node_images.specs.Images.{change_of, changed, holdings}
 use Rattle.node_images.specs.Keeping.{Keeping, IsRestorable, change_at}
 use Rattle.node_images.proofs.Keepings.{with_image, with_kept, with_merge, with_restart, with_write}
-use Rattle.node_images.specs.Follows.{Follows}
+use Rattle.node_images.specs.Follows.{FollowsHistory}
 use Rattle.past_objects.proofs.Changes.{after_write, after_look, after_sending, after_delivery, after_keeping, after_restart}
 use Rattle.past_objects.proofs.Deliveries.{stale_unchanged}
 use Rattle.past_objects.proofs.Standing.{sent_under}
@@ -33,8 +33,8 @@ use Rattle.node_images.proofs.Noding.{reads_before, reads_new}
 
 -- ---- where nothing changes for the node
 
-same : (hs more : List Happening) (n : ℕ) (node : Keeping) → Follows hs n node → ((k : Key) → held_object more n k ≡ held_object hs n k) → last_image more n ≡ last_image hs n
-    → ((j : ℕ) (k : Key) → image_object more n j k ≡ image_object hs n j k) → ((k : Key) → standing_object more n k ≡ standing_object hs n k) → incarnation more n ≡ incarnation hs n → Follows more n node
+same : (hs more : List Happening) (n : ℕ) (node : Keeping) → FollowsHistory hs n node → ((k : Key) → held_object more n k ≡ held_object hs n k) → last_image more n ≡ last_image hs n
+    → ((j : ℕ) (k : Key) → image_object more n j k ≡ image_object hs n j k) → ((k : Key) → standing_object more n k ≡ standing_object hs n k) → incarnation more n ≡ incarnation hs n → FollowsHistory more n node
 same hs more n node f holds number images standing life = record {
   holds = λ k. f.holds k ∙ sym (holds k);
   number = f.number ∙ sym number;
@@ -44,33 +44,33 @@ same hs more n node f holds number images standing life = record {
 }
 
 -- reading and sending change no node
-pub follows_look : (hs : List Happening) (m : ℕ) (k : Key) (n : ℕ) (node : Keeping) → Follows hs n node → Follows (hs ++ Looked m k ∷ []) n node
+pub follows_look : (hs : List Happening) (m : ℕ) (k : Key) (n : ℕ) (node : Keeping) → FollowsHistory hs n node → FollowsHistory (hs ++ Looked m k ∷ []) n node
 follows_look hs m k n node f =
     let a = after_look hs m k in
     same hs (hs ++ Looked m k ∷ []) n node f (a.holds.same n) (a.image.numbers n) (λ j. (a.image.images n).same j) (a.standing.same n) (a.lives.same n)
 
-pub follows_sending : (hs : List Happening) (m : ℕ) (k : Key) (n : ℕ) (node : Keeping) → Follows hs n node → Follows (hs ++ Sent m k ∷ []) n node
+pub follows_sending : (hs : List Happening) (m : ℕ) (k : Key) (n : ℕ) (node : Keeping) → FollowsHistory hs n node → FollowsHistory (hs ++ Sent m k ∷ []) n node
 follows_sending hs m k n node f =
     let a = after_sending hs m k in
     same hs (hs ++ Sent m k ∷ []) n node f (a.holds.same n) (a.image.numbers n) (λ j. (a.image.images n).same j) (a.standing.same n) (a.lives.same n)
 
 -- the rest change one node
-pub write_elsewhere : (hs : List Happening) (m : ℕ) (k : Key) (v : ValueParts) (r : Option ℕ) (n : ℕ) (node : Keeping) → n ≢ m → Follows hs n node → Follows (hs ++ Wrote m k v r ∷ []) n node
+pub write_elsewhere : (hs : List Happening) (m : ℕ) (k : Key) (v : ValueParts) (r : Option ℕ) (n : ℕ) (node : Keeping) → n ≢ m → FollowsHistory hs n node → FollowsHistory (hs ++ Wrote m k v r ∷ []) n node
 write_elsewhere hs m k v r n node ne f =
     let a = after_write hs m k v r in
     same hs (hs ++ Wrote m k v r ∷ []) n node f (a.holds.elsewhere n ne) (a.image.other_numbers n ne) (λ j. (a.image.other_images n ne).same j) (a.image.standing.elsewhere n ne) (a.lives.same n)
 
-pub keeping_elsewhere : (hs : List Happening) (m : ℕ) (k : Key) (n : ℕ) (node : Keeping) → n ≢ m → Follows hs n node → Follows (hs ++ Kept m k ∷ []) n node
+pub keeping_elsewhere : (hs : List Happening) (m : ℕ) (k : Key) (n : ℕ) (node : Keeping) → n ≢ m → FollowsHistory hs n node → FollowsHistory (hs ++ Kept m k ∷ []) n node
 keeping_elsewhere hs m k n node ne f =
     let a = after_keeping hs m k in
     same hs (hs ++ Kept m k ∷ []) n node f (a.holds.same n) (a.image.other_numbers n ne) (λ j. (a.image.other_images n ne).same j) (a.image.standing.elsewhere n ne) (a.lives.same n)
 
-pub delivery_elsewhere : (hs : List Happening) (m i n : ℕ) (node : Keeping) → n ≢ m → Follows hs n node → Follows (hs ++ Got m i ∷ []) n node
+pub delivery_elsewhere : (hs : List Happening) (m i n : ℕ) (node : Keeping) → n ≢ m → FollowsHistory hs n node → FollowsHistory (hs ++ Got m i ∷ []) n node
 delivery_elsewhere hs m i n node ne f =
     let a = after_delivery hs m i in
     same hs (hs ++ Got m i ∷ []) n node f (a.holds.elsewhere n ne) (a.image.numbers n) (λ j. (a.image.images n).same j) (a.standing.same n) (a.lives.same n)
 
-pub restart_elsewhere : (hs : List Happening) (m j n : ℕ) (node : Keeping) → n ≢ m → Follows hs n node → Follows (hs ++ Restarted m j ∷ []) n node
+pub restart_elsewhere : (hs : List Happening) (m j n : ℕ) (node : Keeping) → n ≢ m → FollowsHistory hs n node → FollowsHistory (hs ++ Restarted m j ∷ []) n node
 restart_elsewhere hs m j n node ne f =
     let a = after_restart hs m j in
     same hs (hs ++ Restarted m j ∷ []) n node f (a.holds.elsewhere n ne) (a.image.numbers n) (λ i. (a.image.images n).same i) (a.standing.elsewhere n ne) (a.lives.others n ne)
@@ -99,7 +99,7 @@ image_other_by node k l ne (Some o) false e = ap (λ b. cond b o (holdings node.
 record Imaged (hs more : List Happening) (n : ℕ) (k : Key) (node : Keeping) (table : Table) : Type 0 where
   is : IsRestorable node
   grows : (l : Key) → object_at node.table l ≢ [] → object_at table l ≢ []
-  before : Follows hs n node
+  before : FollowsHistory hs n node
   now : (l : Key) → object_at table l ≡ held_object more n l
   life : incarnation more n ≡ incarnation hs n
 
@@ -134,7 +134,7 @@ images_by hs h n k node table made i j false e low l =
     ∙ new_image hs h n k node table made i l
     ∙ ap (λ m. image_object (hs ++ h ∷ []) n m l) same
 
-imaged : (hs : List Happening) (h : Happening) (n : ℕ) (k : Key) (node : Keeping) (table : Table) → MakesImage hs h n k → Imaged hs (hs ++ h ∷ []) n k node table → Follows (hs ++ h ∷ []) n (with_image table k node)
+imaged : (hs : List Happening) (h : Happening) (n : ℕ) (k : Key) (node : Keeping) (table : Table) → MakesImage hs h n k → Imaged hs (hs ++ h ∷ []) n k node table → FollowsHistory (hs ++ h ∷ []) n (with_image table k node)
 imaged hs h n k node table made i =
     let long : length (with_image table k node).images ≡ length node.images + 1 = length-append node.images ((record { base = node.standing; change = change_at table k }) ∷ []) in
     record {
@@ -147,7 +147,7 @@ imaged hs h n k node table made i =
 
 -- ---- the four changes of a node
 
-write_by : (hs : List Happening) (n w : ℕ) (k : Key) (v : ValueParts) (r : Option ℕ) (context : Option Reading) (node : Keeping) → w ≡ writer hs n → Follows hs n node → vector_read context ≡ join (object_of_read hs k r)
+write_by : (hs : List Happening) (n w : ℕ) (k : Key) (v : ValueParts) (r : Option ℕ) (context : Option Reading) (node : Keeping) → w ≡ writer hs n → FollowsHistory hs n node → vector_read context ≡ join (object_of_read hs k r)
     → (l : Key) (b : Bool) → key_eq l k ≡ b → object_at (with_object k (object_after_put node.table w k v context) node.table) l ≡ held_object (hs ++ Wrote n k v r ∷ []) n l
 write_by hs n w k v r context node by f read l true e =
     let a = after_write hs n k v r in
@@ -165,18 +165,18 @@ write_by hs n w k v r context node by f read l false e =
 -- a write with a context of what the Looked at place r saw
 pub follows_write : (hs : List Happening) (n w : ℕ) (k : Key) (v : ValueParts) (r : Option ℕ) (context : Option Reading) (node : Keeping) → w ≡ writer hs n → IsRestorable node
     → ((l : Key) → object_at node.table l ≢ [] → object_at (with_object k (object_after_put node.table w k v context) node.table) l ≢ [])
-    → Follows hs n node → vector_read context ≡ join (object_of_read hs k r) → Follows (hs ++ Wrote n k v r ∷ []) n (with_write w k v context node)
+    → FollowsHistory hs n node → vector_read context ≡ join (object_of_read hs k r) → FollowsHistory (hs ++ Wrote n k v r ∷ []) n (with_write w k v context node)
 follows_write hs n w k v r context node by is grows f read =
     imaged hs (Wrote n k v r) n k node (with_object k (object_after_put node.table w k v context) node.table) (after_write hs n k v r).image
     (record { is = is; grows = grows; before = f; now = λ l. write_by hs n w k v r context node by f read l (key_eq l k) refl; life = (after_write hs n k v r).lives.same n })
 
-pub follows_keep : (hs : List Happening) (n : ℕ) (k : Key) (node : Keeping) → IsRestorable node → Follows hs n node → Follows (hs ++ Kept n k ∷ []) n (with_kept k node)
+pub follows_keep : (hs : List Happening) (n : ℕ) (k : Key) (node : Keeping) → IsRestorable node → FollowsHistory hs n node → FollowsHistory (hs ++ Kept n k ∷ []) n (with_kept k node)
 follows_keep hs n k node is f =
     let a = after_keeping hs n k in
     imaged hs (Kept n k) n k node node.table a.image (record { is = is; grows = λ l some. some; before = f; now = λ l. f.holds l ∙ sym (a.holds.same n l); life = a.lives.same n })
 
-pub follows_restart : (hs : List Happening) (n j : ℕ) (node : Keeping) (table : Table) → Follows hs n node → j ≤ length node.images → ((k : Key) → object_at table k ≡ holdings node.images j k)
-    → Follows (hs ++ Restarted n j ∷ []) n (with_restart table j node)
+pub follows_restart : (hs : List Happening) (n j : ℕ) (node : Keeping) (table : Table) → FollowsHistory hs n node → j ≤ length node.images → ((k : Key) → object_at table k ≡ holdings node.images j k)
+    → FollowsHistory (hs ++ Restarted n j ∷ []) n (with_restart table j node)
 follows_restart hs n j node table f low restored =
     let a = after_restart hs n j in
     record {
@@ -189,7 +189,7 @@ follows_restart hs n j node table f low restored =
 
 -- ---- a delivery
 
-take_here_by : (hs : List Happening) (n i : ℕ) (k : Key) (came : List Entry) (node : Keeping) → IsHistory hs → Follows hs n node → came ≡ sent_object hs i k
+take_here_by : (hs : List Happening) (n i : ℕ) (k : Key) (came : List Entry) (node : Keeping) → IsHistory hs → FollowsHistory hs n node → came ≡ sent_object hs i k
     → (b : Bool) → is_stale node.table k (join came) ≡ b → object_at (cond b node.table (with_object k (merge_of node.table k came) node.table)) k ≡ sync (held_object hs n k) (sent_object hs i k)
 take_here_by hs n i k came node history f is true stale =
     f.holds k
@@ -201,7 +201,7 @@ take_there_by : (node : Keeping) (k l : Key) (came : List Entry) → l ≢ k →
 take_there_by node k l came ne true = refl
 take_there_by node k l came ne false = object_at-elsewhere k (merge_of node.table k came) node.table l ne
 
-take_by : (hs : List Happening) (n i m : ℕ) (k : Key) (came : List Entry) (node : Keeping) → IsHistory hs → Follows hs n node → slice_get hs i ≡ Some (Sent m k) → came ≡ sent_object hs i k
+take_by : (hs : List Happening) (n i m : ℕ) (k : Key) (came : List Entry) (node : Keeping) → IsHistory hs → FollowsHistory hs n node → slice_get hs i ≡ Some (Sent m k) → came ≡ sent_object hs i k
     → (l : Key) (b : Bool) → key_eq l k ≡ b → object_at (table_after_merge node.table k came) l ≡ held_object (hs ++ Got n i ∷ []) n l
 take_by hs n i m k came node history f at is l true e =
     let a = after_delivery hs n i in
@@ -217,8 +217,8 @@ take_by hs n i m k came node history f at is l false e =
     ∙ sym (a.holds.here l)
 
 -- what the Sent at place i has sent was taken, stale or fresh
-pub follows_take : (hs : List Happening) (n i m : ℕ) (k : Key) (came : List Entry) (node : Keeping) → IsHistory hs → Follows hs n node → slice_get hs i ≡ Some (Sent m k) → came ≡ sent_object hs i k
-    → Follows (hs ++ Got n i ∷ []) n (with_merge k came node)
+pub follows_take : (hs : List Happening) (n i m : ℕ) (k : Key) (came : List Entry) (node : Keeping) → IsHistory hs → FollowsHistory hs n node → slice_get hs i ≡ Some (Sent m k) → came ≡ sent_object hs i k
+    → FollowsHistory (hs ++ Got n i ∷ []) n (with_merge k came node)
 follows_take hs n i m k came node history f at is =
     let a = after_delivery hs n i in
     record {

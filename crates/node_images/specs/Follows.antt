@@ -9,7 +9,7 @@ use Rattle.past_objects.specs.Objects.{held_object, image_object, incarnation, l
 use Rattle.node_images.specs.Images.{holdings}
 use Rattle.node_images.specs.Keeping.{Keeping}
 
-pub record Follows (hs : List Happening) (n : ℕ) (node : Keeping) : Type 0 where
+pub record FollowsHistory (hs : List Happening) (n : ℕ) (node : Keeping) : Type 0 where
   pub holds : (k : Key) → object_at node.table k ≡ held_object hs n k
   pub number : length node.images ≡ last_image hs n
   pub images : (j : ℕ) → j ≤ length node.images → (k : Key)

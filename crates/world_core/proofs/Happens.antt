@@ -35,7 +35,7 @@ use Rattle.past_objects.proofs.Matching.{same_lives}
 use Rattle.node_images.specs.Keeping.{IsRestorable, Keeping, change_at}
 use Rattle.node_images.proofs.Keepings.{with_image, with_merge}
 use Rattle.node_images.specs.Node.{ImagedNode, arrived, context_read, keeping}
-use Rattle.node_images.specs.Follows.{Follows}
+use Rattle.node_images.specs.Follows.{FollowsHistory}
 use Rattle.node_images.proofs.Noding.{held_at, put_grows}
 use Rattle.world_core.specs.declared.event.Event.{Event}
 use Rattle.world_core.specs.declared.event.Event.TheVariants.{Put, Get, PutOver, Deliver, Junk, Tick, Join, PeerDown, Exchange, Keep, Watch, Changes, Hello, Leave, Restart}
@@ -50,11 +50,11 @@ use Rattle.world_core.proofs.States.{state_keep, state_look, state_take, state_w
 
 -- ---- the life that a node is in, by the node and by the history
 
-life_is : (hs : List Happening) (n : ℕ) (node : Keeping) → Follows hs n node → node.incarnation ≡ (past hs).restarts n + 1
+life_is : (hs : List Happening) (n : ℕ) (node : Keeping) → FollowsHistory hs n node → node.incarnation ≡ (past hs).restarts n + 1
 life_is hs n node f = f.life ∙ same_lives hs n
 
 -- whose node it is
-actor_node : (hs : List Happening) (n : ℕ) (node : Keeping) → IsHistory hs → Follows hs n node → node_of_writer (writer_number n node.incarnation) ≡ n
+actor_node : (hs : List Happening) (n : ℕ) (node : Keeping) → IsHistory hs → FollowsHistory hs n node → node_of_writer (writer_number n node.incarnation) ≡ n
 actor_node hs n node history f =
     let life : node.incarnation ≡ (past hs).restarts n + 1 = life_is hs n node f in
     let few : (past hs).restarts n ≤ most_restarts = few_restarts hs n history in
@@ -72,8 +72,8 @@ pub record Stepping (ns : List Keeping) (n : ℕ) (old : ImagedNode) (step : Nod
   pub leaves : StepLeaves old.state step state s
 
 stands : (ns : List Keeping) (contexts : List Reading) (sent : List Frame) (t : Told) (n : ℕ) (old : ImagedNode) (step : NodeEvent) (state : NodeParts) (s : Stepped)
-    → IsState ns contexts sent t → Stepping ns n old step state s → Follows t.history n (keeping old)
-stands ns contexts sent t n old step state s is st = subst (Follows t.history n) (sym st.at) (is.nodes n (keeping old) st.low)
+    → IsState ns contexts sent t → Stepping ns n old step state s → FollowsHistory t.history n (keeping old)
+stands ns contexts sent t n old step state s is st = subst (FollowsHistory t.history n) (sym st.at) (is.nodes n (keeping old) st.low)
 
 -- ---- where all that is held stays
 
@@ -139,7 +139,7 @@ state_written : (ns : List Keeping) (contexts : List Reading) (sent : List Frame
     → IsState (slice_set ns n (keeping (arrived state (Some k) old))) contexts sent (tell (Wrote n k v r) t)
 state_written ns contexts sent t n k v r context old state w s fits read =
     let o : List Entry = object_after_put old.state.table (writer old.state) k v context in
-    let f : Follows t.history n (keeping old) = subst (Follows t.history n) (sym w.at) (s.nodes n (keeping old) w.low) in
+    let f : FollowsHistory t.history n (keeping old) = subst (FollowsHistory t.history n) (sym w.at) (s.nodes n (keeping old) w.low) in
     let actor : writer old.state ≡ objects.writer t.history n = ap (λ m. writer_number m old.state.incarnation) w.number ∙ ap (writer_number n) f.life in
     subst (λ node. IsState (slice_set ns n node) contexts sent (tell (Wrote n k v r) t))
     (sym (imaged_keeping old state k (with_object k o old.state.table) w.held w.life))
@@ -153,7 +153,7 @@ state_looked : (ns : List Keeping) (contexts : List Reading) (sent : List Frame)
     → n < length ns → keeping old ≡ get_or ns n (keeping old) → old.state.node ≡ n → IsState ns contexts sent t
     → IsState ns (contexts ++ present k old.state ∷ []) sent (tell_look n k t)
 state_looked ns contexts sent t n k old low at number s =
-    let f : Follows t.history n (keeping old) = subst (Follows t.history n) (sym at) (s.nodes n (keeping old) low) in
+    let f : FollowsHistory t.history n (keeping old) = subst (FollowsHistory t.history n) (sym at) (s.nodes n (keeping old) low) in
     state_look ns contexts sent t n k (present k old.state) s
     (ap (λ m. node_of_writer (writer_number m old.state.incarnation)) number ∙ actor_node t.history n (keeping old) s.is_history f)
     refl (ap join (f.holds k))

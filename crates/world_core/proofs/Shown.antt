@@ -28,7 +28,7 @@ use Rattle.past_objects.proofs.Matching.{matches, same_lives, same_numbers}
 use Rattle.node_core.specs.Node.{NodeParts}
 use Rattle.node_images.specs.Images.{Image, holdings}
 use Rattle.node_images.specs.Node.{keeping, new_node}
-use Rattle.node_images.specs.Follows.{Follows}
+use Rattle.node_images.specs.Follows.{FollowsHistory}
 use Rattle.world_core.specs.Knowledge.{CarriesLoad, CountsSeen, OfAllTold, ShowWhatTheyKnow, ShowsKnown}
 use Rattle.world_core.specs.Refusal.{IsFrameOf, node_at, table_at}
 use Rattle.world_core.specs.Numbers.{numbered}
@@ -47,9 +47,9 @@ of_told w is P p = λ t tells. subst P (one_told w.accepted w.frames is.told t i
 -- ---- nodes
 
 -- a node stands where the history left it
-pub stands : (w : World) (is : IsWorld w) (n : ℕ) → n < length w.nodes → Follows is.told.history n (keeping (node_at w n))
+pub stands : (w : World) (is : IsWorld w) (n : ℕ) → n < length w.nodes → FollowsHistory is.told.history n (keeping (node_at w n))
 stands w is n low =
-    subst (Follows is.told.history n) (sym (seen w.nodes n low)) (is.state.nodes n (keeping (node_at w n)) (kept_low w.nodes n low))
+    subst (FollowsHistory is.told.history n) (sym (seen w.nodes n low)) (is.state.nodes n (keeping (node_at w n)) (kept_low w.nodes n low))
 
 pub holds : (w : World) (is : IsWorld w) (n : ℕ) → n < length w.nodes → (k : Key)
     → IsObjectOf (writes is.told.history) k (known is.told.history n k) (object_at (table_at w n) k)

@@ -25,7 +25,7 @@ use Rattle.node_core.specs.Leaving.{AreOfHeld, IsOfHeld, carried_object}
 use Rattle.node_images.specs.Images.{holdings}
 use Rattle.node_images.specs.Keeping.{IsRestorable, Keeping}
 use Rattle.node_images.proofs.Keepings.{new_keeping, with_kept, with_merge, with_restart, with_write}
-use Rattle.node_images.specs.Follows.{Follows}
+use Rattle.node_images.specs.Follows.{FollowsHistory}
 use Rattle.node_images.proofs.Following.{follows_look, follows_sending, follows_write, follows_keep, follows_take, follows_restart, write_elsewhere, keeping_elsewhere, delivery_elsewhere, restart_elsewhere}
 use Rattle.world_core.specs.Tells.{Pairwise, Told, nothing_told, tell, tell_frames, tell_look, tell_sending}
 use Rattle.world_core.specs.Invariant.{IsRead, IsSending, IsState, IsTold}
@@ -54,7 +54,7 @@ told_later hs more frame (Some place) is =
 -- ---- one happening more, where reads and frames stay
 
 pub state_next : (old nodes : List Keeping) (contexts : List Reading) (sent : List Frame) (t : Told) (h : Happening) → IsState old contexts sent t → Fits t.history h
-    → ((n : ℕ) (d : Keeping) → n < length nodes → Follows (t.history ++ h ∷ []) n (get_or nodes n d)) → IsState nodes contexts sent (tell h t)
+    → ((n : ℕ) (d : Keeping) → n < length nodes → FollowsHistory (t.history ++ h ∷ []) n (get_or nodes n d)) → IsState nodes contexts sent (tell h t)
 state_next old nodes contexts sent t h s fits follow = record {
   is_history = history_snoc t.history h s.is_history fits;
   nodes = follow;
@@ -63,17 +63,17 @@ state_next old nodes contexts sent t h s fits follow = record {
 }
 
 -- one node changes
-set_by : (hs : List Happening) (nodes : List Keeping) (n : ℕ) (node : Keeping) → n < length nodes → Follows hs n node → ((m : ℕ) (d : Keeping) → m < length nodes → m ≢ n → Follows hs m (get_or nodes m d))
-    → (m : ℕ) (d : Keeping) (b : Bool) → eqb m n ≡ b → m < length nodes → Follows hs m (get_or (slice_set nodes n node) m d)
+set_by : (hs : List Happening) (nodes : List Keeping) (n : ℕ) (node : Keeping) → n < length nodes → FollowsHistory hs n node → ((m : ℕ) (d : Keeping) → m < length nodes → m ≢ n → FollowsHistory hs m (get_or nodes m d))
+    → (m : ℕ) (d : Keeping) (b : Bool) → eqb m n ≡ b → m < length nodes → FollowsHistory hs m (get_or (slice_set nodes n node) m d)
 set_by hs nodes n node low here there m d true e within =
     let same : m ≡ n = eqb-true m n e in
-    subst (λ x. Follows hs m x) (sym (ap (λ i. get_or (slice_set nodes n node) i d) same ∙ get_or-set_same nodes n node d low)) (subst (λ i. Follows hs i node) (sym same) here)
+    subst (λ x. FollowsHistory hs m x) (sym (ap (λ i. get_or (slice_set nodes n node) i d) same ∙ get_or-set_same nodes n node d low)) (subst (λ i. FollowsHistory hs i node) (sym same) here)
 set_by hs nodes n node low here there m d false e within =
     let ne : m ≢ n = eqb-false m n e in
-    subst (λ x. Follows hs m x) (sym (get_or-set_other nodes n m node d ne)) (there m d within ne)
+    subst (λ x. FollowsHistory hs m x) (sym (get_or-set_other nodes n m node d ne)) (there m d within ne)
 
-set_node : (hs : List Happening) (nodes : List Keeping) (n : ℕ) (node : Keeping) → n < length nodes → Follows hs n node → ((m : ℕ) (d : Keeping) → m < length nodes → m ≢ n → Follows hs m (get_or nodes m d))
-    → (m : ℕ) (d : Keeping) → m < length (slice_set nodes n node) → Follows hs m (get_or (slice_set nodes n node) m d)
+set_node : (hs : List Happening) (nodes : List Keeping) (n : ℕ) (node : Keeping) → n < length nodes → FollowsHistory hs n node → ((m : ℕ) (d : Keeping) → m < length nodes → m ≢ n → FollowsHistory hs m (get_or nodes m d))
+    → (m : ℕ) (d : Keeping) → m < length (slice_set nodes n node) → FollowsHistory hs m (get_or (slice_set nodes n node) m d)
 set_node hs nodes n node low here there m d within =
     let long : length (slice_set nodes n node) ≡ length nodes = length-set nodes n node in
     set_by hs nodes n node low here there m d (eqb m n) refl (omega (arith, within, long))
@@ -88,7 +88,7 @@ pub state_write : (nodes : List Keeping) (contexts : List Reading) (sent : List 
 state_write nodes contexts sent t n w k v r context node by s low at is grows fits read =
     state_next nodes (slice_set nodes n (with_write w k v context node)) contexts sent t (Wrote n k v r) s fits
     (set_node (t.history ++ Wrote n k v r ∷ []) nodes n (with_write w k v context node) low
-    (follows_write t.history n w k v r context node by is grows (subst (Follows t.history n) (sym at) (s.nodes n node low)) read)
+    (follows_write t.history n w k v r context node by is grows (subst (FollowsHistory t.history n) (sym at) (s.nodes n node low)) read)
     (λ m d within ne. write_elsewhere t.history n k v r m (get_or nodes m d) ne (s.nodes m d within)))
 
 pub state_keep : (nodes : List Keeping) (contexts : List Reading) (sent : List Frame) (t : Told) (n : ℕ) (k : Key) (node : Keeping)
@@ -96,7 +96,7 @@ pub state_keep : (nodes : List Keeping) (contexts : List Reading) (sent : List F
 state_keep nodes contexts sent t n k node s low at is =
     state_next nodes (slice_set nodes n (with_kept k node)) contexts sent t (Kept n k) s tt
     (set_node (t.history ++ Kept n k ∷ []) nodes n (with_kept k node) low
-    (follows_keep t.history n k node is (subst (Follows t.history n) (sym at) (s.nodes n node low)))
+    (follows_keep t.history n k node is (subst (FollowsHistory t.history n) (sym at) (s.nodes n node low)))
     (λ m d within ne. keeping_elsewhere t.history n k m (get_or nodes m d) ne (s.nodes m d within)))
 
 -- the Sent at place i was of node m
@@ -106,7 +106,7 @@ pub state_take : (nodes : List Keeping) (contexts : List Reading) (sent : List F
 state_take nodes contexts sent t n i m k came node s low at there is =
     state_next nodes (slice_set nodes n (with_merge k came node)) contexts sent t (Got n i) s (m, (k, there))
     (set_node (t.history ++ Got n i ∷ []) nodes n (with_merge k came node) low
-    (follows_take t.history n i m k came node s.is_history (subst (Follows t.history n) (sym at) (s.nodes n node low)) there is)
+    (follows_take t.history n i m k came node s.is_history (subst (FollowsHistory t.history n) (sym at) (s.nodes n node low)) there is)
     (λ m d within ne. delivery_elsewhere t.history n i m (get_or nodes m d) ne (s.nodes m d within)))
 
 pub state_restart : (nodes : List Keeping) (contexts : List Reading) (sent : List Frame) (t : Told) (n j : ℕ) (table : Table) (node : Keeping)
@@ -116,7 +116,7 @@ pub state_restart : (nodes : List Keeping) (contexts : List Reading) (sent : Lis
 state_restart nodes contexts sent t n j table node s low at image restored fits =
     state_next nodes (slice_set nodes n (with_restart table j node)) contexts sent t (Restarted n j) s fits
     (set_node (t.history ++ Restarted n j ∷ []) nodes n (with_restart table j node) low
-    (follows_restart t.history n j node table (subst (Follows t.history n) (sym at) (s.nodes n node low)) image restored)
+    (follows_restart t.history n j node table (subst (FollowsHistory t.history n) (sym at) (s.nodes n node low)) image restored)
     (λ m d within ne. restart_elsewhere t.history n j m (get_or nodes m d) ne (s.nodes m d within)))
 
 -- a read: its context is of the key and what the node holds there
@@ -175,7 +175,7 @@ state_frame : (nodes : List Keeping) (contexts : List Reading) (sent : List Fram
     → IsState nodes contexts (sent ++ frame ∷ []) (tell_sending frame.from carried t)
 state_frame nodes contexts sent t n node frame low at from held s None carries = state_quiet nodes contexts sent t frame s carries
 state_frame nodes contexts sent t n node frame low at from held s (Some (k, o)) carries =
-    let stands : Follows t.history n node = subst (Follows t.history n) (sym at) (s.nodes n node low) in
+    let stands : FollowsHistory t.history n node = subst (FollowsHistory t.history n) (sym at) (s.nodes n node low) in
     state_sending nodes contexts sent t k o frame s carries
     (held k o carries ∙ stands.holds k ∙ ap (λ m. held_object t.history m k) (sym from))
 
@@ -202,7 +202,7 @@ spelled_frames n table (f ∷ frames) (b ∷ bytes) are = (are.0.0, spelled_fram
 
 -- ---- the first state
 
-follows_nothing : (n : ℕ) → Follows [] n new_keeping
+follows_nothing : (n : ℕ) → FollowsHistory [] n new_keeping
 follows_nothing n = record {
   holds = λ k. refl;
   number = refl;
@@ -218,7 +218,7 @@ nothing_happened (x ∷ before) after h e = cc
 pub state_new : (ns : List Keeping) → ((n : ℕ) (d : Keeping) → n < length ns → get_or ns n d ≡ new_keeping) → IsState ns [] [] nothing_told
 state_new ns each = record {
   is_history = record { fits = λ before after h e. absurd (nothing_happened before after h e) };
-  nodes = λ n d low. subst (Follows [] n) (sym (each n d low)) (follows_nothing n);
+  nodes = λ n d low. subst (FollowsHistory [] n) (sym (each n d low)) (follows_nothing n);
   reads = tt;
   sendings = tt;
 }

@@ -39,7 +39,7 @@ use Rattle.node_images.specs.Keeping.{IsRestorable, Keeping, change_at, most_inc
 use Rattle.node_images.proofs.Keepings.{with_restart}
 use Rattle.node_images.proofs.Ready.{ready}
 use Rattle.node_images.specs.Node.{BeginsFrom, ImagedNode, IsRestarted, arrived, context_read, images_with, keeping, new_node}
-use Rattle.node_images.specs.Follows.{Follows}
+use Rattle.node_images.specs.Follows.{FollowsHistory}
 use Rattle.world_core.specs.declared.answer.Accepted.{Accepted}
 use Rattle.world_core.specs.declared.answer.Answer.{Answer}
 use Rattle.world_core.specs.declared.event.Event.{Event}
@@ -401,7 +401,7 @@ fits_restart : (w : World) (is : IsWorld w) (n image : ℕ) → n < length w.nod
 fits_restart w is n image low there left =
     let old = node_at w n in
     let hs = is.told.history in
-    let f : Follows hs n (keeping old) = subst (Follows hs n) (sym (seen w.nodes n low)) (is.state.nodes n (keeping old) (kept_low w.nodes n low)) in
+    let f : FollowsHistory hs n (keeping old) = subst (FollowsHistory hs n) (sym (seen w.nodes n low)) (is.state.nodes n (keeping old) (kept_low w.nodes n low)) in
     let last : length old.images ≡ (past hs).last n = f.number ∙ same_numbers hs n in
     let life : old.state.incarnation ≡ (past hs).restarts n + 1 = f.life ∙ same_lives hs n in
     (omega (arith, there, last), omega (arith, left, life))

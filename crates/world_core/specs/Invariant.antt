@@ -13,7 +13,7 @@ use Rattle.past_objects.specs.Objects.{seen_object, sent_object}
 use Rattle.node_core.specs.Leaving.{carried_object}
 use Rattle.node_images.specs.Keeping.{Keeping}
 use Rattle.node_images.specs.Node.{ImagedNode, keeping}
-use Rattle.node_images.specs.Follows.{Follows}
+use Rattle.node_images.specs.Follows.{FollowsHistory}
 use Rattle.world_core.specs.declared.event.Event.{Event}
 use Rattle.world_core.specs.declared.event.Event.TheVariants.{Put, Deliver}
 use Rattle.world_core.specs.Events.{node_of_event}
@@ -46,7 +46,7 @@ IsTold hs frame (Some place) = IsSending hs frame place
 pub record IsState (ns : List Keeping) (contexts : List Reading) (sent : List Frame) (t : Told)
     : Type 0 where
   pub is_history : IsHistory t.history
-  pub nodes : (n : ℕ) (d : Keeping) → n < length ns → Follows t.history n (get_or ns n d)
+  pub nodes : (n : ℕ) (d : Keeping) → n < length ns → FollowsHistory t.history n (get_or ns n d)
   pub reads : Pairwise (IsRead t.history) t.looks contexts
   pub sendings : Pairwise (IsTold t.history) sent t.sendings
 

@@ -1,6 +1,6 @@
 use Rattle.std.proofs.Common.{length, sym, ap, ◌∙◌}
 use Rattle.node_core.specs.Node.{NodeParts}
-use Rattle.node_core.specs.Step.{counted}
+use Rattle.node_core.specs.Step.{with_counts}
 use Rattle.node_core.proofs.Arriving.{fresh_kept, merge_refused}
 use Rattle.node_core.proofs.state.NodeState.on_object.Goals as goal
 
@@ -14,4 +14,4 @@ returns-in_ok-change_quietly-in-Some-clause-step c =
     fresh_kept c.args.key.now c.args.came.now c.in-Some.object c.finish.new.self c.finish.result
     (c.store.ensures ∙ ap (λ (s : NodeParts). s.table) c.self.view_is) (sym c.in-Some.is ∙ c.in_ok-object.ensures.value)
     c.in_ok-object.ensures.no_refusal c.finish.ensures.value c.nothing_sent.ensures
-    (c.finish.ensures.counts ∙ ap (counted (length c.nothing_sent.result)) c.in_ok-change_quietly-in-Some.ensures.node)
+    (c.finish.ensures.counts ∙ ap (with_counts (length c.nothing_sent.result)) c.in_ok-change_quietly-in-Some.ensures.node)

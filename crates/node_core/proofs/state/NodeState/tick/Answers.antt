@@ -6,7 +6,7 @@ use Rattle.node_parts.specs.Origin.{after_tick, tick_sent}
 use Rattle.node_parts.specs.Outbox.{HasSpelling, count_on, frames_from}
 use Rattle.node_parts.specs.Overlay.{Overlay}
 use Rattle.node_core.specs.Node.{NodeParts, parts}
-use Rattle.node_core.specs.Draft.{Draft}
+use Rattle.node_core.specs.Draft.{NodeDraft}
 use Rattle.node_core.specs.Rows.{tick}
 use Rattle.node_core.specs.Step.{IsStepTo, begun}
 use Rattle.node_core.proofs.Viewing.{finished, ticked, ticked_of_node}
@@ -36,10 +36,10 @@ returns-clause-step c =
     cc (c.replace.ensures.after, c.in_ok-overlay-2.ensures.value.0, c.in_ok-overlay.ensures.overlay) in
     let is : next c.replace.new.dest now ≡ done.parts =
     ap (λ (o : Overlay). next o now) overlay ∙ ap (λ (ticks : ℕ). next (after_tick ticks word was.overlay) ticks) counted
-    ∙ ap (λ (t : Draft). t.parts) done_is in
+    ∙ ap (λ (t : NodeDraft). t.parts) done_is in
     let sent = c.in_ok-overlay.sent.items in
     let sent_is : sent ≡ done.sent =
-    c.in_ok-overlay.ensures.sent ∙ ap (λ (ticks : ℕ). tick_sent ticks word was.overlay) counted ∙ ap (λ (t : Draft). t.sent) done_is in
+    c.in_ok-overlay.ensures.sent ∙ ap (λ (ticks : ℕ). tick_sent ticks word was.overlay) counted ∙ ap (λ (t : NodeDraft). t.sent) done_is in
     let outbox = c.in_ok-overlay-2.outbox in
     let is_ok = c.in_ok-overlay-2.ensures.value.1 in
     let frames = IfOk-at_ok (λ (o : List (List ℕ)). o ≡ map spelling (frames_from s.node s.frames sent)) is_ok c.outbox.ensures.frames in
