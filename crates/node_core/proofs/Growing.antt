@@ -41,7 +41,7 @@ use Rattle.node_core.specs.Step.{IsNodeStep, IsStepOf, reply_of, reply_of_messag
 use Rattle.node_core.specs.Run.{IsRun}
 use Rattle.node_core.specs.Leaving.{LeavesHeld, carried_object, with_carried}
 use Rattle.node_core.specs.Growing.{CarriesUnder, ChangesUnder, Descends, HeldIsKept, IsKeyChanged, KeepsKeys, OnlyReadsHandOut, StepGrows, TellsOf, TellsWrite, context_of_write, newest}
-use Rattle.node_core.proofs.Leaves.{Leaves-on_message, each_step_leaves}
+use Rattle.node_core.proofs.Leaves.{Leaves-row_of_message, each_step_leaves}
 use Rattle.node_core.proofs.Outcomes.{one_input}
 
 -- ---- objects are lawful
@@ -244,7 +244,7 @@ taken_changes : (old new : NodeParts) (bytes : List ℕ) (word : ℕ) (s : Stepp
 taken_changes old new bytes word s (Local own) is step = absurd is
 taken_changes old new bytes word s (Received frame w) is step =
     let held : new.table ≡ with_carried (carried_object frame.message) old.table =
-    ap (λ (p : NodeParts). p.table) step.node ∙ (Leaves-on_message old frame.from w frame.message).held in
+    ap (λ (p : NodeParts). p.table) step.node ∙ (Leaves-row_of_message old frame.from w frame.message).held in
     subst (λ r. ChangesUnder (Take bytes word) r old.table new.table) (sym step.replies)
     (message_changes old new.table bytes word frame is.0 frame.message refl held)
 
