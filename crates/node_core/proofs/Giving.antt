@@ -24,7 +24,7 @@ use Rattle.hyparview.specs.declared.event.ViewOut.TheVariants as OfViews
 use Rattle.hyparview.specs.Draft as view
 use Rattle.hyparview.specs.Draft.{add_active, add_passive, drop_one, enter_active, enter_passive, forget_asked, is_known, is_self_or_active, leave_active, leave_passive, make_place, make_room, note_asked, remember_sent, send_each}
 use Rattle.hyparview.specs.Rows as of_views
-use Rattle.hyparview.specs.Rows.{ask, ask_another, end_walk, is_empty, is_walk_over, join_through, keep_midway, leave, make_room_from, member_to_replace, offer_to, on_disconnect, on_forward_join, on_join, on_neighbor_high, on_neighbor_low, on_no, on_peer_down, on_shuffle, on_shuffle_reply, on_yes, priority_of, shuffle, take_in, take_one, walks_on}
+use Rattle.hyparview.specs.Rows.{ask, ask_another, end_walk, is_empty, is_walk_over, join_through, keep_midway, leave, make_room_from, member_to_replace, offer_to, on_disconnect, on_forward_join, on_join, on_neighbor_high, on_neighbor_low, on_neighbor_reply_no, on_peer_down, on_shuffle, on_shuffle_reply, on_neighbor_reply_yes, priority_of, on_shuffle_due, take_in, take_one, walks_on}
 use Rattle.hyparview.specs.Views as views
 use Rattle.hyparview.specs.Views.{NodeViews, draft_after}
 use Rattle.plumtree.specs.declared.entry.Announcement.{Announcement}
@@ -163,9 +163,9 @@ Bare-on_peer_down word peer t h =
     (λ _. Bare-ask word alone (All-push IsBare t.out (OfViews.Down peer) h tt))
     (λ _. Bare-ask_another word peer left h)
 
-Bare-shuffle : (word : ℕ) (t : view.Draft) → Bare t → Bare (shuffle word t)
-unfolding shuffle
-Bare-shuffle word t h =
+Bare-on_shuffle_due : (word : ℕ) (t : view.Draft) → Bare t → Bare (on_shuffle_due word t)
+unfolding on_shuffle_due
+Bare-on_shuffle_due word t h =
     let to = choose word t.active in
     let offer = offer_to word to t in
     let m = Shuffle t.node 3 offer in
@@ -194,7 +194,7 @@ Bare-leave t h =
     (All-mapped IsBare (λ x. OfViews.Down x) (λ _. tt) t.active)
 
 Bare-on_message : (word from : ℕ) (m : Message) (t : view.Draft) → Bare t → Bare (of_views.on_message word from m t)
-unfolding on_yes on_no on_shuffle_reply
+unfolding on_neighbor_reply_yes on_neighbor_reply_no on_shuffle_reply
 Bare-on_message word from Join t h = Bare-on_join word from t h
 Bare-on_message word from (ForwardJoin x ttl) t h = Bare-on_forward_join word from x ttl t h
 Bare-on_message word from Disconnect t h = Bare-on_disconnect word from t h
@@ -211,7 +211,7 @@ Bare-row : (word : ℕ) (e : ViewEvent) (t : view.Draft) → Bare t → Bare (of
 Bare-row word (JoinThrough contact) t h = Bare-join_through word contact t h
 Bare-row word (Taken from message) t h = Bare-on_message word from message t h
 Bare-row word (PeerDown peer) t h = Bare-on_peer_down word peer t h
-Bare-row word ShuffleDue t h = Bare-shuffle word t h
+Bare-row word ShuffleDue t h = Bare-on_shuffle_due word t h
 Bare-row word Leave t h = Bare-leave t h
 
 -- ---- what is held, in this table
