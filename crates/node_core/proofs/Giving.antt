@@ -34,7 +34,7 @@ use Rattle.plumtree.specs.declared.entry.CastOut.TheVariants as OfCast
 use Rattle.plumtree.specs.Missing.{MissingObject}
 use Rattle.plumtree.specs.Draft as cast
 use Rattle.plumtree.specs.Rows.{ask_first, down, ihave_of, keep, next_round, none_missing, noted, on_broadcast, on_change, on_fresh, on_graft, on_ihave, on_prune, on_stale, on_tick, send_announcements, tick_each, tick_one, up}
-use Rattle.plumtree.specs.Broadcast.{Broadcast, CastCall, Up, Down, Broadcasts, TakesGossip, TakesPrune, TakesIHave, TakesGraft, Changes, Tick, draft_of, row}
+use Rattle.plumtree.specs.Broadcast.{Broadcast, CastCall, Up, Down, Broadcasts, TakesFresh, TakesStale, TakesPrune, TakesIHave, TakesGraft, Changes, Tick, draft_of, row}
 use Rattle.node_parts.specs.declared.envelope.Envelope.{Envelope}
 use Rattle.node_parts.specs.Overlay.{envelope, messages_of}
 use Rattle.node_core.specs.Draft.{envelope_of}
@@ -286,9 +286,9 @@ module _ (table : Table) where
       cond_both (has t.eager x || has t.lazy x) t (record t { eager = put_last x t.eager }) Gives (λ _. h) (λ _. h)
   Gives-row (Down x) t h = h
   Gives-row (Broadcasts key vector) t h = Gives-gossip_to t.eager 0 key t h
-  Gives-row (TakesGossip from round key vector true) t h =
+  Gives-row (TakesFresh from round key vector) t h =
       Gives-gossip_to (without_all (from ∷ []) t.eager) (next_round round) key t h
-  Gives-row (TakesGossip from round key vector false) t h = Gives-send from Prune (cast.becomes_lazy from t) refl h
+  Gives-row (TakesStale from) t h = Gives-send from Prune (cast.becomes_lazy from t) refl h
   Gives-row (TakesPrune from) t h = h
   Gives-row (TakesIHave from round key vector stale) t h =
       cond_both stale t (record t { missing = noted from round key vector t.missing }) Gives (λ _. h) (λ _. h)

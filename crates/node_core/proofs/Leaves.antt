@@ -107,7 +107,7 @@ module _ (s : NodeParts) where
   Leaves-on_gossip from round key came =
       let merged = merge key came (begun s) in
       Leaves-call (table_after_merge s.table key came)
-      (calls.TakesGossip from round key (vector_under key merged.parts) (is_fresh key came s)) merged (Leaves-merge key came)
+      (calls.gossip_call from round key (vector_under key merged.parts) (is_fresh key came s)) merged (Leaves-merge key came)
 
   Leaves-on_hello : (from life word : ℕ) → Leaves s s.table (on_hello from life word (begun s))
   Leaves-on_hello from life word =

@@ -13,7 +13,7 @@ use Rattle.plumtree.specs.Broadcast.{CastCall, Changes, Broadcasts}
 use Rattle.subscriptions.specs.declared.change.Change.{Change}
 use Rattle.subscriptions.specs.Watching.{with_change}
 use Rattle.node_core.specs.Node.{NodeParts, vector_under, with_overlay}
-use Rattle.node_parts.specs.Overlay.{after_view, envelope, out_of, sent_by_view, told}
+use Rattle.node_parts.specs.Overlay.{overlay_after_view, envelope, out_of, sent_by_view, overlay_after_call}
 use Rattle.node_parts.specs.declared.envelope.Envelope.{Envelope}
 
 pub record Draft : Type 0 where
@@ -44,7 +44,7 @@ envelope_of table (OfCast.Send to message) = envelope to message
 abbrev pub call_broadcast : CastCall → Draft → Draft
 call_broadcast call t =
     record t {
-      parts = with_overlay (told call t.parts.overlay) t.parts;
+      parts = with_overlay (overlay_after_call call t.parts.overlay) t.parts;
       sent = t.sent ++ map (envelope_of t.parts.table) (out_of call t.parts.overlay);
     }
 
@@ -53,7 +53,7 @@ call_broadcast call t =
 abbrev pub step_views : ViewEvent → ℕ → Draft → Draft
 step_views event word t =
     record t {
-      parts = with_overlay (after_view event word t.parts.overlay) t.parts;
+      parts = with_overlay (overlay_after_view event word t.parts.overlay) t.parts;
       sent = t.sent ++ sent_by_view event word t.parts.overlay;
     }
 

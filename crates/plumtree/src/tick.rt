@@ -10,6 +10,9 @@ use meta_types::NodeId;
 use std::alloc::{AllocError, Global};
 use std::marker::Model;
 
+/// How many ticks an announcer that was asked for an object has, before the next is asked.
+const ASKED_PATIENCE: u8 = 1;
+
 /// The broadcast in the midst of a tick, whose announcements have gone out. A tick that fails drops
 /// it.
 #[derive(Drop)]
@@ -73,7 +76,7 @@ impl Draft {
             [] => Ok(()),
             [first, others @ ..] => {
                 self.graft(object, *first)?;
-                self.keep(object, others, 1)
+                self.keep(object, others, ASKED_PATIENCE)
             }
         }
     }
