@@ -15,8 +15,9 @@ use Rattle.hyparview.specs.declared.event.ViewOut.{ViewOut}
 use Rattle.hyparview.specs.declared.event.ViewOut.TheVariants.{Send, Up, Down}
 use Rattle.peer_lists.specs.Lists.{has, without, put_last, without_all, choose, pick}
 use Rattle.peer_lists.proofs.Members.{has-without, without-lacks, length-without, length-without_one, has-put_last, length-put_last, has-choose, nat_eq-swap, IsDistinct-put_last, IsDistinct-without, has-without_same, member≢, members≢, not_in_without_all}
+use Rattle.hyparview.specs.Limits.{active_random_walk_length, active_view_size, passive_view_size}
 use Rattle.hyparview.specs.Draft.{Draft, send, send_each, make_room, make_place, drop_one, enter_active, leave_active, leave_passive, enter_passive, is_self_or_active, is_known, add_active, add_passive, note_asked, forget_asked, remember_sent}
-use Rattle.hyparview.specs.Rows.{member_to_replace, make_room_from, take_one, take_in, ask, ask_another, priority_of, join_through, on_join, end_walk, keep_midway, on_forward_join, on_disconnect, on_neighbor_high, on_neighbor_low, on_yes, on_no, on_peer_down, shuffle, offer_to, on_shuffle, on_shuffle_reply, leave, on_message, row, is_empty, is_walk_over, walks_on}
+use Rattle.hyparview.specs.Rows.{member_to_replace, make_room_from, take_one, take_in, ask, ask_another, priority_of, join_through, on_join, end_walk, keep_midway, on_forward_join, on_disconnect, on_neighbor_high, on_neighbor_low, on_neighbor_reply_yes, on_neighbor_reply_no, on_peer_down, on_shuffle_due, offer_to, on_shuffle, on_shuffle_reply, leave, on_message, row, is_empty, is_walk_over, walks_on}
 use Rattle.hyparview.specs.Views.{NodeViews, draft_of, draft_after, views_of, empty}
 use Rattle.hyparview.specs.Lawful.{AreLawful, EachStepTellsItAll, views_after, StayLawful, Follows, IsOfAnother, IsToAnother, GoToOthers, IsOfViews, SendsOfViews}
 use Rattle.hyparview.proofs.Following.{Follows-append, Follows-sends, Follows-downs, choose≢}
@@ -51,7 +52,7 @@ module _ (node : ℕ) where
         disjoint = λ x e. without-lacks d x P (h.disjoint x e);
       }
 
-  AreLawful-enter_passive : (d : ℕ) (A P : List ℕ) → AreLawful node A P → nat_eq d node ≡ false → has A d ≡ false → length P < 8 → AreLawful node A (put_last d P)
+  AreLawful-enter_passive : (d : ℕ) (A P : List ℕ) → AreLawful node A P → nat_eq d node ≡ false → has A d ≡ false → length P < passive_view_size → AreLawful node A (put_last d P)
   AreLawful-enter_passive d A P h other absent room =
       record {
         few_active = h.few_active;
@@ -66,7 +67,7 @@ module _ (node : ℕ) where
             (cases_Bool (nat_eq x d));
       }
 
-  AreLawful-enter_active : (d : ℕ) (A P : List ℕ) → AreLawful node A P → nat_eq d node ≡ false → has P d ≡ false → length A < 4 → AreLawful node (put_last d A) P
+  AreLawful-enter_active : (d : ℕ) (A P : List ℕ) → AreLawful node A P → nat_eq d node ≡ false → has P d ≡ false → length A < active_view_size → AreLawful node (put_last d A) P
   AreLawful-enter_active d A P h other absent room =
       record {
         few_active = omega (arith, length-put_last d A);
@@ -149,7 +150,7 @@ module _ (node : ℕ) where
           of_views = h.of_views;
         }
 
-    Stands-enter_passive : (d : ℕ) (t : Draft) → Stands t → nat_eq d node ≡ false → has t.active d ≡ false → length t.passive < 8 → Stands (enter_passive d t)
+    Stands-enter_passive : (d : ℕ) (t : Draft) → Stands t → nat_eq d node ≡ false → has t.active d ≡ false → length t.passive < passive_view_size → Stands (enter_passive d t)
     Stands-enter_passive d t h other absent room =
         record {
           same = h.same;
@@ -159,7 +160,7 @@ module _ (node : ℕ) where
           of_views = h.of_views;
         }
 
-    Stands-enter_active : (d : ℕ) (t : Draft) → Stands t → nat_eq d node ≡ false → has t.active d ≡ false → has t.passive d ≡ false → length t.active < 4 → Stands (enter_active d t)
+    Stands-enter_active : (d : ℕ) (t : Draft) → Stands t → nat_eq d node ≡ false → has t.active d ≡ false → has t.passive d ≡ false → length t.active < active_view_size → Stands (enter_active d t)
     Stands-enter_active d t h other inactive absent room =
         let last : put_last d t.active ≡ t.active ++ d ∷ [] = ap (λ b. cond b t.active (t.active ++ d ∷ [])) inactive in
         record {
@@ -181,21 +182,21 @@ module _ (node : ℕ) where
 
     -- ---- AddPassive
 
-    room_without : (d : ℕ) (P : List ℕ) → length P ≤ 8 → has P d ≡ true → length (without d P) < 8
+    room_without : (d : ℕ) (P : List ℕ) → length P ≤ passive_view_size → has P d ≡ true → length (without d P) < passive_view_size
     room_without d P few there = omega (arith, length-without_one d P there)
 
     -- x goes in where there is room, or where the member d gave its place
-    Stands-goes_in : (x d : ℕ) (t : Draft) → Stands t → is_known x t ≡ false → (nat_lt (length t.passive) 8 ≡ false → has t.passive d ≡ true)
-        → Stands (enter_passive x (cond (nat_lt (length t.passive) 8) t (leave_passive d t)))
+    Stands-goes_in : (x d : ℕ) (t : Draft) → Stands t → is_known x t ≡ false → (nat_lt (length t.passive) passive_view_size ≡ false → has t.passive d ≡ true)
+        → Stands (enter_passive x (cond (nat_lt (length t.passive) passive_view_size) t (leave_passive d t)))
     Stands-goes_in x d t h unknown there =
         let parts = or_parts (is_self_or_active x t) (has t.passive x) unknown in
         let apart = other_and_inactive x t h parts.0 in
-        cond_both (nat_lt (length t.passive) 8) t (leave_passive d t) (λ (u : Draft). Stands (enter_passive x u))
-        (λ room. Stands-enter_passive x t h apart.0 apart.1 (ltb-true (length t.passive) 8 room))
+        cond_both (nat_lt (length t.passive) passive_view_size) t (leave_passive d t) (λ (u : Draft). Stands (enter_passive x u))
+        (λ room. Stands-enter_passive x t h apart.0 apart.1 (ltb-true (length t.passive) passive_view_size room))
         (λ full. Stands-enter_passive x (leave_passive d t) (Stands-leave_passive d t h) apart.0 apart.1 (room_without d t.passive h.lawful.few_passive (there full)))
 
-    full_has_chosen : (word : ℕ) (P : List ℕ) → nat_lt (length P) 8 ≡ false → has P (choose word P) ≡ true
-    full_has_chosen word P full = has-choose word P (let low : 8 ≤ length P = ltb-false (length P) 8 full in omega arith)
+    full_has_chosen : (word : ℕ) (P : List ℕ) → nat_lt (length P) passive_view_size ≡ false → has P (choose word P) ≡ true
+    full_has_chosen word P full = has-choose word P (let low : passive_view_size ≤ length P = ltb-false (length P) passive_view_size full in omega arith)
 
     Stands-add_passive : (word x : ℕ) (t : Draft) → Stands t → Stands (add_passive word x t)
     unfolding add_passive
@@ -208,13 +209,13 @@ module _ (node : ℕ) where
     unfolding add_passive
     add_passive-active word x t =
         cond_both (is_known x t) t (enter_passive x (make_room word t)) (λ (u : Draft). u.active ≡ t.active) (λ _. refl)
-        (λ _. cond_both (nat_lt (length t.passive) 8) t (leave_passive (choose word t.passive) t) (λ (u : Draft). u.active ≡ t.active) (λ _. refl) (λ _. refl))
+        (λ _. cond_both (nat_lt (length t.passive) passive_view_size) t (leave_passive (choose word t.passive) t) (λ (u : Draft). u.active ≡ t.active) (λ _. refl) (λ _. refl))
 
     add_passive-lacks : (word x d : ℕ) (t : Draft) → nat_eq x d ≡ false → has t.passive x ≡ false → has (add_passive word d t).passive x ≡ false
     unfolding add_passive
     add_passive-lacks word x d t differs absent =
         cond_both (is_known d t) t (enter_passive d (make_room word t)) (λ (u : Draft). has u.passive x ≡ false) (λ _. absent)
-        (λ _. cond_both (nat_lt (length t.passive) 8) t (leave_passive (choose word t.passive) t) (λ (u : Draft). has (put_last d u.passive) x ≡ false)
+        (λ _. cond_both (nat_lt (length t.passive) passive_view_size) t (leave_passive (choose word t.passive) t) (λ (u : Draft). has (put_last d u.passive) x ≡ false)
         (λ _. has-put_last d x t.passive differs ∙ absent)
         (λ _. has-put_last d x (without (choose word t.passive) t.passive) differs ∙ without-lacks (choose word t.passive) x t.passive absent))
 
@@ -223,7 +224,7 @@ module _ (node : ℕ) where
     -- x may become a neighbour
     pub record MayEnter (x : ℕ) (t : Draft) : Type 0 where
       pub stands : Stands t
-      pub room : length t.active < 4
+      pub room : length t.active < active_view_size
       pub inactive : has t.active x ≡ false
       pub absent : has t.passive x ≡ false
 
@@ -233,17 +234,17 @@ module _ (node : ℕ) where
         let d = choose word t.active in
         let told = send d Disconnect t in
         let left = leave_active d told in
-        cond_both (nat_lt (length t.active) 4) t (add_passive word d left) (MayEnter x)
-        (λ room. record { stands = h; room = ltb-true (length t.active) 4 room; inactive = inactive; absent = absent })
+        cond_both (nat_lt (length t.active) active_view_size) t (add_passive word d left) (MayEnter x)
+        (λ room. record { stands = h; room = ltb-true (length t.active) active_view_size room; inactive = inactive; absent = absent })
         (λ full.
-        let low : 4 ≤ length t.active = ltb-false (length t.active) 4 full in
+        let low : active_view_size ≤ length t.active = ltb-false (length t.active) active_view_size full in
         let there : has t.active d ≡ true = has-choose word t.active (omega arith) in
         let differs : nat_eq x d ≡ false =
         ⊎_elim (λ same. absurd (true≢false (sym there ∙ ap (has t.active) (sym (eqb-true x d same)) ∙ inactive))) (λ (e : nat_eq x d ≡ false). e) (cases_Bool (nat_eq x d)) in
         let shorter : length (without d t.active) + 1 ≡ length t.active = length-without_one d t.active there in
         let kept : (add_passive word d left).active ≡ without d t.active = add_passive-active word d left in
         let same : length (add_passive word d left).active ≡ length (without d t.active) = ap length kept in
-        let few : length t.active ≤ 4 = h.lawful.few_active in
+        let few : length t.active ≤ active_view_size = h.lawful.few_active in
         let other : d ≢ node = member≢ node d t.active there h.lawful.not_itself_active in
         record {
           stands = Stands-add_passive word d left (Stands-leave_active d told there (Stands-send d Disconnect t (λ _. other) tt h));
@@ -265,7 +266,7 @@ module _ (node : ℕ) where
 
     -- ---- TakeIn
 
-    has-member_to_replace : (word : ℕ) (gone P : List ℕ) → nat_lt (length P) 8 ≡ false → has P (member_to_replace word gone P) ≡ true
+    has-member_to_replace : (word : ℕ) (gone P : List ℕ) → nat_lt (length P) passive_view_size ≡ false → has P (member_to_replace word gone P) ≡ true
     unfolding member_to_replace
     has-member_to_replace word [] P full = full_has_chosen word P full
     has-member_to_replace word (g ∷ gs) P full =
@@ -292,10 +293,10 @@ module _ (node : ℕ) where
         let unasked = without_all t.asked t.passive in
         let q = choose word unasked in
         let m = Neighbor (priority_of t.active) in
-        cond_both (is_empty unasked || nat_le 4 (length t.active)) (forget_asked t) (send q m (note_asked q t)) Stands
+        cond_both (is_empty unasked || nat_le active_view_size (length t.active)) (forget_asked t) (send q m (note_asked q t)) Stands
         (λ _. h)
         (λ goes.
-        let some = (or_parts (is_empty unasked) (nat_le 4 (length t.active)) goes).0 in
+        let some = (or_parts (is_empty unasked) (nat_le active_view_size (length t.active)) goes).0 in
         Stands-send q m (note_asked q t) (λ _. choose≢ node word unasked some (not_in_without_all node t.asked t.passive h.lawful.not_itself_passive)) tt h)
 
     Stands-ask_another : (word from : ℕ) (t : Draft) → Stands t → Stands (ask_another word from t)
@@ -310,7 +311,7 @@ module _ (node : ℕ) where
     Stands-on_join word from t h =
         let added = Stands-add_active word from t h in
         let u = add_active word from t in
-        Stands-send_each (without_all (from ∷ []) u.active) (ForwardJoin from 4) u
+        Stands-send_each (without_all (from ∷ []) u.active) (ForwardJoin from active_random_walk_length) u
         (members≢ node (without_all (from ∷ []) u.active) (not_in_without_all node (from ∷ []) u.active added.lawful.not_itself_active)) tt added
 
     Stands-end_walk : (word x : ℕ) (t : Draft) → Stands t → Stands (end_walk word x t)
@@ -352,16 +353,16 @@ module _ (node : ℕ) where
     Stands-on_neighbor_low : (word from : ℕ) (t : Draft) → (Q → from ≢ node) → Stands t → Stands (on_neighbor_low word from t)
     unfolding on_neighbor_low
     Stands-on_neighbor_low word from t other h =
-        cond_both (has t.active from || nat_lt (length t.active) 4) (on_neighbor_high word from t) (send from (NeighborReply No) t) Stands
+        cond_both (has t.active from || nat_lt (length t.active) active_view_size) (on_neighbor_high word from t) (send from (NeighborReply No) t) Stands
         (λ _. Stands-on_neighbor_high word from t other h) (λ _. Stands-send from (NeighborReply No) t other tt h)
 
-    Stands-on_yes : (word from : ℕ) (t : Draft) → Stands t → Stands (on_yes word from t)
-    unfolding on_yes
-    Stands-on_yes word from t h = Stands-add_active word from t h
+    Stands-on_neighbor_reply_yes : (word from : ℕ) (t : Draft) → Stands t → Stands (on_neighbor_reply_yes word from t)
+    unfolding on_neighbor_reply_yes
+    Stands-on_neighbor_reply_yes word from t h = Stands-add_active word from t h
 
-    Stands-on_no : (word from : ℕ) (t : Draft) → Stands t → Stands (on_no word from t)
-    unfolding on_no
-    Stands-on_no word from t h = Stands-ask_another word from t h
+    Stands-on_neighbor_reply_no : (word from : ℕ) (t : Draft) → Stands t → Stands (on_neighbor_reply_no word from t)
+    unfolding on_neighbor_reply_no
+    Stands-on_neighbor_reply_no word from t h = Stands-ask_another word from t h
 
     Stands-on_peer_down : (word peer : ℕ) (t : Draft) → Stands t → Stands (on_peer_down word peer t)
     unfolding on_peer_down
@@ -372,9 +373,9 @@ module _ (node : ℕ) where
         (λ there. Stands-ask word alone (Stands-leave_active peer t there h))
         (λ _. Stands-ask_another word peer left (Stands-leave_passive peer t h))
 
-    Stands-shuffle : (word : ℕ) (t : Draft) → Stands t → Stands (shuffle word t)
-    unfolding shuffle
-    Stands-shuffle word t h =
+    Stands-on_shuffle_due : (word : ℕ) (t : Draft) → Stands t → Stands (on_shuffle_due word t)
+    unfolding on_shuffle_due
+    Stands-on_shuffle_due word t h =
         let to = choose word t.active in
         let offer = offer_to word to t in
         let m = Shuffle t.node 3 offer in
@@ -424,8 +425,8 @@ module _ (node : ℕ) where
     Stands-on_message word from Disconnect t other h = Stands-on_disconnect word from t h
     Stands-on_message word from (Neighbor High) t other h = Stands-on_neighbor_high word from t other h
     Stands-on_message word from (Neighbor Low) t other h = Stands-on_neighbor_low word from t other h
-    Stands-on_message word from (NeighborReply Yes) t other h = Stands-on_yes word from t h
-    Stands-on_message word from (NeighborReply No) t other h = Stands-on_no word from t h
+    Stands-on_message word from (NeighborReply Yes) t other h = Stands-on_neighbor_reply_yes word from t h
+    Stands-on_message word from (NeighborReply No) t other h = Stands-on_neighbor_reply_no word from t h
     Stands-on_message word from (Shuffle origin ttl nodes) t other h = Stands-on_shuffle word from origin ttl nodes t h
     Stands-on_message word from (ShuffleReply nodes) t other h = Stands-on_shuffle_reply word nodes t h
     Stands-on_message word from Bye t other h = Stands-on_peer_down word from t h
@@ -435,7 +436,7 @@ module _ (node : ℕ) where
     Stands-row word (JoinThrough contact) t other h = Stands-join_through word contact t other h
     Stands-row word (Taken from message) t other h = Stands-on_message word from message t other h
     Stands-row word (PeerDown peer) t other h = Stands-on_peer_down word peer t h
-    Stands-row word ShuffleDue t other h = Stands-shuffle word t h
+    Stands-row word ShuffleDue t other h = Stands-on_shuffle_due word t h
     Stands-row word Leave t other h = Stands-leave t h
 
 -- a step of lawful views

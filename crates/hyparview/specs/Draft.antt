@@ -1,11 +1,13 @@
 -- The views in the midst of a step, with what the step has given out so far, and the small steps
 -- that the rows of the table are made of. In each a word is the random number of the whole step.
 use Rattle.std.specs.Prelude.{ℕ, Bool, ◌||◌, List, [], ◌∷◌, ◌++◌, length, map, nat_eq, nat_lt, if◌then◌else◌}
+use Rattle.meta_types.specs.Chain.{◌▷◌}
 use Rattle.meta_frame.specs.declared.message.Message.{Message}
 use Rattle.meta_frame.specs.declared.message.Message.TheVariants.{Disconnect}
 use Rattle.hyparview.specs.declared.event.ViewOut.{ViewOut}
 use Rattle.hyparview.specs.declared.event.ViewOut.TheVariants.{Send, Up, Down}
 use Rattle.peer_lists.specs.Lists.{has, without, put_last, choose}
+use Rattle.hyparview.specs.Limits.{active_view_size, passive_view_size}
 
 -- the node, its active and its passive view, whom it asked for a place in the present search for a
 -- neighbour, what its last shuffle offered until it was replied to, and what the step has given out
@@ -16,11 +18,6 @@ pub record Draft : Type 0 where
   pub asked : List ℕ
   pub sent : List ℕ
   pub out : List ViewOut
-
-infixl 5 ◌▷◌
--- and then
-abbrev pub ◌▷◌ : Draft → (Draft → Draft) → Draft
-t ▷ f = f t
 
 -- ---- what is given out goes last
 
@@ -76,10 +73,12 @@ is_self_or_active x t = nat_eq x t.node || has t.active x
 abbrev pub is_known : ℕ → Draft → Bool
 is_known x t = is_self_or_active x t || has t.passive x
 
--- a full passive view of 8 loses a random member
+-- a full passive view loses a random member
 abbrev pub make_room : ℕ → Draft → Draft
 make_room word t =
-    if nat_lt (length t.passive) 8 then t else (t ▷ leave_passive (choose word t.passive))
+    if nat_lt (length t.passive) passive_view_size
+    then t
+    else (t ▷ leave_passive (choose word t.passive))
 
 unfoldable pub add_passive : ℕ → ℕ → Draft → Draft
 add_passive word x t = if is_known x t then t else (t ▷ make_room word ▷ enter_passive x)
@@ -90,9 +89,10 @@ drop_one word t =
     let d = choose word t.active in
     t ▷ send d Disconnect ▷ leave_active d ▷ add_passive word d
 
--- a full active view of 4 drops one
+-- a full active view drops one
 unfoldable pub make_place : ℕ → Draft → Draft
-make_place word t = if nat_lt (length t.active) 4 then t else drop_one word t
+make_place word t =
+    if nat_lt (length t.active) active_view_size then t else drop_one word t
 
 unfoldable pub add_active : ℕ → ℕ → Draft → Draft
 add_active word x t =

@@ -8,12 +8,13 @@ use Rattle.hyparview.specs.declared.event.ViewEvent.TheVariants.{JoinThrough, Ta
 use Rattle.hyparview.specs.declared.event.ViewOut.{ViewOut}
 use Rattle.hyparview.specs.declared.event.ViewOut.TheVariants.{Send, Up, Down}
 use Rattle.peer_lists.specs.Lists.{has, without}
+use Rattle.hyparview.specs.Limits.{active_view_size, passive_view_size}
 use Rattle.hyparview.specs.Views.{IsStep, NodeViews, draft_after, empty, views_of}
 
 -- few members, each once, none in both views, and never the node itself
 pub record AreLawful (node : ℕ) (active passive : List ℕ) : Type 0 where
-  pub few_active : length active ≤ 4
-  pub few_passive : length passive ≤ 8
+  pub few_active : length active ≤ active_view_size
+  pub few_passive : length passive ≤ passive_view_size
   pub active_once : IsDistinct nat_eq active
   pub passive_once : IsDistinct nat_eq passive
   pub not_itself_active : has active node ≡ false

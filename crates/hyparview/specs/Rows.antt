@@ -1,6 +1,6 @@
 -- The table of the views: what each event does, one definition for each row, in the table's order,
 -- after the words TakeIn and Ask.
--- The rules are those of HyParView, with fixed sizes of the views and lengths of the walks.
+-- The rules are those of HyParView, with the numbers of `Limits`.
 use Rattle.std.specs.Prelude.{ℕ, ◌-◌, Bool, not, ◌||◌, ◌&&◌, List, [], ◌∷◌, ◌++◌, length, nat_eq, nat_lt, nat_le, if◌then◌else◌}
 use Rattle.std.specs.Option.{unwrap_or}
 use Rattle.std.specs.List.{find}
@@ -12,7 +12,9 @@ use Rattle.meta_frame.specs.declared.message.Message.TheVariants.{Join, ForwardJ
 use Rattle.hyparview.specs.declared.event.ViewEvent.{ViewEvent}
 use Rattle.hyparview.specs.declared.event.ViewEvent.TheVariants.{JoinThrough, Taken, PeerDown, ShuffleDue, Leave}
 use Rattle.peer_lists.specs.Lists.{has, without_all, choose, pick}
-use Rattle.hyparview.specs.Draft.{Draft, ◌▷◌, send, send_each, remember_sent, forget_asked, forget_passive, note_asked, enter_passive, leave_active, all_leave_active, leave_passive, is_self_or_active, is_known, add_active, add_passive}
+use Rattle.hyparview.specs.Limits.{active_view_size, passive_view_size, active_random_walk_length, passive_random_walk_length, shuffle_ttl, shuffle_active_count, shuffle_passive_count}
+use Rattle.hyparview.specs.Draft.{Draft, send, send_each, remember_sent, forget_asked, forget_passive, note_asked, enter_passive, leave_active, all_leave_active, leave_passive, is_self_or_active, is_known, add_active, add_passive}
+use Rattle.meta_types.specs.Chain.{◌▷◌}
 
 abbrev pub is_empty : List ℕ → Bool
 is_empty xs = nat_eq (length xs) 0
@@ -25,7 +27,7 @@ member_to_replace word given passive = unwrap_or (find (has passive) given) (cho
 
 abbrev pub make_room_from : ℕ → List ℕ → Draft → Draft
 make_room_from word given t =
-    if nat_lt (length t.passive) 8
+    if nat_lt (length t.passive) passive_view_size
     then t
     else (t ▷ leave_passive (member_to_replace word given t.passive))
 
@@ -48,7 +50,7 @@ unfoldable pub ask : ℕ → Draft → Draft
 ask word t =
     let unasked = without_all t.asked t.passive in
     let q = choose word unasked in
-    if is_empty unasked || nat_le 4 (length t.active)
+    if is_empty unasked || nat_le active_view_size (length t.active)
     then forget_asked t
     else (t ▷ note_asked q ▷ send q (Neighbor (priority_of t.active)))
 
@@ -63,12 +65,13 @@ join_through word contact t = t ▷ add_active word contact ▷ send contact Joi
 -- ---- JOIN: the other neighbours hear of it
 
 abbrev pub announce : ℕ → Draft → Draft
-announce x t = send_each (without_all (x ∷ []) t.active) (ForwardJoin x 4) t
+announce x t =
+    send_each (without_all (x ∷ []) t.active) (ForwardJoin x active_random_walk_length) t
 
 unfoldable pub on_join : ℕ → ℕ → Draft → Draft
 on_join word from t = t ▷ add_active word from ▷ announce from
 
--- ---- FORWARDJOIN: a join walks on to a random neighbour, and two steps before its end the node
+-- ---- FORWARDJOIN: a join walks on to a random neighbour, and some steps before its end the node
 -- that joined is kept in reserve; at its end it becomes a neighbour
 
 -- the walk ends here: `others` are the neighbours to whom it could go on
@@ -80,7 +83,8 @@ end_walk word x t =
     if is_self_or_active x t then t else (t ▷ add_active word x ▷ send x (Neighbor High))
 
 unfoldable pub keep_midway : ℕ → ℕ → ℕ → Draft → Draft
-keep_midway word x ttl t = if nat_eq ttl 2 then add_passive word x t else t
+keep_midway word x ttl t =
+    if nat_eq ttl passive_random_walk_length then add_passive word x t else t
 
 unfoldable pub on_forward_join : ℕ → ℕ → ℕ → ℕ → Draft → Draft
 on_forward_join word from x ttl t =
@@ -104,19 +108,19 @@ on_neighbor_high word from t = t ▷ add_active word from ▷ send from (Neighbo
 
 unfoldable pub on_neighbor_low : ℕ → ℕ → Draft → Draft
 on_neighbor_low word from t =
-    if has t.active from || nat_lt (length t.active) 4
+    if has t.active from || nat_lt (length t.active) active_view_size
     then on_neighbor_high word from t
     else send from (NeighborReply No) t
 
 -- ---- NEIGHBORREPLY yes, which counts from anybody
 
-unfoldable pub on_yes : ℕ → ℕ → Draft → Draft
-on_yes word from t = t ▷ add_active word from ▷ forget_asked
+unfoldable pub on_neighbor_reply_yes : ℕ → ℕ → Draft → Draft
+on_neighbor_reply_yes word from t = t ▷ add_active word from ▷ forget_asked
 
 -- ---- NEIGHBORREPLY no, which counts only from a node that was asked
 
-unfoldable pub on_no : ℕ → ℕ → Draft → Draft
-on_no word from t = ask_another word from t
+unfoldable pub on_neighbor_reply_no : ℕ → ℕ → Draft → Draft
+on_neighbor_reply_no word from t = ask_another word from t
 
 -- ---- a peer is down, or says BYE
 
@@ -129,14 +133,16 @@ on_peer_down word peer t =
 -- ---- a shuffle is due: some members of both views go to a random neighbour
 
 abbrev pub offer_to : ℕ → ℕ → Draft → List ℕ
-offer_to word to t = pick word 2 (without_all (to ∷ []) t.active) ++ pick word 3 t.passive
+offer_to word to t =
+    pick word shuffle_active_count (without_all (to ∷ []) t.active)
+    ++ pick word shuffle_passive_count t.passive
 
-unfoldable pub shuffle : ℕ → Draft → Draft
-shuffle word t =
+unfoldable pub on_shuffle_due : ℕ → Draft → Draft
+on_shuffle_due word t =
     let to = choose word t.active in
     let offer = offer_to word to t in
     if is_empty t.active then t
-    else (t ▷ remember_sent offer ▷ send to (Shuffle t.node 3 offer))
+    else (t ▷ remember_sent offer ▷ send to (Shuffle t.node shuffle_ttl offer))
 
 -- ---- SHUFFLE: it walks on to a random neighbour; at its end the origin is answered as many
 -- members of the passive view, and what the shuffle brought is taken in for them
@@ -174,8 +180,8 @@ on_message word from (ForwardJoin x ttl) = on_forward_join word from x ttl
 on_message word from Disconnect = on_disconnect word from
 on_message word from (Neighbor High) = on_neighbor_high word from
 on_message word from (Neighbor Low) = on_neighbor_low word from
-on_message word from (NeighborReply Yes) = on_yes word from
-on_message word from (NeighborReply No) = on_no word from
+on_message word from (NeighborReply Yes) = on_neighbor_reply_yes word from
+on_message word from (NeighborReply No) = on_neighbor_reply_no word from
 on_message word from (Shuffle origin ttl nodes) = on_shuffle word from origin ttl nodes
 on_message word from (ShuffleReply nodes) = on_shuffle_reply word nodes
 on_message word from Bye = on_peer_down word from
@@ -185,5 +191,5 @@ abbrev pub row : ℕ → ViewEvent → Draft → Draft
 row word (JoinThrough contact) = join_through word contact
 row word (Taken from message) = on_message word from message
 row word (PeerDown peer) = on_peer_down word peer
-row word ShuffleDue = shuffle word
+row word ShuffleDue = on_shuffle_due word
 row word Leave = leave

@@ -13,10 +13,10 @@ use std::alloc::{AllocError, Global};
 use std::marker::Model;
 
 /// The most members of the active view.
-pub const MAX_ACTIVE: usize = 4;
+pub const ACTIVE_VIEW_SIZE: usize = 4;
 
 /// The most members of the passive view.
-pub const MAX_PASSIVE: usize = 8;
+pub const PASSIVE_VIEW_SIZE: usize = 8;
 
 /// The views in the midst of a step, with what the step has given out. A step that fails drops it.
 #[derive(Drop)]
@@ -84,7 +84,7 @@ impl Draft {
     fn make_room(&mut self, word: u64)
         ensures { self.new ≡ make_room word self.old }
     {
-        if self.passive.len() >= MAX_PASSIVE {
+        if self.passive.len() >= PASSIVE_VIEW_SIZE {
             let leaving = choose(word, self.passive.as_slice());
             self.passive.shift_remove(&leaving);
         }
@@ -119,7 +119,7 @@ impl Draft {
     fn make_place(&mut self, word: u64) -> Result<(), AllocError>
         ensures { OnOk result (self.new ≡ make_place word self.old) }
     {
-        if self.active.len() >= MAX_ACTIVE {
+        if self.active.len() >= ACTIVE_VIEW_SIZE {
             self.drop_one(word)?;
         }
         Ok(())

@@ -1,8 +1,5 @@
-ghost use Rattle.std.specs.Prelude.{◌≡◌, IfOk};
-
 use meta_frame::Message;
 use meta_types::NodeId;
-use std::alloc::AllocError;
 
 /// What happens to the views of a node.
 #[derive(Debug, Drop, PartialEq, Eq)]
@@ -28,22 +25,4 @@ pub enum ViewOut {
     Up(NodeId),
     /// This node is a neighbour no more.
     Down(NodeId),
-}
-
-impl ViewEvent {
-    /// Fails only when memory runs out.
-    pub fn copy(&self) -> Result<Self, AllocError>
-        ensures { IfOk result (λ copy. copy ≡ self.now) }
-    {
-        Ok(match self {
-            ViewEvent::JoinThrough { contact } => ViewEvent::JoinThrough { contact: *contact },
-            ViewEvent::Taken { from, message } => ViewEvent::Taken {
-                from: *from,
-                message: message.copy()?,
-            },
-            ViewEvent::PeerDown { peer } => ViewEvent::PeerDown { peer: *peer },
-            ViewEvent::ShuffleDue => ViewEvent::ShuffleDue,
-            ViewEvent::Leave => ViewEvent::Leave,
-        })
-    }
 }

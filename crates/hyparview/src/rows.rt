@@ -5,9 +5,10 @@ ghost use Rattle.frame_fields.specs.Field.{nodes};
 ghost use Rattle.meta_frame.specs.declared.message.Message.TheVariants.{Bye, ForwardJoin};
 ghost use Rattle.peer_lists.specs.Lists.{pick};
 ghost use Rattle.hyparview.specs.declared.event.ViewOut.TheVariants.{Send};
+ghost use Rattle.hyparview.specs.Limits.{active_random_walk_length, message_nodes_limit};
 ghost use Rattle.hyparview.specs.Rows.{member_to_replace, priority_of};
 
-use crate::draft::{Draft, MAX_ACTIVE, MAX_PASSIVE};
+use crate::draft::{ACTIVE_VIEW_SIZE, Draft, PASSIVE_VIEW_SIZE};
 use crate::event::{ViewEvent, ViewOut};
 use frame_fields::Nodes;
 use meta_frame::{Message, NeighborAnswer, Priority};
@@ -15,28 +16,29 @@ use meta_types::NodeId;
 use peer_lists::{choose, has, pick, without_all};
 use std::alloc::{AllocError, Global};
 
-/// How far a join walks.
-const ACTIVE_WALK: u8 = 4;
+/// How many steps a join walks.
+const ACTIVE_RANDOM_WALK_LENGTH: u8 = 4;
 
-/// How much is left of its walk where a node keeps the one that joined in reserve.
-const PASSIVE_WALK: u8 = 2;
+/// How many steps are left of its walk where the node that joined is kept in reserve.
+const PASSIVE_RANDOM_WALK_LENGTH: u8 = 2;
 
-/// How far a shuffle walks.
-const SHUFFLE_WALK: u8 = 3;
+/// How many steps a shuffle walks.
+const SHUFFLE_TTL: u8 = 3;
 
 /// How many members of the active view a shuffle offers.
-const OFFERED_ACTIVE: usize = 2;
+const SHUFFLE_ACTIVE_COUNT: usize = 2;
 
 /// How many members of the passive view a shuffle offers.
-const OFFERED_PASSIVE: usize = 3;
+const SHUFFLE_PASSIVE_COUNT: usize = 3;
 
 impl Draft {
     ghost use Rattle.hyparview.specs.Rows.{announce, ask, ask_another, end_walk, join_through};
     ghost use Rattle.hyparview.specs.Rows.{keep_midway, leave, make_room_from, offer_to};
     ghost use Rattle.hyparview.specs.Rows.{on_disconnect, on_forward_join, on_join, on_message};
-    ghost use Rattle.hyparview.specs.Rows.{on_neighbor_high, on_neighbor_low, on_no, on_yes};
+    ghost use Rattle.hyparview.specs.Rows.{on_neighbor_high, on_neighbor_low};
+    ghost use Rattle.hyparview.specs.Rows.{on_neighbor_reply_no, on_neighbor_reply_yes};
     ghost use Rattle.hyparview.specs.Rows.{on_peer_down, on_shuffle, on_shuffle_reply, row};
-    ghost use Rattle.hyparview.specs.Rows.{shuffle, take_in, take_one};
+    ghost use Rattle.hyparview.specs.Rows.{on_shuffle_due, take_in, take_one};
 
     /// An event with its word: a row of the table.
     pub(crate) fn row(&mut self, word: u64, event: &ViewEvent) -> Result<(), AllocError>
@@ -46,7 +48,7 @@ impl Draft {
             ViewEvent::JoinThrough { contact } => self.join_through(word, *contact),
             ViewEvent::Taken { from, message } => self.on_message(word, *from, message),
             ViewEvent::PeerDown { peer } => self.on_peer_down(word, *peer),
-            ViewEvent::ShuffleDue => self.shuffle(word),
+            ViewEvent::ShuffleDue => self.on_shuffle_due(word),
             ViewEvent::Leave => self.leave(),
         }
     }
@@ -64,8 +66,8 @@ impl Draft {
                 Priority::Low => self.on_neighbor_low(word, from),
             },
             Message::NeighborReply { answer } => match answer {
-                NeighborAnswer::Yes => self.on_yes(word, from),
-                NeighborAnswer::No => self.on_no(word, from),
+                NeighborAnswer::Yes => self.on_neighbor_reply_yes(word, from),
+                NeighborAnswer::No => self.on_neighbor_reply_no(word, from),
             },
             Message::Shuffle { origin, ttl, nodes } => {
                 self.on_shuffle(word, from, *origin, *ttl, nodes)
@@ -146,7 +148,7 @@ impl Draft {
     fn keep_midway(&mut self, word: u64, node: NodeId, ttl: u8) -> Result<(), AllocError>
         ensures { OnOk result (self.new ≡ keep_midway word node ttl self.old) }
     {
-        if ttl == PASSIVE_WALK {
+        if ttl == PASSIVE_RANDOM_WALK_LENGTH {
             self.add_passive(word, node)?;
         }
         Ok(())
@@ -179,7 +181,7 @@ impl Draft {
     fn on_neighbor_low(&mut self, word: u64, from: NodeId) -> Result<(), AllocError>
         ensures { OnOk result (self.new ≡ on_neighbor_low word from self.old) }
     {
-        if self.active.contains(&from) || self.active.len() < MAX_ACTIVE {
+        if self.active.contains(&from) || self.active.len() < ACTIVE_VIEW_SIZE {
             self.on_neighbor_high(word, from)
         } else {
             let answer = NeighborAnswer::No;
@@ -188,9 +190,9 @@ impl Draft {
     }
 
     /// NEIGHBORREPLY yes.
-    #[tactic(auto, unfolding(crate::specs::Rows::on_yes))]
-    fn on_yes(&mut self, word: u64, from: NodeId) -> Result<(), AllocError>
-        ensures { OnOk result (self.new ≡ on_yes word from self.old) }
+    #[tactic(auto, unfolding(crate::specs::Rows::on_neighbor_reply_yes))]
+    fn on_neighbor_reply_yes(&mut self, word: u64, from: NodeId) -> Result<(), AllocError>
+        ensures { OnOk result (self.new ≡ on_neighbor_reply_yes word from self.old) }
     {
         self.add_active(word, from)?;
         self.asked.clear();
@@ -198,9 +200,9 @@ impl Draft {
     }
 
     /// NEIGHBORREPLY no.
-    #[tactic(auto, unfolding(crate::specs::Rows::on_no))]
-    fn on_no(&mut self, word: u64, from: NodeId) -> Result<(), AllocError>
-        ensures { OnOk result (self.new ≡ on_no word from self.old) }
+    #[tactic(auto, unfolding(crate::specs::Rows::on_neighbor_reply_no))]
+    fn on_neighbor_reply_no(&mut self, word: u64, from: NodeId) -> Result<(), AllocError>
+        ensures { OnOk result (self.new ≡ on_neighbor_reply_no word from self.old) }
     {
         self.ask_another(word, from)
     }
@@ -237,7 +239,7 @@ impl Draft {
         ensures { OnOk result (self.new ≡ ask word self.old) }
     {
         let unasked = without_all(self.alloc, self.passive.as_slice(), self.asked.as_slice())?;
-        if unasked.is_empty() || self.active.len() >= MAX_ACTIVE {
+        if unasked.is_empty() || self.active.len() >= ACTIVE_VIEW_SIZE {
             self.asked.clear();
             return Ok(());
         }
@@ -259,9 +261,9 @@ impl Draft {
     }
 
     /// A shuffle is due.
-    #[tactic(auto, unfolding(crate::specs::Rows::shuffle))]
-    fn shuffle(&mut self, word: u64) -> Result<(), AllocError>
-        ensures { OnOk result (self.new ≡ shuffle word self.old) }
+    #[tactic(auto, unfolding(crate::specs::Rows::on_shuffle_due))]
+    fn on_shuffle_due(&mut self, word: u64) -> Result<(), AllocError>
+        ensures { OnOk result (self.new ≡ on_shuffle_due word self.old) }
     {
         if self.active.is_empty() {
             return Ok(());
@@ -273,7 +275,7 @@ impl Draft {
             to,
             Message::Shuffle {
                 origin: self.node,
-                ttl: SHUFFLE_WALK,
+                ttl: SHUFFLE_TTL,
                 nodes,
             },
         )?;
@@ -285,8 +287,13 @@ impl Draft {
         ensures { IfOk result (λ offer. offer ≡ offer_to word to self.now) }
     {
         let others = without_all(self.alloc, self.active.as_slice(), &[to])?;
-        let mut offer = pick(self.alloc, word, OFFERED_ACTIVE, &others)?;
-        let passive = pick(self.alloc, word, OFFERED_PASSIVE, self.passive.as_slice())?;
+        let mut offer = pick(self.alloc, word, SHUFFLE_ACTIVE_COUNT, &others)?;
+        let passive = pick(
+            self.alloc,
+            word,
+            SHUFFLE_PASSIVE_COUNT,
+            self.passive.as_slice(),
+        )?;
         offer.extend_from_slice(&passive)?;
         Ok(nodes_of(offer))
     }
@@ -368,7 +375,7 @@ impl Draft {
     fn make_room_from(&mut self, word: u64, given: &[NodeId])
         ensures { self.new ≡ make_room_from word given.now self.old }
     {
-        if self.passive.len() >= MAX_PASSIVE {
+        if self.passive.len() >= PASSIVE_VIEW_SIZE {
             let leaving = member_to_replace(word, given, self.passive.as_slice());
             self.passive.shift_remove(&leaving);
         }
@@ -391,10 +398,10 @@ impl Draft {
 /// Tells each of these nodes of one that joined.
 fn forward_to_each(out: &mut Vec<ViewOut>, to: &[NodeId], node: NodeId) -> Result<(), AllocError>
     ensures { OnOk result
-        (out.new.items ≡ out.old.items ++ map (λ to. Send to (ForwardJoin node 4)) to.now) }
+        (out.new.items ≡ out.old.items ++ map (λ to. Send to (ForwardJoin node active_random_walk_length)) to.now) }
 {
     for peer in to {
-        let ttl = ACTIVE_WALK;
+        let ttl = ACTIVE_RANDOM_WALK_LENGTH;
         out.push(ViewOut::Send(*peer, Message::ForwardJoin { node, ttl }))?;
     }
     Ok(())
@@ -438,7 +445,7 @@ fn pick_nodes(
 
 /// The list of a message.
 fn nodes_of(numbers: Vec<NodeId>) -> Nodes
-    requires { length numbers.items ≤ 16 }
+    requires { length numbers.items ≤ message_nodes_limit }
     ensures { result ≡ numbers.items }
 {
     tell_ranges(numbers.as_slice());
@@ -448,7 +455,7 @@ fn nodes_of(numbers: Vec<NodeId>) -> Nodes
 /// Does nothing. Each node keeps the range of its number by itself; it is read here so that the
 /// contract can say it of all of them.
 fn tell_ranges(numbers: &[NodeId])
-    requires { length numbers.now ≤ 16 }
+    requires { length numbers.now ≤ message_nodes_limit }
     ensures { nodes.Fits numbers.now }
 {
     for node in numbers {

@@ -1,4 +1,6 @@
 ghost use Rattle.std.specs.Prelude.{◌≡◌, ◌↔◌, IfOk, IsTrue, OnErr};
+ghost use Rattle.hyparview.specs.Lawful.{AreLawful};
+ghost use Rattle.hyparview.specs.Views.{IsStep, draft_after, draft_of, empty, views_of};
 
 use crate::draft::Draft;
 use crate::event::{ViewEvent, ViewOut};
@@ -38,9 +40,6 @@ impl Model for Views {
 }
 
 impl Views {
-    ghost use Rattle.hyparview.specs.Lawful.{AreLawful};
-    ghost use Rattle.hyparview.specs.Views.{IsStep, draft_after, draft_of, empty, views_of};
-
     /// The views of a node that knows nobody. It takes no memory.
     pub fn new(alloc: Global, node: NodeId) -> Self
         ensures { result ≡ empty node }
@@ -61,6 +60,13 @@ impl Views {
     {
         let knows_nobody = self.active.is_empty() && self.passive.is_empty();
         knows_nobody && self.asked.is_empty() && self.sent.as_slice().is_empty()
+    }
+
+    /// Whose views they are.
+    pub fn node(&self) -> NodeId
+        ensures { result ≡ self.now.node }
+    {
+        self.node
     }
 
     /// The neighbours, the one of longest standing first.
@@ -96,6 +102,15 @@ impl Views {
     {
         let draft = self.draft_after(word, event)?;
         Ok(self.commit(draft))
+    }
+
+    /// The views after one event, and what the step gives out, while these stay as they are. Fails
+    /// only when memory runs out.
+    pub fn after(&self, event: &ViewEvent, word: u64) -> Result<(Views, Vec<ViewOut>), AllocError>
+        ensures { IfOk result (λ after. IsStep self.now event.now word after.0 after.1.items) }
+    {
+        let done = self.draft_after(word, event)?;
+        Ok(parted(done))
     }
 
     /// The draft after an event. A step is made on copies, so that a failed one changes nothing.
@@ -153,4 +168,21 @@ impl Views {
             out: Vec::new(self.alloc),
         })
     }
+}
+
+/// The views of a draft, and what it gave out.
+fn parted(draft: Draft) -> (Views, Vec<ViewOut>)
+    requires { AreLawful draft.node draft.active draft.passive }
+    ensures views { result.0 ≡ views_of draft }
+    ensures gives { result.1.items ≡ draft.out }
+{
+    let views = Views {
+        alloc: draft.alloc,
+        node: draft.node,
+        active: draft.active,
+        passive: draft.passive,
+        asked: draft.asked,
+        sent: draft.sent,
+    };
+    (views, draft.out)
 }

@@ -15,6 +15,8 @@ pub mod Ties
 pub mod Equal
 -- how a call fails
 pub mod Failing
+-- small steps, one after the other
+pub mod Chain
 -- which of several refusals comes first
 pub mod First
 -- the numbers of refusals

@@ -14,14 +14,16 @@ use Rattle.meta_store.specs.Table.{Table, is_stale}
 use Rattle.meta_store.specs.Step.{merge_of, merged_if_fresh, refusal_of_merge}
 use Rattle.meta_store.specs.declared.fault.StoreFault.{StoreFault}
 use Rattle.meta_store.specs.declared.fault.StoreFault.TheVariants as OfStore
-use Rattle.plumtree.specs.Broadcast.{TakesGossip}
+use Rattle.plumtree.specs.Broadcast.{TakesStale}
+use Rattle.plumtree.specs.Rows as cast
 use Rattle.node_events.specs.Fault.{of_store}
 use Rattle.node_events.specs.declared.fault.StepFault.{StepFault}
 use Rattle.node_events.specs.declared.fault.StepFault.TheVariants.{Memory}
 use Rattle.node_events.specs.declared.reply.Reply.TheVariants.{TookFresh, TookStale}
 use Rattle.node_parts.specs.declared.origin.Origin.TheVariants as OfOrigin
 use Rattle.node_parts.specs.Outbox.{HasSpelling, frames_from}
-use Rattle.node_parts.specs.Overlay.{Overlay, envelope, told}
+use Rattle.node_parts.specs.Origin.{whole_messages}
+use Rattle.node_parts.specs.Overlay.{Overlay, envelope, out_of, overlay_after_call}
 use Rattle.node_core.specs.declared.state.Stepped.{Stepped}
 use Rattle.node_core.specs.Node.{NodeParts, vector_under, with_overlay}
 use Rattle.node_core.specs.Draft.{NodeDraft}
@@ -101,10 +103,10 @@ pub stale_taken : {old : NodeParts} {outbox : List (List ℕ)} (from round : ℕ
     → stepped ≡ record { reply = TookStale; outbox = outbox }
     → outbox ≡ map spelling (frames_from old.node old.frames (envelope from Prune ∷ []))
     → All HasSpelling (frames_from old.node old.frames (envelope from Prune ∷ []))
-    → new ≡ with_counts (length outbox) (with_overlay (told (TakesGossip from round key (vector_under key old) false) old.overlay) old)
+    → new ≡ with_counts (length outbox) (with_overlay (overlay_after_call (TakesStale from) old.overlay) old)
     → IsStepOfMessage old from 0 (Gossip round key came) new stepped
 stale_taken {old = old} from round key came new stepped stale is sends frames counts =
-    let after = with_overlay (told (TakesGossip from round key (vector_under key old) false) old.overlay) old in
+    let after = with_overlay (overlay_after_call (TakesStale from) old.overlay) old in
     let known = stale_so key came old stale in
     let outbox_is = ap (λ (s : Stepped). s.outbox) is in
     made old after new (refusal_of_object key came old) (row_of_gossip from round key came (begun old))
@@ -115,12 +117,17 @@ stale_taken {old = old} from round key came new stepped stale is sends frames co
     (counts ∙ ap (λ outbox. with_counts (length outbox) after) (sym outbox_is))
 
 -- the same, where the overlay was told so
-pub overlay_told : {old s : NodeParts} {overlay : Overlay} {vector : List Counter} (from round : ℕ) (key : Key) → s ≡ old
-    → overlay ≡ told (TakesGossip from round key vector false) s.overlay → vector ≡ vector_under key old
-    → with_overlay overlay s ≡ with_overlay (told (TakesGossip from round key (vector_under key old) false) old.overlay) old
-overlay_told {s = s} {vector = vector} from round key view is vector_is =
+pub overlay_told : {old s : NodeParts} {overlay : Overlay} (from : ℕ) → s ≡ old
+    → overlay ≡ overlay_after_call (TakesStale from) s.overlay
+    → with_overlay overlay s ≡ with_overlay (overlay_after_call (TakesStale from) old.overlay) old
+overlay_told {s = s} from view is =
     ap (λ overlay. with_overlay overlay s) is
-    ∙ (λ i. with_overlay (told (TakesGossip from round key (vector_is i) false) (view i).overlay) (view i))
+    ∙ (λ i. with_overlay (overlay_after_call (TakesStale from) (view i).overlay) (view i))
+
+-- what is sent then
+pub prune_sent : (from : ℕ) (o : Overlay) → whole_messages (out_of (TakesStale from) o) ≡ envelope from Prune ∷ []
+unfolding cast.on_stale
+prune_sent from o = refl
 
 pub fresh_taken : {old : NodeParts} {store : Table} {outbox : List (List ℕ)} (from round : ℕ) (key : Key)
     (came entries : List Entry) (new : NodeParts) (stepped : Stepped) → store ≡ old.table

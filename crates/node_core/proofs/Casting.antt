@@ -23,7 +23,8 @@ use Rattle.node_events.specs.declared.outbox.Outbox.{Outbox}
 use Rattle.node_events.specs.declared.reply.Reply.TheVariants.{Took}
 use Rattle.node_parts.specs.declared.envelope.Envelope.{Envelope}
 use Rattle.node_parts.specs.Outbox.{HasSpelling, IsSpelledVector, frames_from}
-use Rattle.node_parts.specs.Overlay.{Overlay, envelope, told}
+use Rattle.node_parts.specs.Origin.{envelope_with}
+use Rattle.node_parts.specs.Overlay.{Overlay, envelope, out_of, overlay_after_call}
 use Rattle.node_core.specs.declared.state.Stepped.{Stepped}
 use Rattle.node_core.specs.Node.{NodeParts, with_overlay}
 use Rattle.node_core.specs.Draft.{NodeDraft, call_broadcast}
@@ -35,8 +36,8 @@ use Rattle.node_core.proofs.Making.{made}
 -- ---- a step in which the broadcast alone was told something, and these bytes are sent
 
 pub told_step : (call : CastCall) (old inside new : NodeParts) (overlay : Overlay) (done : NodeDraft) (sent : List Envelope) (outbox : Outbox) (stepped : Stepped)
-    → inside ≡ old → overlay ≡ told call inside.overlay
-    → done ≡ record { parts = with_overlay (told call old.overlay) old; sent = sent }
+    → inside ≡ old → overlay ≡ overlay_after_call call inside.overlay
+    → done ≡ record { parts = with_overlay (overlay_after_call call old.overlay) old; sent = sent }
     → stepped ≡ record { reply = Took; outbox = outbox }
     → outbox ≡ map spelling (frames_from old.node old.frames sent)
     → All HasSpelling (frames_from old.node old.frames sent)
@@ -44,17 +45,17 @@ pub told_step : (call : CastCall) (old inside new : NodeParts) (overlay : Overla
     → IsStepTo old None done Took new stepped
 told_step call old inside new overlay done sent outbox stepped same told_is is value sends frames counts =
     let gives : stepped.outbox ≡ outbox = ap (λ (s : Stepped). s.outbox) value in
-    let told_old = told_is ∙ ap (λ (s : NodeParts). told call s.overlay) same in
+    let told_old = told_is ∙ ap (λ (s : NodeParts). overlay_after_call call s.overlay) same in
     let mid = ap (with_overlay overlay) same ∙ ap (λ o. with_overlay o old) told_old in
-    made old (with_overlay (told call old.overlay) old) new None done Took sent stepped refl is
+    made old (with_overlay (overlay_after_call call old.overlay) old) new None done Took sent stepped refl is
     (ap (λ (s : Stepped). s.reply) value) (gives ∙ sends) frames
     (counts ∙ ap (λ (sent : List (List ℕ)). with_counts (length sent) (with_overlay overlay inside)) (sym gives)
     ∙ ap (with_counts (length stepped.outbox)) mid)
 
 -- nothing is sent
 pub told_quietly : (call : CastCall) (old inside new : NodeParts) (overlay : Overlay) (done : NodeDraft) (outbox : Outbox) (stepped : Stepped)
-    → inside ≡ old → overlay ≡ told call inside.overlay
-    → done ≡ record { parts = with_overlay (told call old.overlay) old; sent = [] }
+    → inside ≡ old → overlay ≡ overlay_after_call call inside.overlay
+    → done ≡ record { parts = with_overlay (overlay_after_call call old.overlay) old; sent = [] }
     → stepped ≡ record { reply = Took; outbox = outbox } → outbox ≡ []
     → new ≡ with_counts (length outbox) (with_overlay overlay inside)
     → IsStepTo old None done Took new stepped
@@ -66,7 +67,7 @@ told_quietly call old inside new overlay done outbox stepped same told_is is val
 
 pub after_prune : (from : ℕ) (s : NodeParts)
     → call_broadcast (TakesPrune from) (begun s)
-    ≡ record { parts = with_overlay (told (TakesPrune from) s.overlay) s; sent = [] }
+    ≡ record { parts = with_overlay (overlay_after_call (TakesPrune from) s.overlay) s; sent = [] }
 unfolding cast.on_prune
 after_prune from s = refl
 
@@ -74,7 +75,7 @@ after_prune from s = refl
 
 ihave_where : (from round : ℕ) (key : Key) (vector : List Counter) (s : NodeParts) (stale : Bool)
     → call_broadcast (TakesIHave from round key vector stale) (begun s)
-    ≡ record { parts = with_overlay (told (TakesIHave from round key vector stale) s.overlay) s; sent = [] }
+    ≡ record { parts = with_overlay (overlay_after_call (TakesIHave from round key vector stale) s.overlay) s; sent = [] }
 unfolding cast.on_ihave
 ihave_where from round key vector s true = refl
 ihave_where from round key vector s false = refl
@@ -82,7 +83,7 @@ ihave_where from round key vector s false = refl
 pub after_ihave : (from round : ℕ) (key : Key) (vector : List Counter) (s : NodeParts) (stale : Bool)
     → stale ≡ is_stale s.table key vector
     → row_of_ihave from round key vector (begun s)
-    ≡ record { parts = with_overlay (told (TakesIHave from round key vector stale) s.overlay) s; sent = [] }
+    ≡ record { parts = with_overlay (overlay_after_call (TakesIHave from round key vector stale) s.overlay) s; sent = [] }
 after_ihave from round key vector s stale is =
     ap (λ known. call_broadcast (TakesIHave from round key vector known) (begun s)) (sym is)
     ∙ ihave_where from round key vector s stale
@@ -90,7 +91,7 @@ after_ihave from round key vector s stale is =
 pub after_graft : (from round : ℕ) (key : Key) (vector : List Counter) (s : NodeParts)
     → is_stale s.table key vector ≡ true
     → row_of_graft from round key vector (begun s) ≡ record {
-      parts = with_overlay (told (TakesGraft from round key true) s.overlay) s;
+      parts = with_overlay (overlay_after_call (TakesGraft from round key true) s.overlay) s;
       sent = envelope from (Gossip round key (object_at s.table key)) ∷ [];
     }
 unfolding cast.on_graft
@@ -100,7 +101,7 @@ after_graft from round key vector s held =
 pub after_bare_graft : (from round : ℕ) (key : Key) (vector : List Counter) (s : NodeParts)
     → is_stale s.table key vector ≡ false
     → row_of_graft from round key vector (begun s)
-    ≡ record { parts = with_overlay (told (TakesGraft from round key false) s.overlay) s; sent = [] }
+    ≡ record { parts = with_overlay (overlay_after_call (TakesGraft from round key false) s.overlay) s; sent = [] }
 unfolding cast.on_graft
 after_bare_graft from round key vector s absent =
     ap (λ known. call_broadcast (TakesGraft from round key known) (begun s)) absent
@@ -118,6 +119,12 @@ pub held_if_stale : (table : Table) (key : Key) (vector : List Counter) → IsSp
     → is_stale table key vector ≡ true → find key_cmp key table ≡ None → ⊥
 held_if_stale table key vector fits stale absent =
     not_from_nothing vector fits (subst (λ (found : Option (List Entry)). descends (join (unwrap_or found [])) vector ≡ true) absent stale)
+
+-- what is sent for a GRAFT of what is held
+pub graft_sent : (from round : ℕ) (key : Key) (object : List Entry) (o : Overlay)
+    → map (envelope_with object) (out_of (TakesGraft from round key true) o) ≡ envelope from (Gossip round key object) ∷ []
+unfolding cast.on_graft
+graft_sent from round key object o = refl
 
 -- ---- questions
 

@@ -4,18 +4,17 @@ use Rattle.meta_types.specs.Name.{Key}
 use Rattle.dvvset.specs.Object.{Entry, Counter}
 use Rattle.dvvset.specs.Clock.{join}
 use Rattle.meta_frame.specs.declared.message.Message.TheVariants.{Prune}
-use Rattle.meta_store.specs.Table as table
-use Rattle.meta_store.specs.Table.{Table, object_at}
+use Rattle.meta_store.specs.Table.{Table, object_at, with_object}
 use Rattle.meta_store.specs.Step.{merge_of}
 use Rattle.meta_store.proofs.Tables.{object_at-here}
 use Rattle.plumtree.specs.declared.entry.CastOut.TheVariants as OfCast
-use Rattle.plumtree.specs.Broadcast.{Changes, TakesGossip}
+use Rattle.plumtree.specs.Broadcast.{Changes, TakesStale, gossip_call}
 use Rattle.plumtree.specs.Rows.{on_broadcast, on_change, on_fresh, on_stale}
 use Rattle.subscriptions.specs.Watching.{with_change}
 use Rattle.node_parts.specs.declared.origin.Origin.{Origin}
 use Rattle.node_parts.specs.declared.origin.Origin.TheVariants.{Write, Gossip}
-use Rattle.node_parts.specs.Origin.{call_of, with_object}
-use Rattle.node_parts.specs.Overlay.{envelope, told}
+use Rattle.node_parts.specs.Origin.{call_of, envelope_with}
+use Rattle.node_parts.specs.Overlay.{envelope, overlay_after_call}
 use Rattle.node_core.specs.Node.{NodeParts, vector_under, with_overlay}
 use Rattle.node_core.specs.Draft.{NodeDraft, call_broadcast, change, envelope_of}
 use Rattle.node_core.specs.Rows.{is_fresh, merge, row_of_gossip}
@@ -24,20 +23,20 @@ use Rattle.node_core.specs.Changing.{change_to, gossips, holding, noting, spread
 
 carried : (t : Table) (key : Key) (object : List Entry) (round : ℕ) (peers : List ℕ) → object_at t key ≡ object
     → map (envelope_of t) (map (λ to. OfCast.Gossip to round key) peers)
-    ≡ map (with_object object) (map (λ to. OfCast.Gossip to round key) peers)
+    ≡ map (envelope_with object) (map (λ to. OfCast.Gossip to round key) peers)
 carried t key object round [] held = refl
 carried t key object round (peer ∷ peers) held = λ i.
-    with_object (held i) (OfCast.Gossip peer round key) ∷ carried t key object round peers held i
+    envelope_with (held i) (OfCast.Gossip peer round key) ∷ carried t key object round peers held i
 
 -- the node after a change that is told with this vector, and then its peers
 then_told : Origin → Key → List Entry → NodeParts → List Counter → NodeDraft
 then_told origin key object s vector =
-    let t = table.with_object key object s.table in
+    let t = with_object key object s.table in
     call_broadcast (call_of origin key vector) (record {
       parts = record s {
         table = t;
         watches = map (with_change (record { key = key; vector = vector })) s.watches;
-        overlay = told (Changes key vector) s.overlay;
+        overlay = overlay_after_call (Changes key vector) s.overlay;
       };
       sent = [];
     })
@@ -53,10 +52,10 @@ told_so : (origin : Origin) (key : Key) (object : List Entry) (s : NodeParts)
 unfolding then_told after_spreading on_change on_broadcast on_fresh
 told_so Write key object s =
     ap (λ sent. record { parts = noting (change_to key object) (spreading Write key object s); sent = sent })
-    (carried (table.with_object key object s.table) key object 0 s.overlay.cast.eager (object_at-here key object s.table))
+    (carried (with_object key object s.table) key object 0 s.overlay.cast.eager (object_at-here key object s.table))
 told_so (Gossip from round) key object s =
     ap (λ sent. record { parts = noting (change_to key object) (spreading (Gossip from round) key object s); sent = sent })
-    (carried (table.with_object key object s.table) key object _ _ (object_at-here key object s.table))
+    (carried (with_object key object s.table) key object _ _ (object_at-here key object s.table))
 
 pub changed : (origin : Origin) (key : Key) (object : List Entry) (s : NodeParts)
     → let new = change key object (begun s) in
@@ -85,7 +84,7 @@ merged_where key came s fresh = if fresh then change key (merge_of s.table key c
 gossip_where : ℕ → ℕ → Key → List Entry → NodeParts → Bool → NodeDraft
 gossip_where from round key came s fresh =
     let merged = merged_where key came s fresh in
-    call_broadcast (TakesGossip from round key (vector_under key merged.parts) fresh) merged
+    call_broadcast (gossip_call from round key (vector_under key merged.parts) fresh) merged
 
 pub fresh_gossip : (from round : ℕ) (key : Key) (came : List Entry) (s : NodeParts) → is_fresh key came s ≡ true
     → row_of_gossip from round key came (begun s) ≡ record {
@@ -98,7 +97,7 @@ fresh_gossip from round key came s fresh =
 
 pub stale_gossip : (from round : ℕ) (key : Key) (came : List Entry) (s : NodeParts) → is_fresh key came s ≡ false
     → row_of_gossip from round key came (begun s) ≡ record {
-      parts = with_overlay (told (TakesGossip from round key (vector_under key s) false) s.overlay) s;
+      parts = with_overlay (overlay_after_call (TakesStale from) s.overlay) s;
       sent = envelope from Prune ∷ [];
     }
 unfolding gossip_where merged_where on_stale

@@ -24,7 +24,7 @@ use Rattle.hyparview.specs.declared.event.ViewOut.TheVariants as OfViews
 use Rattle.hyparview.specs.Draft as view
 use Rattle.hyparview.specs.Draft.{add_active, add_passive, drop_one, enter_active, enter_passive, forget_asked, is_known, is_self_or_active, leave_active, leave_passive, make_place, make_room, note_asked, remember_sent, send_each}
 use Rattle.hyparview.specs.Rows as of_views
-use Rattle.hyparview.specs.Rows.{ask, ask_another, end_walk, is_empty, is_walk_over, join_through, keep_midway, leave, make_room_from, member_to_replace, offer_to, on_disconnect, on_forward_join, on_join, on_neighbor_high, on_neighbor_low, on_no, on_peer_down, on_shuffle, on_shuffle_reply, on_yes, priority_of, shuffle, take_in, take_one, walks_on}
+use Rattle.hyparview.specs.Rows.{ask, ask_another, end_walk, is_empty, is_walk_over, join_through, keep_midway, leave, make_room_from, member_to_replace, offer_to, on_disconnect, on_forward_join, on_join, on_neighbor_high, on_neighbor_low, on_neighbor_reply_no, on_peer_down, on_shuffle, on_shuffle_reply, on_neighbor_reply_yes, priority_of, on_shuffle_due, take_in, take_one, walks_on}
 use Rattle.hyparview.specs.Views as views
 use Rattle.hyparview.specs.Views.{NodeViews, draft_after}
 use Rattle.plumtree.specs.declared.entry.Announcement.{Announcement}
@@ -34,7 +34,7 @@ use Rattle.plumtree.specs.declared.entry.CastOut.TheVariants as OfCast
 use Rattle.plumtree.specs.Missing.{MissingObject}
 use Rattle.plumtree.specs.Draft as cast
 use Rattle.plumtree.specs.Rows.{ask_first, down, ihave_of, keep, next_round, none_missing, noted, on_broadcast, on_change, on_fresh, on_graft, on_ihave, on_prune, on_stale, on_tick, send_announcements, tick_each, tick_one, up}
-use Rattle.plumtree.specs.Broadcast.{Broadcast, CastCall, Up, Down, Broadcasts, TakesGossip, TakesPrune, TakesIHave, TakesGraft, Changes, Tick, draft_of, row}
+use Rattle.plumtree.specs.Broadcast.{Broadcast, CastCall, Up, Down, Broadcasts, TakesFresh, TakesStale, TakesPrune, TakesIHave, TakesGraft, Changes, Tick, draft_of, row}
 use Rattle.node_parts.specs.declared.envelope.Envelope.{Envelope}
 use Rattle.node_parts.specs.Overlay.{envelope, messages_of}
 use Rattle.node_core.specs.Draft.{envelope_of}
@@ -163,9 +163,9 @@ Bare-on_peer_down word peer t h =
     (λ _. Bare-ask word alone (All-push IsBare t.out (OfViews.Down peer) h tt))
     (λ _. Bare-ask_another word peer left h)
 
-Bare-shuffle : (word : ℕ) (t : view.Draft) → Bare t → Bare (shuffle word t)
-unfolding shuffle
-Bare-shuffle word t h =
+Bare-on_shuffle_due : (word : ℕ) (t : view.Draft) → Bare t → Bare (on_shuffle_due word t)
+unfolding on_shuffle_due
+Bare-on_shuffle_due word t h =
     let to = choose word t.active in
     let offer = offer_to word to t in
     let m = Shuffle t.node 3 offer in
@@ -194,7 +194,7 @@ Bare-leave t h =
     (All-mapped IsBare (λ x. OfViews.Down x) (λ _. tt) t.active)
 
 Bare-on_message : (word from : ℕ) (m : Message) (t : view.Draft) → Bare t → Bare (of_views.on_message word from m t)
-unfolding on_yes on_no on_shuffle_reply
+unfolding on_neighbor_reply_yes on_neighbor_reply_no on_shuffle_reply
 Bare-on_message word from Join t h = Bare-on_join word from t h
 Bare-on_message word from (ForwardJoin x ttl) t h = Bare-on_forward_join word from x ttl t h
 Bare-on_message word from Disconnect t h = Bare-on_disconnect word from t h
@@ -211,7 +211,7 @@ Bare-row : (word : ℕ) (e : ViewEvent) (t : view.Draft) → Bare t → Bare (of
 Bare-row word (JoinThrough contact) t h = Bare-join_through word contact t h
 Bare-row word (Taken from message) t h = Bare-on_message word from message t h
 Bare-row word (PeerDown peer) t h = Bare-on_peer_down word peer t h
-Bare-row word ShuffleDue t h = Bare-shuffle word t h
+Bare-row word ShuffleDue t h = Bare-on_shuffle_due word t h
 Bare-row word Leave t h = Bare-leave t h
 
 -- ---- what is held, in this table
@@ -286,9 +286,9 @@ module _ (table : Table) where
       cond_both (has t.eager x || has t.lazy x) t (record t { eager = put_last x t.eager }) Gives (λ _. h) (λ _. h)
   Gives-row (Down x) t h = h
   Gives-row (Broadcasts key vector) t h = Gives-gossip_to t.eager 0 key t h
-  Gives-row (TakesGossip from round key vector true) t h =
+  Gives-row (TakesFresh from round key vector) t h =
       Gives-gossip_to (without_all (from ∷ []) t.eager) (next_round round) key t h
-  Gives-row (TakesGossip from round key vector false) t h = Gives-send from Prune (cast.becomes_lazy from t) refl h
+  Gives-row (TakesStale from) t h = Gives-send from Prune (cast.becomes_lazy from t) refl h
   Gives-row (TakesPrune from) t h = h
   Gives-row (TakesIHave from round key vector stale) t h =
       cond_both stale t (record t { missing = noted from round key vector t.missing }) Gives (λ _. h) (λ _. h)

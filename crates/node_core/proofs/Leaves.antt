@@ -115,7 +115,7 @@ module _ (s : NodeParts) where
   Leaves-row_of_gossip from round key came =
       let merged = merge key came (begun s) in
       Leaves-call (table_after_merge s.table key came)
-      (calls.TakesGossip from round key (vector_under key merged.parts) (is_fresh key came s)) merged (Leaves-merge key came)
+      (calls.gossip_call from round key (vector_under key merged.parts) (is_fresh key came s)) merged (Leaves-merge key came)
 
   Leaves-row_of_hello : (from life word : ℕ) → Leaves s s.table (row_of_hello from life word (begun s))
   Leaves-row_of_hello from life word =

@@ -1,11 +1,12 @@
 -- A step is made of what it did.
-use Rattle.std.proofs.Common.{◌≡◌, ℕ, List, [], ◌∷◌, map, length, All, Option, None, refl, sym, ap, ◌∙◌, suc}
+use Rattle.std.proofs.Common.{◌≡◌, ℕ, List, [], ◌∷◌, map, length, All, Option, None, refl, sym, ap, subst, ◌∙◌, suc}
 use Rattle.std.proofs.lemmas.List.Elements.{All-same}
 use Rattle.meta_frame.specs.Frame.{spelling}
 use Rattle.node_events.specs.declared.fault.StepFault.{StepFault}
 use Rattle.node_events.specs.declared.reply.Reply.{Reply}
 use Rattle.node_parts.specs.declared.envelope.Envelope.{Envelope}
-use Rattle.node_parts.specs.Outbox.{HasSpelling, count_on, frames_from}
+use Rattle.node_parts.specs.Outbox.{AreFramesOf, HasSpelling, count_on, frames_from}
+use Rattle.node_parts.proofs.Naming.{same_frames}
 use Rattle.node_core.specs.declared.state.Stepped.{Stepped}
 use Rattle.node_core.specs.Node.{NodeParts}
 use Rattle.node_core.specs.Draft.{NodeDraft}
@@ -32,3 +33,10 @@ made old mid new refusal done reply sent stepped accepted is replies sends frame
       All-same HasSpelling (frames_from old.node old.frames done.sent) (frames_from old.node old.frames sent)
       (ap (λ (t : NodeDraft). frames_from old.node old.frames t.sent) is) frames;
 }
+
+-- the frames that a call of the overlay gave are the node's
+pub own_frames : {s old : NodeParts} {sent es : List Envelope} {outbox : List (List ℕ)} → s ≡ old
+    → s.overlay.views.node ≡ s.node → sent ≡ es
+    → AreFramesOf s.overlay.views.node s.frames sent outbox → AreFramesOf old.node old.frames es outbox
+own_frames {es = es} {outbox = outbox} view own is h =
+    subst (λ (t : NodeParts). AreFramesOf t.node t.frames es outbox) view (same_frames own is h)

@@ -21,9 +21,9 @@ use Rattle.plumtree.specs.Savepoint.{IsOfObjects, Standing, rolled_back, savepoi
 use Rattle.plumtree.proofs.TakingBack.{are_taken_back}
 use Rattle.node_parts.specs.declared.origin.Origin.{Origin}
 use Rattle.node_parts.specs.declared.origin.Origin.TheVariants.{Write, Gossip}
-use Rattle.node_parts.specs.Origin.{IsOfAnother, call_of, with_object}
+use Rattle.node_parts.specs.Origin.{HasOtherSender, call_of, envelope_with}
 use Rattle.node_parts.specs.Outbox.{IsSendable, IsSpelledVector, MaySend}
-use Rattle.node_parts.specs.Overlay.{IsOverlay, Overlay, talking, told}
+use Rattle.node_parts.specs.Overlay.{IsOverlay, Overlay, overlay_of, overlay_after_call}
 use Rattle.node_core.specs.Node.{NodeParts, with_overlay}
 use Rattle.node_core.specs.Changing.{HasRound, IsBehind}
 
@@ -45,32 +45,10 @@ known_by_none (e ∷ es) fits stale =
 
 -- ---- what the broadcast is told
 
-pub may_spread : (node : ℕ) (origin : Origin) (key : Key) (vector : List Counter) → IsOfAnother node origin → HasRound origin → IsKey key → IsSpelledVector vector
+pub may_spread : (node : ℕ) (origin : Origin) (key : Key) (vector : List Counter) → HasOtherSender node origin → HasRound origin → IsKey key → IsSpelledVector vector
     → MayCome node (call_of origin key vector)
 may_spread node Write key vector another low is spelled = (omega arith, (key_fits key is, spelled))
 may_spread node (Gossip from round) key vector another low is spelled = (another, (low, (key_fits key is, spelled)))
-
--- ---- what it gives out
-
-sendable_of_broadcast : (m : Message) → IsOfBroadcast m → IsSendable m
-sendable_of_broadcast (IHave round key vector) of = of.1.1
-sendable_of_broadcast (Graft round key vector) of = of.1.1
-sendable_of_broadcast Prune of = tt
-sendable_of_broadcast _ of = absurd of
-
-may_send : (node : ℕ) (entries : List Entry) (out : CastOut) → IsHeld entries → MayBeSent node out
-    → MaySend node (with_object entries out)
-may_send node entries (OfCast.Gossip to round key) held may = record { apart = may; sendable = held }
-may_send node entries (OfCast.Send to message) held may =
-    record { apart = may.0; sendable = sendable_of_broadcast message may.1 }
-
-pub gossips_may : (node : ℕ) (entries : List Entry) (outs : List CastOut) → IsHeld entries → All (MayBeSent node) outs
-    → All (MaySend node) (map (with_object entries) outs)
-gossips_may node entries [] held may = All-nil (MaySend node)
-gossips_may node entries (out ∷ outs) held may =
-    All-cons (MaySend node) (with_object entries out) (map (with_object entries) outs)
-    (may_send node entries out held (All-head (MayBeSent node) out outs may))
-    (gossips_may node entries outs held (All-tail (MayBeSent node) out outs may))
 
 -- ---- rolling back
 
@@ -80,7 +58,7 @@ of_objects (Gossip from round) key vector = tt
 
 -- the peers were told, and nothing else
 pub told_behind : (origin : Origin) (key : Key) (vector : List Counter) (s : NodeParts)
-    → IsBehind s (with_overlay (told (call_of origin key vector) s.overlay) s)
+    → IsBehind s (with_overlay (overlay_after_call (call_of origin key vector) s.overlay) s)
 told_behind origin key vector s = record {
   views = refl;
   cast = are_taken_back s.overlay.cast (call_of origin key vector) (of_objects origin key vector);
@@ -90,7 +68,7 @@ told_behind origin key vector s = record {
 -- the same of what the code left of a node's parts, where memory ended
 pub left_behind : {T E : Type 0} (r : Result T E) (origin : Origin) (key : Key) (vector : List Counter)
     {old s : NodeParts} {overlay : Overlay} {held : Table} → s ≡ old
-    → overlay ≡ told (call_of origin key vector) s.overlay → held ≡ s.table
+    → overlay ≡ overlay_after_call (call_of origin key vector) s.overlay → held ≡ s.table
     → OnErr r (IsBehind old (record (with_overlay overlay s) { table = held }))
 left_behind (Ok x) origin key vector is told same = tt
 left_behind (Err fault) origin key vector {s = s} {overlay = overlay} {held = held} is now same =
@@ -101,13 +79,13 @@ left_behind (Err fault) origin key vector {s = s} {overlay = overlay} {held = he
 -- rolled back from there, the overlay is the old one, and so it is lawful
 pub rolls_back : {old s new t : NodeParts} {standing : Standing} → s ≡ old → t ≡ new → IsBehind old new
     → standing ≡ savepoint_of s.overlay.cast → IsOverlay s.overlay
-    → IsOverlay (talking t.overlay.views (rolled_back standing t.overlay.cast))
+    → IsOverlay (overlay_of t.overlay.views (rolled_back standing t.overlay.cast))
 rolls_back {old = old} {s = s} {new = new} {t = t} {standing = standing} was is behind stood lawful =
     let old_place : savepoint_of s.overlay.cast ≡ savepoint_of old.overlay.cast = λ i. savepoint_of (was i).overlay.cast in
     let place : standing ≡ savepoint_of old.overlay.cast = stood ∙ old_place in
-    let at_new : talking t.overlay.views (rolled_back standing t.overlay.cast)
-    ≡ talking new.overlay.views (rolled_back (savepoint_of old.overlay.cast) new.overlay.cast) =
-    λ i. talking (is i).overlay.views (rolled_back (place i) (is i).overlay.cast) in
-    let back : talking new.overlay.views (rolled_back (savepoint_of old.overlay.cast) new.overlay.cast) ≡ old.overlay =
-    λ i. talking (behind.views i) (behind.cast i) in
+    let at_new : overlay_of t.overlay.views (rolled_back standing t.overlay.cast)
+    ≡ overlay_of new.overlay.views (rolled_back (savepoint_of old.overlay.cast) new.overlay.cast) =
+    λ i. overlay_of (is i).overlay.views (rolled_back (place i) (is i).overlay.cast) in
+    let back : overlay_of new.overlay.views (rolled_back (savepoint_of old.overlay.cast) new.overlay.cast) ≡ old.overlay =
+    λ i. overlay_of (behind.views i) (behind.cast i) in
     subst IsOverlay (sym (at_new ∙ back ∙ ap (λ (s : NodeParts). s.overlay) (sym was))) lawful

@@ -25,9 +25,9 @@ use Rattle.node_events.specs.declared.reply.Reply.{Reply}
 use Rattle.node_events.specs.declared.reply.Reply.TheVariants.{Took}
 use Rattle.node_core.specs.declared.state.Stepped.{Stepped}
 use Rattle.node_parts.specs.declared.envelope.Envelope.{Envelope}
-use Rattle.node_parts.specs.Origin.{after_tick, is_due, sent_whole, tick_sent}
+use Rattle.node_parts.specs.Origin.{overlay_after_tick, is_due, whole_messages, sent_by_tick}
 use Rattle.node_parts.specs.Outbox.{HasSpelling, count_on, frames_from}
-use Rattle.node_parts.specs.Overlay.{IsOverlay, Overlay, after_view, envelope, out_of, sent_by_view, told}
+use Rattle.node_parts.specs.Overlay.{IsOverlay, Overlay, overlay_after_view, envelope, out_of, sent_by_view, overlay_after_call}
 use Rattle.node_parts.proofs.Naming.{names_others_on}
 use Rattle.node_core.specs.Node.{IsInLife, NodeParts, with_overlay}
 use Rattle.node_core.specs.Draft.{NodeDraft, envelope_of, step_views}
@@ -52,17 +52,17 @@ finished old mid new refusal done reply outbox stepped accepted is sends frames 
 -- ---- the views stay the node's own
 
 pub views_of_node : (event : ViewEvent) (word : ℕ) (o : Overlay) → IsOverlay o
-    → (after_view event word o).views.node ≡ o.views.node
+    → (overlay_after_view event word o).views.node ≡ o.views.node
 views_of_node event word o h =
     let after = draft_after event word o.views in
     let tells = each_step_tells_it_all o.views event word (views_of after) after.out h.peers.lawful (record { views = refl; gives = refl }) in
     tells.node
 
 pub ticked_of_node : (ticks word : ℕ) (o : Overlay) → IsOverlay o
-    → (after_tick ticks word o).views.node ≡ o.views.node
+    → (overlay_after_tick ticks word o).views.node ≡ o.views.node
 ticked_of_node ticks word o h =
-    cond_both (is_due ticks) (after_view ShuffleDue word (told Tick o)) (told Tick o) (λ (x : Overlay). x.views.node ≡ o.views.node)
-    (λ _. views_of_node ShuffleDue word (told Tick o) (names_others_on.calls o Tick tt tt h)) (λ _. refl)
+    cond_both (is_due ticks) (overlay_after_view ShuffleDue word (overlay_after_call Tick o)) (overlay_after_call Tick o) (λ (x : Overlay). x.views.node ≡ o.views.node)
+    (λ _. views_of_node ShuffleDue word (overlay_after_call Tick o) (names_others_on.calls o Tick tt tt h)) (λ _. refl)
 
 -- so a node whose overlay changes stays in its life
 pub IsInLife-same : {s : NodeParts} (o : Overlay) → o.views.node ≡ s.overlay.views.node → IsInLife s
@@ -135,7 +135,7 @@ unfolding on_tick
 whole-tick o =
     whole-tick_each o.cast.missing (none_missing (send_announcements (draft_of o.cast))) (whole_announcements o.cast.queue)
 
-as_envelopes : (table : Table) (outs : List CastOut) → All IsWhole outs → map (envelope_of table) outs ≡ sent_whole outs
+as_envelopes : (table : Table) (outs : List CastOut) → All IsWhole outs → map (envelope_of table) outs ≡ whole_messages outs
 as_envelopes table [] h = refl
 as_envelopes table (OfCast.Gossip to round key ∷ outs) h = absurd (All-head IsWhole (OfCast.Gossip to round key) outs h)
 as_envelopes table (OfCast.Send to message ∷ outs) h =
@@ -146,17 +146,17 @@ as_envelopes table (OfCast.Send to message ∷ outs) h =
 -- after the broadcast's tick, with what is sent by then
 cast_ticked : ℕ → List Envelope → NodeParts → NodeDraft
 cast_ticked ticks sent s = record {
-  parts = record s { ticks = ticks; overlay = told Tick s.overlay };
+  parts = record s { ticks = ticks; overlay = overlay_after_call Tick s.overlay };
   sent = sent;
 }
 
 then_shuffled : (due : Bool) (ticks word : ℕ) (sent : List Envelope) (s : NodeParts)
     → (if due then step_views ShuffleDue word (cast_ticked ticks sent s) else cast_ticked ticks sent s) ≡ record {
       parts = record s {
-        overlay = if due then after_view ShuffleDue word (told Tick s.overlay) else told Tick s.overlay;
+        overlay = if due then overlay_after_view ShuffleDue word (overlay_after_call Tick s.overlay) else overlay_after_call Tick s.overlay;
         ticks = ticks;
       };
-      sent = if due then sent ++ sent_by_view ShuffleDue word (told Tick s.overlay) else sent;
+      sent = if due then sent ++ sent_by_view ShuffleDue word (overlay_after_call Tick s.overlay) else sent;
     }
 unfolding cast_ticked
 then_shuffled true ticks word sent s = refl
@@ -166,16 +166,16 @@ then_shuffled false ticks word sent s = refl
 pub ticked : (word : ℕ) (s : NodeParts)
     → tick word (begun s) ≡ record {
       parts = record s {
-        overlay = after_tick (count_on s.ticks 1) word s.overlay;
+        overlay = overlay_after_tick (count_on s.ticks 1) word s.overlay;
         ticks = count_on s.ticks 1;
       };
-      sent = tick_sent (count_on s.ticks 1) word s.overlay;
+      sent = sent_by_tick (count_on s.ticks 1) word s.overlay;
     }
 unfolding cast_ticked
 ticked word s =
     let ticks = count_on s.ticks 1 in
     ap (λ sent. shuffle_if_due word (cast_ticked ticks sent s)) (as_envelopes s.table (out_of Tick s.overlay) (whole-tick s.overlay))
-    ∙ then_shuffled (is_due ticks) ticks word (sent_whole (out_of Tick s.overlay)) s
+    ∙ then_shuffled (is_due ticks) ticks word (whole_messages (out_of Tick s.overlay)) s
 
 -- ---- HELLO
 

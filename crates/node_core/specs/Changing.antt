@@ -1,10 +1,10 @@
 -- What a change of an object brings with it, in the order in which the code does it. Words of
 -- private functions; the table says the same by its small steps.
-use Rattle.std.specs.Prelude.{◌≡◌, ◌<◌, ◌^◌, List, map, length}
+use Rattle.std.specs.Prelude.{◌≡◌, ◌<◌, ◌^◌, List, map}
 use Rattle.meta_types.specs.Name.{Key}
 use Rattle.dvvset.specs.Object.{Entry}
 use Rattle.dvvset.specs.Clock.{join}
-use Rattle.meta_store.specs.Table as table
+use Rattle.meta_store.specs.Table.{with_object}
 use Rattle.plumtree.specs.Broadcast.{Changes}
 use Rattle.plumtree.specs.Savepoint.{rolled_back, savepoint_of}
 use Rattle.subscriptions.specs.declared.change.Change.{Change}
@@ -13,28 +13,29 @@ use Rattle.node_parts.specs.declared.envelope.Envelope.{Envelope}
 use Rattle.node_parts.specs.declared.origin.Origin.{Origin}
 use Rattle.node_parts.specs.declared.origin.Origin.TheVariants.{Write, Gossip}
 use Rattle.node_parts.specs.News.{NewsParts}
-use Rattle.node_parts.specs.Origin.{call_of, with_object}
-use Rattle.node_parts.specs.Overlay.{out_of, told}
+use Rattle.node_parts.specs.Origin.{call_of, envelope_with}
+use Rattle.node_parts.specs.Overlay.{out_of, overlay_after_call}
+use Rattle.node_parts.specs.Watches.{hearing_count}
 use Rattle.node_core.specs.Node.{NodeParts, with_overlay}
 
 -- the object is held under the key
 abbrev pub holding : Key → List Entry → NodeParts → NodeParts
-holding key object s = record s { table = table.with_object key object s.table }
+holding key object s = record s { table = with_object key object s.table }
 
 -- it is held, and the peers are told
 abbrev pub spreading : Origin → Key → List Entry → NodeParts → NodeParts
 spreading origin key object s =
-    holding key object (with_overlay (told (call_of origin key (join object)) s.overlay) s)
+    holding key object (with_overlay (overlay_after_call (call_of origin key (join object)) s.overlay) s)
 
 -- what the peers are sent
 abbrev pub gossips : Origin → Key → List Entry → NodeParts → List Envelope
 gossips origin key object s =
-    map (with_object object) (out_of (call_of origin key (join object)) s.overlay)
+    map (envelope_with object) (out_of (call_of origin key (join object)) s.overlay)
 
 -- the watches note the change, and it isn't waited for any more
 abbrev pub noting : Change → NodeParts → NodeParts
 noting change s = record s {
-  overlay = told (Changes change.key change.vector) s.overlay;
+  overlay = overlay_after_call (Changes change.key change.vector) s.overlay;
   watches = map (with_change change) s.watches;
 }
 
@@ -42,10 +43,10 @@ noting change s = record s {
 abbrev pub change_to : Key → List Entry → Change
 change_to key object = record { key = key; vector = join object }
 
--- news of it, with a note for each watch
+-- news of it, with a note for each watch that hears the key
 abbrev pub AreNews : Key → List Entry → NodeParts → NewsParts → Type 0
 AreNews key object s news =
-    news ≡ record { change = change_to key object; notes = length s.watches }
+    news ≡ record { change = change_to key object; notes = hearing_count key s.watches }
 
 -- the same node, but for a broadcast that is taken back to where it stood by rolling back
 pub record IsBehind (old new : NodeParts) : Type 0 where

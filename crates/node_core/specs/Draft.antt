@@ -1,6 +1,7 @@
 -- A node in the midst of a step, with the messages that it has given out so far, and the small
 -- steps that the rows of the table are made of.
 use Rattle.std.specs.Prelude.{ℕ, List, [], ◌∷◌, ◌++◌, map}
+use Rattle.meta_types.specs.Chain.{◌▷◌}
 use Rattle.meta_types.specs.Name.{Key}
 use Rattle.dvvset.specs.Object.{Entry}
 use Rattle.meta_frame.specs.declared.message.Message.{Message}
@@ -13,17 +14,12 @@ use Rattle.plumtree.specs.Broadcast.{CastCall, Changes, Broadcasts}
 use Rattle.subscriptions.specs.declared.change.Change.{Change}
 use Rattle.subscriptions.specs.Watching.{with_change}
 use Rattle.node_core.specs.Node.{NodeParts, vector_under, with_overlay}
-use Rattle.node_parts.specs.Overlay.{after_view, envelope, out_of, sent_by_view, told}
+use Rattle.node_parts.specs.Overlay.{overlay_after_view, envelope, out_of, sent_by_view, overlay_after_call}
 use Rattle.node_parts.specs.declared.envelope.Envelope.{Envelope}
 
 pub record NodeDraft : Type 0 where
   pub parts : NodeParts
   pub sent : List Envelope
-
-infixl 5 ◌▷◌
--- and then
-abbrev pub ◌▷◌ : NodeDraft → (NodeDraft → NodeDraft) → NodeDraft
-t ▷ f = f t
 
 -- ---- what is sent goes last
 
@@ -44,7 +40,7 @@ envelope_of table (OfCast.Send to message) = envelope to message
 abbrev pub call_broadcast : CastCall → NodeDraft → NodeDraft
 call_broadcast call t =
     record t {
-      parts = with_overlay (told call t.parts.overlay) t.parts;
+      parts = with_overlay (overlay_after_call call t.parts.overlay) t.parts;
       sent = t.sent ++ map (envelope_of t.parts.table) (out_of call t.parts.overlay);
     }
 
@@ -53,7 +49,7 @@ call_broadcast call t =
 abbrev pub step_views : ViewEvent → ℕ → NodeDraft → NodeDraft
 step_views event word t =
     record t {
-      parts = with_overlay (after_view event word t.parts.overlay) t.parts;
+      parts = with_overlay (overlay_after_view event word t.parts.overlay) t.parts;
       sent = t.sent ++ sent_by_view event word t.parts.overlay;
     }
 

@@ -8,7 +8,7 @@ use Rattle.meta_store.specs.Context.{Reading, reading_at}
 use Rattle.meta_store.specs.Table.{Table, object_at}
 use Rattle.subscriptions.specs.Watching.{Watching}
 use Rattle.node_parts.specs.Outbox.{count_on}
-use Rattle.node_parts.specs.Overlay.{IsOverlay, Overlay, alone}
+use Rattle.node_parts.specs.Overlay.{IsOverlay, Overlay, empty_overlay}
 use Rattle.node_parts.specs.Watches.{most_watches}
 
 -- which node it is, and in which of its lives; what it holds, whom it talks to, and who watches it;
@@ -58,7 +58,7 @@ opening node incarnation table = record {
   node = node;
   incarnation = incarnation;
   table = table;
-  overlay = alone node;
+  overlay = empty_overlay node;
   watches = [];
   heard = replicate 16 0;
   steps = 0;

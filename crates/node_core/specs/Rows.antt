@@ -16,7 +16,7 @@ use Rattle.meta_store.specs.Table.{is_stale}
 use Rattle.hash_tree.specs.Tree.{rows_of, tree_root}
 use Rattle.exchange.specs.Answers.{answers_to}
 use Rattle.hyparview.specs.declared.event.ViewEvent.TheVariants as OfViews
-use Rattle.plumtree.specs.Broadcast.{TakesGossip, TakesPrune, TakesIHave, TakesGraft, Tick as CastTick}
+use Rattle.plumtree.specs.Broadcast.{TakesPrune, TakesIHave, TakesGraft, Tick as CastTick, gossip_call}
 use Rattle.subscriptions.specs.Watching.{empty}
 use Rattle.node_events.specs.declared.event.NodeEvent.{NodeEvent}
 use Rattle.node_events.specs.declared.event.NodeEvent.TheVariants.{Read, Write, PutOver, Take, Tick, Join, PeerDown, Exchange, Keep, Watch, Changes, Hello as SayHello, Leave}
@@ -24,7 +24,8 @@ use Rattle.node_parts.specs.Origin.{is_due}
 use Rattle.node_parts.specs.Outbox.{count_on}
 use Rattle.node_parts.specs.Watches.{hand_out}
 use Rattle.node_core.specs.Node.{NodeParts, present, vector_under, writer}
-use Rattle.node_core.specs.Draft.{NodeDraft, ◌▷◌, send_one, send_all, call_broadcast, step_views, change, broadcast_held}
+use Rattle.node_core.specs.Draft.{NodeDraft, send_one, send_all, call_broadcast, step_views, change, broadcast_held}
+use Rattle.meta_types.specs.Chain.{◌▷◌}
 
 -- ---- a write: what is held changes, and is broadcast
 
@@ -49,7 +50,7 @@ abbrev pub row_of_gossip : ℕ → ℕ → Key → List Entry → NodeDraft → 
 row_of_gossip from round key object t =
     let merged = merge key object t in
     let fresh = is_fresh key object t.parts in
-    call_broadcast (TakesGossip from round key (vector_under key merged.parts) fresh) merged
+    call_broadcast (gossip_call from round key (vector_under key merged.parts) fresh) merged
 
 -- ---- IHAVE and GRAFT, whose vector is compared with what is held
 

@@ -1,19 +1,16 @@
 //! The messages of the broadcast that carry no object.
 
-ghost use Rattle.std.specs.Prelude.{◌≡◌, ◌≢◌, ◌∷◌, [], true, All, IfOk, IfErr, OnErr, map};
-ghost use Rattle.meta_frame.specs.Frame.{spelling};
-ghost use Rattle.meta_frame.specs.declared.message.Message.TheVariants.{Gossip, Graft, IHave, Prune};
-ghost use Rattle.meta_store.specs.Table.{is_stale, object_at};
-ghost use Rattle.node_parts.specs.Outbox.{HasSpelling, IsSpelledVector, frames_from};
-ghost use Rattle.node_parts.specs.Overlay.{envelope};
+ghost use Rattle.std.specs.Prelude.{◌≡◌, ◌≢◌, true, IfOk, IfErr, OnErr};
+ghost use Rattle.meta_frame.specs.declared.message.Message.TheVariants.{Graft, IHave, Prune};
+ghost use Rattle.meta_store.specs.Table.{is_stale};
+ghost use Rattle.node_parts.specs.Outbox.{IsSpelledVector};
 ghost use Rattle.node_core.specs.Messages.{IsStepOfMessage};
 ghost use Rattle.node_events.specs.declared.fault.StepFault.TheVariants.{Memory};
 
 use crate::state::{NodeState, Stepped};
 use dvvset::Vector;
-use meta_frame::Message;
 use meta_types::{MetaKey, NodeId};
-use node_events::{Outbox, Reply, StepFault};
+use node_events::{Reply, StepFault};
 
 impl NodeState {
     /// IHAVE: what isn't here is waited for.
@@ -52,40 +49,41 @@ impl NodeState {
         ensures same { OnErr result (self.new ≡ self.old) }
     {
         let held = self.held.store().is_stale(key, vector);
-        let outbox = if held {
-            self.held_frame(from, round, key, vector)?
+        if held {
+            self.on_held_graft(from, round, key, vector)
         } else {
-            self.nothing_sent()
-        };
-        self.overlay.on_graft(from, round, key, held)?;
-        Ok(self.finish(Reply::Took, outbox))
+            self.overlay.on_bare_graft(from, round, key)?;
+            Ok(self.finish(Reply::Took, self.nothing_sent()))
+        }
     }
 
-    /// The frame of what is held under the key, which descends a vector that has read something.
-    fn held_frame(
-        &self,
-        to: NodeId,
+    /// The same, where what is held under the key descends the vector, which has read something.
+    fn on_held_graft(
+        &mut self,
+        from: NodeId,
         round: u16,
         key: &MetaKey,
         vector: &Vector,
-    ) -> Result<Outbox, StepFault>
-        requires another { to ≢ self.now.node }
+    ) -> Result<Stepped, StepFault>
+        requires another { from ≢ self.old.node }
         requires spelled { IsSpelledVector vector.now }
-        requires held { is_stale self.now.table key.now vector.now ≡ true }
-        ensures frames { let message = Gossip round key.now (object_at self.now.table key.now) in
-            IfOk result (λ outbox. outbox ≡ map spelling
-            (frames_from self.now.node self.now.frames (envelope to message ∷ []))) }
-        ensures lawful { let message = Gossip round key.now (object_at self.now.table key.now) in
-            IfOk result (λ _. All HasSpelling
-            (frames_from self.now.node self.now.frames (envelope to message ∷ []))) }
+        requires held { is_stale self.old.table key.now vector.now ≡ true }
+        ensures step { IfOk result (λ stepped.
+            IsStepOfMessage self.old from 0 (Graft round key.now vector.now) self.new stepped) }
         ensures memory { IfErr result (λ fault. fault ≡ Memory) }
+        ensures same { OnErr result (self.new ≡ self.old) }
     {
+        // The contract alone needs it.
         let _ = vector;
         let Some(object) = self.held.store().object(key) else {
-            return Ok(self.nothing_sent());
+            // Never so: nothing descends no vector that has read something.
+            return Ok(self.finish(Reply::Took, self.nothing_sent()));
         };
-        let (key, object) = (key.copy()?, object.copy()?);
-        self.one_frame(to, Message::Gossip { round, key, object })
+        let (alloc, number) = (self.alloc, self.frames);
+        let outbox = self
+            .overlay
+            .on_graft(alloc, number, from, round, key, object)?;
+        Ok(self.finish(Reply::Took, outbox))
     }
 
     /// PRUNE: the sender wants announcements alone.

@@ -1,14 +1,15 @@
 //! What a change of an object brings with it: store and tree hold it, the peers are told, the
 //! watches note it, and it isn't waited for any more. What can fail comes first.
 
-ghost use Rattle.std.specs.Prelude.{◌≡◌, false, All, IfOk, IfErr, OnOk, OnErr, length, map};
+ghost use Rattle.std.specs.Prelude.{◌≡◌, false, All, IfOk, IfErr, OnOk, OnErr, map};
 ghost use Rattle.dvvset.specs.Clock.{join};
 ghost use Rattle.meta_frame.specs.Frame.{spelling};
 ghost use Rattle.meta_store.specs.Step.{is_full_for};
 ghost use Rattle.meta_store.specs.Table.{IsHeld};
 ghost use Rattle.node_core.specs.Changing.{AreNews, HasRound, IsBehind, change_to, gossips, holding, noting, spreading};
-ghost use Rattle.node_parts.specs.Origin.{IsOfAnother};
+ghost use Rattle.node_parts.specs.Origin.{HasOtherSender};
 ghost use Rattle.node_parts.specs.Outbox.{HasSpelling, frames_from};
+ghost use Rattle.node_parts.specs.Watches.{hearing_count};
 ghost use Rattle.node_events.specs.declared.fault.StepFault.TheVariants.{Memory};
 
 use crate::state::NodeState;
@@ -28,7 +29,7 @@ impl NodeState {
     ) -> Result<(Vector, Outbox), StepFault>
         requires held { IsHeld object }
         requires room { is_full_for self.old.table key.now ≡ false }
-        requires another { IsOfAnother self.old.node origin }
+        requires another { HasOtherSender self.old.node origin }
         ensures node { OnOk result
             (self.new ≡ noting (change_to key.now object)
             (spreading origin key.now object self.old)) }
@@ -82,7 +83,7 @@ impl NodeState {
         requires held { IsHeld object }
         requires room { is_full_for self.old.table key.now ≡ false }
         requires vector { vector.now ≡ join object }
-        requires another { IsOfAnother self.old.node origin }
+        requires another { HasOtherSender self.old.node origin }
         ensures node { OnOk result (self.new ≡ spreading origin key.now object self.old) }
         ensures frames { IfOk result (λ outbox. outbox ≡ map spelling
             (frames_from self.old.node self.old.frames (gossips origin key.now object self.old))) }
@@ -114,7 +115,7 @@ impl NodeState {
         requires held { IsHeld object }
         requires room { is_full_for self.old.table key.now ≡ false }
         requires vector { vector.now ≡ join object }
-        requires another { IsOfAnother self.old.node origin }
+        requires another { HasOtherSender self.old.node origin }
         ensures node { OnOk result (self.new ≡ spreading origin key.now object self.old) }
         ensures frames { IfOk result (λ outbox. outbox ≡ map spelling
             (frames_from self.old.node self.old.frames (gossips origin key.now object self.old))) }
@@ -137,7 +138,7 @@ impl NodeState {
     /// fails.
     fn tell(&mut self, key: &MetaKey, news: News) -> Vector
         requires key { key.now ≡ news.change.key }
-        requires notes { news.notes ≡ length self.old.watches }
+        requires notes { news.notes ≡ hearing_count news.change.key self.old.watches }
         ensures node { self.new ≡ noting news.change self.old }
         ensures vector { result ≡ news.change.vector }
     {

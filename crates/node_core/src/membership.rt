@@ -7,7 +7,7 @@ ghost use Rattle.meta_frame.specs.Frame.{spelling};
 ghost use Rattle.meta_frame.specs.declared.message.Message.TheVariants.{Hello};
 ghost use Rattle.node_core.specs.Node.{with_overlay};
 ghost use Rattle.node_parts.specs.Outbox.{HasSpelling, frames_from};
-ghost use Rattle.node_parts.specs.Overlay.{after_view, sent_by_view};
+ghost use Rattle.node_parts.specs.Overlay.{overlay_after_view, sent_by_view};
 ghost use Rattle.node_core.specs.Rows.{Local, drop_neighbour};
 ghost use Rattle.node_core.specs.Messages.{IsStepOfMessage};
 ghost use Rattle.node_core.specs.Step.{IsStepOf, begun, refusal_of};
@@ -19,9 +19,7 @@ use hyparview::ViewEvent;
 use meta_frame::Message;
 use meta_types::NodeId;
 use node_events::{Outbox, Reply, StepFault};
-use node_parts::both;
 use peer_lists::has;
-use std::mem::replace;
 
 impl NodeState {
     /// The node joins the cluster through a contact.
@@ -129,7 +127,7 @@ impl NodeState {
     fn step_views(&mut self, event: ViewEvent, word: u64) -> Result<Outbox, StepFault>
         requires { IsOfAnother self.old.node event }
         ensures node { OnOk result
-            (self.new ≡ with_overlay (after_view event word self.old.overlay) self.old) }
+            (self.new ≡ with_overlay (overlay_after_view event word self.old.overlay) self.old) }
         ensures frames { IfOk result (λ outbox. outbox ≡ map spelling
             (frames_from self.old.node self.old.frames
             (sent_by_view event word self.old.overlay))) }
@@ -139,11 +137,30 @@ impl NodeState {
         ensures memory { IfErr result (λ fault. fault ≡ Memory) }
         ensures same { OnErr result (self.new ≡ self.old) }
     {
+        // Dropped on its one way out, where the proof has one case for it.
+        let outbox = self.step_views_on(&event, word);
+        drop(event);
+        outbox
+    }
+
+    /// The same, of an event that stays the caller's.
+    fn step_views_on(&mut self, event: &ViewEvent, word: u64) -> Result<Outbox, StepFault>
+        requires { IsOfAnother self.old.node event.now }
+        ensures node { OnOk result
+            (self.new ≡ with_overlay (overlay_after_view event.now word self.old.overlay) self.old) }
+        ensures frames { IfOk result (λ outbox. outbox ≡ map spelling
+            (frames_from self.old.node self.old.frames
+            (sent_by_view event.now word self.old.overlay))) }
+        ensures lawful { IfOk result (λ _. All HasSpelling
+            (frames_from self.old.node self.old.frames
+            (sent_by_view event.now word self.old.overlay))) }
+        ensures memory { IfErr result (λ fault. fault ≡ Memory) }
+        ensures same { OnErr result (self.new ≡ self.old) }
+    {
         // Read for what it tells: the views are lawful.
         let _ = self.overlay.views();
-        let (overlay, sent) = self.overlay.after_view(self.alloc, event, word)?;
-        let (overlay, outbox) = both(Ok(overlay), self.outbox(sent))?;
-        drop(replace(&mut self.overlay, overlay));
+        let (alloc, number) = (self.alloc, self.frames);
+        let outbox = self.overlay.on_view_event(alloc, number, event, word)?;
         Ok(outbox)
     }
 }

@@ -1,20 +1,17 @@
 //! Objects that come, in a GOSSIP or in an exchange.
 
-ghost use Rattle.std.specs.Prelude.{◌≡◌, ◌≢◌, true, [], IfOk, IfErr, OnErr};
+ghost use Rattle.std.specs.Prelude.{◌≡◌, ◌≢◌, true, IfOk, IfErr, OnErr};
 ghost use Rattle.meta_types.specs.Failing.{FailsBy};
 ghost use Rattle.dvvset.specs.Clock.{join};
 ghost use Rattle.frame_fields.specs.Field.{object};
 ghost use Rattle.meta_frame.specs.declared.message.Message.TheVariants.{Gossip, XObject};
 ghost use Rattle.meta_store.specs.Table.{is_stale};
-ghost use Rattle.node_core.specs.Node.{vector_under};
 ghost use Rattle.node_core.specs.Messages.{IsStepOfMessage};
 ghost use Rattle.node_core.specs.Step.{refusal_of_object};
-ghost use Rattle.node_parts.specs.Outbox.{IsSpelledVector};
 ghost use Rattle.node_events.specs.declared.fault.StepFault.TheVariants.{Memory};
 
 use crate::state::{NodeState, Stepped};
-use dvvset::{Entries, Vector, join};
-use meta_frame::Message;
+use dvvset::Entries;
 use meta_types::{MetaKey, NodeId};
 use node_events::{Reply, StepFault};
 use node_parts::Origin;
@@ -53,29 +50,18 @@ impl NodeState {
         came: &Entries,
     ) -> Result<Stepped, StepFault>
         requires another { from ≢ self.old.node }
-        requires spelled { object.Fits came.now }
         requires stale { is_stale self.old.table key.now (join came.now) ≡ true }
         ensures step { IfOk result (λ stepped.
             IsStepOfMessage self.old from 0 (Gossip round key.now came.now) self.new stepped) }
         ensures memory { IfErr result (λ fault. fault ≡ Memory) }
         ensures same { OnErr result (self.new ≡ self.old) }
     {
-        let vector = self.vector_under(key)?;
-        let outbox = self.one_frame(from, Message::Prune)?;
-        self.overlay.on_stale(from, round, key, &vector)?;
+        // The contract alone needs these.
+        let _ = round;
+        let _ = key;
+        let _ = came;
+        let outbox = self.overlay.on_stale(self.alloc, self.frames, from)?;
         Ok(self.finish(Reply::TookStale, outbox))
-    }
-
-    /// How many events of each writer are known under the key. One that knows any is spelled.
-    fn vector_under(&self, key: &MetaKey) -> Result<Vector, StepFault>
-        ensures vector { IfOk result (λ vector. vector ≡ vector_under key.now self.now) }
-        ensures spelled { IfOk result (λ vector. vector ≢ [] → IsSpelledVector vector) }
-        ensures memory { IfErr result (λ fault. fault ≡ Memory) }
-    {
-        match self.held.store().object(key) {
-            Some(object) => Ok(join(self.alloc, object)?),
-            None => Ok(Vector::empty(self.alloc)),
-        }
     }
 
     /// XOBJECT: what wasn't known is merged, and not passed on.

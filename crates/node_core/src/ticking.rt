@@ -8,8 +8,6 @@ ghost use Rattle.node_events.specs.declared.fault.StepFault.TheVariants.{Memory}
 
 use crate::state::{NodeState, Stepped};
 use node_events::{Reply, StepFault};
-use node_parts::both;
-use std::mem::replace;
 
 impl NodeState {
     /// Time passes: announcements go out, what is overdue is asked for, and each tenth tick
@@ -23,9 +21,8 @@ impl NodeState {
         // Read for what it tells: the views are lawful.
         let _ = self.overlay.views();
         let ticks = self.ticks.saturating_add(1);
-        let (overlay, sent) = self.overlay.after_tick(self.alloc, ticks, word)?;
-        let (overlay, outbox) = both(Ok(overlay), self.outbox(sent))?;
-        drop(replace(&mut self.overlay, overlay));
+        let (alloc, number) = (self.alloc, self.frames);
+        let outbox = self.overlay.on_tick(alloc, number, ticks, word)?;
         self.ticks = ticks;
         Ok(self.finish(Reply::Done, outbox))
     }

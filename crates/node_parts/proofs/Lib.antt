@@ -2,6 +2,10 @@
 mod Peering
 -- a node never names itself, and what it gives out may be sent
 pub mod Naming
+-- in a shuffle nobody comes or goes
+mod Shuffling
+-- how many watches hear a key, one watch after another
+mod Hearing
 -- messages become frames, one after another
 pub mod Numbering
 -- a message that a node may send has a spelling, and not a long one

@@ -1,5 +1,5 @@
 -- The peers of the broadcast stay the members of the active view.
-use Rattle.std.proofs.Common.{◌≡◌, ℕ, Bool, true, false, not, ◌||◌, ◌&&◌, List, [], ◌∷◌, ◌++◌, nat_eq, ⊎_elim, cond, refl, sym, ap, subst, ◌∙◌}
+use Rattle.std.proofs.Common.{◌≡◌, ℕ, Bool, true, false, not, ◌||◌, ◌&&◌, List, [], ◌∷◌, ◌++◌, map, nat_eq, ⊎_elim, cond, refl, sym, ap, subst, ◌∙◌}
 use Rattle.std.specs.List.{IsDistinct}
 use Rattle.std.proofs.lemmas.Bool.{eqb-true, cases_Bool}
 use Rattle.std.proofs.lemmas.List.Folds.{list_any-append}
@@ -11,10 +11,10 @@ use Rattle.hyparview.specs.declared.event.ViewOut.TheVariants as OfViews
 use Rattle.hyparview.specs.Lawful.{Follows}
 use Rattle.hyparview.specs.Views.{draft_after, views_of}
 use Rattle.hyparview.proofs.Standing.{each_step_tells_it_all, views_stay_lawful}
-use Rattle.plumtree.specs.Broadcast.{Broadcast, CastCall, Up, Down, Broadcasts, TakesGossip, TakesPrune, TakesIHave, TakesGraft, Changes, Tick}
-use Rattle.plumtree.specs.Lawful.{HasLinks, after_call, is_peer, is_peer_after}
+use Rattle.plumtree.specs.Broadcast.{Broadcast, CastCall, Up, Down, Broadcasts, TakesFresh, TakesStale, TakesPrune, TakesIHave, TakesGraft, Changes, Tick, peer_call}
+use Rattle.plumtree.specs.Lawful.{HasLinks, after_call, broadcast_after, is_peer, is_peer_after}
 use Rattle.plumtree.proofs.Standing.{stay_links, peers_come_and_go}
-use Rattle.node_parts.specs.Overlay.{ArePeers, IsOfNoPeer, Overlay, StayPeers, after_view, follow}
+use Rattle.node_parts.specs.Overlay.{ArePeers, IsOfNoPeer, Overlay, StayPeers, overlay_after_view, peer_changes}
 
 -- the peers are the members of this list, in which each stands once
 record Matches (members : List ℕ) (b : Broadcast) : Type 0 where
@@ -72,8 +72,12 @@ Matches-down members node b h =
           ∙ ap (λ was. was && not (nat_eq x node)) (h.same x) ∙ without_it members node x h.once;
     }
 
+-- the broadcast after it heard who came and who went
+abbrev pub hearing : List ViewOut → Broadcast → Broadcast
+hearing outs b = broadcast_after b (map peer_call (peer_changes outs))
+
 Matches-follow : (outs : List ViewOut) (old new : List ℕ) (b : Broadcast) → Follows old outs new
-    → Matches old b → Matches new (follow outs b)
+    → Matches old b → Matches new (hearing outs b)
 Matches-follow [] old new b is h = subst (λ members. Matches members b) (sym is) h
 Matches-follow (OfViews.Send to message ∷ outs) old new b is h = Matches-follow outs old new b is h
 Matches-follow (OfViews.Up node ∷ outs) old new b is h =
@@ -82,7 +86,7 @@ Matches-follow (OfViews.Down node ∷ outs) old new b is h =
     Matches-follow outs (without node old) new (after_call b (Down node)) is.1 (Matches-down old node b h)
 
 ArePeers-view : (o : Overlay) (event : ViewEvent) (word : ℕ) → ArePeers o
-    → ArePeers (after_view event word o)
+    → ArePeers (overlay_after_view event word o)
 ArePeers-view o event word h =
     let after = draft_after event word o.views in
     let tells = each_step_tells_it_all o.views event word (views_of after) after.out h.lawful (record { views = refl; gives = refl }) in
@@ -93,7 +97,8 @@ keeps : (call : CastCall) (x : ℕ) (was : Bool) → IsOfNoPeer call → is_peer
 keeps (Up node) x was of_none = absurd of_none
 keeps (Down node) x was of_none = absurd of_none
 keeps (Broadcasts key vector) x was of_none = refl
-keeps (TakesGossip from round key vector fresh) x was of_none = refl
+keeps (TakesFresh from round key vector) x was of_none = refl
+keeps (TakesStale from) x was of_none = refl
 keeps (TakesPrune from) x was of_none = refl
 keeps (TakesIHave from round key vector stale) x was of_none = refl
 keeps (TakesGraft from round key held) x was of_none = refl

@@ -1,5 +1,5 @@
 -- The frames of a node's messages.
-use Rattle.std.specs.Prelude.{ℕ, ◌≢◌, ◌≤◌, ◌+◌, ◌-◌, ◌^◌, min, List, [], ◌∷◌}
+use Rattle.std.specs.Prelude.{ℕ, ◌≡◌, ◌≢◌, ◌≤◌, ◌+◌, ◌-◌, ◌^◌, min, List, [], ◌∷◌, map, All}
 use Rattle.dvvset.specs.Object.{Counter}
 use Rattle.frame_fields.specs.Field.{place, vector as vector_form}
 use Rattle.meta_frame.specs.declared.message.Frame.{Frame}
@@ -45,3 +45,10 @@ pub record MaySend (node : ℕ) (e : Envelope) : Type 0 where
 -- the frame is lawful, and so one to another node, and its bytes are no more than a frame may have
 abbrev pub HasSpelling : Frame → Type 0
 HasSpelling frame = Spells frame (spelling frame)
+
+-- these are the frames of the messages, as bytes, numbered from the one after `number` on, each of
+-- them lawful and short enough
+pub record AreFramesOf (node number : ℕ) (sent : List Envelope) (outbox : List (List ℕ))
+    : Type 0 where
+  pub frames : outbox ≡ map spelling (frames_from node number sent)
+  pub lawful : All HasSpelling (frames_from node number sent)

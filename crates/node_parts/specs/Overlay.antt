@@ -1,6 +1,6 @@
 -- Whom a node talks to: its views, and its broadcast, whose peers are the members of the active
 -- view.
-use Rattle.std.specs.Prelude.{ℕ, ◌≡◌, List, [], ◌∷◌}
+use Rattle.std.specs.Prelude.{ℕ, ◌≡◌, List, [], ◌∷◌, map}
 use Rattle.meta_frame.specs.declared.message.Message.{Message}
 use Rattle.peer_lists.specs.Lists.{has}
 use Rattle.hyparview.specs.declared.event.ViewEvent.{ViewEvent}
@@ -10,38 +10,43 @@ use Rattle.hyparview.specs.Lawful.{AreLawful, IsOfAnother}
 use Rattle.hyparview.specs.Views as views
 use Rattle.hyparview.specs.Views.{NodeViews, draft_after, views_of}
 use Rattle.plumtree.specs.Broadcast as broadcast
-use Rattle.plumtree.specs.Broadcast.{Broadcast, CastCall, Up, Down, draft_of, row}
+use Rattle.plumtree.specs.Broadcast.{Broadcast, CastCall, Up, Down, draft_of, peer_call, row}
 use Rattle.plumtree.specs.declared.entry.CastOut.{CastOut}
-use Rattle.plumtree.specs.Lawful.{HasLinks, MayCome, NamesOthers, after_call, is_peer}
+use Rattle.plumtree.specs.declared.entry.PeerChange.{PeerChange}
+use Rattle.plumtree.specs.declared.entry.PeerChange.TheVariants as OfPeer
+use Rattle.plumtree.specs.Lawful.{HasLinks, MayCome, NamesOthers, after_call, broadcast_after, is_peer}
 use Rattle.node_parts.specs.declared.envelope.Envelope.{Envelope}
 
 pub record Overlay : Type 0 where
   pub views : NodeViews
   pub cast : Broadcast
 
-abbrev pub talking : NodeViews → Broadcast → Overlay
-talking views cast = record { views = views; cast = cast }
+-- the overlay of these two
+abbrev pub overlay_of : NodeViews → Broadcast → Overlay
+overlay_of views cast = record { views = views; cast = cast }
 
 -- a node that knows nobody
-abbrev pub alone : ℕ → Overlay
-alone node = record { views = views.empty node; cast = broadcast.empty }
+abbrev pub empty_overlay : ℕ → Overlay
+empty_overlay node = record { views = views.empty node; cast = broadcast.empty }
 
 -- a message, and to whom it goes
 abbrev pub envelope : ℕ → Message → Envelope
 envelope to message = record { to = to; message = message }
 
--- ---- a step of the views, of which the broadcast hears who came and who went, in order
+-- ---- an event of the views, of which the broadcast hears who came and who went
 
-abbrev pub follow : List ViewOut → Broadcast → Broadcast
-follow [] b = b
-follow (OfViews.Send to message ∷ outs) b = follow outs b
-follow (OfViews.Up node ∷ outs) b = follow outs (after_call b (Up node))
-follow (OfViews.Down node ∷ outs) b = follow outs (after_call b (Down node))
+-- who came and who went, in order
+abbrev pub peer_changes : List ViewOut → List PeerChange
+peer_changes [] = []
+peer_changes (OfViews.Send to message ∷ outs) = peer_changes outs
+peer_changes (OfViews.Up node ∷ outs) = OfPeer.Up node ∷ peer_changes outs
+peer_changes (OfViews.Down node ∷ outs) = OfPeer.Down node ∷ peer_changes outs
 
-abbrev pub after_view : ViewEvent → ℕ → Overlay → Overlay
-after_view event word o =
+-- the views are those after the event, and the broadcast has heard of each change
+abbrev pub overlay_after_view : ViewEvent → ℕ → Overlay → Overlay
+overlay_after_view event word o =
     let after = draft_after event word o.views in
-    record { views = views_of after; cast = follow after.out o.cast }
+    overlay_of (views_of after) (broadcast_after o.cast (map peer_call (peer_changes after.out)))
 
 -- the messages among what was given out
 abbrev pub messages_of : List ViewOut → List Envelope
@@ -50,14 +55,17 @@ messages_of (OfViews.Send to message ∷ outs) = envelope to message ∷ message
 messages_of (OfViews.Up node ∷ outs) = messages_of outs
 messages_of (OfViews.Down node ∷ outs) = messages_of outs
 
+-- those that are sent for an event
 abbrev pub sent_by_view : ViewEvent → ℕ → Overlay → List Envelope
 sent_by_view event word o = messages_of (draft_after event word o.views).out
 
--- ---- a call of the broadcast: the overlay after it, and what it gives out
+-- ---- a call of the broadcast
 
-abbrev pub told : CastCall → Overlay → Overlay
-told call o = talking o.views (after_call o.cast call)
+-- the views stay as they are
+abbrev pub overlay_after_call : CastCall → Overlay → Overlay
+overlay_after_call call o = overlay_of o.views (after_call o.cast call)
 
+-- what the broadcast gives out
 abbrev pub out_of : CastCall → Overlay → List CastOut
 out_of call o = (row call (draft_of o.cast)).out
 
@@ -83,17 +91,17 @@ IsOfNoPeer _ = Unit {0}
 -- the peers are the active view of a node that knows nobody, and stay it with each event of the
 -- views, and with each call of the broadcast that is of no peer
 pub record StayPeers : Type 0 where
-  pub begins : (node : ℕ) → ArePeers (alone node)
+  pub begins : (node : ℕ) → ArePeers (empty_overlay node)
   pub views : (o : Overlay) (event : ViewEvent) (word : ℕ) → ArePeers o
-      → ArePeers (after_view event word o)
+      → ArePeers (overlay_after_view event word o)
   pub calls : (o : Overlay) (call : CastCall) → IsOfNoPeer call → ArePeers o
-      → ArePeers (told call o)
+      → ArePeers (overlay_after_call call o)
 
 -- a node that knows nobody names nobody, and what it hears of other nodes never makes it name
 -- itself
 pub record NamesOthersOn : Type 0 where
-  pub begins : (node : ℕ) → IsOverlay (alone node)
+  pub begins : (node : ℕ) → IsOverlay (empty_overlay node)
   pub views : (o : Overlay) (event : ViewEvent) (word : ℕ) → IsOfAnother o.views.node event
-      → IsOverlay o → IsOverlay (after_view event word o)
+      → IsOverlay o → IsOverlay (overlay_after_view event word o)
   pub calls : (o : Overlay) (call : CastCall) → IsOfNoPeer call → MayCome o.views.node call
-      → IsOverlay o → IsOverlay (told call o)
+      → IsOverlay o → IsOverlay (overlay_after_call call o)

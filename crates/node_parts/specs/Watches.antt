@@ -1,7 +1,9 @@
 -- Who watches a node. Watches are numbered from 1.
 use Rattle.std.specs.Prelude.{ℕ, ◌-◌, nat_eq, nat_le, nat_lt, Bool, ◌||◌, List, [], ◌∷◌, length, slice_get, slice_set, Option, None, Some, is_none, if◌then◌else◌}
+use Rattle.std.specs.List.{filter}
 use Rattle.meta_types.specs.First.{first_that_applies}
-use Rattle.subscriptions.specs.Watching.{Watching, emptied}
+use Rattle.meta_types.specs.Name.{Key}
+use Rattle.subscriptions.specs.Watching.{Watching, emptied, greatest_capacity, hears}
 use Rattle.node_events.specs.declared.fault.StepFault.{StepFault}
 use Rattle.node_events.specs.declared.fault.StepFault.TheVariants.{BadWatch, NoSuchWatch}
 use Rattle.node_events.specs.declared.reply.Reply.{Reply}
@@ -15,11 +17,15 @@ most_watches = 16
 abbrev pub at_number : {A : Type 0} → List A → ℕ → Option A
 at_number xs number = if nat_eq number 0 then None else slice_get xs (number - 1)
 
+-- how many of them hear the key
+abbrev pub hearing_count : Key → List Watching → ℕ
+hearing_count key watches = length (filter (λ w. hears w key) watches)
+
 -- ---- one more
 
--- there is room for 1 to 1,024 changes
+-- there is room for no change, or for too many
 abbrev pub is_no_capacity : ℕ → Bool
-is_no_capacity capacity = nat_eq capacity 0 || nat_lt 1024 capacity
+is_no_capacity capacity = nat_eq capacity 0 || nat_lt greatest_capacity capacity
 
 abbrev pub refusal_of_watch : ℕ → List Watching → Option StepFault
 refusal_of_watch capacity watches =

@@ -9,8 +9,7 @@ pub fn peers_are_the_active_view()
 {}
 
 /// A node that knows nobody names nobody, and none names itself whatever it hears of other nodes:
-/// it
-/// is no peer of its own, and all that waits to be sent goes to others.
+/// it is no peer of its own, and all that waits to be sent goes to others.
 pub fn a_node_never_names_itself()
     ensures { NamesOthersOn }
 {}

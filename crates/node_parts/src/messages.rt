@@ -1,7 +1,7 @@
 //! What the broadcast gives out becomes messages.
 
 ghost use Rattle.std.specs.Prelude.{◌≡◌, IfOk, map};
-ghost use Rattle.node_parts.specs.Origin.{sent_whole, with_object};
+ghost use Rattle.node_parts.specs.Origin.{envelope_with, whole_messages};
 
 use crate::envelope::Envelope;
 use dvvset::Entries;
@@ -15,7 +15,7 @@ pub fn gossips(
     outs: Vec<CastOut>,
     object: &Entries,
 ) -> Result<Vec<Envelope>, AllocError>
-    ensures { IfOk result (λ sent. sent.items ≡ map (with_object object.now) outs.items) }
+    ensures { IfOk result (λ sent. sent.items ≡ map (envelope_with object.now) outs.items) }
 {
     let mut sent = Vec::with_capacity(alloc, outs.len())?;
     for out in outs {
@@ -25,7 +25,7 @@ pub fn gossips(
 }
 
 fn gossip(out: CastOut, object: &Entries) -> Result<Envelope, AllocError>
-    ensures { IfOk result (λ envelope. envelope ≡ with_object object.now out) }
+    ensures { IfOk result (λ envelope. envelope ≡ envelope_with object.now out) }
 {
     Ok(match out {
         CastOut::Gossip { to, round, key } => {
@@ -40,8 +40,8 @@ fn gossip(out: CastOut, object: &Entries) -> Result<Envelope, AllocError>
 }
 
 /// The messages that are whole, which are all where no GOSSIP is among them.
-pub fn whole(alloc: Global, outs: Vec<CastOut>) -> Result<Vec<Envelope>, AllocError>
-    ensures { IfOk result (λ sent. sent.items ≡ sent_whole outs.items) }
+pub fn whole_messages(alloc: Global, outs: Vec<CastOut>) -> Result<Vec<Envelope>, AllocError>
+    ensures { IfOk result (λ sent. sent.items ≡ whole_messages outs.items) }
 {
     let mut sent = Vec::new(alloc);
     for out in outs {

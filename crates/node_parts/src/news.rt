@@ -2,12 +2,13 @@ ghost use Rattle.std.specs.Prelude.{◌≡◌, ◌≤◌, IfOk};
 ghost use Rattle.node_parts.specs.News.{one_note_fewer};
 
 use dvvset::Vector;
+use meta_types::MetaKey;
 use std::alloc::{AllocError, Global};
 use std::marker::Model;
 use subscriptions::Change;
 
-/// A change, and as many notes of it as are still to be given to watches. They are made before
-/// anything changes, so that nothing fails afterwards.
+/// A change, and as many notes of it as are still to be given to the watches that hear its key. They
+/// are made before anything changes, so that nothing fails afterwards.
 #[derive(Drop)]
 pub struct News {
     change: Change,
@@ -44,6 +45,12 @@ impl News {
         ensures fewer { self.new ≡ one_note_fewer self.old }
     {
         self.notes.pop().unwrap()
+    }
+
+    pub fn key(&self) -> &MetaKey
+        ensures { result.now ≡ self.now.change.key }
+    {
+        &self.change.key
     }
 
     pub fn vector(&self) -> &Vector

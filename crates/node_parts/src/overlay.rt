@@ -1,13 +1,17 @@
-ghost use Rattle.std.specs.Prelude.{◌≡◌, ◌↔◌, All, IfOk, IsTrue, OnOk};
+ghost use Rattle.std.specs.Prelude.{◌≡◌, ◌↔◌, All, IfOk, IsTrue, OnOk, OnErr};
 ghost use Rattle.hyparview.specs.Lawful.{IsOfAnother};
-ghost use Rattle.node_parts.specs.Outbox.{MaySend};
-ghost use Rattle.node_parts.specs.Overlay.{IsOverlay, after_view, alone, follow, messages_of, sent_by_view, talking};
+ghost use Rattle.hyparview.specs.Views.{draft_after, views_of};
+ghost use Rattle.node_parts.specs.Outbox.{AreFramesOf, MaySend};
+ghost use Rattle.node_parts.specs.Overlay.{IsOverlay, empty_overlay, messages_of};
+ghost use Rattle.node_parts.specs.Overlay.{overlay_after_view, peer_changes, sent_by_view};
 
 use crate::envelope::Envelope;
+use crate::sending::outbox;
 use crate::together::both;
 use hyparview::{ViewEvent, ViewOut, Views};
 use meta_types::NodeId;
-use plumtree::Cast;
+use node_events::Outbox;
+use plumtree::{Cast, PeerChange};
 use std::alloc::{AllocError, Global};
 use std::marker::Model;
 
@@ -20,19 +24,19 @@ pub struct Overlay {
 }
 
 impl Model for Overlay {
-    ghost use Rattle.node_parts.specs.Overlay.{IsOverlay, Overlay as Parts, talking};
+    ghost use Rattle.node_parts.specs.Overlay.{IsOverlay, Overlay as Parts, overlay_of};
 
     ghost Value = { Parts };
 
-    ghost view = { λ o. talking o.views o.cast };
+    ghost view = { λ o. overlay_of o.views o.cast };
 
-    ghost invariant = { λ o. IsOverlay (talking o.views o.cast) };
+    ghost invariant = { λ o. IsOverlay (overlay_of o.views o.cast) };
 }
 
 impl Overlay {
     /// A node that knows nobody. It takes no memory.
     pub fn new(alloc: Global, node: NodeId) -> Self
-        ensures { result ≡ alone node }
+        ensures { result ≡ empty_overlay node }
     {
         Overlay {
             views: Views::new(alloc, node),
@@ -42,7 +46,7 @@ impl Overlay {
 
     /// Returns whether the node knows nobody, and waits for nothing, as a new one.
     pub fn is_new(&self) -> bool
-        ensures { IsTrue result ↔ (self.now ≡ alone self.now.views.node) }
+        ensures { IsTrue result ↔ (self.now ≡ empty_overlay self.now.views.node) }
     {
         self.views.is_new() && self.cast.is_new()
     }
@@ -69,58 +73,83 @@ impl Overlay {
         Ok(Overlay { views, cast })
     }
 
-    /// Whom the node talks to after an event of the views, of which the broadcast hears who came
-    /// and who went, and the messages to send, in order. Fails only when memory runs out.
-    pub fn after_view(
+    /// An event of the views, of which the broadcast hears who came and who went. Answers the frames
+    /// of what is to be sent, numbered from the one after `number` on. Fails only when memory runs
+    /// out, and then all is as before. The broadcast is changed in place, and never copied.
+    pub fn on_view_event(
+        &mut self,
+        alloc: Global,
+        number: u64,
+        event: &ViewEvent,
+        word: u64,
+    ) -> Result<Outbox, AllocError>
+        requires { IsOfAnother self.old.views.node event.now }
+        ensures overlay { OnOk result (self.new ≡ overlay_after_view event.now word self.old) }
+        ensures sends { IfOk result (AreFramesOf self.old.views.node number
+            (sent_by_view event.now word self.old)) }
+        ensures unchanged { OnErr result (self.new ≡ self.old) }
+    {
+        let (views, (changes, outbox)) = self.after_view_event(alloc, number, event, word)?;
+        self.cast.change_peers(changes.as_slice())?;
+        self.views = views;
+        Ok(outbox)
+    }
+
+    /// The views after the event, who came and who went, and the frames.
+    fn after_view_event(
         &self,
         alloc: Global,
-        event: ViewEvent,
+        number: u64,
+        event: &ViewEvent,
         word: u64,
-    ) -> Result<(Overlay, Vec<Envelope>), AllocError>
-        requires { IsOfAnother self.now.views.node event }
-        ensures after { IfOk result (λ told. told.0 ≡ after_view event word self.now) }
-        ensures sent { IfOk result (λ told. told.1.items ≡ sent_by_view event word self.now) }
-        ensures may { IfOk result (λ told. All (MaySend self.now.views.node) told.1.items) }
+    ) -> Result<(Views, (Vec<PeerChange>, Outbox)), AllocError>
+        requires { IsOfAnother self.now.views.node event.now }
+        ensures views { IfOk result (λ after.
+            after.0 ≡ views_of (draft_after event.now word self.now.views)) }
+        ensures changes { IfOk result (λ after. after.1.0.items
+            ≡ peer_changes (draft_after event.now word self.now.views).out) }
+        ensures sends { IfOk result (λ after. AreFramesOf self.now.views.node number
+            (sent_by_view event.now word self.now) after.1.1) }
     {
-        let copies = both(self.views.copy(), self.cast.copy());
-        let ((mut views, mut cast), event) = both(copies, Ok(event))?;
-        let sent = step_views(alloc, &mut views, &mut cast, event, word);
-        let (parts, sent) = both(Ok((views, cast)), sent)?;
-        let (views, cast) = parts;
-        Ok((Overlay { views, cast }, sent))
+        let (views, outs) = self.views.after(event, word)?;
+        let told = told_by(alloc, self.views.node(), number, outs);
+        both(Ok(views), told)
     }
 }
 
-/// An event of the views, of which the broadcast hears who came and who went. Answers the messages
-/// to send, in order. Where memory runs out, views and broadcast may be in the midst of it.
-fn step_views(
+/// Who came and who went, and the frames of the messages.
+fn told_by(
     alloc: Global,
-    views: &mut Views,
-    cast: &mut Cast,
-    event: ViewEvent,
-    word: u64,
-) -> Result<Vec<Envelope>, AllocError>
-    ensures after { OnOk result (talking views.new cast.new
-        ≡ after_view event word (talking views.old cast.old)) }
-    ensures sent { IfOk result (λ sent. sent.items
-        ≡ sent_by_view event word (talking views.old cast.old)) }
+    node: NodeId,
+    number: u64,
+    outs: Vec<ViewOut>,
+) -> Result<(Vec<PeerChange>, Outbox), AllocError>
+    requires { All (MaySend node) (messages_of outs.items) }
+    ensures changes { IfOk result (λ told. told.0.items ≡ peer_changes outs.items) }
+    ensures sends { IfOk result (λ told.
+        AreFramesOf node number (messages_of outs.items) told.1) }
 {
-    let outs = views.step(event, word)?;
-    follow(alloc, cast, outs)
+    let (changes, sent) = parted(alloc, outs)?;
+    let outbox = outbox(alloc, node, number, sent);
+    both(Ok(changes), outbox)
 }
 
-/// The broadcast hears who came and who went, and the messages are handed out.
-fn follow(alloc: Global, cast: &mut Cast, outs: Vec<ViewOut>) -> Result<Vec<Envelope>, AllocError>
-    ensures cast { OnOk result (cast.new ≡ follow outs.items cast.old) }
-    ensures messages { IfOk result (λ sent. sent.items ≡ messages_of outs.items) }
+/// Who came and who went, and the messages, each in order. Fails only when memory runs out.
+pub(crate) fn parted(
+    alloc: Global,
+    outs: Vec<ViewOut>,
+) -> Result<(Vec<PeerChange>, Vec<Envelope>), AllocError>
+    ensures changes { IfOk result (λ parted. parted.0.items ≡ peer_changes outs.items) }
+    ensures messages { IfOk result (λ parted. parted.1.items ≡ messages_of outs.items) }
 {
+    let mut changes = Vec::new(alloc);
     let mut sent = Vec::new(alloc);
     for out in outs {
         match out {
             ViewOut::Send(to, message) => sent.push(Envelope { to, message })?,
-            ViewOut::Up(node) => cast.up(node)?,
-            ViewOut::Down(node) => cast.down(node),
+            ViewOut::Up(node) => changes.push(PeerChange::Up(node))?,
+            ViewOut::Down(node) => changes.push(PeerChange::Down(node))?,
         }
     }
-    Ok(sent)
+    Ok((changes, sent))
 }

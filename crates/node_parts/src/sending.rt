@@ -1,17 +1,16 @@
 //! Messages become frames.
 
-ghost use Rattle.std.specs.Prelude.{◌≡◌, ◌≤◌, ◌<◌, ◌^◌, length, map, All, IfOk, IfErr};
+ghost use Rattle.std.specs.Prelude.{◌≡◌, ◌≤◌, ◌<◌, ◌^◌, length, map, All, IfOk};
 ghost use Rattle.frame_fields.specs.Field.{digest, digests, key, keys, life, node, nodes, prefix, prefixes};
 ghost use Rattle.meta_frame.specs.Frame.{IsLawful, IsMessage, Spells, limit, spelling};
-ghost use Rattle.meta_frame.specs.declared.fault.FrameFault.TheVariants.{Memory};
 ghost use Rattle.node_parts.specs.Outbox.{HasSpelling, IsSendable, MaySend, frame_of, frames_from};
 
 use crate::envelope::Envelope;
 use frame_fields::{Digest, Digests, KeyDigests, Nodes, PrefixDigests};
-use meta_frame::{Frame, FrameFault, Message, encode};
+use meta_frame::{Frame, Message, encode};
 use meta_types::{ByteString, FullPrefix, MetaKey, NodeId};
 use node_events::Outbox;
-use std::alloc::Global;
+use std::alloc::{AllocError, Global};
 
 /// The frames of these messages, numbered from the one after `number` on. Fails only when memory
 /// runs out.
@@ -20,13 +19,12 @@ pub fn outbox(
     from: NodeId,
     number: u64,
     sent: Vec<Envelope>,
-) -> Result<Outbox, FrameFault>
+) -> Result<Outbox, AllocError>
     requires { All (MaySend from) sent.items }
     ensures frames { IfOk result
         (λ outbox. outbox ≡ map spelling (frames_from from number sent.items)) }
     ensures lawful { IfOk result
         (λ _. All HasSpelling (frames_from from number sent.items)) }
-    ensures memory { IfErr result (λ fault. fault ≡ Memory) }
 {
     let mut number = number;
     let mut frames = Vec::with_capacity(alloc, sent.len())?;
@@ -43,11 +41,10 @@ fn spelled(
     from: NodeId,
     number: u64,
     envelope: Envelope,
-) -> Result<ByteString, FrameFault>
+) -> Result<ByteString, AllocError>
     requires { MaySend from envelope }
     ensures frame { IfOk result (λ bytes. bytes ≡ spelling (frame_of from number envelope)) }
     ensures lawful { IfOk result (λ _. HasSpelling (frame_of from number envelope)) }
-    ensures memory { IfErr result (λ fault. fault ≡ Memory) }
 {
     let frame = Frame {
         from,
@@ -61,15 +58,15 @@ fn spelled(
     bytes_of(alloc, &frame)
 }
 
-fn bytes_of(alloc: Global, frame: &Frame) -> Result<ByteString, FrameFault>
+fn bytes_of(alloc: Global, frame: &Frame) -> Result<ByteString, AllocError>
     requires lawful { IsLawful frame.now }
     requires short { length (spelling frame.now) ≤ limit }
     ensures spells { IfOk result (λ bytes. Spells frame.now bytes) }
-    ensures memory { IfErr result (λ fault. fault ≡ Memory) }
 {
     match encode(alloc, frame) {
         Ok(bytes) => Ok(ByteString::new(bytes)),
-        Err(fault) => Err(fault),
+        // The frame is short enough, so only memory can have run out.
+        Err(_) => Err(AllocError),
     }
 }
 

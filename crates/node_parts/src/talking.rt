@@ -1,20 +1,25 @@
 //! What the broadcast of a node is told, call by call. Each changes nothing where it fails, which
 //! is for want of memory alone.
 
-ghost use Rattle.std.specs.Prelude.{◌≡◌, ◌≢◌, true, false, All, IfOk, OnOk, OnErr};
-ghost use Rattle.plumtree.specs.Broadcast.{Changes, Tick, TakesGossip, TakesGraft, TakesIHave, TakesPrune};
+ghost use Rattle.std.specs.Prelude.{◌≡◌, ◌≢◌, true, false, map, All, IfOk, OnOk, OnErr};
+ghost use Rattle.meta_store.specs.Table.{IsHeld};
+ghost use Rattle.plumtree.specs.Broadcast.{Changes, TakesGraft, TakesIHave, TakesPrune};
+ghost use Rattle.plumtree.specs.Broadcast.{TakesStale};
 ghost use Rattle.plumtree.specs.Lawful.{MayBeSent, MayCome};
 ghost use Rattle.plumtree.specs.Savepoint.{rolled_back, savepoint_of};
-ghost use Rattle.node_parts.specs.Origin.{call_of};
-ghost use Rattle.node_parts.specs.Outbox.{IsSpelledVector};
-ghost use Rattle.node_parts.specs.Overlay.{IsOverlay, out_of, talking, told};
+ghost use Rattle.node_parts.specs.Origin.{call_of, envelope_with, whole_messages};
+ghost use Rattle.node_parts.specs.Outbox.{AreFramesOf, IsSpelledVector};
+ghost use Rattle.node_parts.specs.Overlay.{IsOverlay, out_of, overlay_after_call, overlay_of};
 
+use crate::messages::{gossips, whole_messages};
 use crate::origin::Origin;
 use crate::overlay::Overlay;
-use dvvset::Vector;
+use crate::sending::outbox;
+use dvvset::{Entries, Vector};
 use meta_types::{MetaKey, NodeId};
-use plumtree::{CastOut, Savepoint};
-use std::alloc::AllocError;
+use node_events::Outbox;
+use plumtree::{Cast, CastOut, Savepoint};
+use std::alloc::{AllocError, Global};
 
 impl Overlay {
     /// The object under the key changed, and is broadcast. Answers what goes to whom.
@@ -26,7 +31,7 @@ impl Overlay {
     ) -> Result<Vec<CastOut>, AllocError>
         requires { MayCome self.old.views.node (call_of origin key.now vector.now) }
         ensures overlay { OnOk result
-            (self.new ≡ told (call_of origin key.now vector.now) self.old) }
+            (self.new ≡ overlay_after_call (call_of origin key.now vector.now) self.old) }
         ensures gives { IfOk result
             (λ outs. outs.items ≡ out_of (call_of origin key.now vector.now) self.old) }
         ensures may { IfOk result (λ outs. All (MayBeSent self.old.views.node) outs.items) }
@@ -34,7 +39,7 @@ impl Overlay {
     {
         match origin {
             Origin::Write => self.cast.on_broadcast(key, vector),
-            Origin::Gossip { from, round } => self.cast.on_gossip(from, round, key, vector, true),
+            Origin::Gossip { from, round } => self.cast.on_fresh(from, round, key, vector),
         }
     }
 
@@ -45,44 +50,45 @@ impl Overlay {
         self.cast.savepoint()
     }
 
-    /// The broadcast is rolled back to where it stood.
+    /// What a write or a GOSSIP told the broadcast since then is taken back.
     pub fn roll_back(&mut self, savepoint: Savepoint)
-        requires { IsOverlay (talking self.old.views (rolled_back savepoint self.old.cast)) }
-        ensures { self.new ≡ talking self.old.views (rolled_back savepoint self.old.cast) }
+        requires { IsOverlay (overlay_of self.old.views (rolled_back savepoint self.old.cast)) }
+        ensures { self.new ≡ overlay_of self.old.views (rolled_back savepoint self.old.cast) }
     {
         self.cast.roll_back(savepoint);
     }
 
     /// The object under the key changed, and isn't waited for any more. It never fails.
     pub fn on_change(&mut self, key: &MetaKey, vector: &Vector)
-        ensures { self.new ≡ told (Changes key.now vector.now) self.old }
+        ensures { self.new ≡ overlay_after_call (Changes key.now vector.now) self.old }
     {
         self.cast.on_change(key, vector);
     }
 
-    /// A GOSSIP was stale. The sender is to be sent PRUNE.
+    /// A GOSSIP was stale: its sender becomes lazy, and is sent PRUNE. Answers the frames, numbered
+    /// from the one after `number` on.
     pub fn on_stale(
         &mut self,
+        alloc: Global,
+        number: u64,
         from: NodeId,
-        round: u16,
-        key: &MetaKey,
-        vector: &Vector,
-    ) -> Result<(), AllocError>
-        requires another { from ≢ self.old.views.node }
-        requires spelled { IsSpelledVector vector.now }
+    ) -> Result<Outbox, AllocError>
+        requires { from ≢ self.old.views.node }
         ensures overlay { OnOk result
-            (self.new ≡ told (TakesGossip from round key.now vector.now false) self.old) }
+            (self.new ≡ overlay_after_call (TakesStale from) self.old) }
+        ensures sends { IfOk result (AreFramesOf self.old.views.node number
+            (whole_messages (out_of (TakesStale from) self.old))) }
         ensures unchanged { OnErr result (self.new ≡ self.old) }
     {
-        // Read for what it tells: the key is in range.
-        let _ = key.key();
-        self.cast.on_gossip(from, round, key, vector, false)?;
-        Ok(())
+        let savepoint = self.cast.savepoint()?;
+        let outs = self.cast.on_stale(from)?;
+        let outbox = whole_outbox(alloc, self.views.node(), number, outs);
+        or_take_back(&mut self.cast, savepoint, outbox)
     }
 
     /// PRUNE.
     pub fn on_prune(&mut self, from: NodeId) -> Result<(), AllocError>
-        ensures overlay { OnOk result (self.new ≡ told (TakesPrune from) self.old) }
+        ensures overlay { OnOk result (self.new ≡ overlay_after_call (TakesPrune from) self.old) }
         ensures unchanged { OnErr result (self.new ≡ self.old) }
     {
         self.cast.on_prune(from)?;
@@ -101,7 +107,7 @@ impl Overlay {
         requires another { from ≢ self.old.views.node }
         requires spelled { IsSpelledVector vector.now }
         ensures overlay { OnOk result
-            (self.new ≡ told (TakesIHave from round key.now vector.now stale) self.old) }
+            (self.new ≡ overlay_after_call (TakesIHave from round key.now vector.now stale) self.old) }
         ensures unchanged { OnErr result (self.new ≡ self.old) }
     {
         // Read for what it tells: the key is in range.
@@ -110,30 +116,96 @@ impl Overlay {
         Ok(())
     }
 
-    /// GRAFT. The sender is to be sent what it asked for, if it is held.
+    /// GRAFT of what is held: its sender becomes eager, and is sent the object. Answers the frames,
+    /// numbered from the one after `number` on.
     pub fn on_graft(
+        &mut self,
+        alloc: Global,
+        number: u64,
+        from: NodeId,
+        round: u16,
+        key: &MetaKey,
+        object: &Entries,
+    ) -> Result<Outbox, AllocError>
+        requires another { from ≢ self.old.views.node }
+        requires held { IsHeld object.now }
+        ensures overlay { OnOk result
+            (self.new ≡ overlay_after_call (TakesGraft from round key.now true) self.old) }
+        ensures sends { IfOk result (AreFramesOf self.old.views.node number
+            (map (envelope_with object.now)
+            (out_of (TakesGraft from round key.now true) self.old))) }
+        ensures unchanged { OnErr result (self.new ≡ self.old) }
+    {
+        let savepoint = self.cast.savepoint()?;
+        let outs = self.cast.on_graft(from, round, key, true)?;
+        let outbox = object_outbox(alloc, self.views.node(), number, outs, object);
+        or_take_back(&mut self.cast, savepoint, outbox)
+    }
+
+    /// GRAFT of what isn't held: its sender becomes eager, and is sent nothing.
+    pub fn on_bare_graft(
         &mut self,
         from: NodeId,
         round: u16,
         key: &MetaKey,
-        held: bool,
     ) -> Result<(), AllocError>
         requires { from ≢ self.old.views.node }
         ensures overlay { OnOk result
-            (self.new ≡ told (TakesGraft from round key.now held) self.old) }
+            (self.new ≡ overlay_after_call (TakesGraft from round key.now false) self.old) }
         ensures unchanged { OnErr result (self.new ≡ self.old) }
     {
-        self.cast.on_graft(from, round, key, held)?;
+        self.cast.on_graft(from, round, key, false)?;
         Ok(())
     }
+}
 
-    /// A tick. Answers what goes to whom.
-    pub fn on_tick(&mut self) -> Result<Vec<CastOut>, AllocError>
-        ensures overlay { OnOk result (self.new ≡ told Tick self.old) }
-        ensures gives { IfOk result (λ outs. outs.items ≡ out_of Tick self.old) }
-        ensures may { IfOk result (λ outs. All (MayBeSent self.old.views.node) outs.items) }
-        ensures unchanged { OnErr result (self.new ≡ self.old) }
-    {
-        self.cast.on_tick()
+/// The frames of messages that are whole.
+fn whole_outbox(
+    alloc: Global,
+    node: NodeId,
+    number: u64,
+    outs: Vec<CastOut>,
+) -> Result<Outbox, AllocError>
+    requires { All (MayBeSent node) outs.items }
+    ensures { IfOk result (AreFramesOf node number (whole_messages outs.items)) }
+{
+    let sent = whole_messages(alloc, outs)?;
+    outbox(alloc, node, number, sent)
+}
+
+/// The frames of messages, of which each GOSSIP has this object.
+fn object_outbox(
+    alloc: Global,
+    node: NodeId,
+    number: u64,
+    outs: Vec<CastOut>,
+    object: &Entries,
+) -> Result<Outbox, AllocError>
+    requires may { All (MayBeSent node) outs.items }
+    requires held { IsHeld object.now }
+    ensures { IfOk result
+        (AreFramesOf node number (map (envelope_with object.now) outs.items)) }
+{
+    let sent = gossips(alloc, outs, object)?;
+    outbox(alloc, node, number, sent)
+}
+
+/// Hands the frames of a call of the broadcast on. Where memory ran out, the broadcast comes back to
+/// where it stood before the call.
+fn or_take_back(
+    cast: &mut Cast,
+    savepoint: Savepoint,
+    outbox: Result<Outbox, AllocError>,
+) -> Result<Outbox, AllocError>
+    ensures value { result ≡ outbox }
+    ensures kept { OnOk result (cast.new ≡ cast.old) }
+    ensures back { OnErr result (cast.new ≡ rolled_back savepoint cast.old) }
+{
+    match outbox {
+        Ok(outbox) => Ok(outbox),
+        Err(error) => {
+            cast.roll_back(savepoint);
+            Err(error)
+        }
     }
 }

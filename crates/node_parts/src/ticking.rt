@@ -1,86 +1,130 @@
 //! A tick of the overlay: the broadcast's, and then a shuffle, if it is due.
 
-ghost use Rattle.std.specs.Prelude.{◌≡◌, ◌++◌, All, IfOk, OnOk};
+ghost use Rattle.std.specs.Prelude.{◌≡◌, ◌++◌, All, IfOk, OnOk, OnErr};
+ghost use Rattle.hyparview.specs.Views.{draft_after, views_of};
 ghost use Rattle.hyparview.specs.declared.event.ViewEvent.TheVariants.{ShuffleDue};
 ghost use Rattle.plumtree.specs.Broadcast.{Tick};
-ghost use Rattle.node_parts.specs.Origin.{after_tick, sent_whole, tick_sent};
-ghost use Rattle.node_parts.specs.Outbox.{MaySend};
-ghost use Rattle.node_parts.specs.Overlay.{after_view, out_of, sent_by_view, told};
+ghost use Rattle.plumtree.specs.Lawful.{after_call};
+ghost use Rattle.node_parts.specs.Origin.{overlay_after_tick, sent_by_tick, whole_messages};
+ghost use Rattle.node_parts.specs.Outbox.{AreFramesOf, MaySend};
+ghost use Rattle.node_parts.specs.Overlay.{out_of, overlay_after_call, overlay_after_view};
+ghost use Rattle.node_parts.specs.Overlay.{sent_by_view};
 
 use crate::envelope::Envelope;
-use crate::messages::whole;
-use crate::overlay::Overlay;
+use crate::messages::whole_messages;
+use crate::overlay::{Overlay, parted};
+use crate::sending::outbox;
 use crate::together::both;
-use hyparview::ViewEvent;
+use hyparview::{ViewEvent, Views};
+use meta_types::NodeId;
+use node_events::Outbox;
+use plumtree::Cast;
 use std::alloc::{AllocError, Global};
 
 /// Every so many ticks the views are shuffled.
 const TICKS_OF_A_SHUFFLE: u64 = 10;
 
 impl Overlay {
-    /// Whom the node talks to after the tick of this number, and the messages to send, in order.
-    pub fn after_tick(
-        &self,
+    /// The tick of this number. Answers the frames of what is to be sent, numbered from the one
+    /// after `number` on. Fails only when memory runs out, and then all is as before.
+    pub fn on_tick(
+        &mut self,
         alloc: Global,
+        number: u64,
         ticks: u64,
         word: u64,
-    ) -> Result<(Overlay, Vec<Envelope>), AllocError>
-        ensures overlay { IfOk result (λ done. done.0 ≡ after_tick ticks word self.now) }
-        ensures sent { IfOk result (λ done. done.1.items ≡ tick_sent ticks word self.now) }
-        ensures may { IfOk result (λ done. All (MaySend self.now.views.node) done.1.items) }
+    ) -> Result<Outbox, AllocError>
+        ensures overlay { OnOk result (self.new ≡ overlay_after_tick ticks word self.old) }
+        ensures sends { IfOk result (AreFramesOf self.old.views.node number
+            (sent_by_tick ticks word self.old)) }
+        ensures unchanged { OnErr result (self.new ≡ self.old) }
     {
-        let (overlay, sent) = self.after_broadcast_tick(alloc)?;
         if ticks % TICKS_OF_A_SHUFFLE == 0 {
-            let done = overlay.shuffled(alloc, word, sent);
-            drop(overlay);
-            done
+            self.on_shuffling_tick(alloc, number, word)
         } else {
-            Ok((overlay, sent))
+            self.on_quiet_tick(alloc, number)
         }
     }
 
-    /// A tick of the broadcast.
-    fn after_broadcast_tick(&self, alloc: Global) -> Result<(Overlay, Vec<Envelope>), AllocError>
-        ensures overlay { IfOk result (λ done. done.0 ≡ told Tick self.now) }
-        ensures sent { IfOk result
-            (λ done. done.1.items ≡ sent_whole (out_of Tick self.now)) }
-        ensures may { IfOk result (λ done. All (MaySend self.now.views.node) done.1.items) }
+    /// A tick of the broadcast alone.
+    fn on_quiet_tick(&mut self, alloc: Global, number: u64) -> Result<Outbox, AllocError>
+        ensures overlay { OnOk result (self.new ≡ overlay_after_call Tick self.old) }
+        ensures sends { IfOk result (AreFramesOf self.old.views.node number
+            (whole_messages (out_of Tick self.old))) }
+        ensures unchanged { OnErr result (self.new ≡ self.old) }
     {
-        let mut overlay = self.copy()?;
-        let sent = overlay.broadcast_tick(alloc);
-        both(Ok(overlay), sent)
+        let (cast, sent) = self.after_broadcast_tick(alloc)?;
+        let outbox = outbox(alloc, self.views.node(), number, sent);
+        let (cast, outbox) = both(Ok(cast), outbox)?;
+        self.cast = cast;
+        Ok(outbox)
     }
 
-    /// The same, in place.
-    fn broadcast_tick(&mut self, alloc: Global) -> Result<Vec<Envelope>, AllocError>
-        ensures overlay { OnOk result (self.new ≡ told Tick self.old) }
-        ensures sent { IfOk result (λ sent. sent.items ≡ sent_whole (out_of Tick self.old)) }
-        ensures may { IfOk result (λ sent. All (MaySend self.old.views.node) sent.items) }
-    {
-        let outs = self.on_tick()?;
-        whole(alloc, outs)
-    }
-
-    /// A shuffle, whose messages go behind those that are to be sent already.
-    fn shuffled(
-        &self,
+    /// A tick of the broadcast and then a shuffle, in which nobody comes or goes.
+    fn on_shuffling_tick(
+        &mut self,
         alloc: Global,
+        number: u64,
         word: u64,
-        sent: Vec<Envelope>,
-    ) -> Result<(Overlay, Vec<Envelope>), AllocError>
-        requires { All (MaySend self.now.views.node) sent.items }
-        ensures overlay { IfOk result (λ done. done.0 ≡ after_view ShuffleDue word self.now) }
-        ensures sent { IfOk result
-            (λ done. done.1.items ≡ sent.items ++ sent_by_view ShuffleDue word self.now) }
-        ensures may { IfOk result (λ done. All (MaySend self.now.views.node) done.1.items) }
+    ) -> Result<Outbox, AllocError>
+        ensures overlay { OnOk result
+            (self.new ≡ overlay_after_view ShuffleDue word (overlay_after_call Tick self.old)) }
+        ensures sends { IfOk result (AreFramesOf self.old.views.node number
+            (whole_messages (out_of Tick self.old) ++ sent_by_view ShuffleDue word self.old)) }
+        ensures unchanged { OnErr result (self.new ≡ self.old) }
     {
-        let shuffled = self.after_view(alloc, ViewEvent::ShuffleDue, word);
-        let (sent, (overlay, more)) = both(Ok(sent), shuffled)?;
-        both(Ok(overlay), joined(sent, more))
+        let ticked = self.after_broadcast_tick(alloc);
+        let ((cast, sent), (views, more)) = both(ticked, self.after_shuffle(alloc, word))?;
+        let outbox = joined_outbox(alloc, self.views.node(), number, sent, more);
+        let ((cast, views), outbox) = both(Ok((cast, views)), outbox)?;
+        self.cast = cast;
+        self.views = views;
+        Ok(outbox)
+    }
+
+    /// The broadcast after a tick, and the messages that go out.
+    fn after_broadcast_tick(&self, alloc: Global) -> Result<(Cast, Vec<Envelope>), AllocError>
+        ensures cast { IfOk result (λ after. after.0 ≡ after_call self.now.cast Tick) }
+        ensures sent { IfOk result
+            (λ after. after.1.items ≡ whole_messages (out_of Tick self.now)) }
+        ensures may { IfOk result (λ after. All (MaySend self.now.views.node) after.1.items) }
+    {
+        let (cast, outs) = self.cast.after_tick()?;
+        let sent = whole_messages(alloc, outs);
+        both(Ok(cast), sent)
+    }
+
+    /// The views after a shuffle, and the messages that go out.
+    fn after_shuffle(&self, alloc: Global, word: u64) -> Result<(Views, Vec<Envelope>), AllocError>
+        ensures views { IfOk result (λ after.
+            after.0 ≡ views_of (draft_after ShuffleDue word self.now.views)) }
+        ensures sent { IfOk result
+            (λ after. after.1.items ≡ sent_by_view ShuffleDue word self.now) }
+        ensures may { IfOk result (λ after. All (MaySend self.now.views.node) after.1.items) }
+    {
+        let (views, outs) = self.views.after(&ViewEvent::ShuffleDue, word)?;
+        let (views, (_, sent)) = both(Ok(views), parted(alloc, outs))?;
+        Ok((views, sent))
     }
 }
 
-/// The one behind the other.
+/// The frames of the messages of the one list, and then of the other.
+fn joined_outbox(
+    alloc: Global,
+    node: NodeId,
+    number: u64,
+    front: Vec<Envelope>,
+    back: Vec<Envelope>,
+) -> Result<Outbox, AllocError>
+    requires front { All (MaySend node) front.items }
+    requires back { All (MaySend node) back.items }
+    ensures { IfOk result (AreFramesOf node number (front.items ++ back.items)) }
+{
+    let sent = joined(front, back)?;
+    outbox(alloc, node, number, sent)
+}
+
+/// The one after the other.
 fn joined<T: Drop>(front: Vec<T>, back: Vec<T>) -> Result<Vec<T>, AllocError>
     ensures { IfOk result (λ all. all.items ≡ front.items ++ back.items) }
 {

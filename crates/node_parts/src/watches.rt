@@ -1,7 +1,7 @@
-ghost use Rattle.std.specs.Prelude.{◌≡◌, ◌≤◌, ◌+◌, ◌∷◌, ◌++◌, [], None, Some, length, map, IfOk, OnOk, OnErr};
+ghost use Rattle.std.specs.Prelude.{◌≡◌, ◌≤◌, ◌+◌, ◌-◌, ◌∷◌, ◌++◌, [], None, Some, length, map, IfOk, OnOk, OnErr};
 ghost use Rattle.meta_types.specs.Failing.{FailsBy};
 ghost use Rattle.subscriptions.specs.Watching.{empty, with_change};
-ghost use Rattle.node_parts.specs.Watches.{at_number, hand_out, most_watches};
+ghost use Rattle.node_parts.specs.Watches.{at_number, hand_out, hearing_count, most_watches};
 ghost use Rattle.node_parts.specs.Watches.{refusal_of_changes, refusal_of_watch, reply_of_changes};
 ghost use Rattle.node_events.specs.declared.fault.StepFault.TheVariants.{Memory};
 
@@ -99,26 +99,27 @@ impl Watches {
         })
     }
 
-    /// What there is to tell of a change: a note for each watch. Fails only when memory runs out.
+    /// What there is to tell of a change: a note for each watch that hears the key. Fails only when
+    /// memory runs out.
     pub fn news(&self, key: &MetaKey, vector: Vector) -> Result<News, AllocError>
         ensures { IfOk result (λ news. news ≡ record {
           change = record { key = key.now; vector = vector };
-          notes = length self.now;
+          notes = hearing_count key.now self.now;
         }) }
     {
+        let count = hearing_count(self.list.as_slice(), key);
         let key = key.copy()?;
-        News::new(self.alloc, Change { key, vector }, self.list.len())
+        News::new(self.alloc, Change { key, vector }, count)
     }
 
-    /// Each watch notes the change. It never fails, and takes no memory.
+    /// Each watch that hears the key notes the change. It never fails, and takes no memory.
     pub fn note(&mut self, news: &mut News)
-        requires { news.old.notes ≡ length self.old }
+        requires { news.old.notes ≡ hearing_count news.old.change.key self.old }
         ensures watches { self.new ≡ map (with_change news.old.change) self.old }
         ensures change { news.new.change ≡ news.old.change }
     {
         for place in 0..self.list.len() {
-            let note = news.next();
-            self.list[place].note(note);
+            note_one(&mut self.list[place], news);
         }
     }
 
@@ -132,6 +133,32 @@ impl Watches {
             list,
         })
     }
+}
+
+/// The watch notes the change, if it hears the key.
+fn note_one(watch: &mut Watch, news: &mut News)
+    requires { hearing_count news.old.change.key (watch.old ∷ []) ≤ news.old.notes }
+    ensures watch { watch.new ≡ with_change news.old.change watch.old }
+    ensures change { news.new.change ≡ news.old.change }
+    ensures notes { news.new.notes
+        ≡ news.old.notes - hearing_count news.old.change.key (watch.old ∷ []) }
+{
+    if watch.hears(news.key()) {
+        watch.note(news.next());
+    }
+}
+
+/// How many of the watches hear the key.
+fn hearing_count(watches: &[Watch], key: &MetaKey) -> usize
+    ensures { result ≡ hearing_count key.now watches.now }
+{
+    let mut count = 0;
+    for watch in watches {
+        if watch.hears(key) {
+            count += 1;
+        }
+    }
+    count
 }
 
 fn copy_watches(alloc: Global, watches: &[Watch]) -> Result<Vec<Watch>, AllocError>

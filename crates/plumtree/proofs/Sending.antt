@@ -15,7 +15,7 @@ use Rattle.plumtree.specs.declared.entry.CastOut.TheVariants.{Gossip, Send}
 use Rattle.plumtree.specs.Missing.{MissingObject}
 use Rattle.plumtree.specs.Draft.{Draft, announcement_to, announce_to, becomes_eager, becomes_lazy, gained, gossip_to, send}
 use Rattle.plumtree.specs.Rows.{up, down, on_broadcast, on_fresh, on_stale, on_prune, on_ihave, on_graft, on_change, on_tick, announcer, ask_first, first_announced, is_announced_by, is_not_by, is_not_to, is_of, is_still_missing, keep, next_round, none_missing, noted, noted_at, ihave_of, send_announcements, tick_each, tick_one, with_announcer, without_announcer}
-use Rattle.plumtree.specs.Broadcast.{Broadcast, CastCall, Up, Down, Broadcasts, TakesGossip, TakesPrune, TakesIHave, TakesGraft, Changes, Tick, draft_of, empty, row}
+use Rattle.plumtree.specs.Broadcast.{Broadcast, CastCall, Up, Down, Broadcasts, TakesFresh, TakesStale, TakesPrune, TakesIHave, TakesGraft, Changes, Tick, draft_of, empty, row}
 use Rattle.plumtree.specs.Lawful.{IsOfBroadcast, MayBeSent, MayBeAsked, MayCome, NamesOthers, SendsToOthers, TellsOthers}
 
 -- the element of a list, or what stands for it, has what all have
@@ -230,8 +230,8 @@ module _ (node : ℕ) where
   Fine-call (Down x) t may h = Fine-down x t h
   Fine-call (Broadcasts key vector) t may h =
       Fine-announce_to t.lazy 0 key vector (gossip_to t.eager 0 key t) (members≢ node t.lazy h.lazy) may (Fine-gossip_to t.eager 0 key t (members≢ node t.eager h.eager) h)
-  Fine-call (TakesGossip from round key vector true) t may h = Fine-on_fresh from round key vector t may.1 h
-  Fine-call (TakesGossip from round key vector false) t may h = Fine-send from Prune (becomes_lazy from t) may.0 refl (Fine-becomes_lazy from t h)
+  Fine-call (TakesFresh from round key vector) t may h = Fine-on_fresh from round key vector t may.1 h
+  Fine-call (TakesStale from) t may h = Fine-send from Prune (becomes_lazy from t) may refl (Fine-becomes_lazy from t h)
   Fine-call (TakesPrune from) t may h = Fine-becomes_lazy from t h
   Fine-call (TakesIHave from round key vector stale) t may h = Fine-on_ihave from round key vector stale t may.0 may.1 h
   Fine-call (TakesGraft from round key held) t may h = Fine-on_graft from round key held t may h

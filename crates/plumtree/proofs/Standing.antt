@@ -9,7 +9,7 @@ use Rattle.plumtree.specs.declared.entry.Announcer.{Announcer}
 use Rattle.plumtree.specs.Missing.{MissingObject}
 use Rattle.plumtree.specs.Draft.{Draft, gained, becomes_eager, becomes_lazy}
 use Rattle.plumtree.specs.Rows.{up, down, on_broadcast, on_fresh, on_stale, on_prune, on_ihave, on_graft, on_change, on_tick, ask_first, tick_each, tick_one, none_missing, send_announcements}
-use Rattle.plumtree.specs.Broadcast.{Broadcast, CastCall, Up, Down, Broadcasts, TakesGossip, TakesPrune, TakesIHave, TakesGraft, Changes, Tick, draft_of, empty}
+use Rattle.plumtree.specs.Broadcast.{Broadcast, CastCall, Up, Down, Broadcasts, TakesFresh, TakesStale, TakesPrune, TakesIHave, TakesGraft, Changes, Tick, draft_of, empty}
 use Rattle.plumtree.specs.Lawful.{AreLinks, HasLinks, broadcast_after, after_call, StayLinks, PeersComeAndGo, is_peer, is_peer_after}
 use Rattle.plumtree.proofs.Peers.{AreLinks-eager, AreLinks-lazy, AreLinks-up, AreLinks-without}
 
@@ -122,8 +122,8 @@ links-call (Up x) b h =
     (λ out. AreLinks-up x b.eager b.lazy (or_parts (has b.eager x) (has b.lazy x) out).1 h)
 links-call (Down x) b h = AreLinks-without x b.eager b.lazy h
 links-call (Broadcasts key vector) b h = h
-links-call (TakesGossip from round key vector true) b h = AreLinks-eager from b.eager b.lazy h
-links-call (TakesGossip from round key vector false) b h = AreLinks-lazy from b.eager b.lazy h
+links-call (TakesFresh from round key vector) b h = AreLinks-eager from b.eager b.lazy h
+links-call (TakesStale from) b h = AreLinks-lazy from b.eager b.lazy h
 links-call (TakesPrune from) b h = AreLinks-lazy from b.eager b.lazy h
 links-call (TakesIHave from round key vector stale) b h =
     cond_both stale (draft_of b) _ (λ (t : Draft). AreLinks t.eager t.lazy) (λ _. h) (λ _. h)
@@ -141,8 +141,8 @@ peers-call (Up x) b y h =
     (λ _. among-put_last x y b.eager b.lazy)
 peers-call (Down x) b y h = among-without x y b.eager b.lazy h
 peers-call (Broadcasts key vector) b y h = refl
-peers-call (TakesGossip from round key vector true) b y h = among-eager from y b.eager b.lazy h
-peers-call (TakesGossip from round key vector false) b y h = among-lazy from y b.eager b.lazy h
+peers-call (TakesFresh from round key vector) b y h = among-eager from y b.eager b.lazy h
+peers-call (TakesStale from) b y h = among-lazy from y b.eager b.lazy h
 peers-call (TakesPrune from) b y h = among-lazy from y b.eager b.lazy h
 peers-call (TakesIHave from round key vector stale) b y h =
     cond_both stale (draft_of b) _ (λ (t : Draft). among t.eager t.lazy y ≡ among b.eager b.lazy y) (λ _. refl) (λ _. refl)

@@ -3,7 +3,7 @@ use Rattle.std.proofs.Common.{◌≡◌, true, false, List, ◌++◌, length, ta
 use Rattle.std.proofs.lemmas.List.{take_at, take_all}
 use Rattle.plumtree.specs.declared.entry.Announcement.{Announcement}
 use Rattle.plumtree.specs.Rows.{on_broadcast, on_fresh, on_stale, on_prune, on_graft}
-use Rattle.plumtree.specs.Broadcast.{Broadcast, CastCall, Up, Down, Broadcasts, TakesGossip, TakesPrune, TakesIHave, TakesGraft, Changes, Tick}
+use Rattle.plumtree.specs.Broadcast.{Broadcast, CastCall, Up, Down, Broadcasts, TakesFresh, TakesStale, TakesPrune, TakesIHave, TakesGraft, Changes, Tick}
 use Rattle.plumtree.specs.Lawful.{after_call}
 use Rattle.plumtree.specs.Savepoint.{AreTakenBack, IsOfObjects, rolled_back, savepoint_of}
 
@@ -17,8 +17,8 @@ back : (b : Broadcast) (call : CastCall) → IsOfObjects call
     → rolled_back (savepoint_of b) (after_call b call) ≡ b
 unfolding on_broadcast on_fresh on_stale on_prune on_graft
 back b (Broadcasts key vector) is = ap (λ queue. record b { queue = queue }) (take_front b.queue _)
-back b (TakesGossip from round key vector true) is = ap (λ queue. record b { queue = queue }) (take_front b.queue _)
-back b (TakesGossip from round key vector false) is = ap (λ queue. record b { queue = queue }) (take_whole b.queue)
+back b (TakesFresh from round key vector) is = ap (λ queue. record b { queue = queue }) (take_front b.queue _)
+back b (TakesStale from) is = ap (λ queue. record b { queue = queue }) (take_whole b.queue)
 back b (TakesPrune from) is = ap (λ queue. record b { queue = queue }) (take_whole b.queue)
 back b (TakesGraft from round key held) is = ap (λ queue. record b { queue = queue }) (take_whole b.queue)
 back b (Up node) is = absurd is

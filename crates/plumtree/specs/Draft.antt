@@ -19,11 +19,6 @@ pub record Draft : Type 0 where
   pub missing : List MissingObject
   pub out : List CastOut
 
-infixl 5 ◌▷◌
--- and then
-abbrev pub ◌▷◌ : Draft → (Draft → Draft) → Draft
-t ▷ f = f t
-
 -- ---- what is given out goes last
 
 abbrev pub send : ℕ → Message → Draft → Draft

@@ -9,7 +9,7 @@ use Rattle.plumtree.specs.declared.entry.CastOut.TheVariants.{Gossip, Send}
 use Rattle.peer_lists.specs.Lists.{has}
 use Rattle.plumtree.specs.Missing.{MissingObject}
 use Rattle.plumtree.specs.Rows.{ihave_of}
-use Rattle.plumtree.specs.Broadcast.{Broadcast, CastCall, Up, Down, Broadcasts, TakesGossip, TakesPrune, TakesIHave, TakesGraft, Changes, Tick, draft_of, empty, broadcast_of, row}
+use Rattle.plumtree.specs.Broadcast.{Broadcast, CastCall, Up, Down, Broadcasts, TakesFresh, TakesStale, TakesPrune, TakesIHave, TakesGraft, Changes, Tick, draft_of, empty, broadcast_of, row}
 
 -- each peer stands once, and in one of the two lists
 pub record AreLinks (eager lazy : List ℕ) : Type 0 where
@@ -86,8 +86,9 @@ abbrev pub MayCome : ℕ → CastCall → Type 0
 MayCome node (Up peer) = peer ≢ node
 MayCome node (Down peer) = Unit {0}
 MayCome node (Broadcasts key vector) = IsMessage (IHave 0 key vector)
-MayCome node (TakesGossip from round key vector fresh) =
+MayCome node (TakesFresh from round key vector) =
     (from ≢ node) × IsMessage (IHave round key vector)
+MayCome node (TakesStale from) = from ≢ node
 MayCome node (TakesPrune from) = Unit {0}
 MayCome node (TakesIHave from round key vector stale) =
     (from ≢ node) × IsMessage (IHave round key vector)

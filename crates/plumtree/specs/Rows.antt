@@ -7,7 +7,7 @@ use Rattle.meta_types.specs.Name.{Key}
 use Rattle.dvvset.specs.Object.{Counter}
 use Rattle.dvvset.specs.Clock.{descends}
 use Rattle.dvvset.specs.Equal.{counters_eq}
-use Rattle.meta_types.specs.Equal.{prefix_parts_eq}
+use Rattle.meta_types.specs.Equal.{key_eq}
 use Rattle.meta_frame.specs.declared.message.Message.TheVariants.{IHave, Graft, Prune}
 use Rattle.plumtree.specs.declared.entry.Announcement.{Announcement}
 use Rattle.plumtree.specs.declared.entry.Announcer.{Announcer}
@@ -15,7 +15,8 @@ use Rattle.plumtree.specs.declared.entry.CastOut.{CastOut}
 use Rattle.plumtree.specs.declared.entry.CastOut.TheVariants.{Send}
 use Rattle.peer_lists.specs.Lists.{has, without, put_last, without_all}
 use Rattle.plumtree.specs.Missing.{MissingObject}
-use Rattle.plumtree.specs.Draft.{Draft, ◌▷◌, send, gossip_to, announce_to, becomes_eager, becomes_lazy}
+use Rattle.plumtree.specs.Draft.{Draft, send, gossip_to, announce_to, becomes_eager, becomes_lazy}
+use Rattle.meta_types.specs.Chain.{◌▷◌}
 
 -- ---- a node becomes a peer, an eager one
 
@@ -52,9 +53,13 @@ on_broadcast key vector t = t ▷ gossip_to t.eager 0 key ▷ announce_to t.lazy
 -- ---- GOSSIP: a fresh object is passed on to all but its sender, a stale one to nobody; a fresh
 -- one's sender becomes eager, a stale one's lazy, and is sent PRUNE
 
--- a round stays at the greatest number of its field
+-- the greatest round, which is the greatest number of its field
+abbrev pub greatest_round : ℕ
+greatest_round = 65535
+
+-- a round stays there
 abbrev pub next_round : ℕ → ℕ
-next_round round = min (round + 1) 65535
+next_round round = min (round + 1) greatest_round
 
 unfoldable pub on_fresh : ℕ → ℕ → Key → List Counter → Draft → Draft
 on_fresh from round key vector t =
@@ -65,10 +70,6 @@ on_fresh from round key vector t =
 unfoldable pub on_stale : ℕ → Draft → Draft
 on_stale from t = t ▷ becomes_lazy from ▷ send from Prune
 
-abbrev pub on_gossip : ℕ → ℕ → Key → List Counter → Bool → Draft → Draft
-on_gossip from round key vector true = on_fresh from round key vector
-on_gossip from round key vector false = on_stale from
-
 -- ---- PRUNE: its sender becomes lazy
 
 unfoldable pub on_prune : ℕ → Draft → Draft
@@ -76,12 +77,9 @@ on_prune from t = becomes_lazy from t
 
 -- ---- IHAVE: an object that isn't here is waited for
 
-abbrev pub is_same_key : Key → Key → Bool
-is_same_key a b = prefix_parts_eq a.prefix b.prefix && pointwise nat_eq a.key b.key
-
 -- of the same key and the same vector
 abbrev pub is_of : Key → List Counter → MissingObject → Bool
-is_of key vector m = is_same_key m.key key && counters_eq m.vector vector
+is_of key vector m = key_eq m.key key && counters_eq m.vector vector
 
 abbrev pub is_announced_by : ℕ → List Announcer → Bool
 is_announced_by x announcers = list_any (λ a. nat_eq x a.peer) announcers
@@ -95,12 +93,16 @@ with_announcer from round m =
     if is_announced_by from m.announcers then m
     else (record m { announcers = m.announcers ++ announcer from round ∷ [] })
 
+-- how many ticks an announced object has to come by another way, before it is asked for
+abbrev pub announced_patience : ℕ
+announced_patience = 2
+
 abbrev pub first_announced : ℕ → ℕ → Key → List Counter → MissingObject
 first_announced from round key vector = record {
   key = key;
   vector = vector;
   announcers = announcer from round ∷ [];
-  ticks = 2;
+  ticks = announced_patience;
 }
 
 -- the object at this place, if there is one, has one more announcer; otherwise a new one goes last
@@ -130,7 +132,7 @@ on_graft from round key held t =
 
 abbrev pub is_still_missing : Key → List Counter → MissingObject → Bool
 is_still_missing key vector m =
-    not (is_same_key m.key key && descends vector m.vector)
+    not (key_eq m.key key && descends vector m.vector)
 
 unfoldable pub on_change : Key → List Counter → Draft → Draft
 on_change key vector t =
@@ -138,7 +140,7 @@ on_change key vector t =
 
 -- ---- a tick: first all announcements that wait go out, then each missing object in order loses a
 -- tick; at 0 the first that announced it is asked for it: it leaves the announcers and becomes
--- eager, and the object waits one tick for the next; without one the object is forgotten
+-- eager, and the object waits for the next; without one the object is forgotten
 
 -- an announcement goes out as IHAVE
 abbrev pub ihave_of : Announcement → CastOut
@@ -156,12 +158,16 @@ none_missing t = record t { missing = [] }
 abbrev pub keep : MissingObject → Draft → Draft
 keep m t = record t { missing = t.missing ++ m ∷ [] }
 
+-- how many ticks the announcer that was asked has, before the next is asked
+abbrev pub asked_patience : ℕ
+asked_patience = 1
+
 -- the first of these announcers is asked, and the object is kept; without one it isn't
 abbrev pub ask_first : MissingObject → List Announcer → Draft → Draft
 ask_first m [] t = t
 ask_first m (a ∷ others) t =
     t ▷ becomes_eager a.peer ▷ send a.peer (Graft a.round m.key m.vector)
-    ▷ keep (record m { announcers = others; ticks = 1 })
+    ▷ keep (record m { announcers = others; ticks = asked_patience })
 
 -- a missing object loses a tick, and is asked for where that was the last
 unfoldable pub tick_one : MissingObject → Draft → Draft

@@ -1,6 +1,6 @@
 -- Coming back to where a broadcast stood.
 use Rattle.std.specs.Prelude.{ℕ, ◌≡◌, List, length, take}
-use Rattle.plumtree.specs.Broadcast.{Broadcast, CastCall, Broadcasts, TakesGossip, TakesPrune, TakesGraft}
+use Rattle.plumtree.specs.Broadcast.{Broadcast, CastCall, Broadcasts, TakesFresh, TakesStale, TakesPrune, TakesGraft}
 use Rattle.plumtree.specs.Lawful.{after_call}
 
 -- the peers, and how many announcements waited
@@ -24,7 +24,8 @@ rolled_back s b = record {
 -- a call that changes nothing of what is missing, and takes nothing out of the queue
 abbrev pub IsOfObjects : CastCall → Type 0
 IsOfObjects (Broadcasts key vector) = Unit {0}
-IsOfObjects (TakesGossip from round key vector fresh) = Unit {0}
+IsOfObjects (TakesFresh from round key vector) = Unit {0}
+IsOfObjects (TakesStale from) = Unit {0}
 IsOfObjects (TakesPrune from) = Unit {0}
 IsOfObjects (TakesGraft from round key held) = Unit {0}
 IsOfObjects _ = ⊥

@@ -1,6 +1,7 @@
-ghost use Rattle.std.specs.Prelude.{◌≡◌, ◌↔◌, [], IfOk, IsTrue, OnOk, OnErr, true, false};
-ghost use Rattle.plumtree.specs.Broadcast.{Broadcasts, Changes, Down, IsCall, TakesGossip};
-ghost use Rattle.plumtree.specs.Broadcast.{TakesGraft, TakesIHave, TakesPrune, Tick, Up};
+ghost use Rattle.std.specs.Prelude.{◌≡◌, ◌↔◌, [], IfOk, IsTrue, OnOk, OnErr};
+ghost use Rattle.plumtree.specs.Broadcast.{Broadcasts, Changes, Down, IsCall, TakesFresh};
+ghost use Rattle.plumtree.specs.Broadcast.{TakesGraft, TakesIHave, TakesPrune, TakesStale, Tick, Up};
+ghost use Rattle.plumtree.specs.Broadcast.{gossip_call};
 
 use crate::entry::{Announcement, Announcer, CastOut, MissingObject};
 use crate::links::{become_eager, become_lazy};
@@ -30,7 +31,7 @@ pub struct Cast {
     pub(crate) eager: IndexSet<NodeId>,
     pub(crate) lazy: IndexSet<NodeId>,
     pub(crate) queue: Vec<Announcement>,
-    missing: Vec<MissingObject>,
+    pub(crate) missing: Vec<MissingObject>,
 }
 
 impl Model for Cast {
@@ -52,7 +53,7 @@ impl Model for Cast {
 impl Cast {
     ghost use Rattle.plumtree.specs.Broadcast.{broadcast_of, draft_of, empty};
     ghost use Rattle.plumtree.specs.Draft.{becomes_lazy};
-    ghost use Rattle.plumtree.specs.Rows.{none_missing, on_stale, send_announcements};
+    ghost use Rattle.plumtree.specs.Rows.{none_missing, on_tick, send_announcements};
     ghost use Rattle.plumtree.specs.Lawful.{AreLinks};
 
     /// The broadcast of a node without peers. It takes no memory.
@@ -133,8 +134,8 @@ impl Cast {
         Ok(out)
     }
 
-    /// GOSSIP, whose object was merged: it was fresh or not, and the node's context of the key is
-    /// now `own_vector`.
+    /// GOSSIP, by either of the rows below: its object was fresh or not, and the node's context of
+    /// the key is now `own_vector`.
     pub fn on_gossip(
         &mut self,
         from: NodeId,
@@ -144,7 +145,7 @@ impl Cast {
         fresh: bool,
     ) -> Result<Vec<CastOut>, AllocError>
         ensures row { IfOk result (λ out. IsCall
-            (TakesGossip from round key.now own_vector.now fresh) self.old self.new out.items) }
+            (gossip_call from round key.now own_vector.now fresh) self.old self.new out.items) }
         ensures unchanged { OnErr result (self.new ≡ self.old) }
     {
         if fresh {
@@ -154,8 +155,9 @@ impl Cast {
         }
     }
 
+    /// GOSSIP, whose object was fresh and is merged: it goes on to all but its sender.
     #[tactic(auto, unfolding(crate::specs::Rows::on_fresh))]
-    fn on_fresh(
+    pub fn on_fresh(
         &mut self,
         from: NodeId,
         round: u16,
@@ -163,7 +165,7 @@ impl Cast {
         own_vector: &Vector,
     ) -> Result<Vec<CastOut>, AllocError>
         ensures row { IfOk result (λ out. IsCall
-            (TakesGossip from round key.now own_vector.now true) self.old self.new out.items) }
+            (TakesFresh from round key.now own_vector.now) self.old self.new out.items) }
         ensures unchanged { OnErr result (self.new ≡ self.old) }
     {
         let round = round.saturating_add(1);
@@ -177,10 +179,11 @@ impl Cast {
         Ok(out)
     }
 
+    /// GOSSIP, whose object was stale: it goes nowhere, and its sender is sent PRUNE.
     #[tactic(auto, unfolding(crate::specs::Rows::on_stale))]
-    fn on_stale(&mut self, from: NodeId) -> Result<Vec<CastOut>, AllocError>
-        ensures row { let t = on_stale from (draft_of self.old) in IfOk result
-            (λ out. (self.new ≡ broadcast_of t) × (out.items ≡ t.out)) }
+    pub fn on_stale(&mut self, from: NodeId) -> Result<Vec<CastOut>, AllocError>
+        ensures row { IfOk result
+            (λ out. IsCall (TakesStale from) self.old self.new out.items) }
         ensures unchanged { OnErr result (self.new ≡ self.old) }
     {
         let mut out = Vec::new(self.alloc);
@@ -271,13 +274,38 @@ impl Cast {
         ensures row { IfOk result (λ out. IsCall Tick self.old self.new out.items) }
         ensures unchanged { OnErr result (self.new ≡ self.old) }
     {
-        let mut draft = self.begin_tick()?;
-        draft.tick_each(self.missing.as_slice())?;
+        let draft = self.draft_after_tick()?;
         self.eager = draft.eager;
         self.lazy = draft.lazy;
         self.missing = draft.missing;
         self.queue.clear();
         Ok(draft.out)
+    }
+
+    /// The broadcast after a tick, and what the tick gives out, while this one stays as it is. Fails
+    /// only when memory runs out. What waits for the tick isn't copied.
+    #[tactic(auto, unfolding(crate::specs::Rows::on_tick))]
+    pub fn after_tick(&self) -> Result<(Cast, Vec<CastOut>), AllocError>
+        ensures { IfOk result (λ after. IsCall Tick self.now after.0 after.1.items) }
+    {
+        let ticked = self.draft_after_tick()?;
+        let cast = Cast {
+            alloc: self.alloc,
+            eager: ticked.eager,
+            lazy: ticked.lazy,
+            queue: Vec::new(self.alloc),
+            missing: ticked.missing,
+        };
+        Ok((cast, ticked.out))
+    }
+
+    #[tactic(auto, unfolding(crate::specs::Rows::on_tick))]
+    fn draft_after_tick(&self) -> Result<Draft, AllocError>
+        ensures { IfOk result (λ draft. draft ≡ on_tick (draft_of self.now)) }
+    {
+        let mut draft = self.begin_tick()?;
+        draft.tick_each(self.missing.as_slice())?;
+        Ok(draft)
     }
 
     /// A tick begins: announcements go out, and no object is missing yet.

@@ -17,6 +17,15 @@ pub enum CastOut {
     Send(NodeId, Message),
 }
 
+/// A change of who is a peer.
+#[derive(Clone, Copy, Debug)]
+pub enum PeerChange {
+    /// This node becomes a peer.
+    Up(NodeId),
+    /// This node is a peer no more.
+    Down(NodeId),
+}
+
 /// An announcement that waits for the next tick.
 #[derive(Debug, Drop)]
 pub struct Announcement {

@@ -19,11 +19,12 @@
 //! }
 //! ```
 //!
-//! Read `entry`, `cast`, then `links`, `missing` and `tick`; `savepoint` takes calls back; what
-//! holds of every call is in `laws`.
+//! Read `entry`, `cast`, then `links`, `missing` and `tick`; `changes` has many changes of who is a
+//! peer at once, `savepoint` takes calls back; what holds of every call is in `laws`.
 #![tactic(auto)]
 
 pub mod cast;
+pub mod changes;
 pub mod entry;
 pub mod laws;
 mod links;
@@ -32,5 +33,5 @@ pub mod savepoint;
 mod tick;
 
 pub use cast::Cast;
-pub use entry::CastOut;
+pub use entry::{CastOut, PeerChange};
 pub use savepoint::Savepoint;

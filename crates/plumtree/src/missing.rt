@@ -14,8 +14,8 @@ use meta_frame::Message;
 use meta_types::{MetaKey, NodeId};
 use std::alloc::{AllocError, Global};
 
-/// How many ticks an announced object has until it is asked for.
-const PATIENCE: u8 = 2;
+/// How many ticks an announced object has to come by another way, before it is asked for.
+const ANNOUNCED_PATIENCE: u8 = 2;
 
 impl MissingObject {
     /// An object that is announced for the first time.
@@ -36,7 +36,7 @@ impl MissingObject {
             key,
             vector,
             announcers,
-            ticks: PATIENCE,
+            ticks: ANNOUNCED_PATIENCE,
         })
     }
 

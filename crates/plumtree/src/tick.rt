@@ -10,6 +10,9 @@ use meta_types::NodeId;
 use std::alloc::{AllocError, Global};
 use std::marker::Model;
 
+/// How many ticks an announcer that was asked for an object has, before the next is asked.
+const ASKED_PATIENCE: u8 = 1;
+
 /// The broadcast in the midst of a tick, whose announcements have gone out. A tick that fails drops
 /// it.
 #[derive(Drop)]
@@ -41,7 +44,8 @@ impl Model for Draft {
 
 impl Draft {
     ghost use Rattle.meta_frame.specs.declared.message.Message.TheVariants.{Graft};
-    ghost use Rattle.plumtree.specs.Draft.{◌▷◌, becomes_eager, send};
+    ghost use Rattle.plumtree.specs.Draft.{becomes_eager, send};
+    ghost use Rattle.meta_types.specs.Chain.{◌▷◌};
     ghost use Rattle.plumtree.specs.Rows.{ask_first, keep, tick_each, tick_one};
 
     /// Each missing object loses a tick, in order.
@@ -73,7 +77,7 @@ impl Draft {
             [] => Ok(()),
             [first, others @ ..] => {
                 self.graft(object, *first)?;
-                self.keep(object, others, 1)
+                self.keep(object, others, ASKED_PATIENCE)
             }
         }
     }

@@ -12,9 +12,13 @@ pub record Watching : Type 0 where
   pub changes : List Change
   pub missed : ℕ
 
+-- the most changes that a watch may have room for
+abbrev pub greatest_capacity : ℕ
+greatest_capacity = 1024
+
 -- how many changes there may be room for
 abbrev pub IsCapacity : ℕ → Type 0
-IsCapacity capacity = (1 ≤ capacity) × (capacity ≤ 1024)
+IsCapacity capacity = (1 ≤ capacity) × (capacity ≤ greatest_capacity)
 
 -- a new watch
 abbrev pub empty : Prefix → ℕ → Watching

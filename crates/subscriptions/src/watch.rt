@@ -49,7 +49,8 @@ impl Watch {
     pub fn new(alloc: Global, prefix: FullPrefix, capacity: usize) -> Result<Self, WatchFault>
         ensures value { IfOk result (λ watch. watch ≡ empty prefix capacity) }
         ensures in_range { OnOk result (IsCapacity capacity) }
-        ensures out_of_range { (IsCapacity capacity → ⊥) → IfErr result (λ fault. fault ≡ BadWatch) }
+        ensures out_of_range { (IsCapacity capacity → ⊥)
+            → IfErr result (λ fault. fault ≡ BadWatch) }
         ensures refusals { FailsWith Memory
             (λ fault. (fault ≡ BadWatch) × (IsCapacity capacity → ⊥)) result }
     {

@@ -1,17 +1,18 @@
 use Rattle.std.proofs.Common.{All, refl, sym, ap, subst, ◌∙◌}
 use Rattle.std.proofs.lemmas.List.Elements.{All-same}
 use Rattle.plumtree.specs.Lawful.{MayBeSent}
-use Rattle.node_parts.specs.Origin.{IsOfAnother}
+use Rattle.node_parts.specs.Origin.{HasOtherSender}
 use Rattle.node_parts.specs.Outbox.{IsSpelledVector, MaySend}
 use Rattle.node_core.specs.Node.{NodeParts}
-use Rattle.node_core.proofs.Spreading.{gossips_may, joined_spells, left_behind, may_spread}
+use Rattle.node_parts.proofs.Naming.{gossips_may}
+use Rattle.node_core.proofs.Spreading.{joined_spells, left_behind, may_spread}
 use Rattle.node_core.proofs.state.NodeState.try_spread.Goals as goal
 
 pub spread-requires : goal.spread-requires
 spread-requires c =
     let node = c.self.inside.overlay.views.node in
     let own = c.self.invariant.own_views ∙ ap (λ (s : NodeParts). s.node) c.self.view_is in
-    let another = subst (λ n. IsOfAnother n c.args.origin) (sym own) c.requires.another in
+    let another = subst (λ n. HasOtherSender n c.args.origin) (sym own) c.requires.another in
     let spelled = subst IsSpelledVector (sym c.requires.vector) (joined_spells c.args.object c.requires.held) in
     may_spread node c.args.origin c.args.key.now c.args.vector.now another c.reveal_round.ensures c.key.ensures.in_range spelled
 

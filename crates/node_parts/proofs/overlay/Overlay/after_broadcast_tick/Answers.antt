@@ -1,15 +1,22 @@
-use Rattle.std.proofs.Common.{Vec, Global, All, subst}
+use Rattle.std.proofs.Common.{◌≡◌, Vec, Global, All, ap, subst, ◌∙◌}
 use Rattle.std.proofs.lemmas.Result.{IfOk-at_ok, IfOk-weaker}
+use Rattle.std.proofs.lemmas.List.Elements.{All-same}
+use Rattle.plumtree.specs.Lawful.{MayBeSent}
 use Rattle.node_parts.specs.declared.envelope.Envelope.{Envelope}
+use Rattle.node_parts.specs.Origin.{whole_messages}
 use Rattle.node_parts.specs.Outbox.{MaySend}
 use Rattle.node_parts.specs.Overlay.{Overlay}
+use Rattle.node_parts.proofs.Naming.{call_may, whole_may}
 use Rattle.node_parts.proofs.overlay.Overlay.after_broadcast_tick.Goals as goal
 
 pub returns-clause-may : goal.returns-clause-may
 returns-clause-may c =
-    let copy = c.in_ok-overlay.overlay in
+    let node = c.args.self.now.views.node in
+    let outs = c.in_ok-cast.outs.items in
+    let own = ap (λ (o : Overlay). o.views.node) c.self.view_is in
+    let may = subst (λ n. All (MayBeSent n) outs) own (call_may c.self.view_is c.self.invariant c.in_ok-cast.ensures tt) in
     IfOk-weaker c.both.result _ _
-    (λ done is.
-    let may = IfOk-at_ok (λ (sent : Vec Envelope Global). All (MaySend copy.views.node) sent.items) is.1 c.broadcast_tick-sent.ensures.may in
-    subst (λ (o : Overlay). All (MaySend o.views.node) done.1.items) c.in_ok-overlay.ensures may)
+    (λ after is.
+    let sent = IfOk-at_ok (λ (v : Vec Envelope Global). v.items ≡ whole_messages outs) is.1 c.whole_messages-sent.ensures in
+    All-same (MaySend node) after.1.items (whole_messages outs) sent (whole_may node outs may))
     c.both.ensures.value

@@ -1,5 +1,5 @@
-use Rattle.std.proofs.Common.{true, subst}
-use Rattle.plumtree.specs.Broadcast.{Broadcasts, TakesGossip}
+use Rattle.std.proofs.Common.{subst}
+use Rattle.plumtree.specs.Broadcast.{Broadcasts, TakesFresh}
 use Rattle.plumtree.specs.Lawful.{MayCome}
 use Rattle.node_parts.specs.declared.origin.Origin.{Origin}
 use Rattle.node_parts.specs.Origin.{call_of}
@@ -11,8 +11,8 @@ may_write : (c : goal.After-on_broadcast)
 may_write c =
     subst (λ (o : Origin). MayCome c.args.self.now.views.node (call_of o c.args.key.now c.args.vector.now)) c.in-Write.is c.requires
 
-may_hear : (c : goal.After-on_gossip)
-    → MayCome c.args.self.now.views.node (TakesGossip c.in-Gossip.from c.in-Gossip.round c.args.key.now c.args.vector.now true)
+may_hear : (c : goal.After-on_fresh)
+    → MayCome c.args.self.now.views.node (TakesFresh c.in-Gossip.from c.in-Gossip.round c.args.key.now c.args.vector.now)
 may_hear c =
     subst (λ (o : Origin). MayCome c.args.self.now.views.node (call_of o c.args.key.now c.args.vector.now)) c.in-Gossip.is c.requires
 
@@ -28,10 +28,10 @@ returns-in-Write-clause-may c =
 
 pub invariant_of-self-in-Gossip : goal.invariant_of-self-in-Gossip
 invariant_of-self-in-Gossip c =
-    let call = c.on_gossip in
+    let call = c.on_fresh in
     told_or_kept (λ outs. outs.items) call.result call.new.self _ c.self.view_is c.self.invariant call.ensures.row call.ensures.unchanged tt (may_hear c)
 
 pub returns-in-Gossip-clause-may : goal.returns-in-Gossip-clause-may
 returns-in-Gossip-clause-may c =
-    let call = c.on_gossip in
+    let call = c.on_fresh in
     told_may (λ outs. outs.items) call.result call.new.self _ c.self.view_is c.self.invariant call.ensures.row (may_hear c)

@@ -1,18 +1,37 @@
-use Rattle.std.proofs.Common.{◌≡◌, ◌<◌, ◌-◌, length, arith, ap, ◌∙◌}
+use Rattle.std.proofs.Common.{◌≡◌, ◌<◌, [], ◌∷◌, length, arith, ap, ◌∙◌}
+use Rattle.subscriptions.specs.declared.change.Change.{Change}
 use Rattle.subscriptions.specs.Watching.{with_change}
 use Rattle.plumtree.proofs.Mapped.{next_written}
+use Rattle.node_parts.specs.Watches.{hearing_count}
+use Rattle.node_parts.proofs.Hearing.{notes_left}
 use Rattle.node_parts.proofs.watches.Watches.note.Goals as goal
+
+pub note_one-requires : goal.note_one-requires
+note_one-requires c =
+    let held = c.loop-place.invariant in
+    let list = c.loop-place.self-inside.list.items in
+    let place = c.loop-place.place in
+    let watch = c.index_mut.result.now in
+    let inside : place < length list = omega arith in
+    let left = notes_left c.args.news.now.change c.self.inside.list.items list place watch c.loop-place.news.notes inside held.long held.noted
+    c.index_mut.ensures.value held.notes in
+    omega (arith, left, ap (λ (change : Change). hearing_count change.key (watch ∷ [])) held.change)
 
 pub loop-place-preserved : goal.loop-place-preserved
 loop-place-preserved c =
     let held = c.loop-place.invariant in
-    let within : c.loop-place.place < length c.loop-place.self-inside.list.items = omega arith in
-    let next = next_written (with_change c.args.news.now.change) c.self.inside.list.items c.loop-place.self-inside.list.items c.loop-place.place c.index_mut.result.now c.note.new.self
-    within held.long held.noted c.index_mut.ensures.value (c.note.ensures ∙ ap (λ change. with_change change c.index_mut.result.now) (c.next-note.ensures.note ∙ held.change)) in
-    let fewer : c.next-note.new.self.notes ≡ c.loop-place.news.notes - 1 = ap (λ n. n.notes) c.next-note.ensures.fewer in
+    let change = c.args.news.now.change in
+    let first = c.self.inside.list.items in
+    let list = c.loop-place.self-inside.list.items in
+    let place = c.loop-place.place in
+    let watch = c.index_mut.result.now in
+    let inside : place < length list = omega arith in
+    let next = next_written (with_change change) first list place watch c.note_one.new.watch
+    inside held.long held.noted c.index_mut.ensures.value (c.note_one.ensures.watch ∙ ap (λ (change : Change). with_change change watch) held.change) in
+    let left = notes_left change first list place watch c.loop-place.news.notes inside held.long held.noted c.index_mut.ensures.value held.notes in
     record {
       long = next.0;
       noted = next.1;
-      change = ap (λ n. n.change) c.next-note.ensures.fewer ∙ held.change;
-      notes = omega (arith, fewer);
+      change = c.note_one.ensures.change ∙ held.change;
+      notes = omega (arith, c.note_one.ensures.notes, left, ap (λ (change : Change). hearing_count change.key (watch ∷ [])) held.change);
     }

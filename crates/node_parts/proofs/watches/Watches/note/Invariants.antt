@@ -1,11 +1,14 @@
-use Rattle.std.proofs.Common.{◌≡◌, ◌-◌, ◌++◌, drop, take, map, length}
+use Rattle.std.proofs.Common.{◌≡◌, ◌++◌, drop, take, map, length}
 use Rattle.subscriptions.specs.Watching.{with_change}
+use Rattle.node_parts.specs.Watches.{hearing_count}
 use Rattle.node_parts.proofs.watches.Watches.note.Given as goal
 
 abbrev pub invariant-loop-place : goal.invariant-loop-place
-invariant-loop-place l = record {
-  long : length l.self-inside.list.items ≡ length l.initial.self-inside.list.items;
-  noted : l.self-inside.list.items ≡ map (with_change l.fn.news.change) (take l.place l.initial.self-inside.list.items) ++ drop l.place l.initial.self-inside.list.items;
-  change : l.news.change ≡ l.fn.news.change;
-  notes : l.news.notes ≡ length l.initial.self-inside.list.items - l.place;
-}
+invariant-loop-place l =
+    let first = l.initial.self-inside.list.items in
+    record {
+      long : length l.self-inside.list.items ≡ length first;
+      noted : l.self-inside.list.items ≡ map (with_change l.fn.news.change) (take l.place first) ++ drop l.place first;
+      change : l.news.change ≡ l.fn.news.change;
+      notes : l.news.notes ≡ hearing_count l.fn.news.change.key (drop l.place first);
+    }
