@@ -5,11 +5,9 @@ ghost use Rattle.std.specs.Option.{option_map};
 ghost use Rattle.scenario_text.specs.Word.{bytes_of_digits, junk_of, value_of};
 
 use meta_types::ByteString;
+use meta_types::value::MAX_BODY_LEN;
 use printing::are_plain;
 use std::alloc::{AllocError, Global};
-
-/// The most bytes of a value.
-const MAX_VALUE_LEN: usize = 1024;
 
 /// The bytes of a word: its own, or those that its digits stand for.
 #[derive(Clone, Copy)]
@@ -75,7 +73,7 @@ impl<'a> BytesWord<'a> {
     pub(crate) fn is_value(&self) -> bool
         ensures { IsTrue result ↔ (length (bytes_word self.now) ≤ 1024) }
     {
-        self.len() <= MAX_VALUE_LEN
+        self.len() <= MAX_BODY_LEN
     }
 
     /// The bytes. Fails only when memory runs out.

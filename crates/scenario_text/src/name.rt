@@ -8,14 +8,11 @@ ghost use Rattle.scenario_text.specs.Coded.{key_word, prefix_word};
 ghost use Rattle.scenario_text.specs.Word.{key_of, full_prefix_of};
 
 use crate::split::split_once;
+use meta_types::key::MAX_KEY_LEN;
+use meta_types::prefix::MAX_PREFIX_LEN;
 use meta_types::{FullPrefix, MetaKey};
 use printing::are_plain;
 use std::alloc::{AllocError, Global};
-
-/// The most bytes of a part of a full prefix, and of a key's own part.
-const MAX_PREFIX_LEN: usize = 64;
-
-const MAX_KEY_LEN: usize = 256;
 
 /// A full prefix, as `a/b`.
 #[derive(Clone, Copy)]

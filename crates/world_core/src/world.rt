@@ -23,14 +23,12 @@ ghost use Rattle.world_core.specs.declared.fault.WorldFault.TheVariants.{Memory,
 use crate::answer::{Accepted, FrameNumbers};
 use crate::chronicle::Chronicle;
 use crate::fault::WorldFault;
+use meta_types::node::MAX_NODES;
 use meta_types::{ByteString, NodeId};
 use node_core::NodeState;
 use node_images::{Image, ImagedNode};
 use std::alloc::{AllocError, Global};
 use std::marker::Model;
-
-/// The most nodes of a world.
-pub const MAX_NODES: u64 = 16;
 
 /// Nodes, with all that was accepted and sent, which tells a history.
 #[derive(Drop)]
@@ -60,7 +58,7 @@ impl World {
         ensures fault { FailsWith Memory (λ fault. (fault ≡ NoSuchNode)
             × ((nodes < 1) ⊎ (16 < nodes))) result }
     {
-        if nodes == 0 || nodes > MAX_NODES {
+        if nodes == 0 || nodes > u64::from(MAX_NODES) {
             return Err(WorldFault::NoSuchNode);
         }
         Ok(World {
