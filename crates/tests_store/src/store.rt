@@ -317,7 +317,7 @@ fn writes_merges_and_reads_succeed_again_under_refused_memory(rt: HostRuntime) {
 fn a_previewed_write_changes_nothing(rt: HostRuntime) {
     let alloc = rt.alloc();
     let store = Store::new(alloc);
-    let (at, red) = (key(&rt, alloc, b'k', 1), value(&rt, alloc, b'r', 1));
+    let (at, red) = (long_key(&rt, alloc, b'k', 1), value(&rt, alloc, b'r', 1));
     let previewed = store.preview_put(actor(&rt, 0, 1), &at, red, None);
     assert!(rt; previewed.is_ok());
     let (values, vector) = store.get(&at).expect(&rt, "memory");
