@@ -1,7 +1,6 @@
 //! Events and messages of the views.
 
 ghost use Rattle.std.specs.Prelude.{◌≡◌, ◌≢◌, All, IfOk, IfErr, OnOk, OnErr, map};
-ghost use Rattle.meta_types.specs.Failing.{FailsBy};
 ghost use Rattle.hyparview.specs.Lawful.{IsOfAnother, IsOfViews};
 ghost use Rattle.meta_frame.specs.Frame.{spelling};
 ghost use Rattle.meta_frame.specs.declared.message.Message.TheVariants.{Hello};
@@ -9,10 +8,10 @@ ghost use Rattle.node_core.specs.Node.{with_overlay};
 ghost use Rattle.node_parts.specs.Outbox.{HasSpelling, frames_from};
 ghost use Rattle.node_parts.specs.Overlay.{overlay_after_view, sent_by_view};
 ghost use Rattle.node_core.specs.Rows.{Local, drop_neighbour};
-ghost use Rattle.node_core.specs.Messages.{IsStepOfMessage};
-ghost use Rattle.node_core.specs.Step.{IsStepOf, begun, refusal_of};
+ghost use Rattle.node_core.specs.Step.{begun};
 ghost use Rattle.node_events.specs.declared.event.NodeEvent.TheVariants.{Join, Leave, PeerDown};
 ghost use Rattle.node_events.specs.declared.fault.StepFault.TheVariants.{Memory};
+ghost use Rattle.node_core.specs.Handling.{Steps, StepsOnMessage};
 
 use crate::state::{NodeState, Stepped};
 use hyparview::ViewEvent;
@@ -24,10 +23,7 @@ use peer_lists::has;
 impl NodeState {
     /// The node joins the cluster through a contact.
     pub(crate) fn join(&mut self, contact: NodeId, word: u64) -> Result<Stepped, StepFault>
-        ensures step { IfOk result
-            (λ stepped. IsStepOf self.old (Local (Join contact word)) self.new stepped) }
-        ensures refused { FailsBy Memory (refusal_of (Local (Join contact word)) self.old) result }
-        ensures same { OnErr result (self.new ≡ self.old) }
+        ensures { Steps self.old (Local (Join contact word)) result self.new }
     {
         self.is_another(contact)?;
         let outbox = self.step_views(ViewEvent::JoinThrough { contact }, word)?;
@@ -36,11 +32,7 @@ impl NodeState {
 
     /// Somebody found that a peer doesn't answer.
     pub(crate) fn peer_down(&mut self, peer: NodeId, word: u64) -> Result<Stepped, StepFault>
-        ensures step { IfOk result
-            (λ stepped. IsStepOf self.old (Local (PeerDown peer word)) self.new stepped) }
-        ensures refused { FailsBy Memory
-            (refusal_of (Local (PeerDown peer word)) self.old) result }
-        ensures same { OnErr result (self.new ≡ self.old) }
+        ensures { Steps self.old (Local (PeerDown peer word)) result self.new }
     {
         self.is_another(peer)?;
         let outbox = self.step_views(ViewEvent::PeerDown { peer }, word)?;
@@ -49,10 +41,7 @@ impl NodeState {
 
     /// The node leaves the cluster.
     pub(crate) fn leave(&mut self) -> Result<Stepped, StepFault>
-        ensures step { IfOk result
-            (λ stepped. IsStepOf self.old (Local Leave) self.new stepped) }
-        ensures memory { IfErr result (λ fault. fault ≡ Memory) }
-        ensures same { OnErr result (self.new ≡ self.old) }
+        ensures { Steps self.old (Local Leave) result self.new }
     {
         let outbox = self.step_views(ViewEvent::Leave, 0)?;
         Ok(self.finish(Reply::Done, outbox))
@@ -67,10 +56,7 @@ impl NodeState {
     ) -> Result<Stepped, StepFault>
         requires another { from ≢ self.old.node }
         requires views { IsOfViews message.now }
-        ensures step { IfOk result
-            (λ stepped. IsStepOfMessage self.old from word message.now self.new stepped) }
-        ensures memory { IfErr result (λ fault. fault ≡ Memory) }
-        ensures same { OnErr result (self.new ≡ self.old) }
+        ensures { StepsOnMessage self.old from word message.now result self.new }
     {
         let message = message.copy()?;
         let outbox = self.step_views(ViewEvent::Taken { from, message }, word)?;
@@ -86,10 +72,7 @@ impl NodeState {
         life: u32,
     ) -> Result<Stepped, StepFault>
         requires { from ≢ self.old.node }
-        ensures step { IfOk result
-            (λ stepped. IsStepOfMessage self.old from word (Hello life) self.new stepped) }
-        ensures memory { IfErr result (λ fault. fault ≡ Memory) }
-        ensures same { OnErr result (self.new ≡ self.old) }
+        ensures { StepsOnMessage self.old from word (Hello life) result self.new }
     {
         let place = from.number() as usize;
         let outbox = if self.heard[place] < life {

@@ -11,8 +11,8 @@ use Rattle.node_core.proofs.Viewing.{came_anew, finished, known_life}
 use Rattle.node_core.proofs.state.NodeState.on_hello.Goals as goal
 use Rattle.node_core.proofs.state.NodeState.on_hello.Goals.{then-self-place+in_ok-outbox, else-self-place}
 
-pub returns-clause-step : goal.returns-clause-step
-returns-clause-step c =
+pub returns : goal.returns
+returns c =
     let s = c.args.self.now in
     let from = c.args.from in
     let life = c.args.life in

@@ -7,8 +7,8 @@ use Rattle.node_core.specs.Step.{IsStepTo, begun, refusal_of_message, reply_of_m
 use Rattle.node_core.proofs.Viewing.{finished, views_accepted, views_taken, views_took}
 use Rattle.node_core.proofs.state.NodeState.on_views.Goals as goal
 
-pub returns-clause-step : goal.returns-clause-step
-returns-clause-step c =
+pub returns : goal.returns
+returns c =
     let old = c.args.self.now in
     let came = c.args.message.now in
     let stepped = c.in_ok-outbox.ensures in
