@@ -5,7 +5,7 @@ use Rattle.std.specs.Result.{IsErrAnd}
 use Rattle.std.proofs.lemmas.Bool.{cond-false, cond-true}
 use Rattle.std.proofs.lemmas.List.Elements.{All-nil}
 use Rattle.meta_types.specs.Name.{Key}
-use Rattle.dvvset.specs.Object.{Counter, Entry}
+use Rattle.dvvset.specs.Object.{Entry}
 use Rattle.dvvset.specs.Clock.{join}
 use Rattle.meta_frame.specs.declared.message.Message.TheVariants.{Gossip, Prune, XObject}
 use Rattle.meta_frame.specs.Frame.{spelling}
@@ -25,7 +25,7 @@ use Rattle.node_parts.specs.Outbox.{HasSpelling, frames_from}
 use Rattle.node_parts.specs.Origin.{whole_messages}
 use Rattle.node_parts.specs.Overlay.{Overlay, envelope, out_of, overlay_after_call}
 use Rattle.node_core.specs.declared.state.Stepped.{Stepped}
-use Rattle.node_core.specs.Node.{NodeParts, vector_under, with_overlay}
+use Rattle.node_core.specs.Node.{NodeParts, with_overlay}
 use Rattle.node_core.specs.Draft.{NodeDraft}
 use Rattle.node_core.specs.Rows.{is_fresh, merge, row_of_gossip}
 use Rattle.node_core.specs.Handling.{StepsOnMessage, StepsTo}

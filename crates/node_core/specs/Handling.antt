@@ -8,8 +8,10 @@ use Rattle.meta_frame.specs.declared.message.Message.TheVariants.{XRoot, XPrefix
 use Rattle.meta_store.specs.Context.{Reading}
 use Rattle.node_events.specs.declared.fault.StepFault.{StepFault}
 use Rattle.node_events.specs.declared.fault.StepFault.TheVariants.{Memory}
+use Rattle.node_events.specs.declared.outbox.Outbox.{Outbox}
 use Rattle.node_events.specs.declared.reply.Reply.{Reply}
 use Rattle.node_events.specs.declared.reply.Reply.TheVariants.{Wrote}
+use Rattle.node_parts.specs.Outbox.{AreFramesOf}
 use Rattle.node_core.specs.declared.state.Stepped.{Stepped}
 use Rattle.node_core.specs.Node.{NodeParts, vector_under}
 use Rattle.node_core.specs.Draft.{NodeDraft}
@@ -43,6 +45,13 @@ StepsOnWrite old key value context =
     let done = write key value context (begun old) in
     StepsTo old (refusal_of_write key value context old) done
     (Wrote (vector_under key done.parts))
+
+-- this was done, but for the count of the step: the node is so, and what was sent goes out as these
+-- frames; or memory ended, and nothing changed
+abbrev pub Does : NodeParts → NodeDraft → Result Outbox StepFault → NodeParts → Type 0
+Does old done (Ok outbox) new =
+    (new ≡ done.parts) × AreFramesOf old.node old.frames done.sent outbox
+Does old done (Err fault) new = (fault ≡ Memory) × (new ≡ old)
 
 -- a message of an exchange that may be answered
 abbrev pub IsQuestion : Message → Type 0

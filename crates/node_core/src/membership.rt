@@ -1,17 +1,13 @@
 //! Events and messages of the views.
 
-ghost use Rattle.std.specs.Prelude.{◌≡◌, ◌≢◌, All, IfOk, IfErr, OnOk, OnErr, map};
+ghost use Rattle.std.specs.Prelude.{◌≢◌};
 ghost use Rattle.hyparview.specs.Lawful.{IsOfAnother, IsOfViews};
-ghost use Rattle.meta_frame.specs.Frame.{spelling};
 ghost use Rattle.meta_frame.specs.declared.message.Message.TheVariants.{Hello};
-ghost use Rattle.node_core.specs.Node.{with_overlay};
-ghost use Rattle.node_parts.specs.Outbox.{HasSpelling, frames_from};
-ghost use Rattle.node_parts.specs.Overlay.{overlay_after_view, sent_by_view};
+ghost use Rattle.node_core.specs.Draft.{step_views};
 ghost use Rattle.node_core.specs.Rows.{Local, drop_neighbour};
+ghost use Rattle.node_core.specs.Handling.{Does, Steps, StepsOnMessage};
 ghost use Rattle.node_core.specs.Step.{begun};
 ghost use Rattle.node_events.specs.declared.event.NodeEvent.TheVariants.{Join, Leave, PeerDown};
-ghost use Rattle.node_events.specs.declared.fault.StepFault.TheVariants.{Memory};
-ghost use Rattle.node_core.specs.Handling.{Steps, StepsOnMessage};
 
 use crate::state::{NodeState, Stepped};
 use hyparview::ViewEvent;
@@ -88,16 +84,7 @@ impl NodeState {
     /// The node, if a neighbour, is one no more. Answers the frames.
     fn drop_neighbour(&mut self, node: NodeId, word: u64) -> Result<Outbox, StepFault>
         requires { node ≢ self.old.node }
-        ensures node { let done = drop_neighbour node word (begun self.old) in
-            OnOk result (self.new ≡ done.parts) }
-        ensures frames { let done = drop_neighbour node word (begun self.old) in
-            IfOk result (λ outbox. outbox
-            ≡ map spelling (frames_from self.old.node self.old.frames done.sent)) }
-        ensures lawful { let done = drop_neighbour node word (begun self.old) in
-            IfOk result (λ _. All HasSpelling
-            (frames_from self.old.node self.old.frames done.sent)) }
-        ensures memory { IfErr result (λ fault. fault ≡ Memory) }
-        ensures same { OnErr result (self.new ≡ self.old) }
+        ensures { Does self.old (drop_neighbour node word (begun self.old)) result self.new }
     {
         if has(self.overlay.views().active(), node) {
             self.step_views(ViewEvent::PeerDown { peer: node }, word)
@@ -109,16 +96,7 @@ impl NodeState {
     /// An event of the views. Answers the frames.
     fn step_views(&mut self, event: ViewEvent, word: u64) -> Result<Outbox, StepFault>
         requires { IsOfAnother self.old.node event }
-        ensures node { OnOk result
-            (self.new ≡ with_overlay (overlay_after_view event word self.old.overlay) self.old) }
-        ensures frames { IfOk result (λ outbox. outbox ≡ map spelling
-            (frames_from self.old.node self.old.frames
-            (sent_by_view event word self.old.overlay))) }
-        ensures lawful { IfOk result (λ _. All HasSpelling
-            (frames_from self.old.node self.old.frames
-            (sent_by_view event word self.old.overlay))) }
-        ensures memory { IfErr result (λ fault. fault ≡ Memory) }
-        ensures same { OnErr result (self.new ≡ self.old) }
+        ensures { Does self.old (step_views event word (begun self.old)) result self.new }
     {
         // Dropped on its one way out, where the proof has one case for it.
         let outbox = self.step_views_on(&event, word);
@@ -129,16 +107,7 @@ impl NodeState {
     /// The same, of an event that stays the caller's.
     fn step_views_on(&mut self, event: &ViewEvent, word: u64) -> Result<Outbox, StepFault>
         requires { IsOfAnother self.old.node event.now }
-        ensures node { OnOk result
-            (self.new ≡ with_overlay (overlay_after_view event.now word self.old.overlay) self.old) }
-        ensures frames { IfOk result (λ outbox. outbox ≡ map spelling
-            (frames_from self.old.node self.old.frames
-            (sent_by_view event.now word self.old.overlay))) }
-        ensures lawful { IfOk result (λ _. All HasSpelling
-            (frames_from self.old.node self.old.frames
-            (sent_by_view event.now word self.old.overlay))) }
-        ensures memory { IfErr result (λ fault. fault ≡ Memory) }
-        ensures same { OnErr result (self.new ≡ self.old) }
+        ensures { Does self.old (step_views event.now word (begun self.old)) result self.new }
     {
         // Read for what it tells: the views are lawful.
         let _ = self.overlay.views();

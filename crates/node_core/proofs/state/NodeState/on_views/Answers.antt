@@ -21,4 +21,4 @@ returns c =
     c.finish.ensures.value ∙ ap (λ (reply : Reply). record { reply = reply; outbox = c.in_ok-outbox.outbox }) (sym (views_took came old c.requires.views)) in
     subst (λ (done : NodeDraft). IsStepTo old refusal done (reply_of_message came old) c.finish.new.self c.finish.result) (sym is)
     (finished old c.step_views.new.self c.finish.new.self refusal done (reply_of_message came old) c.in_ok-outbox.outbox c.finish.result
-    (views_accepted came old c.requires.views) stepped.node stepped.frames stepped.lawful c.finish.ensures.counts value)
+    (views_accepted came old c.requires.views) stepped.0 stepped.1.frames stepped.1.lawful c.finish.ensures.counts value)
