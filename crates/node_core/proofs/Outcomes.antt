@@ -22,7 +22,7 @@ stepped old new (Ok s) event own same is step =
     (record { input = Local own; is_input = is; step = step })
 stepped old new (Err fault) event own same is fails = tt
 
-cause_of : (old : NodeParts) (fault : StepFault) (own : NodeEvent) → IsInput own (Local own)
+pub cause_of : (old : NodeParts) (fault : StepFault) (own : NodeEvent) → IsInput own (Local own)
     → (fault ≡ Memory) ⊎ (refusal_of (Local own) old ≡ Some fault) → CanComeOf old own fault
 cause_of old fault own is (inl memory) = inl memory
 cause_of old fault own is (inr first) =
