@@ -4,9 +4,8 @@ use Rattle.std.specs.Option.{option_map}
 use Rattle.std.specs.Result.{IsErrAnd}
 use Rattle.std.proofs.lemmas.Bool.{cond-false, cond-true}
 use Rattle.std.proofs.lemmas.List.Elements.{All-nil}
-use Rattle.meta_types.specs.Failing.{FailsBy}
 use Rattle.meta_types.specs.Name.{Key}
-use Rattle.dvvset.specs.Object.{Counter, Entry}
+use Rattle.dvvset.specs.Object.{Entry}
 use Rattle.dvvset.specs.Clock.{join}
 use Rattle.meta_frame.specs.declared.message.Message.TheVariants.{Gossip, Prune, XObject}
 use Rattle.meta_frame.specs.Frame.{spelling}
@@ -19,16 +18,17 @@ use Rattle.plumtree.specs.Rows as cast
 use Rattle.node_events.specs.Fault.{of_store}
 use Rattle.node_events.specs.declared.fault.StepFault.{StepFault}
 use Rattle.node_events.specs.declared.fault.StepFault.TheVariants.{Memory}
+use Rattle.node_events.specs.declared.reply.Reply.{Reply}
 use Rattle.node_events.specs.declared.reply.Reply.TheVariants.{TookFresh, TookStale}
 use Rattle.node_parts.specs.declared.origin.Origin.TheVariants as OfOrigin
 use Rattle.node_parts.specs.Outbox.{HasSpelling, frames_from}
 use Rattle.node_parts.specs.Origin.{whole_messages}
 use Rattle.node_parts.specs.Overlay.{Overlay, envelope, out_of, overlay_after_call}
 use Rattle.node_core.specs.declared.state.Stepped.{Stepped}
-use Rattle.node_core.specs.Node.{NodeParts, vector_under, with_overlay}
+use Rattle.node_core.specs.Node.{NodeParts, with_overlay}
 use Rattle.node_core.specs.Draft.{NodeDraft}
 use Rattle.node_core.specs.Rows.{is_fresh, merge, row_of_gossip}
-use Rattle.node_core.specs.Messages.{IsStepOfMessage}
+use Rattle.node_core.specs.Handling.{StepsOnMessage, StepsTo}
 use Rattle.node_core.specs.Step.{begun, with_counts, refusal_of_object, reply_of_object}
 use Rattle.node_core.specs.Changing.{change_to, gossips, holding, noting, spreading}
 use Rattle.node_core.proofs.Changing.{fresh_gossip, fresh_object, stale_gossip}
@@ -67,19 +67,16 @@ refused_so : (fault : StoreFault) (gave : StepFault) (refusal : Option StoreFaul
 refused_so fault gave refusal is (inl memory) = inl (is ∙ ap of_store memory)
 refused_so fault gave refusal is (inr refused) = inr (ap (option_map of_store) refused ∙ ap (λ f. Some f) (sym is))
 
-refused_by : {T : Type 0} (r : Result T StepFault) (fault : StoreFault) (refusal : Option StoreFault)
-    → (fault ≡ OfStore.Memory) ⊎ (refusal ≡ Some fault) → IsErrAnd r (λ gave. gave ≡ of_store fault)
-    → FailsBy Memory (option_map of_store refusal) r
-refused_by (Ok x) fault refusal cause gives = tt
-refused_by (Err gave) fault refusal cause gives = refused_so fault gave refusal gives cause
-
-pub merge_refused : {T : Type 0} {store : Table} (r : Result T StepFault) (old : NodeParts) (key : Key) (came : List Entry)
-    (fault : StoreFault) → store ≡ old.table
+pub merge_refused : {store : Table} (r : Result Stepped StepFault) (old new : NodeParts) (key : Key) (came : List Entry)
+    (fault : StoreFault) (done : NodeDraft) (reply : Reply) → new ≡ old → store ≡ old.table
     → (fault ≡ OfStore.Memory) ⊎ (refusal_of_merge store key came ≡ Some fault)
-    → IsErrAnd r (λ gave. gave ≡ of_store fault) → FailsBy Memory (refusal_of_object key came old) r
-merge_refused {store = store} r old key came fault store_is cause gives =
-    subst (λ table. FailsBy Memory (option_map of_store (refusal_of_merge table key came)) r) store_is
-    (refused_by r fault (refusal_of_merge store key came) cause gives)
+    → IsErrAnd r (λ gave. gave ≡ of_store fault) → StepsTo old (refusal_of_object key came old) done reply r new
+merge_refused (Ok stepped) old new key came fault done reply same store_is cause gives = absurd gives
+merge_refused {store = store} (Err gave) old new key came fault done reply same store_is cause gives = (
+  refused_so fault gave (refusal_of_merge old.table key came) gives
+      (subst (λ (table : Table). (fault ≡ OfStore.Memory) ⊎ (refusal_of_merge table key came ≡ Some fault)) store_is cause),
+  same,
+)
 
 -- ---- what is stale isn't refused
 
@@ -104,7 +101,7 @@ pub stale_taken : {old : NodeParts} {outbox : List (List ℕ)} (from round : ℕ
     → outbox ≡ map spelling (frames_from old.node old.frames (envelope from Prune ∷ []))
     → All HasSpelling (frames_from old.node old.frames (envelope from Prune ∷ []))
     → new ≡ with_counts (length outbox) (with_overlay (overlay_after_call (TakesStale from) old.overlay) old)
-    → IsStepOfMessage old from 0 (Gossip round key came) new stepped
+    → StepsOnMessage old from 0 (Gossip round key came) (Ok stepped) new
 stale_taken {old = old} from round key came new stepped stale is sends frames counts =
     let after = with_overlay (overlay_after_call (TakesStale from) old.overlay) old in
     let known = stale_so key came old stale in
@@ -136,7 +133,7 @@ pub fresh_taken : {old : NodeParts} {store : Table} {outbox : List (List ℕ)} (
     → outbox ≡ map spelling (frames_from old.node old.frames (gossips (OfOrigin.Gossip from round) key entries old))
     → All HasSpelling (frames_from old.node old.frames (gossips (OfOrigin.Gossip from round) key entries old))
     → new ≡ with_counts (length outbox) (noting (change_to key entries) (spreading (OfOrigin.Gossip from round) key entries old))
-    → IsStepOfMessage old from 0 (Gossip round key came) new stepped
+    → StepsOnMessage old from 0 (Gossip round key came) (Ok stepped) new
 fresh_taken {old = old} from round key came entries new stepped store_is merged accepted is sends frames counts =
     let origin = OfOrigin.Gossip from round in
     let foreseen = merge_if_some old.table key came entries (merged ∙ ap (λ table. merged_if_fresh table key came) store_is) in
@@ -162,7 +159,7 @@ pub fresh_kept : {old : NodeParts} {store : Table} {outbox : List (List ℕ)} (k
     → Some entries ≡ merged_if_fresh store key came → refusal_of_merge store key came ≡ None
     → stepped ≡ record { reply = TookFresh; outbox = outbox } → outbox ≡ []
     → new ≡ with_counts (length outbox) (noting (change_to key entries) (holding key entries old))
-    → IsStepOfMessage old 0 0 (XObject key came) new stepped
+    → StepsOnMessage old 0 0 (XObject key came) (Ok stepped) new
 fresh_kept {old = old} key came entries new stepped store_is merged accepted is none counts =
     let foreseen = merge_if_some old.table key came entries (merged ∙ ap (λ table. merged_if_fresh table key came) store_is) in
     let fresh = fresh_so key came old foreseen.fresh in

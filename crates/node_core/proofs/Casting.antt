@@ -1,6 +1,6 @@
 -- What the messages of the broadcast that carry no object, and the questions of an exchange, make
 -- of a node.
-use Rattle.std.proofs.Common.{◌≡◌, ℕ, leb, Bool, true, false, List, [], ◌∷◌, map, length, All, None, Option, unwrap_or, refl, sym, ap, subst, ◌∙◌, arith}
+use Rattle.std.proofs.Common.{Ok, ◌≡◌, ℕ, leb, Bool, true, false, List, [], ◌∷◌, map, length, All, None, Option, unwrap_or, refl, sym, ap, subst, ◌∙◌, arith}
 use Rattle.std.specs.Cmp.{first_so}
 use Rattle.std.specs.Int.{w16, w64}
 use Rattle.std.specs.FinMap.{find}
@@ -29,7 +29,7 @@ use Rattle.node_core.specs.declared.state.Stepped.{Stepped}
 use Rattle.node_core.specs.Node.{NodeParts, with_overlay}
 use Rattle.node_core.specs.Draft.{NodeDraft, call_broadcast}
 use Rattle.node_core.specs.Rows.{row_of_graft, row_of_ihave, row_of_message}
-use Rattle.node_core.specs.Messages.{IsQuestion, IsStepOfMessage}
+use Rattle.node_core.specs.Handling.{IsQuestion, StepsOnMessage}
 use Rattle.node_core.specs.Step.{IsStepTo, begun, with_counts, refusal_of_message, reply_of_message}
 use Rattle.node_core.proofs.Making.{made}
 
@@ -162,7 +162,7 @@ pub asked_step : (from : ℕ) (m : Message) (old new : NodeParts) (sent : List E
     → outbox ≡ map spelling (frames_from old.node old.frames sent)
     → All HasSpelling (frames_from old.node old.frames sent)
     → new ≡ with_counts (length outbox) old
-    → IsStepOfMessage old from 0 m new stepped
+    → StepsOnMessage old from 0 m (Ok stepped) new
 asked_step from m old new sent outbox stepped is sent_is value sends frames counts =
     let gives : stepped.outbox ≡ outbox = ap (λ (s : Stepped). s.outbox) value in
     made old old new (refusal_of_message m old) (row_of_message from 0 m (begun old)) (reply_of_message m old) sent stepped

@@ -1,5 +1,5 @@
 -- A step changes one object or none, what is held only grows, and only a read hands out a context.
-use Rattle.std.proofs.Common.{◌≡◌, ◌≢◌, ℕ, ◌+◌, ◌≤◌, Bool, true, false, cond, not, max, List, [], ◌∷◌, ◌++◌, slice_get, length, Option, None, Some, IfSome, refl, sym, ap, subst, ◌∙◌, arith, eqb, leb}
+use Rattle.std.proofs.Common.{◌≡◌, ◌≢◌, ℕ, ◌+◌, ◌≤◌, Bool, true, false, cond, not, max, List, [], ◌∷◌, ◌++◌, slice_get, Option, None, Some, IfSome, refl, sym, ap, subst, ◌∙◌, arith, eqb, leb}
 use Rattle.std.specs.Option.{unwrap_or}
 use Rattle.std.specs.Ordering.{is_eq}
 use Rattle.std.specs.declared.cmp.Ordering.{Ordering}
@@ -40,7 +40,7 @@ use Rattle.node_core.specs.Rows.{Input, IsInput, Local, Received, is_fresh}
 use Rattle.node_core.specs.Step.{IsNodeStep, IsStepOf, reply_of, reply_of_message}
 use Rattle.node_core.specs.Run.{IsRun}
 use Rattle.node_core.specs.Leaving.{LeavesHeld, carried_object, with_carried}
-use Rattle.node_core.specs.Growing.{CarriesUnder, ChangesUnder, Descends, HeldIsKept, IsKeyChanged, KeepsKeys, OnlyReadsHandOut, StepGrows, TellsOf, TellsWrite, context_of_write, newest}
+use Rattle.node_core.specs.Growing.{ChangesUnder, Descends, HeldIsKept, KeepsKeys, OnlyReadsHandOut, StepGrows, TellsOf, TellsWrite, context_of_write, newest}
 use Rattle.node_core.proofs.Leaves.{Leaves-row_of_message, each_step_leaves}
 use Rattle.node_core.proofs.Outcomes.{one_input}
 

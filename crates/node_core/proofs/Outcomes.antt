@@ -1,6 +1,5 @@
 -- What comes of an event: no event has two outcomes, and a run goes on.
-use Rattle.std.proofs.Common.{◌≡◌, ◌⊎◌, inl, inr, List, [], ◌∷◌, ◌++◌, Result, Ok, Err, IfOk, IfErr, OnErr, None, Some, refl, sym, ap, subst, ◌∙◌}
-use Rattle.meta_types.specs.Failing.{FailsBy}
+use Rattle.std.proofs.Common.{◌≡◌, ◌⊎◌, inl, inr, List, [], ◌∷◌, ◌++◌, Result, Ok, Err, IfOk, IfErr, None, Some, refl, sym, ap, subst, ◌∙◌}
 use Rattle.meta_frame.proofs.Frames.{one_frame, one_refusal, never_both}
 use Rattle.node_events.specs.declared.event.NodeEvent.{NodeEvent}
 use Rattle.node_events.specs.declared.event.NodeEvent.TheVariants.{Take}
@@ -10,17 +9,18 @@ use Rattle.node_core.specs.declared.state.Stepped.{Stepped}
 use Rattle.node_core.specs.Node.{NodeParts}
 use Rattle.node_core.specs.Rows.{Input, IsInput, Local, Received}
 use Rattle.node_core.specs.Step.{CanComeOf, IsNoFrame, IsNodeStep, IsRefused, IsStepOf, Rejects, refusal_of}
+use Rattle.node_core.specs.Handling.{Steps}
 use Rattle.node_core.specs.Run.{NoEventHasTwoOutcomes, IsOneCause, IsRun, RunsGoOn}
 
 -- ---- an event of the node itself
 
 pub stepped : (old new : NodeParts) (r : Result Stepped StepFault) (event own : NodeEvent)
-    → event ≡ own → IsInput own (Local own) → IfOk r (IsStepOf old (Local own) new)
+    → event ≡ own → IsInput own (Local own) → Steps old (Local own) r new
     → IfOk r (IsNodeStep old event new)
 stepped old new (Ok s) event own same is step =
     subst (λ e. IsNodeStep old e new s) (sym same)
     (record { input = Local own; is_input = is; step = step })
-stepped old new (Err fault) event own same is step = tt
+stepped old new (Err fault) event own same is fails = tt
 
 pub cause_of : (old : NodeParts) (fault : StepFault) (own : NodeEvent) → IsInput own (Local own)
     → (fault ≡ Memory) ⊎ (refusal_of (Local own) old ≡ Some fault) → CanComeOf old own fault
@@ -28,19 +28,18 @@ cause_of old fault own is (inl memory) = inl memory
 cause_of old fault own is (inr first) =
     inr (inr (record { input = Local own; is_input = is; first = first }))
 
-pub refused : (old : NodeParts) (r : Result Stepped StepFault) (own : NodeEvent)
-    → IsInput own (Local own) → FailsBy Memory (refusal_of (Local own) old) r
-    → IfErr r (CanComeOf old own)
-refused old (Ok s) own is fails = tt
-refused old (Err fault) own is fails = cause_of old fault own is fails
+pub refused : (old new : NodeParts) (r : Result Stepped StepFault) (own : NodeEvent)
+    → IsInput own (Local own) → Steps old (Local own) r new → IfErr r (CanComeOf old own)
+refused old new (Ok s) own is step = tt
+refused old new (Err fault) own is fails = cause_of old fault own is fails.0
 
 pub rejected : (old new : NodeParts) (r : Result Stepped StepFault) (event own : NodeEvent)
-    → event ≡ own → IsInput own (Local own) → FailsBy Memory (refusal_of (Local own) old) r
-    → OnErr r (new ≡ old) → IfErr r (λ fault. Rejects old event fault new)
-rejected old new (Ok s) event own same is fails kept = tt
-rejected old new (Err fault) event own same is fails kept =
+    → event ≡ own → IsInput own (Local own) → Steps old (Local own) r new
+    → IfErr r (λ fault. Rejects old event fault new)
+rejected old new (Ok s) event own same is step = tt
+rejected old new (Err fault) event own same is fails =
     subst (λ e. Rejects old e fault new) (sym same)
-    (record { cause = cause_of old fault own is fails; same = kept })
+    (record { cause = cause_of old fault own is fails.0; same = fails.1 })
 
 -- ---- one outcome
 

@@ -3,18 +3,16 @@ use Rattle.std.proofs.Common.{◌≡◌, ◌<◌, ◌∙◌, ℕ, true, List, le
 use Rattle.std.proofs.lemmas.Option.{slice_get_read}
 use Rattle.std.specs.List.{slice_get}
 use Rattle.std.specs.Option.{option_map}
-use Rattle.meta_types.specs.Failing.{FailsBy}
 use Rattle.meta_types.specs.Name.{Key}
 use Rattle.meta_types.specs.Value.{ValueParts}
 use Rattle.dvvset.specs.Clock.{values_of}
 use Rattle.meta_store.specs.Table.{object_at}
 use Rattle.node_events.specs.declared.event.NodeEvent.TheVariants.{PutOver}
 use Rattle.node_events.specs.declared.fault.StepFault.{StepFault}
-use Rattle.node_events.specs.declared.fault.StepFault.TheVariants.{Memory}
 use Rattle.node_core.specs.declared.state.Stepped.{Stepped}
 use Rattle.node_core.specs.Node.{NodeParts}
 use Rattle.node_core.specs.Rows.{Local}
-use Rattle.node_core.specs.Step.{IsStepOf, refusal_of}
+use Rattle.node_core.specs.Handling.{Steps}
 use Rattle.node_core.specs.Repair.{CanComeOfRepair, IsRepair, chosen, repair_event}
 use Rattle.node_core.proofs.Outcomes.{refused, stepped}
 
@@ -36,17 +34,17 @@ is_event choice key s siblings v are is =
 pub repaired : (choice : List ValueParts → ℕ) (key : Key) (old new : NodeParts)
     (siblings : List ValueParts) (v : ValueParts) (r : Result Stepped StepFault)
     → siblings ≡ values_of (object_at old.table key) → chosen choice siblings ≡ Some v
-    → IfOk r (IsStepOf old (Local (PutOver key v)) new)
+    → Steps old (Local (PutOver key v)) r new
     → IfOk r (IsRepair (repair_event choice key old) old new)
-repaired choice key old new siblings v r are is step =
+repaired choice key old new siblings v r are is steps =
     subst (λ event. IfOk r (IsRepair event old new)) (is_event choice key old siblings v are is)
-    (stepped old new r (PutOver key v) (PutOver key v) refl refl step)
+    (stepped old new r (PutOver key v) (PutOver key v) refl refl steps)
 
-pub not_repaired : (choice : List ValueParts → ℕ) (key : Key) (old : NodeParts)
+pub not_repaired : (choice : List ValueParts → ℕ) (key : Key) (old new : NodeParts)
     (siblings : List ValueParts) (v : ValueParts) (r : Result Stepped StepFault)
     → siblings ≡ values_of (object_at old.table key) → chosen choice siblings ≡ Some v
-    → FailsBy Memory (refusal_of (Local (PutOver key v)) old) r
+    → Steps old (Local (PutOver key v)) r new
     → IfErr r (CanComeOfRepair (repair_event choice key old) old)
-not_repaired choice key old siblings v r are is fails =
+not_repaired choice key old new siblings v r are is steps =
     subst (λ event. IfErr r (CanComeOfRepair event old)) (is_event choice key old siblings v are is)
-    (refused old r (PutOver key v) refl fails)
+    (refused old new r (PutOver key v) refl steps)

@@ -1,5 +1,5 @@
 -- Runs: their events determine them, they join and split, and they count their steps and frames.
-use Rattle.std.proofs.Common.{◌≡◌, ℕ, ◌+◌, ◌-◌, ◌<◌, ◌^◌, min, List, [], ◌∷◌, ◌++◌, map, length, get_or, drop, Option, refl, suc, sym, ap, subst, ◌∙◌, arith}
+use Rattle.std.proofs.Common.{◌≡◌, ℕ, ◌+◌, ◌-◌, ◌<◌, ◌^◌, min, List, [], ◌∷◌, ◌++◌, length, get_or, drop, Option, refl, suc, sym, ap, subst, ◌∙◌, arith}
 use Rattle.node_events.specs.declared.event.NodeEvent.{NodeEvent}
 use Rattle.node_events.specs.declared.reply.Reply.{Reply}
 use Rattle.node_events.specs.declared.fault.StepFault.{StepFault}
@@ -8,7 +8,7 @@ use Rattle.node_core.specs.declared.state.Stepped.{Stepped}
 use Rattle.node_core.specs.Node.{NodeParts}
 use Rattle.node_core.specs.Draft.{NodeDraft}
 use Rattle.node_core.specs.Rows.{row_of_input}
-use Rattle.node_core.specs.Step.{IsNodeStep, IsStepTo, begun, with_counts}
+use Rattle.node_core.specs.Step.{IsNodeStep, IsStepTo, begun}
 use Rattle.node_core.specs.Run.{CountsOn, EachStepCounts, EventsDetermineARun, IsRun, RunsJoinAndSplit, events_of, frames_sent}
 use Rattle.node_core.proofs.Leaves.{LeavesBy, of_input}
 use Rattle.node_core.proofs.Making.{frames_counted}

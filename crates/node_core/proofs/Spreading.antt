@@ -1,28 +1,23 @@
 -- What a change gives out may be sent, and where memory ends it is taken back.
-use Rattle.std.proofs.Common.{◌≡◌, ℕ, true, leb, List, [], ◌∷◌, length, map, All, Result, Ok, Err, OnErr, refl, sym, ap, subst, ◌∙◌, arith}
+use Rattle.std.proofs.Common.{◌≡◌, ℕ, true, leb, List, [], ◌∷◌, length, Result, Ok, Err, OnErr, refl, sym, ap, subst, ◌∙◌, arith}
 use Rattle.std.specs.Int.{w16, w64}
 use Rattle.std.proofs.lemmas.Bool.{and_parts, leb-true}
 use Rattle.std.proofs.lemmas.List.{length-map}
-use Rattle.std.proofs.lemmas.List.Elements.{All-nil, All-cons, All-head, All-tail}
 use Rattle.meta_types.specs.Name.{Key, IsKey}
 use Rattle.dvvset.specs.Object.{Counter, Entry}
 use Rattle.dvvset.specs.Clock.{descends, join}
 use Rattle.dvvset.proofs.Objects.{IsVector-join}
 use Rattle.frame_fields.specs.Field.{object, greatest_count}
 use Rattle.frame_fields.proofs.Spellable.{key_fits, number_within, vector_fits}
-use Rattle.meta_frame.specs.declared.message.Message.{Message}
-use Rattle.meta_frame.specs.declared.message.Message.TheVariants.{IHave, Graft, Prune}
 use Rattle.meta_store.specs.Table.{IsHeld, Table}
 use Rattle.meta_store.proofs.Sizes.{held_fits}
-use Rattle.plumtree.specs.declared.entry.CastOut.{CastOut}
-use Rattle.plumtree.specs.declared.entry.CastOut.TheVariants as OfCast
-use Rattle.plumtree.specs.Lawful.{IsOfBroadcast, MayBeSent, MayCome}
+use Rattle.plumtree.specs.Lawful.{MayCome}
 use Rattle.plumtree.specs.Savepoint.{IsOfObjects, Standing, rolled_back, savepoint_of}
 use Rattle.plumtree.proofs.TakingBack.{are_taken_back}
 use Rattle.node_parts.specs.declared.origin.Origin.{Origin}
 use Rattle.node_parts.specs.declared.origin.Origin.TheVariants.{Write, Gossip}
-use Rattle.node_parts.specs.Origin.{HasOtherSender, call_of, envelope_with}
-use Rattle.node_parts.specs.Outbox.{IsSendable, IsSpelledVector, MaySend}
+use Rattle.node_parts.specs.Origin.{HasOtherSender, call_of}
+use Rattle.node_parts.specs.Outbox.{IsSpelledVector}
 use Rattle.node_parts.specs.Overlay.{IsOverlay, Overlay, overlay_of, overlay_after_call}
 use Rattle.node_core.specs.Node.{NodeParts, with_overlay}
 use Rattle.node_core.specs.Changing.{HasRound, IsBehind}

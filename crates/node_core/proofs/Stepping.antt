@@ -1,5 +1,5 @@
 -- The steps that change an object: what the code did is what the table says.
-use Rattle.std.proofs.Common.{◌≡◌, ℕ, List, map, length, All, Option, None, sym, ap, ◌∙◌}
+use Rattle.std.proofs.Common.{Ok, ◌≡◌, ℕ, List, map, length, All, Option, None, sym, ap, ◌∙◌}
 use Rattle.std.specs.Option.{option_map}
 use Rattle.meta_types.specs.Name.{Key}
 use Rattle.meta_types.specs.Value.{ValueParts}
@@ -20,7 +20,7 @@ use Rattle.node_core.specs.Draft.{NodeDraft}
 use Rattle.node_core.specs.Rows.{write}
 use Rattle.node_core.specs.Step.{begun, with_counts, refusal_of_write}
 use Rattle.node_core.specs.Changing.{change_to, gossips, noting, spreading}
-use Rattle.node_core.specs.Writing.{IsWrite}
+use Rattle.node_core.specs.Handling.{StepsOnWrite}
 use Rattle.node_core.proofs.Changing.{changed}
 use Rattle.node_core.proofs.Making.{made}
 
@@ -41,7 +41,7 @@ wrote : (old : NodeParts) (key : Key) (value : ValueParts) (context : Option Rea
     → outbox ≡ map spelling (frames_from old.node old.frames (gossips OfOrigin.Write key entries old))
     → All HasSpelling (frames_from old.node old.frames (gossips OfOrigin.Write key entries old))
     → new ≡ with_counts (length outbox) (noting (change_to key entries) (spreading OfOrigin.Write key entries old))
-    → IsWrite old key value context new stepped
+    → StepsOnWrite old key value context (Ok stepped) new
 unfolding after_write
 wrote old key value context entries vector outbox new stepped accepted object_is is vector_is sends frames counts =
     let done = write key value context (begun old) in
@@ -70,7 +70,7 @@ pub write_done : {old : NodeParts} {store : Table} {id : ℕ} {copied value : Va
     → outbox ≡ map spelling (frames_from old.node old.frames (gossips OfOrigin.Write key entries old))
     → All HasSpelling (frames_from old.node old.frames (gossips OfOrigin.Write key entries old))
     → new ≡ with_counts (length outbox) (noting (change_to key entries) (spreading OfOrigin.Write key entries old))
-    → IsWrite old key value context new stepped
+    → StepsOnWrite old key value context (Ok stepped) new
 write_done {old = old} {value = value} {vector = vector} {outbox = outbox} key context entries new stepped
     store_is id_is value_is accepted object_is =
     wrote old key value context entries vector outbox new stepped

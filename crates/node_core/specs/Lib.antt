@@ -23,8 +23,7 @@ pub mod Leaving
 pub mod Growing
 -- equality of what steps give
 pub mod Equal
--- ---- not needed to believe the public contracts: what private functions say of a message, of a
--- change and of a write
-pub mod Messages
+-- ---- not needed to believe the public contracts: what private functions say of what they are
+-- handed, and of a change
+pub mod Handling
 pub mod Changing
-pub mod Writing

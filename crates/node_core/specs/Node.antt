@@ -46,11 +46,13 @@ pub record IsInLife (s : NodeParts) : Type 0 where
   pub lives : 1 ≤ s.incarnation
 
 -- what always holds of a node, beside what the types of its parts say: the broadcast's peers are
--- the members of its active view, it never names itself, and it has few watches
+-- the members of its active view, it never names itself, it has few watches, and there is a life
+-- heard, or none, of each of the sixteen nodes
 pub record IsNodeState (s : NodeParts) : Type 0 where
   pub overlay : IsOverlay s.overlay
   pub few_watches : length s.watches ≤ most_watches
   pub in_life : IsInLife s
+  pub lives_heard : length s.heard ≡ 16
 
 -- a life begins with a table, and with nothing else
 abbrev pub opening : ℕ → ℕ → Table → NodeParts

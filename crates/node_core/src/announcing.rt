@@ -1,11 +1,10 @@
 //! The messages of the broadcast that carry no object.
 
-ghost use Rattle.std.specs.Prelude.{◌≡◌, ◌≢◌, true, IfOk, IfErr, OnErr};
+ghost use Rattle.std.specs.Prelude.{◌≡◌, ◌≢◌, true};
 ghost use Rattle.meta_frame.specs.declared.message.Message.TheVariants.{Graft, IHave, Prune};
 ghost use Rattle.meta_store.specs.Table.{is_stale};
 ghost use Rattle.node_parts.specs.Outbox.{IsSpelledVector};
-ghost use Rattle.node_core.specs.Messages.{IsStepOfMessage};
-ghost use Rattle.node_events.specs.declared.fault.StepFault.TheVariants.{Memory};
+ghost use Rattle.node_core.specs.Handling.{StepsOnMessage};
 
 use crate::state::{NodeState, Stepped};
 use dvvset::Vector;
@@ -23,10 +22,7 @@ impl NodeState {
     ) -> Result<Stepped, StepFault>
         requires another { from ≢ self.old.node }
         requires spelled { IsSpelledVector vector.now }
-        ensures step { IfOk result (λ stepped.
-            IsStepOfMessage self.old from 0 (IHave round key.now vector.now) self.new stepped) }
-        ensures memory { IfErr result (λ fault. fault ≡ Memory) }
-        ensures same { OnErr result (self.new ≡ self.old) }
+        ensures { StepsOnMessage self.old from 0 (IHave round key.now vector.now) result self.new }
     {
         let stale = self.held.store().is_stale(key, vector);
         self.overlay.on_ihave(from, round, key, vector, stale)?;
@@ -43,10 +39,7 @@ impl NodeState {
     ) -> Result<Stepped, StepFault>
         requires another { from ≢ self.old.node }
         requires spelled { IsSpelledVector vector.now }
-        ensures step { IfOk result (λ stepped.
-            IsStepOfMessage self.old from 0 (Graft round key.now vector.now) self.new stepped) }
-        ensures memory { IfErr result (λ fault. fault ≡ Memory) }
-        ensures same { OnErr result (self.new ≡ self.old) }
+        ensures { StepsOnMessage self.old from 0 (Graft round key.now vector.now) result self.new }
     {
         let held = self.held.store().is_stale(key, vector);
         if held {
@@ -68,10 +61,7 @@ impl NodeState {
         requires another { from ≢ self.old.node }
         requires spelled { IsSpelledVector vector.now }
         requires held { is_stale self.old.table key.now vector.now ≡ true }
-        ensures step { IfOk result (λ stepped.
-            IsStepOfMessage self.old from 0 (Graft round key.now vector.now) self.new stepped) }
-        ensures memory { IfErr result (λ fault. fault ≡ Memory) }
-        ensures same { OnErr result (self.new ≡ self.old) }
+        ensures { StepsOnMessage self.old from 0 (Graft round key.now vector.now) result self.new }
     {
         // The contract alone needs it.
         let _ = vector;
@@ -88,10 +78,7 @@ impl NodeState {
 
     /// PRUNE: the sender wants announcements alone.
     pub(crate) fn on_prune(&mut self, from: NodeId) -> Result<Stepped, StepFault>
-        ensures step { IfOk result (λ stepped.
-            IsStepOfMessage self.old from 0 Prune self.new stepped) }
-        ensures memory { IfErr result (λ fault. fault ≡ Memory) }
-        ensures same { OnErr result (self.new ≡ self.old) }
+        ensures { StepsOnMessage self.old from 0 Prune result self.new }
     {
         self.overlay.on_prune(from)?;
         Ok(self.finish(Reply::Took, self.nothing_sent()))

@@ -1,18 +1,13 @@
 //! Events and messages of the views.
 
-ghost use Rattle.std.specs.Prelude.{◌≡◌, ◌≢◌, All, IfOk, IfErr, OnOk, OnErr, map};
-ghost use Rattle.meta_types.specs.Failing.{FailsBy};
+ghost use Rattle.std.specs.Prelude.{◌≢◌};
 ghost use Rattle.hyparview.specs.Lawful.{IsOfAnother, IsOfViews};
-ghost use Rattle.meta_frame.specs.Frame.{spelling};
 ghost use Rattle.meta_frame.specs.declared.message.Message.TheVariants.{Hello};
-ghost use Rattle.node_core.specs.Node.{with_overlay};
-ghost use Rattle.node_parts.specs.Outbox.{HasSpelling, frames_from};
-ghost use Rattle.node_parts.specs.Overlay.{overlay_after_view, sent_by_view};
+ghost use Rattle.node_core.specs.Draft.{step_views};
 ghost use Rattle.node_core.specs.Rows.{Local, drop_neighbour};
-ghost use Rattle.node_core.specs.Messages.{IsStepOfMessage};
-ghost use Rattle.node_core.specs.Step.{IsStepOf, begun, refusal_of};
+ghost use Rattle.node_core.specs.Handling.{Does, Steps, StepsOnMessage};
+ghost use Rattle.node_core.specs.Step.{begun};
 ghost use Rattle.node_events.specs.declared.event.NodeEvent.TheVariants.{Join, Leave, PeerDown};
-ghost use Rattle.node_events.specs.declared.fault.StepFault.TheVariants.{Memory};
 
 use crate::state::{NodeState, Stepped};
 use hyparview::ViewEvent;
@@ -24,10 +19,7 @@ use peer_lists::has;
 impl NodeState {
     /// The node joins the cluster through a contact.
     pub(crate) fn join(&mut self, contact: NodeId, word: u64) -> Result<Stepped, StepFault>
-        ensures step { IfOk result
-            (λ stepped. IsStepOf self.old (Local (Join contact word)) self.new stepped) }
-        ensures refused { FailsBy Memory (refusal_of (Local (Join contact word)) self.old) result }
-        ensures same { OnErr result (self.new ≡ self.old) }
+        ensures { Steps self.old (Local (Join contact word)) result self.new }
     {
         self.is_another(contact)?;
         let outbox = self.step_views(ViewEvent::JoinThrough { contact }, word)?;
@@ -36,11 +28,7 @@ impl NodeState {
 
     /// Somebody found that a peer doesn't answer.
     pub(crate) fn peer_down(&mut self, peer: NodeId, word: u64) -> Result<Stepped, StepFault>
-        ensures step { IfOk result
-            (λ stepped. IsStepOf self.old (Local (PeerDown peer word)) self.new stepped) }
-        ensures refused { FailsBy Memory
-            (refusal_of (Local (PeerDown peer word)) self.old) result }
-        ensures same { OnErr result (self.new ≡ self.old) }
+        ensures { Steps self.old (Local (PeerDown peer word)) result self.new }
     {
         self.is_another(peer)?;
         let outbox = self.step_views(ViewEvent::PeerDown { peer }, word)?;
@@ -49,10 +37,7 @@ impl NodeState {
 
     /// The node leaves the cluster.
     pub(crate) fn leave(&mut self) -> Result<Stepped, StepFault>
-        ensures step { IfOk result
-            (λ stepped. IsStepOf self.old (Local Leave) self.new stepped) }
-        ensures memory { IfErr result (λ fault. fault ≡ Memory) }
-        ensures same { OnErr result (self.new ≡ self.old) }
+        ensures { Steps self.old (Local Leave) result self.new }
     {
         let outbox = self.step_views(ViewEvent::Leave, 0)?;
         Ok(self.finish(Reply::Done, outbox))
@@ -67,10 +52,7 @@ impl NodeState {
     ) -> Result<Stepped, StepFault>
         requires another { from ≢ self.old.node }
         requires views { IsOfViews message.now }
-        ensures step { IfOk result
-            (λ stepped. IsStepOfMessage self.old from word message.now self.new stepped) }
-        ensures memory { IfErr result (λ fault. fault ≡ Memory) }
-        ensures same { OnErr result (self.new ≡ self.old) }
+        ensures { StepsOnMessage self.old from word message.now result self.new }
     {
         let message = message.copy()?;
         let outbox = self.step_views(ViewEvent::Taken { from, message }, word)?;
@@ -86,10 +68,7 @@ impl NodeState {
         life: u32,
     ) -> Result<Stepped, StepFault>
         requires { from ≢ self.old.node }
-        ensures step { IfOk result
-            (λ stepped. IsStepOfMessage self.old from word (Hello life) self.new stepped) }
-        ensures memory { IfErr result (λ fault. fault ≡ Memory) }
-        ensures same { OnErr result (self.new ≡ self.old) }
+        ensures { StepsOnMessage self.old from word (Hello life) result self.new }
     {
         let place = from.number() as usize;
         let outbox = if self.heard[place] < life {
@@ -105,16 +84,7 @@ impl NodeState {
     /// The node, if a neighbour, is one no more. Answers the frames.
     fn drop_neighbour(&mut self, node: NodeId, word: u64) -> Result<Outbox, StepFault>
         requires { node ≢ self.old.node }
-        ensures node { let done = drop_neighbour node word (begun self.old) in
-            OnOk result (self.new ≡ done.parts) }
-        ensures frames { let done = drop_neighbour node word (begun self.old) in
-            IfOk result (λ outbox. outbox
-            ≡ map spelling (frames_from self.old.node self.old.frames done.sent)) }
-        ensures lawful { let done = drop_neighbour node word (begun self.old) in
-            IfOk result (λ _. All HasSpelling
-            (frames_from self.old.node self.old.frames done.sent)) }
-        ensures memory { IfErr result (λ fault. fault ≡ Memory) }
-        ensures same { OnErr result (self.new ≡ self.old) }
+        ensures { Does self.old (drop_neighbour node word (begun self.old)) result self.new }
     {
         if has(self.overlay.views().active(), node) {
             self.step_views(ViewEvent::PeerDown { peer: node }, word)
@@ -126,16 +96,7 @@ impl NodeState {
     /// An event of the views. Answers the frames.
     fn step_views(&mut self, event: ViewEvent, word: u64) -> Result<Outbox, StepFault>
         requires { IsOfAnother self.old.node event }
-        ensures node { OnOk result
-            (self.new ≡ with_overlay (overlay_after_view event word self.old.overlay) self.old) }
-        ensures frames { IfOk result (λ outbox. outbox ≡ map spelling
-            (frames_from self.old.node self.old.frames
-            (sent_by_view event word self.old.overlay))) }
-        ensures lawful { IfOk result (λ _. All HasSpelling
-            (frames_from self.old.node self.old.frames
-            (sent_by_view event word self.old.overlay))) }
-        ensures memory { IfErr result (λ fault. fault ≡ Memory) }
-        ensures same { OnErr result (self.new ≡ self.old) }
+        ensures { Does self.old (step_views event word (begun self.old)) result self.new }
     {
         // Dropped on its one way out, where the proof has one case for it.
         let outbox = self.step_views_on(&event, word);
@@ -146,16 +107,7 @@ impl NodeState {
     /// The same, of an event that stays the caller's.
     fn step_views_on(&mut self, event: &ViewEvent, word: u64) -> Result<Outbox, StepFault>
         requires { IsOfAnother self.old.node event.now }
-        ensures node { OnOk result
-            (self.new ≡ with_overlay (overlay_after_view event.now word self.old.overlay) self.old) }
-        ensures frames { IfOk result (λ outbox. outbox ≡ map spelling
-            (frames_from self.old.node self.old.frames
-            (sent_by_view event.now word self.old.overlay))) }
-        ensures lawful { IfOk result (λ _. All HasSpelling
-            (frames_from self.old.node self.old.frames
-            (sent_by_view event.now word self.old.overlay))) }
-        ensures memory { IfErr result (λ fault. fault ≡ Memory) }
-        ensures same { OnErr result (self.new ≡ self.old) }
+        ensures { Does self.old (step_views event.now word (begun self.old)) result self.new }
     {
         // Read for what it tells: the views are lawful.
         let _ = self.overlay.views();

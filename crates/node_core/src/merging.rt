@@ -1,14 +1,11 @@
 //! Objects that come, in a GOSSIP or in an exchange.
 
-ghost use Rattle.std.specs.Prelude.{◌≡◌, ◌≢◌, true, IfOk, IfErr, OnErr};
-ghost use Rattle.meta_types.specs.Failing.{FailsBy};
+ghost use Rattle.std.specs.Prelude.{◌≡◌, ◌≢◌, true};
 ghost use Rattle.dvvset.specs.Clock.{join};
 ghost use Rattle.frame_fields.specs.Field.{object};
 ghost use Rattle.meta_frame.specs.declared.message.Message.TheVariants.{Gossip, XObject};
 ghost use Rattle.meta_store.specs.Table.{is_stale};
-ghost use Rattle.node_core.specs.Messages.{IsStepOfMessage};
-ghost use Rattle.node_core.specs.Step.{refusal_of_object};
-ghost use Rattle.node_events.specs.declared.fault.StepFault.TheVariants.{Memory};
+ghost use Rattle.node_core.specs.Handling.{StepsOnMessage};
 
 use crate::state::{NodeState, Stepped};
 use dvvset::Entries;
@@ -27,10 +24,7 @@ impl NodeState {
     ) -> Result<Stepped, StepFault>
         requires another { from ≢ self.old.node }
         requires spelled { object.Fits came.now }
-        ensures step { IfOk result (λ stepped.
-            IsStepOfMessage self.old from 0 (Gossip round key.now came.now) self.new stepped) }
-        ensures refused { FailsBy Memory (refusal_of_object key.now came.now self.old) result }
-        ensures same { OnErr result (self.new ≡ self.old) }
+        ensures { StepsOnMessage self.old from 0 (Gossip round key.now came.now) result self.new }
     {
         match self.held.store().preview_merge(key, came)? {
             Some(object) => {
@@ -51,10 +45,7 @@ impl NodeState {
     ) -> Result<Stepped, StepFault>
         requires another { from ≢ self.old.node }
         requires stale { is_stale self.old.table key.now (join came.now) ≡ true }
-        ensures step { IfOk result (λ stepped.
-            IsStepOfMessage self.old from 0 (Gossip round key.now came.now) self.new stepped) }
-        ensures memory { IfErr result (λ fault. fault ≡ Memory) }
-        ensures same { OnErr result (self.new ≡ self.old) }
+        ensures { StepsOnMessage self.old from 0 (Gossip round key.now came.now) result self.new }
     {
         // The contract alone needs these.
         let _ = round;
@@ -66,10 +57,7 @@ impl NodeState {
 
     /// XOBJECT: what wasn't known is merged, and not passed on.
     pub(crate) fn on_object(&mut self, key: &MetaKey, came: &Entries) -> Result<Stepped, StepFault>
-        ensures step { IfOk result (λ stepped.
-            IsStepOfMessage self.old 0 0 (XObject key.now came.now) self.new stepped) }
-        ensures refused { FailsBy Memory (refusal_of_object key.now came.now self.old) result }
-        ensures same { OnErr result (self.new ≡ self.old) }
+        ensures { StepsOnMessage self.old 0 0 (XObject key.now came.now) result self.new }
     {
         match self.held.store().preview_merge(key, came)? {
             Some(object) => {

@@ -1,12 +1,12 @@
 //! Events that ask what a node holds.
 
-ghost use Rattle.std.specs.Prelude.{◌≡◌, IfOk, IfErr, OnErr};
+ghost use Rattle.std.specs.Prelude.{◌≡◌};
 ghost use Rattle.node_core.specs.Node.{writer};
 ghost use Rattle.node_parts.specs.Outbox.{count_on};
 ghost use Rattle.node_core.specs.Rows.{Local};
 ghost use Rattle.node_core.specs.Step.{IsStepOf};
 ghost use Rattle.node_events.specs.declared.event.NodeEvent.TheVariants.{Keep, Read};
-ghost use Rattle.node_events.specs.declared.fault.StepFault.TheVariants.{Memory};
+ghost use Rattle.node_core.specs.Handling.{Steps};
 
 use crate::state::{NodeState, Stepped};
 use meta_store::Source;
@@ -16,10 +16,7 @@ use node_events::{Reply, StepFault, Values};
 impl NodeState {
     /// The node is read: what it shows, and a context for a write that has read it.
     pub(crate) fn read(&mut self, key: &MetaKey) -> Result<Stepped, StepFault>
-        ensures step { IfOk result
-            (λ stepped. IsStepOf self.old (Local (Read key.now)) self.new stepped) }
-        ensures memory { IfErr result (λ fault. fault ≡ Memory) }
-        ensures same { OnErr result (self.new ≡ self.old) }
+        ensures { Steps self.old (Local (Read key.now)) result self.new }
     {
         let (values, context) = self.held.store().look(key, self.source())?;
         let values = Values::new(values);

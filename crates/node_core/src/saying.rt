@@ -1,11 +1,10 @@
 //! Events by which a node says one thing to a peer.
 
-ghost use Rattle.std.specs.Prelude.{◌≡◌, None, Some, IfOk, IfErr, OnOk, OnErr};
-ghost use Rattle.meta_types.specs.Failing.{FailsBy};
+ghost use Rattle.std.specs.Prelude.{◌≡◌, None, Some, IfErr, OnOk};
 ghost use Rattle.node_core.specs.Rows.{Local};
-ghost use Rattle.node_core.specs.Step.{IsStepOf, refusal_of_peer, refusal_of};
+ghost use Rattle.node_core.specs.Step.{refusal_of_peer};
 ghost use Rattle.node_events.specs.declared.event.NodeEvent.TheVariants.{Exchange, Hello};
-ghost use Rattle.node_events.specs.declared.fault.StepFault.TheVariants.{Memory};
+ghost use Rattle.node_core.specs.Handling.{Steps};
 
 use crate::state::{NodeState, Stepped};
 use exchange::start;
@@ -16,10 +15,7 @@ use node_events::{Reply, StepFault};
 impl NodeState {
     /// The node begins an exchange with a peer.
     pub(crate) fn exchange(&mut self, peer: NodeId) -> Result<Stepped, StepFault>
-        ensures step { IfOk result
-            (λ stepped. IsStepOf self.old (Local (Exchange peer)) self.new stepped) }
-        ensures refused { FailsBy Memory (refusal_of (Local (Exchange peer)) self.old) result }
-        ensures same { OnErr result (self.new ≡ self.old) }
+        ensures { Steps self.old (Local (Exchange peer)) result self.new }
     {
         self.is_another(peer)?;
         let outbox = self.one_frame(peer, start(&self.held))?;
@@ -28,10 +24,7 @@ impl NodeState {
 
     /// The node tells a peer which life it is in.
     pub(crate) fn hello(&mut self, peer: NodeId) -> Result<Stepped, StepFault>
-        ensures step { IfOk result
-            (λ stepped. IsStepOf self.old (Local (Hello peer)) self.new stepped) }
-        ensures refused { FailsBy Memory (refusal_of (Local (Hello peer)) self.old) result }
-        ensures same { OnErr result (self.new ≡ self.old) }
+        ensures { Steps self.old (Local (Hello peer)) result self.new }
     {
         self.is_another(peer)?;
         let life = self.incarnation;

@@ -1,4 +1,4 @@
-ghost use Rattle.std.specs.Prelude.{◌≡◌, ◌↔◌, ◌≤◌, [], IfErr, IfOk, IsTrue, replicate};
+ghost use Rattle.std.specs.Prelude.{◌≡◌, ◌↔◌, ◌≤◌, [], IfErr, IfOk, IsTrue, length, replicate};
 ghost use Rattle.hash_tree.specs.Tree.{rows_of};
 ghost use Rattle.meta_store.specs.Table.{IsTable};
 ghost use Rattle.node_core.specs.Node.{IsNodeState, opening};
@@ -226,8 +226,9 @@ impl NodeState {
         ensures value { result.now ≡ self.now.watches }
         ensures lawful { IsNodeState self.now }
     {
-        // Read for what it tells: the peers are the active view.
+        // Read for what they tell: the peers are the active view, and how many lives are noted.
         let _ = self.overlay.views();
+        reveal_heard(&self.heard);
         self.watches.as_slice()
     }
 
@@ -250,6 +251,13 @@ impl NodeState {
             ticks: self.ticks,
         })
     }
+}
+
+/// Does nothing: it reads the lives heard for the length that their type keeps.
+fn reveal_heard(heard: &[u32; MAX_NODES as usize])
+    ensures { length heard.now ≡ 16 }
+{
+    let _ = heard.len();
 }
 
 /// Returns whether no life was heard of.

@@ -1,16 +1,15 @@
 //! Frames that come.
 
-ghost use Rattle.std.specs.Prelude.{◌≡◌, ◌≢◌, IfOk, IfErr, OnErr, All, map};
-ghost use Rattle.meta_types.specs.Failing.{FailsBy};
+ghost use Rattle.std.specs.Prelude.{◌≡◌, ◌≢◌, IfOk, IfErr, All, map};
 ghost use Rattle.exchange.specs.Answers.{answers_to};
 ghost use Rattle.meta_frame.specs.Frame.{IsLawful, IsMessage};
 ghost use Rattle.node_parts.specs.Outbox.{MaySend};
 ghost use Rattle.node_parts.specs.Overlay.{envelope};
 ghost use Rattle.node_core.specs.Rows.{Received};
-ghost use Rattle.node_core.specs.Messages.{IsQuestion, IsStepOfMessage};
-ghost use Rattle.node_core.specs.Step.{CanComeOf, IsNodeStep, IsStepOf, refusal_of, refusal_of_message};
+ghost use Rattle.node_core.specs.Step.{IsNodeStep, Rejects};
 ghost use Rattle.node_events.specs.declared.event.NodeEvent.TheVariants.{Take};
 ghost use Rattle.node_events.specs.declared.fault.StepFault.TheVariants.{Memory};
+ghost use Rattle.node_core.specs.Handling.{Steps, StepsOnMessage, IsQuestion};
 
 use crate::state::{NodeState, Stepped};
 use exchange::answer;
@@ -25,8 +24,8 @@ impl NodeState {
     pub(crate) fn take(&mut self, bytes: &ByteString, word: u64) -> Result<Stepped, StepFault>
         ensures step { IfOk result
             (λ stepped. IsNodeStep self.old (Take bytes.now word) self.new stepped) }
-        ensures refused { IfErr result (CanComeOf self.old (Take bytes.now word)) }
-        ensures same { OnErr result (self.new ≡ self.old) }
+        ensures refused { IfErr result
+            (λ fault. Rejects self.old (Take bytes.now word) fault self.new) }
     {
         let frame = decode(self.alloc, bytes.as_slice())?;
         // Dropped on its one way out, where the proof has one case for it.
@@ -38,10 +37,7 @@ impl NodeState {
     /// A frame came.
     fn receive(&mut self, frame: &Frame, word: u64) -> Result<Stepped, StepFault>
         requires { IsLawful frame.now }
-        ensures step { IfOk result
-            (λ stepped. IsStepOf self.old (Received frame.now word) self.new stepped) }
-        ensures refused { FailsBy Memory (refusal_of (Received frame.now word) self.old) result }
-        ensures same { OnErr result (self.new ≡ self.old) }
+        ensures { Steps self.old (Received frame.now word) result self.new }
     {
         if frame.to != self.node {
             return Err(StepFault::NotAddressed);
@@ -58,10 +54,7 @@ impl NodeState {
     ) -> Result<Stepped, StepFault>
         requires another { from ≢ self.old.node }
         requires lawful { IsMessage message.now }
-        ensures step { IfOk result
-            (λ stepped. IsStepOfMessage self.old from word message.now self.new stepped) }
-        ensures refused { FailsBy Memory (refusal_of_message message.now self.old) result }
-        ensures same { OnErr result (self.new ≡ self.old) }
+        ensures { StepsOnMessage self.old from word message.now result self.new }
     {
         match message {
             Message::Gossip { round, key, object } => self.on_gossip(from, *round, key, object),
@@ -91,10 +84,7 @@ impl NodeState {
     fn on_question(&mut self, from: NodeId, message: &Message) -> Result<Stepped, StepFault>
         requires another { from ≢ self.old.node }
         requires question { IsQuestion message.now }
-        ensures step { IfOk result
-            (λ stepped. IsStepOfMessage self.old from 0 message.now self.new stepped) }
-        ensures memory { IfErr result (λ fault. fault ≡ Memory) }
-        ensures same { OnErr result (self.new ≡ self.old) }
+        ensures { StepsOnMessage self.old from 0 message.now result self.new }
     {
         let sent = self.answers(from, message)?;
         let outbox = self.outbox(sent)?;

@@ -1,10 +1,8 @@
 //! Ticks.
 
-ghost use Rattle.std.specs.Prelude.{◌≡◌, IfOk, IfErr, OnErr};
 ghost use Rattle.node_core.specs.Rows.{Local};
-ghost use Rattle.node_core.specs.Step.{IsStepOf};
 ghost use Rattle.node_events.specs.declared.event.NodeEvent.TheVariants.{Tick};
-ghost use Rattle.node_events.specs.declared.fault.StepFault.TheVariants.{Memory};
+ghost use Rattle.node_core.specs.Handling.{Steps};
 
 use crate::state::{NodeState, Stepped};
 use node_events::{Reply, StepFault};
@@ -13,10 +11,7 @@ impl NodeState {
     /// Time passes: announcements go out, what is overdue is asked for, and each tenth tick
     /// shuffles.
     pub(crate) fn tick(&mut self, word: u64) -> Result<Stepped, StepFault>
-        ensures step { IfOk result
-            (λ stepped. IsStepOf self.old (Local (Tick word)) self.new stepped) }
-        ensures memory { IfErr result (λ fault. fault ≡ Memory) }
-        ensures same { OnErr result (self.new ≡ self.old) }
+        ensures { Steps self.old (Local (Tick word)) result self.new }
     {
         // Read for what it tells: the views are lawful.
         let _ = self.overlay.views();

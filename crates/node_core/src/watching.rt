@@ -1,11 +1,8 @@
 //! Events of those who watch a node.
 
-ghost use Rattle.std.specs.Prelude.{◌≡◌, IfOk, OnErr};
-ghost use Rattle.meta_types.specs.Failing.{FailsBy};
 ghost use Rattle.node_core.specs.Rows.{Local};
-ghost use Rattle.node_core.specs.Step.{IsStepOf, refusal_of};
 ghost use Rattle.node_events.specs.declared.event.NodeEvent.TheVariants.{Changes, Watch};
-ghost use Rattle.node_events.specs.declared.fault.StepFault.TheVariants.{Memory};
+ghost use Rattle.node_core.specs.Handling.{Steps};
 
 use crate::state::{NodeState, Stepped};
 use meta_types::FullPrefix;
@@ -18,11 +15,7 @@ impl NodeState {
         prefix: &FullPrefix,
         capacity: usize,
     ) -> Result<Stepped, StepFault>
-        ensures step { IfOk result
-            (λ stepped. IsStepOf self.old (Local (Watch prefix.now capacity)) self.new stepped) }
-        ensures refused { FailsBy Memory
-            (refusal_of (Local (Watch prefix.now capacity)) self.old) result }
-        ensures same { OnErr result (self.new ≡ self.old) }
+        ensures { Steps self.old (Local (Watch prefix.now capacity)) result self.new }
     {
         let number = self.watches.add(prefix, capacity)?;
         Ok(self.finish(Reply::Watching { number }, self.nothing_sent()))
@@ -30,10 +23,7 @@ impl NodeState {
 
     /// What a watch has noted is handed out.
     pub(crate) fn changes(&mut self, number: u64) -> Result<Stepped, StepFault>
-        ensures step { IfOk result
-            (λ stepped. IsStepOf self.old (Local (Changes number)) self.new stepped) }
-        ensures refused { FailsBy Memory (refusal_of (Local (Changes number)) self.old) result }
-        ensures same { OnErr result (self.new ≡ self.old) }
+        ensures { Steps self.old (Local (Changes number)) result self.new }
     {
         let reply = self.watches.hand_out(number)?;
         Ok(self.finish(reply, self.nothing_sent()))

@@ -1,13 +1,9 @@
 //! Writes.
 
-ghost use Rattle.std.specs.Prelude.{◌≡◌, IfOk, OnErr};
 ghost use Rattle.std.specs.Option.{option_copied};
-ghost use Rattle.meta_types.specs.Failing.{FailsBy};
 ghost use Rattle.node_core.specs.Rows.{Local};
-ghost use Rattle.node_core.specs.Step.{IsStepOf, refusal_of, refusal_of_write};
-ghost use Rattle.node_core.specs.Writing.{IsWrite};
-ghost use Rattle.node_events.specs.declared.event.NodeEvent.TheVariants.{PutOver, Write};
-ghost use Rattle.node_events.specs.declared.fault.StepFault.TheVariants.{Memory};
+ghost use Rattle.node_events.specs.declared.event.NodeEvent.TheVariants.{PutOver};
+ghost use Rattle.node_core.specs.Handling.{Steps, StepsOnWrite};
 
 use crate::state::{NodeState, Stepped};
 use meta_store::Context;
@@ -23,11 +19,8 @@ impl NodeState {
         value: &Value,
         context: Option<&Context>,
     ) -> Result<Stepped, StepFault>
-        ensures step { IfOk result (λ stepped. IsWrite self.old key.now value.now
-            (option_copied context.entry) self.new stepped) }
-        ensures refused { FailsBy Memory (refusal_of_write key.now value.now
-            (option_copied context.entry) self.old) result }
-        ensures same { OnErr result (self.new ≡ self.old) }
+        ensures { StepsOnWrite self.old key.now value.now (option_copied context.entry) result
+            self.new }
     {
         let store = self.held.store();
         let object = store.preview_put(self.actor(), key, value.copy()?, context)?;
@@ -37,11 +30,7 @@ impl NodeState {
 
     /// The node is read and writes at once a value that has read what was shown.
     pub(crate) fn put_over(&mut self, key: &MetaKey, value: &Value) -> Result<Stepped, StepFault>
-        ensures step { IfOk result (λ stepped.
-            IsStepOf self.old (Local (PutOver key.now value.now)) self.new stepped) }
-        ensures refused { FailsBy Memory
-            (refusal_of (Local (PutOver key.now value.now)) self.old) result }
-        ensures same { OnErr result (self.new ≡ self.old) }
+        ensures { Steps self.old (Local (PutOver key.now value.now)) result self.new }
     {
         let context = self.held.store().context(key, self.source())?;
         let written = self.write(key, value, Some(&context));

@@ -1,4 +1,4 @@
-use Rattle.std.proofs.Common.{◌≡◌, ◌++◌, sym, ap, ◌∙◌}
+use Rattle.std.proofs.Common.{◌++◌, sym, ap, ◌∙◌}
 use Rattle.meta_store.specs.Table.{Table}
 use Rattle.node_core.proofs.Filling.{filled_next}
 use Rattle.node_core.proofs.table.store_of.Goals as goal

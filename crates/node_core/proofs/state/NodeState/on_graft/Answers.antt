@@ -4,8 +4,8 @@ use Rattle.plumtree.specs.Broadcast.{TakesGraft}
 use Rattle.node_core.proofs.Casting.{after_bare_graft, told_quietly}
 use Rattle.node_core.proofs.state.NodeState.on_graft.Goals as goal
 
-pub returns-in_ok-on_bare_graft-clause-step : goal.returns-in_ok-on_bare_graft-clause-step
-returns-in_ok-on_bare_graft-clause-step c =
+pub returns-in_ok-on_bare_graft : goal.returns-in_ok-on_bare_graft
+returns-in_ok-on_bare_graft c =
     let s = c.args.self.now in
     let from = c.args.from in
     let round = c.args.round in

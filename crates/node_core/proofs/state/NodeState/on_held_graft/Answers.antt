@@ -11,16 +11,16 @@ use Rattle.node_core.proofs.Making.{own_frames}
 use Rattle.node_core.proofs.state.NodeState.on_held_graft.Goals as goal
 
 -- where nothing is held, which can't be
-pub returns-in_default-clause-step : goal.returns-in_default-clause-step
-returns-in_default-clause-step c =
+pub returns-in_default : goal.returns-in_default
+returns-in_default c =
     let key = c.args.key.now in
     let table_is = c.store.ensures ∙ ap (λ s. s.table) c.self.view_is in
     let absent : find key_cmp key c.store.result.now ≡ None = sym c.in_default.ensures.value in
     absurd (held_if_stale c.args.self.now.table key c.args.vector.now c.requires.spelled c.requires.held
     (ap (find key_cmp key) (sym table_is) ∙ absent))
 
-pub returns-clause-step : goal.returns-clause-step
-returns-clause-step c =
+pub returns : goal.returns
+returns c =
     let s = c.args.self.now in
     let from = c.args.from in
     let round = c.args.round in

@@ -11,8 +11,8 @@ use Rattle.node_core.proofs.Viewing.{came_anew, finished, known_life}
 use Rattle.node_core.proofs.state.NodeState.on_hello.Goals as goal
 use Rattle.node_core.proofs.state.NodeState.on_hello.Goals.{then-self-place+in_ok-outbox, else-self-place}
 
-pub returns-clause-step : goal.returns-clause-step
-returns-clause-step c =
+pub returns : goal.returns
+returns c =
     let s = c.args.self.now in
     let from = c.args.from in
     let life = c.args.life in
@@ -29,11 +29,11 @@ returns-clause-step c =
           let hearing = λ (i : ℕ) (s : NodeParts). record s { heard = slice_set s.heard i life } in
           let done_is = sym (came_anew from life c.args.word s older) in
           let is : c.if-self-place.self ≡ done.parts =
-          w.self-is ∙ ap (hearing place) (w.self-then-self-place.view_is ∙ w.in_ok-outbox.ensures.node)
+          w.self-is ∙ ap (hearing place) (w.self-then-self-place.view_is ∙ w.in_ok-outbox.ensures.0)
           ∙ ap (λ i. hearing i dropped.parts) c.number-place.ensures.value ∙ ap (λ (t : NodeDraft). t.parts) done_is in
           end is
-          (w.outbox-is ∙ w.in_ok-outbox.ensures.frames ∙ ap (λ (t : NodeDraft). map spelling (frames_from s.node s.frames t.sent)) done_is)
-          (subst (λ (t : NodeDraft). All HasSpelling (frames_from s.node s.frames t.sent)) done_is w.in_ok-outbox.ensures.lawful)
+          (w.outbox-is ∙ w.in_ok-outbox.ensures.1.frames ∙ ap (λ (t : NodeDraft). map spelling (frames_from s.node s.frames t.sent)) done_is)
+          (subst (λ (t : NodeDraft). All HasSpelling (frames_from s.node s.frames t.sent)) done_is w.in_ok-outbox.ensures.1.lawful)
           c.finish.ensures.counts c.finish.ensures.value
       | else-self-place w ↦
           let at_from = subst (λ i. life ≤ get_or heard i 0) c.number-place.ensures.value w.if-self-place.false in

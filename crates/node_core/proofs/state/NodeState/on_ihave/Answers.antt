@@ -4,8 +4,8 @@ use Rattle.plumtree.specs.Broadcast.{TakesIHave}
 use Rattle.node_core.proofs.Casting.{after_ihave, told_quietly}
 use Rattle.node_core.proofs.state.NodeState.on_ihave.Goals as goal
 
-pub returns-clause-step : goal.returns-clause-step
-returns-clause-step c =
+pub returns : goal.returns
+returns c =
     let key = c.args.key.now in
     let vector = c.args.vector.now in
     let stale = c.is_stale-stale in

@@ -1,10 +1,19 @@
-use Rattle.std.proofs.Common.{IfOk, subst, sym}
+use Rattle.std.proofs.Common.{subst, sym}
 use Rattle.meta_frame.specs.declared.message.Message.{Message}
-use Rattle.node_core.specs.Messages.{IsStepOfMessage}
+use Rattle.node_core.specs.Handling.{StepsOnMessage}
 use Rattle.node_core.proofs.state.NodeState.on_message.Goals as goal
 
-pub returns-in-Gossip-clause-step : goal.returns-in-Gossip-clause-step
-returns-in-Gossip-clause-step c =
+pub returns-in-Gossip : goal.returns-in-Gossip
+returns-in-Gossip c =
     let call = c.on_gossip in
-    subst (λ (m : Message). IfOk call.result (λ stepped. IsStepOfMessage c.args.self.now c.args.from c.args.word m call.new.self stepped))
-    (sym c.in-Gossip.is) call.ensures.step
+    subst (λ (m : Message). StepsOnMessage c.args.self.now c.args.from c.args.word m call.result call.new.self) (sym c.in-Gossip.is) call.ensures
+
+pub returns-in-IHave : goal.returns-in-IHave
+returns-in-IHave c =
+    let call = c.on_ihave in
+    subst (λ (m : Message). StepsOnMessage c.args.self.now c.args.from c.args.word m call.result call.new.self) (sym c.in-IHave.is) call.ensures
+
+pub returns-in-Graft : goal.returns-in-Graft
+returns-in-Graft c =
+    let call = c.on_graft in
+    subst (λ (m : Message). StepsOnMessage c.args.self.now c.args.from c.args.word m call.result call.new.self) (sym c.in-Graft.is) call.ensures

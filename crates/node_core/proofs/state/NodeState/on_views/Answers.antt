@@ -7,8 +7,8 @@ use Rattle.node_core.specs.Step.{IsStepTo, begun, refusal_of_message, reply_of_m
 use Rattle.node_core.proofs.Viewing.{finished, views_accepted, views_taken, views_took}
 use Rattle.node_core.proofs.state.NodeState.on_views.Goals as goal
 
-pub returns-clause-step : goal.returns-clause-step
-returns-clause-step c =
+pub returns : goal.returns
+returns c =
     let old = c.args.self.now in
     let came = c.args.message.now in
     let stepped = c.in_ok-outbox.ensures in
@@ -21,4 +21,4 @@ returns-clause-step c =
     c.finish.ensures.value ∙ ap (λ (reply : Reply). record { reply = reply; outbox = c.in_ok-outbox.outbox }) (sym (views_took came old c.requires.views)) in
     subst (λ (done : NodeDraft). IsStepTo old refusal done (reply_of_message came old) c.finish.new.self c.finish.result) (sym is)
     (finished old c.step_views.new.self c.finish.new.self refusal done (reply_of_message came old) c.in_ok-outbox.outbox c.finish.result
-    (views_accepted came old c.requires.views) stepped.node stepped.frames stepped.lawful c.finish.ensures.counts value)
+    (views_accepted came old c.requires.views) stepped.0 stepped.1.frames stepped.1.lawful c.finish.ensures.counts value)

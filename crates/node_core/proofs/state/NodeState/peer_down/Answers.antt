@@ -5,8 +5,8 @@ use Rattle.node_core.specs.Step.{begun}
 use Rattle.node_core.proofs.Viewing.{finished}
 use Rattle.node_core.proofs.state.NodeState.peer_down.Goals as goal
 
-pub returns-clause-step : goal.returns-clause-step
-returns-clause-step c =
+pub returns : goal.returns
+returns c =
     let stepped = c.in_ok-outbox.ensures in
     finished c.args.self.now c.step_views.new.self c.finish.new.self _ (step_views (PeerDown c.args.peer) c.args.word (begun c.args.self.now)) Done c.in_ok-outbox.outbox c.finish.result
-    c.in_ok-is_another.ensures.accepted stepped.node stepped.frames stepped.lawful c.finish.ensures.counts c.finish.ensures.value
+    c.in_ok-is_another.ensures.accepted stepped.0 stepped.1.frames stepped.1.lawful c.finish.ensures.counts c.finish.ensures.value

@@ -12,7 +12,7 @@ returns-in-Some-clause-step g c =
     let shown = λ (t : Table). values_of (object_at t c.args.key.now) in
     let are = c.as_slice.ensures.value ∙ c.in_ok-siblings.ensures.values ∙ ap shown (c.store.ensures ∙ ap (λ (s : NodeParts). s.table) c.self.view_is) in
     repaired choice c.args.key.now c.args.self.now c.put_over.new.self c.as_slice.result.now c.in-Some.value c.put_over.result
-    are (sym c.in_ok-value.ensures ∙ c.in-Some.is) c.put_over.ensures.step
+    are (sym c.in_ok-value.ensures ∙ c.in-Some.is) c.put_over.ensures
 
 pub returns-in-Some-clause-refused : goal.returns-in-Some-clause-refused
 returns-in-Some-clause-refused g c =
@@ -20,5 +20,5 @@ returns-in-Some-clause-refused g c =
     let choice = (goal.Resolver-dyn g (resolver.vtable, resolver.value)).choice resolver.value in
     let shown = λ (t : Table). values_of (object_at t c.args.key.now) in
     let are = c.as_slice.ensures.value ∙ c.in_ok-siblings.ensures.values ∙ ap shown (c.store.ensures ∙ ap (λ (s : NodeParts). s.table) c.self.view_is) in
-    not_repaired choice c.args.key.now c.args.self.now c.as_slice.result.now c.in-Some.value c.put_over.result
-    are (sym c.in_ok-value.ensures ∙ c.in-Some.is) c.put_over.ensures.refused
+    not_repaired choice c.args.key.now c.args.self.now c.put_over.new.self c.as_slice.result.now c.in-Some.value c.put_over.result
+    are (sym c.in_ok-value.ensures ∙ c.in-Some.is) c.put_over.ensures

@@ -19,8 +19,8 @@ invariant_of-self-2 c =
     ∙ ticked_of_node ticks c.args.word was.overlay c.views.ensures.lawful in
     record { own_views = same ∙ c.self.invariant.own_views; lives = c.self.invariant.lives }
 
-pub returns-clause-step : goal.returns-clause-step
-returns-clause-step c =
+pub returns : goal.returns
+returns c =
     let was = c.self.inside in
     let word = c.args.word in
     let now = c.saturating_add-ticks.result in

@@ -5,8 +5,8 @@ use Rattle.node_core.specs.Step.{with_counts}
 use Rattle.node_core.proofs.Stepping.{write_done}
 use Rattle.node_core.proofs.state.NodeState.write.Goals as goal
 
-pub returns-clause-step : goal.returns-clause-step
-returns-clause-step c =
+pub returns : goal.returns
+returns c =
     let done = c.in_ok-vector.ensures in
     write_done c.args.key.now (option_copied c.args.context) c.in_ok-object.object c.finish.new.self c.finish.result (c.store-store.ensures ∙ ap (λ (s : NodeParts). s.table) c.self.view_is) c.actor.ensures c.in_ok-copy.ensures
     c.in_ok-object.ensures.no_refusal c.in_ok-object.ensures.value c.finish.ensures.value done.vector done.frames done.lawful
