@@ -8,6 +8,7 @@ use Rattle.streams.specs.declared.fault.StreamFault.TheVariants.{Read, InputTooL
 use Rattle.std.specs.declared.io.ErrorKind.{ErrorKind}
 use Rattle.std.specs.declared.io.ErrorKind.TheVariants as kinds
 use Rattle.streams.specs.Fault.{Failed, FailsNoMore, HasCause, IsWriteFault, IsReadFault, IsWriterFault, fault_of_kind}
+use Rattle.streams.specs.Moment.{SinkAt, SourceAt}
 use Rattle.streams.specs.Written.{AppendsFront}
 use Rattle.streams.specs.Line.{input_limit, lines_of, Pending, TakesLine, StopsReading}
 use Rattle.streams.proofs.Failing.{FailsNoMore-self, writer_fault_then, write_fault_then}
@@ -25,41 +26,41 @@ Keeps-self None = tt
 Keeps-self (Some xs) = refl
 
 -- nothing of the line was written
-pub stopped_before : (failed : Failed) (line : List ℕ) (w : Option (List ℕ)) (fault : StreamFault) → fault ≡ Memory → StopsLine failed failed line w w fault
-stopped_before failed line w fault e =
+pub stopped_before : (line : List ℕ) (w : SinkAt) (fault : StreamFault) → fault ≡ Memory → StopsLine line w w fault
+stopped_before line w fault e =
     let text = text_of_line line in
     record {
       text = text.0;
       text_is = text.1;
-      appended = record { front = []; rest = text.0 ++ 10 ∷ []; parts = refl; appended = Appends-nil w };
-      cause = subst (IsWriteFault failed failed) (sym e) (tt, inl (FailsNoMore-self failed));
+      appended = record { front = []; rest = text.0 ++ 10 ∷ []; parts = refl; appended = Appends-nil w.contents };
+      cause = subst (IsWriteFault w.failed w.failed) (sym e) (tt, inl (FailsNoMore-self w.failed));
     }
 
 -- whole lines were read, and the output for them was written
-pub record Going (r s w v : Option (List ℕ)) (now : Pending) (all : Bool) : Type 0 where
+pub record Going (r s : SourceAt) (w v : SinkAt) (now : Pending) (all : Bool) : Type 0 where
   pub read : List ℕ
-  pub consumed : Consumes r s read
+  pub consumed : Consumes r.remaining s.remaining read
   pub counted : 67108864 ≡ now.left + length read
   pub done : List ℕ
   pub parts : read ≡ done ++ now.bytes
   pub ends : EndsAtLine done
   pub output : List ℕ
   pub output_is : IsFrameOutput done output
-  pub appended : Appends w v output
+  pub appended : Appends w.contents v.contents output
   pub frames : IsTrue all ↔ All IsFrameLine (lines_of done)
 
-pub going_none : (r w : Option (List ℕ)) → Going r r w w (record { bytes = []; left = 67108864 }) true
+pub going_none : (r : SourceAt) (w : SinkAt) → Going r r w w (record { bytes = []; left = 67108864 }) true
 unfolding lines_of
 going_none r w = record {
   read = [];
-  consumed = Consumes-nil r;
+  consumed = Consumes-nil r.remaining;
   counted = omega arith;
   done = [];
   parts = refl;
   ends = ends_none;
   output = [];
   output_is = refl;
-  appended = Appends-nil w;
+  appended = Appends-nil w.contents;
   frames = (λ yes. All-nil IsFrameLine, λ frames. refl);
 }
 
@@ -93,13 +94,13 @@ read_rest read done pending more line parts answer =
     ∙ ap (λ (bytes : List ℕ). done ++ bytes) answer ∙ sym (append-nil (done ++ line))
 
 -- a line was taken and written
-pub going_line : (r s t w v u : Option (List ℕ)) (now new : Pending) (all is : Bool) (line : List ℕ)
-    → Going r s w v now all → TakesLine now new s t line true → WritesLine line v u is → Going r t w u new (all && is)
+pub going_line : (r s t : SourceAt) (w v u : SinkAt) (now new : Pending) (all is : Bool) (line : List ℕ)
+    → Going r s w v now all → TakesLine now new s.remaining t.remaining line true → WritesLine line v u is → Going r t w u new (all && is)
 going_line r s t w v u now new all is line so_far takes writes =
     let more = takes.reads.bytes in
     record {
       read = so_far.read ++ more;
-      consumed = Consumes-then r s t so_far.read more so_far.consumed takes.reads.consumed;
+      consumed = Consumes-then r.remaining s.remaining t.remaining so_far.read more so_far.consumed takes.reads.consumed;
       counted = let a = so_far.counted in let b = takes.reads.counted in omega (arith, length-append so_far.read more);
       done = so_far.done ++ (line ++ 10 ∷ []);
       parts = read_line so_far.read so_far.done now.bytes more line new.bytes so_far.parts takes.answer;
@@ -108,14 +109,14 @@ going_line r s t w v u now new all is line so_far takes writes =
       output_is =
           subst (λ lines. IsTextOfAll lines (so_far.output ++ text_written writes.text)) (sym (lines_more so_far.done line so_far.ends takes.one_line))
           (text_more (lines_of so_far.done) line so_far.output writes.text so_far.output_is writes.text_is);
-      appended = Appends-then w v u so_far.output (text_written writes.text) so_far.appended writes.appended;
+      appended = Appends-then w.contents v.contents u.contents so_far.output (text_written writes.text) so_far.appended writes.appended;
       frames =
           subst (λ lines. IsTrue (all && is) ↔ All IsFrameLine lines) (sym (lines_more so_far.done line so_far.ends takes.one_line))
           (both_all all is (lines_of so_far.done) line so_far.frames writes.frame);
     }
 
 -- what was held back was passed on
-pub going_flushed : (r s w v u : Option (List ℕ)) (now : Pending) (all : Bool) → Going r s w v now all → Keeps v u → Going r s w u now all
+pub going_flushed : (r s : SourceAt) (w v u : SinkAt) (now : Pending) (all : Bool) → Going r s w v now all → Keeps v.contents u.contents → Going r s w u now all
 going_flushed r s w v u now all so_far keeps = record {
   read = so_far.read;
   consumed = so_far.consumed;
@@ -125,7 +126,7 @@ going_flushed r s w v u now all so_far keeps = record {
   ends = so_far.ends;
   output = so_far.output;
   output_is = so_far.output_is;
-  appended = Appends-kept w v u so_far.output so_far.appended keeps;
+  appended = Appends-kept w.contents v.contents u.contents so_far.output so_far.appended keeps;
   frames = so_far.frames;
 }
 
@@ -145,21 +146,21 @@ ended_is true ended e = (λ same. refl, λ yes. e)
 ended_is false ended e = (λ same. cc (sym e ∙ same), λ yes. cc yes)
 
 -- the input ended after a line feed
-prints_all : (passed : Type 0) (r s t w v u : Option (List ℕ)) (now new : Pending) (all : Bool) (line : List ℕ) (ended : Ended)
-    → Going r s w v now all → TakesLine now new s t line false → line ≡ [] → Keeps v u → ended ≡ (if all then AllPrinted else SomeRefused) → passed → PrintsFrames passed r t w u ended
-prints_all passed r s t w v u now new all line ended so_far takes none keeps e on =
+prints_all : (r s t : SourceAt) (w v u : SinkAt) (now new : Pending) (all : Bool) (line : List ℕ) (ended : Ended)
+    → Going r s w v now all → TakesLine now new s.remaining t.remaining line false → line ≡ [] → Keeps v.contents u.contents → ended ≡ (if all then AllPrinted else SomeRefused) → u.passed_on → PrintsFrames r t w u ended
+prints_all r s t w v u now new all line ended so_far takes none keeps e on =
     let more = takes.reads.bytes in
     let done : so_far.read ++ more ≡ so_far.done =
     ap (λ (bytes : List ℕ). bytes ++ more) so_far.parts ∙ append_assoc so_far.done now.bytes more
     ∙ ap (λ (bytes : List ℕ). so_far.done ++ bytes) (takes.answer.0 ∙ none) ∙ append-nil so_far.done in
     record {
       input = so_far.read ++ more;
-      consumed = Consumes-then r s t so_far.read more so_far.consumed takes.reads.consumed;
+      consumed = Consumes-then r.remaining s.remaining t.remaining so_far.read more so_far.consumed takes.reads.consumed;
       end = takes.answer.2;
       within = let a = so_far.counted in let b = takes.reads.counted in omega (arith, length-append so_far.read more);
       output = so_far.output;
       output_is = subst (λ input. IsFrameOutput input so_far.output) (sym done) so_far.output_is;
-      appended = Appends-kept w v u so_far.output so_far.appended keeps;
+      appended = Appends-kept w.contents v.contents u.contents so_far.output so_far.appended keeps;
       passed = on;
       all =
           let is = ended_is all ended e in
@@ -167,9 +168,9 @@ prints_all passed r s t w v u now new all line ended so_far takes none keeps e o
     }
 
 -- the input ended without a line feed after its last line
-prints_last : (passed : Type 0) (r s t w v u x : Option (List ℕ)) (now new : Pending) (all is : Bool) (line : List ℕ) (ended : Ended)
-    → Going r s w v now all → TakesLine now new s t line false → 0 < length line → WritesLine line v u is → Keeps u x → ended ≡ (if all && is then AllPrinted else SomeRefused) → passed → PrintsFrames passed r t w x ended
-prints_last passed r s t w v u x now new all is line ended so_far takes some writes keeps e on =
+prints_last : (r s t : SourceAt) (w v u x : SinkAt) (now new : Pending) (all is : Bool) (line : List ℕ) (ended : Ended)
+    → Going r s w v now all → TakesLine now new s.remaining t.remaining line false → 0 < length line → WritesLine line v u is → Keeps u.contents x.contents → ended ≡ (if all && is then AllPrinted else SomeRefused) → x.passed_on → PrintsFrames r t w x ended
+prints_last r s t w v u x now new all is line ended so_far takes some writes keeps e on =
     let more = takes.reads.bytes in
     let done : so_far.read ++ more ≡ so_far.done ++ line =
     ap (λ (bytes : List ℕ). bytes ++ more) so_far.parts ∙ append_assoc so_far.done now.bytes more
@@ -177,14 +178,14 @@ prints_last passed r s t w v u x now new all is line ended so_far takes some wri
     let lines : lines_of (so_far.read ++ more) ≡ lines_of so_far.done ++ line ∷ [] = ap lines_of done ∙ lines_last so_far.done line so_far.ends takes.one_line some in
     record {
       input = so_far.read ++ more;
-      consumed = Consumes-then r s t so_far.read more so_far.consumed takes.reads.consumed;
+      consumed = Consumes-then r.remaining s.remaining t.remaining so_far.read more so_far.consumed takes.reads.consumed;
       end = takes.answer.2;
       within = let a = so_far.counted in let b = takes.reads.counted in omega (arith, length-append so_far.read more);
       output = so_far.output ++ text_written writes.text;
       output_is =
           subst (λ ls. IsTextOfAll ls (so_far.output ++ text_written writes.text)) (sym lines)
           (text_more (lines_of so_far.done) line so_far.output writes.text so_far.output_is writes.text_is);
-      appended = Appends-kept w u x (so_far.output ++ text_written writes.text) (Appends-then w v u so_far.output (text_written writes.text) so_far.appended writes.appended) keeps;
+      appended = Appends-kept w.contents u.contents x.contents (so_far.output ++ text_written writes.text) (Appends-then w.contents v.contents u.contents so_far.output (text_written writes.text) so_far.appended writes.appended) keeps;
       passed = on;
       all =
           let is_true = ended_is (all && is) ended e in
@@ -253,46 +254,46 @@ front_all : (w v u : Option (List ℕ)) (output : List ℕ) → Appends w v outp
 front_all w v u output appended keeps = record { front = output; rest = []; parts = sym (append-nil output); appended = Appends-kept w v u output appended keeps }
 
 -- the reader failed, or gave too much, or memory for a line was refused
-pub stops_reading : (read_old read_now read_new : Type 0) (old new : Failed) (r s t w v : Option (List ℕ)) (now : Pending) (all : Bool) (fault : StreamFault)
-    → Going r s w v now all → (read_now → read_old) → FailsNoMore old new → StopsReading read_new (read_new → read_now) now s t fault → Stops read_old read_new old new r t w v fault
-stops_reading read_old read_now read_new old new r s t w v now all fault so_far reads kept stop =
+pub stops_reading : (r s t : SourceAt) (w v : SinkAt) (now : Pending) (all : Bool) (fault : StreamFault)
+    → Going r s w v now all → (s.failed → r.failed) → FailsNoMore w.failed v.failed → StopsReading t.failed (t.failed → s.failed) now s.remaining t.remaining fault → Stops r t w v fault
+stops_reading r s t w v now all fault so_far reads kept stop =
     let read : so_far.read ++ stop.bytes ≡ so_far.done ++ (now.bytes ++ stop.bytes) =
     ap (λ (bytes : List ℕ). bytes ++ stop.bytes) so_far.parts ∙ append_assoc so_far.done now.bytes stop.bytes in
     let count = length (so_far.done ++ (now.bytes ++ stop.bytes)) in
     record {
       lines = so_far.done;
       begun = now.bytes ++ stop.bytes;
-      consumed = subst (Consumes r t) read (Consumes-then r s t so_far.read stop.bytes so_far.consumed stop.consumed);
+      consumed = subst (Consumes r.remaining t.remaining) read (Consumes-then r.remaining s.remaining t.remaining so_far.read stop.bytes so_far.consumed stop.consumed);
       ended = inl so_far.ends;
       output = so_far.output;
       output_is = so_far.output_is;
-      appended = front_all w v v so_far.output so_far.appended (Keeps-self v);
+      appended = front_all w.contents v.contents v.contents so_far.output so_far.appended (Keeps-self v.contents);
       cause =
-          cause_of_reading read_new (now.left < length stop.bytes) ((read_new → read_now) × (length stop.bytes ≤ now.left))
-          (input_limit < count) ((read_new → read_old) × (count ≤ input_limit)) old new fault
+          cause_of_reading t.failed (now.left < length stop.bytes) ((t.failed → s.failed) × (length stop.bytes ≤ now.left))
+          (input_limit < count) ((t.failed → r.failed) × (count ≤ input_limit)) w.failed v.failed fault
           (λ lt. let a = so_far.counted in let same = ap length read in omega (arith, length-append so_far.read stop.bytes))
           (λ lacks. let within = lacks.1 in (λ failed. reads (lacks.0 failed), let a = so_far.counted in let same = ap length read in omega (arith, length-append so_far.read stop.bytes)))
           kept stop.cause;
     }
 
 -- passing on failed between lines
-pub stops_flushing : (read_old read_new : Type 0) (old now_failed new : Failed) (r s w v u : Option (List ℕ)) (now : Pending) (all : Bool) (fault : StreamFault)
-    → Going r s w v now all → (read_new → read_old) → FailsNoMore old now_failed → Keeps v u → IsWriterFault now_failed new fault → Stops read_old read_new old new r s w u fault
-stops_flushing read_old read_new old now_failed new r s w v u now all fault so_far reads kept keeps cause = record {
+pub stops_flushing : (r s : SourceAt) (w v u : SinkAt) (now : Pending) (all : Bool) (fault : StreamFault)
+    → Going r s w v now all → (s.failed → r.failed) → FailsNoMore w.failed v.failed → Keeps v.contents u.contents → IsWriterFault v.failed u.failed fault → Stops r s w u fault
+stops_flushing r s w v u now all fault so_far reads kept keeps cause = record {
   lines = so_far.done;
   begun = now.bytes;
-  consumed = subst (Consumes r s) so_far.parts so_far.consumed;
+  consumed = subst (Consumes r.remaining s.remaining) so_far.parts so_far.consumed;
   ended = inl so_far.ends;
   output = so_far.output;
   output_is = so_far.output_is;
-  appended = front_all w v u so_far.output so_far.appended keeps;
+  appended = front_all w.contents v.contents u.contents so_far.output so_far.appended keeps;
   cause =
       let within : length (so_far.done ++ now.bytes) ≤ input_limit = let a = so_far.counted in let same = ap length so_far.parts in omega arith in
-      cause_of_run read_old read_new old now_failed new (length (so_far.done ++ now.bytes)) fault reads within kept (cause_of_writer now_failed new fault cause);
+      cause_of_run r.failed s.failed w.failed v.failed u.failed (length (so_far.done ++ now.bytes)) fault reads within kept (cause_of_writer v.failed u.failed fault cause);
 }
 
 -- what was read with a line is within the limit
-within_limit : (r s t w v : Option (List ℕ)) (now new : Pending) (all is : Bool) (line lines begun : List ℕ) (so_far : Going r s w v now all) (takes : TakesLine now new s t line is)
+within_limit : (r s t : SourceAt) (w v : SinkAt) (now new : Pending) (all is : Bool) (line lines begun : List ℕ) (so_far : Going r s w v now all) (takes : TakesLine now new s.remaining t.remaining line is)
     → so_far.read ++ takes.reads.bytes ≡ lines ++ begun → length (lines ++ begun) ≤ input_limit
 within_limit r s t w v now new all is line lines begun so_far takes read =
     let a = so_far.counted in
@@ -301,96 +302,96 @@ within_limit r s t w v now new all is line lines begun so_far takes read =
     omega (arith, length-append so_far.read takes.reads.bytes)
 
 -- the writer failed within a line, or memory for its text was refused
-pub stops_line : (read_old read_new : Type 0) (old now_failed new_failed : Failed) (r s t w v u : Option (List ℕ)) (now new : Pending) (all : Bool) (line : List ℕ) (fault : StreamFault)
-    → Going r s w v now all → (read_new → read_old) → FailsNoMore old now_failed → TakesLine now new s t line true → StopsLine now_failed new_failed line v u fault → Stops read_old read_new old new_failed r t w u fault
-stops_line read_old read_new old now_failed new_failed r s t w v u now new all line fault so_far reads kept takes stop =
+pub stops_line : (r s t : SourceAt) (w v u : SinkAt) (now new : Pending) (all : Bool) (line : List ℕ) (fault : StreamFault)
+    → Going r s w v now all → (t.failed → r.failed) → FailsNoMore w.failed v.failed → TakesLine now new s.remaining t.remaining line true → StopsLine line v u fault → Stops r t w u fault
+stops_line r s t w v u now new all line fault so_far reads kept takes stop =
     let more = takes.reads.bytes in
     let lines = so_far.done ++ (line ++ 10 ∷ []) in
     let read : so_far.read ++ more ≡ lines ++ new.bytes = read_line so_far.read so_far.done now.bytes more line new.bytes so_far.parts takes.answer in
     record {
       lines = lines;
       begun = new.bytes;
-      consumed = subst (Consumes r t) read (Consumes-then r s t so_far.read more so_far.consumed takes.reads.consumed);
+      consumed = subst (Consumes r.remaining t.remaining) read (Consumes-then r.remaining s.remaining t.remaining so_far.read more so_far.consumed takes.reads.consumed);
       ended = inl (ends_more so_far.done line so_far.ends takes.one_line);
       output = so_far.output ++ text_written stop.text;
       output_is =
           subst (λ ls. IsTextOfAll ls (so_far.output ++ text_written stop.text)) (sym (lines_more so_far.done line so_far.ends takes.one_line))
           (text_more (lines_of so_far.done) line so_far.output stop.text so_far.output_is stop.text_is);
-      appended = front_more w v u so_far.output (text_written stop.text) so_far.appended stop.appended;
+      appended = front_more w.contents v.contents u.contents so_far.output (text_written stop.text) so_far.appended stop.appended;
       cause =
-          cause_of_run read_old read_new old now_failed new_failed (length (lines ++ new.bytes)) fault reads
+          cause_of_run r.failed t.failed w.failed v.failed u.failed (length (lines ++ new.bytes)) fault reads
           (within_limit r s t w v now new all true line lines new.bytes so_far takes read) kept stop.cause;
     }
 
 -- so it did within the last line, which lacks its line feed
-stops_last : (read_old read_new : Type 0) (old now_failed new_failed : Failed) (r s t w v u : Option (List ℕ)) (now new : Pending) (all : Bool) (line : List ℕ) (fault : StreamFault)
-    → Going r s w v now all → (read_new → read_old) → FailsNoMore old now_failed → TakesLine now new s t line false → 0 < length line → StopsLine now_failed new_failed line v u fault → Stops read_old read_new old new_failed r t w u fault
-stops_last read_old read_new old now_failed new_failed r s t w v u now new all line fault so_far reads kept takes some stop =
+stops_last : (r s t : SourceAt) (w v u : SinkAt) (now new : Pending) (all : Bool) (line : List ℕ) (fault : StreamFault)
+    → Going r s w v now all → (t.failed → r.failed) → FailsNoMore w.failed v.failed → TakesLine now new s.remaining t.remaining line false → 0 < length line → StopsLine line v u fault → Stops r t w u fault
+stops_last r s t w v u now new all line fault so_far reads kept takes some stop =
     let more = takes.reads.bytes in
     let lines = so_far.done ++ line in
     let read : so_far.read ++ more ≡ lines ++ [] = read_rest so_far.read so_far.done now.bytes more line so_far.parts takes.answer.0 in
     record {
       lines = lines;
       begun = [];
-      consumed = subst (Consumes r t) read (Consumes-then r s t so_far.read more so_far.consumed takes.reads.consumed);
+      consumed = subst (Consumes r.remaining t.remaining) read (Consumes-then r.remaining s.remaining t.remaining so_far.read more so_far.consumed takes.reads.consumed);
       ended = inr (refl, takes.answer.2);
       output = so_far.output ++ text_written stop.text;
       output_is =
           subst (λ ls. IsTextOfAll ls (so_far.output ++ text_written stop.text)) (sym (lines_last so_far.done line so_far.ends takes.one_line some))
           (text_more (lines_of so_far.done) line so_far.output stop.text so_far.output_is stop.text_is);
-      appended = front_more w v u so_far.output (text_written stop.text) so_far.appended stop.appended;
+      appended = front_more w.contents v.contents u.contents so_far.output (text_written stop.text) so_far.appended stop.appended;
       cause =
-          cause_of_run read_old read_new old now_failed new_failed (length (lines ++ [])) fault reads
+          cause_of_run r.failed t.failed w.failed v.failed u.failed (length (lines ++ [])) fault reads
           (within_limit r s t w v now new all false line lines [] so_far takes read) kept stop.cause;
     }
 
 -- the last line was written, and a writer that fails then had all of it
-stops_behind : (old now new : Failed) (line : List ℕ) (v u x : Option (List ℕ)) (is : Bool) (fault : StreamFault)
-    → WritesLine line v u is → FailsNoMore old now → Keeps u x → IsWriterFault now new fault → StopsLine old new line v x fault
-stops_behind old now new line v u x is fault writes kept keeps cause = record {
+stops_behind : (line : List ℕ) (v u x : SinkAt) (is : Bool) (fault : StreamFault)
+    → WritesLine line v u is → FailsNoMore v.failed u.failed → Keeps u.contents x.contents → IsWriterFault u.failed x.failed fault → StopsLine line v x fault
+stops_behind line v u x is fault writes kept keeps cause = record {
   text = writes.text;
   text_is = writes.text_is;
-  appended = front_all v u x (text_written writes.text) writes.appended keeps;
-  cause = cause_of_writer old new fault (writer_fault_then old now new fault kept cause);
+  appended = front_all v.contents u.contents x.contents (text_written writes.text) writes.appended keeps;
+  cause = cause_of_writer v.failed x.failed fault (writer_fault_then v.failed u.failed x.failed fault kept cause);
 }
 
 -- passing on failed at the end
-stops_at_end : (read_old read_new : Type 0) (old now_failed new_failed : Failed) (r s t w v u : Option (List ℕ)) (now new : Pending) (all : Bool) (line : List ℕ) (fault : StreamFault)
-    → Going r s w v now all → (read_new → read_old) → FailsNoMore old now_failed → TakesLine now new s t line false → line ≡ [] → Keeps v u → IsWriterFault now_failed new_failed fault
-    → Stops read_old read_new old new_failed r t w u fault
-stops_at_end read_old read_new old now_failed new_failed r s t w v u now new all line fault so_far reads kept takes none keeps cause =
+stops_at_end : (r s t : SourceAt) (w v u : SinkAt) (now new : Pending) (all : Bool) (line : List ℕ) (fault : StreamFault)
+    → Going r s w v now all → (t.failed → r.failed) → FailsNoMore w.failed v.failed → TakesLine now new s.remaining t.remaining line false → line ≡ [] → Keeps v.contents u.contents → IsWriterFault v.failed u.failed fault
+    → Stops r t w u fault
+stops_at_end r s t w v u now new all line fault so_far reads kept takes none keeps cause =
     let more = takes.reads.bytes in
     let read : so_far.read ++ more ≡ so_far.done ++ [] =
     read_rest so_far.read so_far.done now.bytes more [] so_far.parts (takes.answer.0 ∙ none) ∙ ap (λ (bytes : List ℕ). bytes ++ []) (append-nil so_far.done) in
     record {
       lines = so_far.done;
       begun = [];
-      consumed = subst (Consumes r t) read (Consumes-then r s t so_far.read more so_far.consumed takes.reads.consumed);
+      consumed = subst (Consumes r.remaining t.remaining) read (Consumes-then r.remaining s.remaining t.remaining so_far.read more so_far.consumed takes.reads.consumed);
       ended = inl so_far.ends;
       output = so_far.output;
       output_is = so_far.output_is;
-      appended = front_all w v u so_far.output so_far.appended keeps;
+      appended = front_all w.contents v.contents u.contents so_far.output so_far.appended keeps;
       cause =
-          cause_of_run read_old read_new old now_failed new_failed (length (so_far.done ++ [])) fault reads
-          (within_limit r s t w v now new all false line so_far.done [] so_far takes read) kept (cause_of_writer now_failed new_failed fault cause);
+          cause_of_run r.failed t.failed w.failed v.failed u.failed (length (so_far.done ++ [])) fault reads
+          (within_limit r s t w v now new all false line so_far.done [] so_far takes read) kept (cause_of_writer v.failed u.failed fault cause);
     }
 
 -- nothing was read
-pub stops_none : (read_failed : Type 0) (failed : Failed) (r w : Option (List ℕ)) (fault : StreamFault) → fault ≡ Memory → Stops read_failed read_failed failed failed r r w w fault
-stops_none read_failed failed r w fault e =
+pub stops_none : (r : SourceAt) (w : SinkAt) (fault : StreamFault) → fault ≡ Memory → Stops r r w w fault
+stops_none r w fault e =
     let count = length {A = ℕ} [] in
     record {
       lines = [];
       begun = [];
-      consumed = Consumes-nil r;
+      consumed = Consumes-nil r.remaining;
       ended = inl ends_none;
       output = [];
       output_is = no_text;
-      appended = front_all w w w [] (Appends-nil w) (Keeps-self w);
+      appended = front_all w.contents w.contents w.contents [] (Appends-nil w.contents) (Keeps-self w.contents);
       cause =
           let within : count ≤ input_limit = omega arith in
-          subst (HasCause read_failed (input_limit < count) ((read_failed → read_failed) × (count ≤ input_limit)) failed failed) (sym e)
-          ((λ has. has, within), inl (FailsNoMore-self failed));
+          subst (HasCause r.failed (input_limit < count) ((r.failed → r.failed) × (count ≤ input_limit)) w.failed w.failed) (sym e)
+          ((λ has. has, within), inl (FailsNoMore-self w.failed));
     }
 
 Keeps-then : (v u x : Option (List ℕ)) → Keeps v u → Keeps u x → Keeps v x
@@ -399,8 +400,8 @@ Keeps-then (Some xs) None x p q = absurd p
 Keeps-then (Some xs) (Some ys) None p q = absurd q
 Keeps-then (Some xs) (Some ys) (Some zs) p q = q ∙ p
 
-pub last_none : (line : List ℕ) (v : Option (List ℕ)) → line ≡ [] → WritesLast line v v true
-last_none line v none = inl (none, Keeps-self v, refl)
+pub last_none : (line : List ℕ) (v : SinkAt) → line ≡ [] → WritesLast line v v true
+last_none line v none = inl (none, Keeps-self v.contents, refl)
 
 and_is : (all is : Bool) → IsTrue is → (all && is) ≡ all
 and_is true true e = refl
@@ -408,27 +409,27 @@ and_is false is e = refl
 and_is true false e = cc e
 
 -- the last line was written, if there is one, and what was held back was passed on
-pub prints_over : (passed : Type 0) (r s t w v u x : Option (List ℕ)) (now new : Pending) (all is : Bool) (line : List ℕ) (ended : Ended)
-    → Going r s w v now all → TakesLine now new s t line false → WritesLast line v u is → Keeps u x → ended ≡ (if all && is then AllPrinted else SomeRefused) → passed → PrintsFrames passed r t w x ended
-prints_over passed r s t w v u x now new all is line ended so_far takes last keeps e on = elim last [
-  | inl none ↦ prints_all passed r s t w v x now new all line ended so_far takes none.0 (Keeps-then v u x none.1 keeps) (e ∙ ap (λ b. if b then AllPrinted else SomeRefused) (and_is all is none.2)) on
-  | inr some ↦ prints_last passed r s t w v u x now new all is line ended so_far takes some.0 some.1 keeps e on
+pub prints_over : (r s t : SourceAt) (w v u x : SinkAt) (now new : Pending) (all is : Bool) (line : List ℕ) (ended : Ended)
+    → Going r s w v now all → TakesLine now new s.remaining t.remaining line false → WritesLast line v u is → Keeps u.contents x.contents → ended ≡ (if all && is then AllPrinted else SomeRefused) → x.passed_on → PrintsFrames r t w x ended
+prints_over r s t w v u x now new all is line ended so_far takes last keeps e on = elim last [
+  | inl none ↦ prints_all r s t w v x now new all line ended so_far takes none.0 (Keeps-then v.contents u.contents x.contents none.1 keeps) (e ∙ ap (λ b. if b then AllPrinted else SomeRefused) (and_is all is none.2)) on
+  | inr some ↦ prints_last r s t w v u x now new all is line ended so_far takes some.0 some.1 keeps e on
 ]
 
-pub stops_over : (read_old read_new : Type 0) (old now_failed new_failed : Failed) (r s t w v u : Option (List ℕ)) (now new : Pending) (all : Bool) (line : List ℕ) (fault : StreamFault)
-    → Going r s w v now all → (read_new → read_old) → FailsNoMore old now_failed → TakesLine now new s t line false → StopsLast now_failed new_failed line v u fault → Stops read_old read_new old new_failed r t w u fault
-stops_over read_old read_new old now_failed new_failed r s t w v u now new all line fault so_far reads kept takes stop =
-    stops_last read_old read_new old now_failed new_failed r s t w v u now new all line fault so_far reads kept takes stop.0 stop.1
+pub stops_over : (r s t : SourceAt) (w v u : SinkAt) (now new : Pending) (all : Bool) (line : List ℕ) (fault : StreamFault)
+    → Going r s w v now all → (t.failed → r.failed) → FailsNoMore w.failed v.failed → TakesLine now new s.remaining t.remaining line false → StopsLast line v u fault → Stops r t w u fault
+stops_over r s t w v u now new all line fault so_far reads kept takes stop =
+    stops_last r s t w v u now new all line fault so_far reads kept takes stop.0 stop.1
 
--- the last line was written by a writer that failed no more, from `before` to `now_failed`, and passing on failed
-pub stops_passing : (read_old read_new : Type 0) (old before now_failed new_failed : Failed) (r s t w v u x : Option (List ℕ)) (now new : Pending) (all is : Bool) (line : List ℕ) (fault : StreamFault)
-    → Going r s w v now all → (read_new → read_old) → FailsNoMore old before → TakesLine now new s t line false → WritesLast line v u is → FailsNoMore before now_failed
-    → Keeps u x → IsWriterFault now_failed new_failed fault → Stops read_old read_new old new_failed r t w x fault
-stops_passing read_old read_new old before now_failed new_failed r s t w v u x now new all is line fault so_far reads kept takes last wrote keeps cause = elim last [
+-- the last line was written by a writer that failed no more, from `v` to `u`, and passing on failed
+pub stops_passing : (r s t : SourceAt) (w v u x : SinkAt) (now new : Pending) (all is : Bool) (line : List ℕ) (fault : StreamFault)
+    → Going r s w v now all → (t.failed → r.failed) → FailsNoMore w.failed v.failed → TakesLine now new s.remaining t.remaining line false → WritesLast line v u is → FailsNoMore v.failed u.failed
+    → Keeps u.contents x.contents → IsWriterFault u.failed x.failed fault → Stops r t w x fault
+stops_passing r s t w v u x now new all is line fault so_far reads kept takes last wrote keeps cause = elim last [
   | inl none ↦
-      stops_at_end read_old read_new old before new_failed r s t w v x now new all line fault so_far reads kept takes none.0 (Keeps-then v u x none.1 keeps)
-      (writer_fault_then before now_failed new_failed fault wrote cause)
+      stops_at_end r s t w v x now new all line fault so_far reads kept takes none.0 (Keeps-then v.contents u.contents x.contents none.1 keeps)
+      (writer_fault_then v.failed u.failed x.failed fault wrote cause)
   | inr some ↦
-      stops_last read_old read_new old before new_failed r s t w v x now new all line fault so_far reads kept takes some.0
-      (stops_behind before now_failed new_failed line v u x is fault some.1 wrote keeps cause)
+      stops_last r s t w v x now new all line fault so_far reads kept takes some.0
+      (stops_behind line v u x is fault some.1 wrote keeps cause)
 ]

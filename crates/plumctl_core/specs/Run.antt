@@ -1,8 +1,9 @@
 -- How a run of `frame` ends.
-use Rattle.std.specs.Prelude.{◌≡◌, ◌⊎◌, ◌↔◌, ◌<◌, ◌≤◌, ℕ, List, [], ◌∷◌, ◌++◌, length, All, Option, Bool, IsTrue}
+use Rattle.std.specs.Prelude.{◌≡◌, ◌⊎◌, ◌↔◌, ◌<◌, ◌≤◌, ℕ, List, [], ◌∷◌, ◌++◌, length, All, Bool, IsTrue}
 use Rattle.std.specs.Io.KnownBytes.{Appends, Keeps, Consumes, IsAtEnd}
 use Rattle.streams.specs.declared.fault.StreamFault.{StreamFault}
-use Rattle.streams.specs.Fault.{Failed, HasCause, IsWriteFault}
+use Rattle.streams.specs.Fault.{HasCause, IsWriteFault}
+use Rattle.streams.specs.Moment.{SinkAt, SourceAt}
 use Rattle.streams.specs.Written.{AppendsFront}
 use Rattle.plumctl_core.specs.declared.frame.Ended.{Ended}
 use Rattle.plumctl_core.specs.declared.frame.Ended.TheVariants.{AllPrinted}
@@ -14,62 +15,60 @@ abbrev pub EndsAtLine : List ℕ → Type 0
 EndsAtLine text = (rest : List ℕ) → lines_of (text ++ rest) ≡ lines_of text ++ lines_of rest
 
 -- the whole input was read, which is within the limit, and its output was written and passed on
-pub record PrintsFrames (passed_on : Type 0)
-    (reader_old reader_new writer_old writer_new : Option (List ℕ)) (ended : Ended) : Type 0 where
+pub record PrintsFrames (reader_old reader_new : SourceAt) (writer_old writer_new : SinkAt)
+    (ended : Ended) : Type 0 where
   pub input : List ℕ
-  pub consumed : Consumes reader_old reader_new input
-  pub end : IsAtEnd reader_new
+  pub consumed : Consumes reader_old.remaining reader_new.remaining input
+  pub end : IsAtEnd reader_new.remaining
   pub within : length input ≤ input_limit
   pub output : List ℕ
   pub output_is : IsFrameOutput input output
-  pub appended : Appends writer_old writer_new output
-  pub passed : passed_on
+  pub appended : Appends writer_old.contents writer_new.contents output
+  pub passed : writer_new.passed_on
   pub all : (ended ≡ AllPrinted) ↔ All IsFrameLine (lines_of input)
 
 -- what was read until the fault: whole lines, and what was read after them. For the whole lines a
 -- front of the output was written. A last line without a line feed is whole where the reader is at
 -- its end. The fault has its cause; memory was wanting only where the reader has not failed anew
 -- and gave no more than the limit, and the writer has not failed anew, or for want of memory.
-pub record Stops (read_failed_old read_failed_new : Type 0) (failed_old failed_new : Failed)
-    (reader_old reader_new writer_old writer_new : Option (List ℕ))
+pub record Stops (reader_old reader_new : SourceAt) (writer_old writer_new : SinkAt)
     (fault : StreamFault) : Type 0 where
   pub lines : List ℕ
   pub begun : List ℕ
-  pub consumed : Consumes reader_old reader_new (lines ++ begun)
-  pub ended : EndsAtLine lines ⊎ ((begun ≡ []) × IsAtEnd reader_new)
+  pub consumed : Consumes reader_old.remaining reader_new.remaining (lines ++ begun)
+  pub ended : EndsAtLine lines ⊎ ((begun ≡ []) × IsAtEnd reader_new.remaining)
   pub output : List ℕ
   pub output_is : IsFrameOutput lines output
-  pub appended : AppendsFront writer_old writer_new output
-  pub cause : HasCause read_failed_new (input_limit < length (lines ++ begun))
-      ((read_failed_new → read_failed_old) × (length (lines ++ begun) ≤ input_limit))
-      failed_old failed_new fault
+  pub appended : AppendsFront writer_old.contents writer_new.contents output
+  pub cause : HasCause reader_new.failed (input_limit < length (lines ++ begun))
+      ((reader_new.failed → reader_old.failed) × (length (lines ++ begun) ≤ input_limit))
+      writer_old.failed writer_new.failed fault
 
 -- ---- what private functions cite
 
 -- the text of a line was written, and a line feed
-pub record WritesLine (line : List ℕ) (writer_old writer_new : Option (List ℕ))
-    (is_frame : Bool) : Type 0 where
+pub record WritesLine (line : List ℕ) (writer_old writer_new : SinkAt) (is_frame : Bool)
+    : Type 0 where
   pub text : List ℕ
   pub text_is : IsTextOf line text
-  pub appended : Appends writer_old writer_new (text ++ 10 ∷ [])
+  pub appended : Appends writer_old.contents writer_new.contents (text ++ 10 ∷ [])
   pub frame : IsTrue is_frame ↔ IsFrameLine line
 
 -- a front of it was written
-pub record StopsLine (failed_old failed_new : Failed) (line : List ℕ)
-    (writer_old writer_new : Option (List ℕ)) (fault : StreamFault) : Type 0 where
+pub record StopsLine (line : List ℕ) (writer_old writer_new : SinkAt) (fault : StreamFault)
+    : Type 0 where
   pub text : List ℕ
   pub text_is : IsTextOf line text
-  pub appended : AppendsFront writer_old writer_new (text ++ 10 ∷ [])
-  pub cause : IsWriteFault failed_old failed_new fault
+  pub appended : AppendsFront writer_old.contents writer_new.contents (text ++ 10 ∷ [])
+  pub cause : IsWriteFault writer_old.failed writer_new.failed fault
 
 -- a last line was written, or it is empty and nothing was
-abbrev pub WritesLast : (line : List ℕ) (writer_old writer_new : Option (List ℕ)) (is_frame : Bool)
-    → Type 0
+abbrev pub WritesLast : (line : List ℕ) (writer_old writer_new : SinkAt) (is_frame : Bool) → Type 0
 WritesLast line writer_old writer_new is_frame =
-    ((line ≡ []) × Keeps writer_old writer_new × IsTrue is_frame)
+    ((line ≡ []) × Keeps writer_old.contents writer_new.contents × IsTrue is_frame)
     ⊎ ((0 < length line) × WritesLine line writer_old writer_new is_frame)
 
-abbrev pub StopsLast : (failed_old failed_new : Failed) (line : List ℕ)
-    (writer_old writer_new : Option (List ℕ)) (fault : StreamFault) → Type 0
-StopsLast failed_old failed_new line writer_old writer_new fault = (0 < length line)
-    × StopsLine failed_old failed_new line writer_old writer_new fault
+abbrev pub StopsLast : (line : List ℕ) (writer_old writer_new : SinkAt) (fault : StreamFault)
+    → Type 0
+StopsLast line writer_old writer_new fault =
+    (0 < length line) × StopsLine line writer_old writer_new fault

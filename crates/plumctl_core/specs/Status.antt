@@ -2,14 +2,16 @@
 --
 -- The statuses: 0 done, 1 a line was refused or the input is too long, 3 a fault of reading or
 -- writing, 4 want of memory. Wrong arguments, with status 2, start no run.
-use Rattle.std.specs.Prelude.{◌⊎◌, ℕ, List, [], ◌∷◌, ◌++◌, Option, codes}
-use Rattle.std.specs.Io.KnownBytes.{Appends}
+use Rattle.std.specs.Prelude.{◌≡◌, ◌⊎◌, ℕ, List, [], ◌∷◌, ◌++◌, codes}
+use Rattle.std.specs.Io.KnownBytes.{Appends, Keeps}
 use Rattle.streams.specs.declared.fault.StreamFault.{StreamFault}
 use Rattle.streams.specs.declared.fault.StreamFault.TheVariants.{Read, InputTooLong, Write, BrokenPipe, Memory}
-use Rattle.streams.specs.Fault.{Failed, IsWriterFault}
+use Rattle.streams.specs.Fault.{FailsNoMore, IsWriterFault}
+use Rattle.streams.specs.Moment.{SinkAt, SourceAt}
 use Rattle.streams.specs.Written.{AppendsFront}
 use Rattle.plumctl_core.specs.declared.frame.Ended.{Ended}
 use Rattle.plumctl_core.specs.declared.frame.Ended.TheVariants.{AllPrinted, SomeRefused}
+use Rattle.plumctl_core.specs.Run.{PrintsFrames, Stops}
 
 abbrev pub status_of_end : Ended → ℕ
 status_of_end AllPrinted = 0
@@ -31,14 +33,39 @@ line_of_fault BrokenPipe = []
 line_of_fault Memory = codes "error 99 Memory" ++ 10 ∷ []
 
 -- a front of the line was told, and standard error failed
-pub record TellsFront (failed_old failed_new : Failed) (old new : Option (List ℕ))
-    (line : List ℕ) : Type 0 where
-  pub told : AppendsFront old new line
+pub record TellsFront (errors_old errors_new : SinkAt) (line : List ℕ) : Type 0 where
+  pub told : AppendsFront errors_old.contents errors_new.contents line
   pub why : StreamFault
-  pub cause : IsWriterFault failed_old failed_new why
+  pub cause : IsWriterFault errors_old.failed errors_new.failed why
 
 -- the fault was told at standard error, as far as that takes it
-abbrev pub TellsFault : (failed_old failed_new : Failed) (old new : Option (List ℕ))
-    → StreamFault → Type 0
-TellsFault failed_old failed_new old new fault = Appends old new (line_of_fault fault)
-    ⊎ TellsFront failed_old failed_new old new (line_of_fault fault)
+abbrev pub TellsFault : (errors_old errors_new : SinkAt) → StreamFault → Type 0
+TellsFault errors_old errors_new fault =
+    Appends errors_old.contents errors_new.contents (line_of_fault fault)
+    ⊎ TellsFront errors_old errors_new (line_of_fault fault)
+
+-- a run of `frame` printed its whole input, over a reader and a writer that have not failed anew,
+-- and standard error was told nothing
+pub record FinishesFrames (reader_old reader_new : SourceAt)
+    (writer_old writer_new errors_old errors_new : SinkAt) (status : ℕ) : Type 0 where
+  pub ended : Ended
+  pub status_is : status ≡ status_of_end ended
+  pub kept : Keeps errors_old.contents errors_new.contents
+  pub read_sound : reader_new.failed → reader_old.failed
+  pub write_sound : FailsNoMore writer_old.failed writer_new.failed
+  pub prints : PrintsFrames reader_old reader_new writer_old writer_new ended
+
+-- or a fault stopped it, which was told
+pub record StopsFrames (reader_old reader_new : SourceAt)
+    (writer_old writer_new errors_old errors_new : SinkAt) (status : ℕ) : Type 0 where
+  pub fault : StreamFault
+  pub status_is : status ≡ status_of_fault fault
+  pub told : TellsFault errors_old errors_new fault
+  pub stops : Stops reader_old reader_new writer_old writer_new fault
+
+-- how a run of `frame` ends
+abbrev pub EndsFrames : (reader_old reader_new : SourceAt)
+    → (writer_old writer_new errors_old errors_new : SinkAt) → (status : ℕ) → Type 0
+EndsFrames reader_old reader_new writer_old writer_new errors_old errors_new status =
+    FinishesFrames reader_old reader_new writer_old writer_new errors_old errors_new status
+    ⊎ StopsFrames reader_old reader_new writer_old writer_new errors_old errors_new status

@@ -38,11 +38,10 @@ fn write_line<W: Sink>(
     text: &mut Vec<u8>,
     writer: &mut W,
 ) -> Result<bool, StreamFault>
-    ensures ok { IfOk result (λ is. WritesLine line.now (W.contents writer.old)
-        (W.contents writer.new) is) }
-    ensures err { IfErr result (λ fault. StopsLine (W.failed writer.old) (W.failed writer.new)
-        line.now (W.contents writer.old) (W.contents writer.new) fault) }
-    ensures sound { OnOk result (FailsNoMore (W.failed writer.old) (W.failed writer.new)) }
+    ensures ok { IfOk result (λ is. WritesLine line.now (W.at writer.old) (W.at writer.new) is) }
+    ensures err { IfErr result (λ fault. StopsLine line.now (W.at writer.old) (W.at writer.new)
+        fault) }
+    ensures sound { OnOk result (FailsNoMore (W.at writer.old).failed (W.at writer.new).failed) }
 {
     let is_frame = print_line(alloc, line, text)?;
     text.push(b'\n')?;
@@ -58,11 +57,10 @@ fn write_last_line<W: Sink>(
     text: &mut Vec<u8>,
     writer: &mut W,
 ) -> Result<bool, StreamFault>
-    ensures ok { IfOk result (λ is. WritesLast line.now (W.contents writer.old)
-        (W.contents writer.new) is) }
-    ensures err { IfErr result (λ fault. StopsLast (W.failed writer.old) (W.failed writer.new)
-        line.now (W.contents writer.old) (W.contents writer.new) fault) }
-    ensures sound { OnOk result (FailsNoMore (W.failed writer.old) (W.failed writer.new)) }
+    ensures ok { IfOk result (λ is. WritesLast line.now (W.at writer.old) (W.at writer.new) is) }
+    ensures err { IfErr result (λ fault. StopsLast line.now (W.at writer.old) (W.at writer.new)
+        fault) }
+    ensures sound { OnOk result (FailsNoMore (W.at writer.old).failed (W.at writer.new).failed) }
 {
     if line.is_empty() {
         return Ok(true);
@@ -83,15 +81,12 @@ pub fn frame_lines<R: Source, W: Sink>(
     reader: &mut R,
     writer: &mut W,
 ) -> Result<Ended, StreamFault>
-    ensures ok { IfOk result (λ ended. PrintsFrames (W.passed_on writer.new)
-        (R.remaining reader.old) (R.remaining reader.new)
-        (W.contents writer.old) (W.contents writer.new) ended) }
-    ensures err { IfErr result (λ fault. Stops (R.read_failed reader.old) (R.read_failed reader.new)
-        (W.failed writer.old) (W.failed writer.new)
-        (R.remaining reader.old) (R.remaining reader.new)
-        (W.contents writer.old) (W.contents writer.new) fault) }
-    ensures sound { OnOk result ((R.read_failed reader.new → R.read_failed reader.old)
-        × FailsNoMore (W.failed writer.old) (W.failed writer.new)) }
+    ensures ok { IfOk result (λ ended. PrintsFrames (R.at reader.old) (R.at reader.new)
+        (W.at writer.old) (W.at writer.new) ended) }
+    ensures err { IfErr result (λ fault. Stops (R.at reader.old) (R.at reader.new)
+        (W.at writer.old) (W.at writer.new) fault) }
+    ensures sound { OnOk result (((R.at reader.new).failed → (R.at reader.old).failed)
+        × FailsNoMore (W.at writer.old).failed (W.at writer.new).failed) }
 {
     let mut lines = LineBuffer::new(alloc)?;
     let mut line = Vec::new(alloc);

@@ -3,8 +3,7 @@
 ghost use Rattle.std.specs.Prelude.{◌≡◌, ◌≢◌, ◌⊎◌, OnOk, IfErr, map};
 ghost use Rattle.std.specs.Io.KnownBytes.{Keeps};
 ghost use Rattle.scenario.specs.declared.fault.ScenarioFault.{ScenarioFault as Fault};
-ghost use Rattle.scenario.specs.Run.{EndsEarly, PrintsAll};
-ghost use Rattle.plumctl_core.specs.Scenario.{TellsScenario, status_of_scenario};
+ghost use Rattle.plumctl_core.specs.Scenario.{EndsScenario, TellsScenario, status_of_scenario};
 
 use crate::status::tell;
 use resolvers::Resolver;
@@ -17,10 +16,9 @@ use streams::{Sink, Source};
 fn end_status<E: Sink>(errors: &mut E, ended: Result<(), ScenarioFault>) -> u8
     ensures run { result ≢ 2 }
     ensures done { OnOk ended ((result ≡ 0)
-        × Keeps (E.contents errors.old) (E.contents errors.new)) }
+        × Keeps (E.at errors.old).contents (E.at errors.new).contents) }
     ensures fault { IfErr ended (λ fault. (result ≡ status_of_scenario fault)
-        × TellsScenario (E.failed errors.old) (E.failed errors.new)
-        (E.contents errors.old) (E.contents errors.new) fault) }
+        × TellsScenario (E.at errors.old) (E.at errors.new) fault) }
 {
     match ended {
         Ok(()) => 0,
@@ -41,21 +39,9 @@ pub fn run_scenario<R: Source, W: Sink, E: Sink>(
     resolvers: &[Box<dyn Resolver>],
 ) -> u8
     ensures run { result ≢ 2 }
-    ensures ends { ((result ≡ 0)
-        × Keeps (E.contents errors.old) (E.contents errors.new)
-        × PrintsAll (map (λ r. choice r) resolvers.now)
-        (R.read_failed reader.old) (R.read_failed reader.new)
-        (W.failed writer.old) (W.failed writer.new) (W.passed_on writer.new)
-        (R.remaining reader.old) (R.remaining reader.new)
-        (W.contents writer.old) (W.contents writer.new))
-        ⊎ ((fault : Fault) × (result ≡ status_of_scenario fault)
-        × TellsScenario (E.failed errors.old) (E.failed errors.new)
-        (E.contents errors.old) (E.contents errors.new) fault
-        × EndsEarly (map (λ r. choice r) resolvers.now)
-        (R.read_failed reader.old) (R.read_failed reader.new)
-        (W.failed writer.old) (W.failed writer.new) (W.passed_on writer.new)
-        (R.remaining reader.old) (R.remaining reader.new)
-        (W.contents writer.old) (W.contents writer.new) fault) }
+    ensures ends { EndsScenario (map (λ r. choice r) resolvers.now)
+        (R.at reader.old) (R.at reader.new) (W.at writer.old) (W.at writer.new)
+        (E.at errors.old) (E.at errors.new) result }
 {
     let ended = run_over(alloc, reader, writer, resolvers);
     end_status(errors, ended)
@@ -71,10 +57,9 @@ pub fn explain_scenario<R: Source, W: Sink, E: Sink>(
     resolvers: &[Box<dyn Resolver>],
 ) -> u8
     ensures run { result ≢ 2 }
-    ensures ends { ((result ≡ 0) × Keeps (E.contents errors.old) (E.contents errors.new))
+    ensures ends { ((result ≡ 0) × Keeps (E.at errors.old).contents (E.at errors.new).contents)
         ⊎ ((fault : Fault) × (result ≡ status_of_scenario fault)
-        × TellsScenario (E.failed errors.old) (E.failed errors.new)
-        (E.contents errors.old) (E.contents errors.new) fault) }
+        × TellsScenario (E.at errors.old) (E.at errors.new) fault) }
 {
     let ended = explain_over(alloc, reader, writer, resolvers);
     end_status(errors, ended)

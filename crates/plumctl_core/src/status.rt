@@ -1,10 +1,7 @@
 //! How a run ends for who started the program: the exit status, and what is told at standard error.
 
-ghost use Rattle.std.specs.Prelude.{◌≡◌, ◌≢◌, ◌⊎◌};
-ghost use Rattle.std.specs.Io.KnownBytes.{Keeps};
-ghost use Rattle.streams.specs.Fault.{FailsNoMore};
-ghost use Rattle.plumctl_core.specs.Run.{PrintsFrames, Stops};
-ghost use Rattle.plumctl_core.specs.Status.{status_of_end, status_of_fault, line_of_fault, TellsFault};
+ghost use Rattle.std.specs.Prelude.{◌≡◌, ◌≢◌};
+ghost use Rattle.plumctl_core.specs.Status.{status_of_end, status_of_fault, line_of_fault, EndsFrames, TellsFault};
 
 use crate::frame::{Ended, frame_lines};
 use std::alloc::Global;
@@ -52,8 +49,7 @@ fn line_of_fault(fault: StreamFault) -> &'static str
 /// hold nothing back. The status is never 2, which tells wrong arguments.
 pub fn tell<E: Sink>(errors: &mut E, fault: StreamFault) -> u8
     ensures status { result ≡ status_of_fault fault }
-    ensures told { TellsFault (E.failed errors.old) (E.failed errors.new)
-        (E.contents errors.old) (E.contents errors.new) fault }
+    ensures told { TellsFault (E.at errors.old) (E.at errors.new) fault }
     ensures run { result ≢ 2 }
 {
     let _ = write_whole(errors, line_of_fault(fault).as_bytes());
@@ -70,19 +66,8 @@ pub fn run_frame<R: Source, W: Sink, E: Sink>(
     errors: &mut E,
 ) -> u8
     ensures run { result ≢ 2 }
-    ensures ends { ((ended : Ended) × (result ≡ status_of_end ended)
-        × Keeps (E.contents errors.old) (E.contents errors.new)
-        × (R.read_failed reader.new → R.read_failed reader.old)
-        × FailsNoMore (W.failed writer.old) (W.failed writer.new)
-        × PrintsFrames (W.passed_on writer.new) (R.remaining reader.old) (R.remaining reader.new)
-        (W.contents writer.old) (W.contents writer.new) ended)
-        ⊎ ((fault : StreamFault) × (result ≡ status_of_fault fault)
-        × TellsFault (E.failed errors.old) (E.failed errors.new)
-        (E.contents errors.old) (E.contents errors.new) fault
-        × Stops (R.read_failed reader.old) (R.read_failed reader.new)
-        (W.failed writer.old) (W.failed writer.new)
-        (R.remaining reader.old) (R.remaining reader.new)
-        (W.contents writer.old) (W.contents writer.new) fault) }
+    ensures ends { EndsFrames (R.at reader.old) (R.at reader.new) (W.at writer.old)
+        (W.at writer.new) (E.at errors.old) (E.at errors.new) result }
 {
     match frame_lines(alloc, reader, writer) {
         Ok(ended) => ended.status(),

@@ -8,6 +8,7 @@ use Rattle.std.specs.declared.io.ErrorKind.TheVariants as kinds
 use Rattle.streams.specs.declared.fault.StreamFault.{StreamFault}
 use Rattle.streams.specs.declared.fault.StreamFault.TheVariants.{Read, InputTooLong, Write, BrokenPipe, Memory}
 use Rattle.streams.specs.Fault.{Failed, FailsNoMore, IsWriteFault, IsWriterFault, fault_of_kind}
+use Rattle.streams.specs.Moment.{SinkAt}
 use Rattle.streams.specs.Written.{AppendsFront}
 use Rattle.streams.proofs.Failing.{FailsNoMore-self, FailsNoMore-then, write_fault_then}
 use Rattle.streams.proofs.Sent.{Appends-kept, Appends-nil, Appends-then}
@@ -101,31 +102,31 @@ front_of_run choices old commands text whole ended f runs =
 -- ---- a run so far
 
 -- these commands were obeyed, those are left
-pub record Playing (choices : Choices) (old : Stage) (all : List Command) (stage : Stage) (left : List Command) (w v : Option (List ℕ)) : Type 0 where
+pub record Playing (choices : Choices) (old : Stage) (all : List Command) (stage : Stage) (left : List Command) (w v : SinkAt) : Type 0 where
   pub done : List Command
   pub commands_are : all ≡ done ++ left
   pub text : List ℕ
   pub obeyed : ObeyAll choices old done text stage
-  pub appended : Appends w v text
+  pub appended : Appends w.contents v.contents text
 
-pub playing_none : (choices : Choices) (old : Stage) (all : List Command) (w : Option (List ℕ)) → Playing choices old all old all w w
-playing_none choices old all w = record { done = []; commands_are = refl; text = []; obeyed = (refl, refl); appended = Appends-nil w }
+pub playing_none : (choices : Choices) (old : Stage) (all : List Command) (w : SinkAt) → Playing choices old all old all w w
+playing_none choices old all w = record { done = []; commands_are = refl; text = []; obeyed = (refl, refl); appended = Appends-nil w.contents }
 
-pub playing_more : (choices : Choices) (old stage new : Stage) (all before left : List Command) (command : Command) (w v u : Option (List ℕ))
+pub playing_more : (choices : Choices) (old stage new : Stage) (all before left : List Command) (command : Command) (w v u : SinkAt)
     → Playing choices old all stage before w v → before ≡ command ∷ left → WritesCommand choices stage command v u new → Playing choices old all new left w u
 playing_more choices old stage new all before left command w v u so_far next writes = record {
   done = so_far.done ++ command ∷ [];
   commands_are = so_far.commands_are ∙ ap (λ (cs : List Command). so_far.done ++ cs) next ∙ sym (append_assoc so_far.done (command ∷ []) left);
   text = so_far.text ++ writes.added;
   obeyed = obey_more choices old stage new so_far.done command so_far.text writes.added so_far.obeyed writes.obeys;
-  appended = Appends-then w v u so_far.text writes.added so_far.appended writes.appended;
+  appended = Appends-then w.contents v.contents u.contents so_far.text writes.added so_far.appended writes.appended;
 }
 
-pub playing_ends : (choices : Choices) (failed_old failed_now failed_new : Failed) (old stage : Stage) (all before left : List Command) (command : Command) (w v u : Option (List ℕ)) (fault : ScenarioFault)
-    → Playing choices old all stage before w v → before ≡ command ∷ left → FailsNoMore failed_old failed_now → EndsCommand choices failed_now failed_new stage command v u fault
-    → EndsCommands choices failed_old failed_new old all w u fault
-playing_ends choices failed_old failed_now failed_new old stage all before left command w v u (BadLine number) so_far next kept ends = absurd ends
-playing_ends choices failed_old failed_now failed_new old stage all before left command w v u Limit so_far next kept ends = (
+pub playing_ends : (choices : Choices) (old stage : Stage) (all before left : List Command) (command : Command) (w v u : SinkAt) (fault : ScenarioFault)
+    → Playing choices old all stage before w v → before ≡ command ∷ left → FailsNoMore w.failed v.failed → EndsCommand choices stage command v u fault
+    → EndsCommands choices old all w u fault
+playing_ends choices old stage all before left command w v u (BadLine number) so_far next kept ends = absurd ends
+playing_ends choices old stage all before left command w v u Limit so_far next kept ends = (
   record {
     done = so_far.done;
     last = command;
@@ -135,11 +136,11 @@ playing_ends choices failed_old failed_now failed_new old stage all before left 
     stage = stage;
     obeyed = so_far.obeyed;
     limit = ends.0;
-    appended = subst (Appends w u) (append-nil so_far.text) (Appends-then w v u so_far.text [] so_far.appended ends.1);
+    appended = subst (Appends w.contents u.contents) (append-nil so_far.text) (Appends-then w.contents v.contents u.contents so_far.text [] so_far.appended ends.1);
   },
-  FailsNoMore-then failed_old failed_now failed_new kept ends.2,
+  FailsNoMore-then w.failed v.failed u.failed kept ends.2,
 )
-playing_ends choices failed_old failed_now failed_new old stage all before left command w v u (Stream fault) so_far next kept ends = record {
+playing_ends choices old stage all before left command w v u (Stream fault) so_far next kept ends = record {
   text = so_far.text ++ ends.begun;
   front = record {
     done = so_far.done;
@@ -152,27 +153,27 @@ playing_ends choices failed_old failed_now failed_new old stage all before left 
     begins = ends.begins;
     text_is = refl;
   };
-  appended = Appends-then w v u so_far.text ends.begun so_far.appended ends.appended;
-  cause = write_fault_then failed_old failed_now failed_new fault kept ends.cause;
+  appended = Appends-then w.contents v.contents u.contents so_far.text ends.begun so_far.appended ends.appended;
+  cause = write_fault_then w.failed v.failed u.failed fault kept ends.cause;
 }
 
 -- ---- one command
 
 -- nothing was written of a command that was not obeyed
-pub ends_unwritten : (choices : Choices) (failed : Failed) (old new : Stage) (command : Command) (text_old text_new : List ℕ) (w : Option (List ℕ)) (fault : StageFault)
-    → ObeysOrEnds choices old command text_old text_new new (Err fault) → EndsCommand choices failed failed old command w w (of_stage fault)
-ends_unwritten choices failed old new command text_old text_new w stages.Limit limit = (limit, Appends-nil w, FailsNoMore-self failed)
-ends_unwritten choices failed old new command text_old text_new w stages.Memory does =
-    record { begun = []; begins = inl refl; appended = Appends-nil w; cause = want_of_memory failed Memory refl }
+pub ends_unwritten : (choices : Choices) (old new : Stage) (command : Command) (text_old text_new : List ℕ) (w : SinkAt) (fault : StageFault)
+    → ObeysOrEnds choices old command text_old text_new new (Err fault) → EndsCommand choices old command w w (of_stage fault)
+ends_unwritten choices old new command text_old text_new w stages.Limit limit = (limit, Appends-nil w.contents, FailsNoMore-self w.failed)
+ends_unwritten choices old new command text_old text_new w stages.Memory does =
+    record { begun = []; begins = inl refl; appended = Appends-nil w.contents; cause = want_of_memory w.failed Memory refl }
 
 -- a front was written
-pub ends_writing : (choices : Choices) (failed_old failed_new : Failed) (old new : Stage) (command : Command) (added : List ℕ) (w v : Option (List ℕ)) (fault : StreamFault)
-    → Obeys choices old command added new → AppendsFront w v added → IsWriterFault failed_old failed_new fault → EndsCommand choices failed_old failed_new old command w v (Stream fault)
-ends_writing choices failed_old failed_new old new command added w v fault obeys f cause = record {
+pub ends_writing : (choices : Choices) (old new : Stage) (command : Command) (added : List ℕ) (w v : SinkAt) (fault : StreamFault)
+    → Obeys choices old command added new → AppendsFront w.contents v.contents added → IsWriterFault w.failed v.failed fault → EndsCommand choices old command w v (Stream fault)
+ends_writing choices old new command added w v fault obeys f cause = record {
   begun = f.front;
   begins = inr (inl (added, f.rest, new, obeys, f.parts));
   appended = f.appended;
-  cause = cause_of_writer failed_old failed_new fault cause;
+  cause = cause_of_writer w.failed v.failed fault cause;
 }
 
 -- ---- a scenario
@@ -180,31 +181,31 @@ ends_writing choices failed_old failed_new old new command added w v fault obeys
 abbrev ok_line : List ℕ
 ok_line = line (codes "ok")
 
-pub plays_all : (choices : Choices) (scenario : Scenario) (stage : Stage) (w v u : Option (List ℕ)) → stage ≡ new_stage scenario.nodes → Appends w v ok_line → WritesAll choices stage scenario.commands v u → PlaysAll choices scenario w u
+pub plays_all : (choices : Choices) (scenario : Scenario) (stage : Stage) (w v u : SinkAt) → stage ≡ new_stage scenario.nodes → Appends w.contents v.contents ok_line → WritesAll choices stage scenario.commands v u → PlaysAll choices scenario w u
 plays_all choices scenario stage w v u opens ok writes = record {
   text = writes.text;
   stage = writes.new;
   obeyed = subst (λ (s : Stage). ObeyAll choices s scenario.commands writes.text writes.new) opens writes.obeyed;
-  appended = Appends-then w v u ok_line writes.text ok writes.appended;
+  appended = Appends-then w.contents v.contents u.contents ok_line writes.text ok writes.appended;
 }
 
-pub plays_nothing : (choices : Choices) (failed_old failed_new : Failed) (scenario : Scenario) (w v : Option (List ℕ)) (fault : StreamFault) → EndsLine failed_old failed_new ok_line w v fault → EndsPlay choices failed_old failed_new scenario w v (Stream fault)
-plays_nothing choices failed_old failed_new scenario w v fault ends = record {
+pub plays_nothing : (choices : Choices) (scenario : Scenario) (w v : SinkAt) (fault : StreamFault) → EndsLine ok_line w v fault → EndsPlay choices scenario w v (Stream fault)
+plays_nothing choices scenario w v fault ends = record {
   text = ends.appended.front;
   front = inl (ends.appended.rest, ends.appended.parts);
   appended = ends.appended.appended;
   cause = ends.cause;
 }
 
-pub plays_unopened : (choices : Choices) (failed : Failed) (scenario : Scenario) (w : Option (List ℕ)) (fault : ScenarioFault) → fault ≡ Stream Memory → EndsPlay choices failed failed scenario w w fault
-plays_unopened choices failed scenario w fault is =
-    subst (EndsPlay choices failed failed scenario w w) (sym is)
-    (record { text = []; front = inl (ok_line, refl); appended = Appends-nil w; cause = want_of_memory failed Memory refl })
+pub plays_unopened : (choices : Choices) (scenario : Scenario) (w : SinkAt) (fault : ScenarioFault) → fault ≡ Stream Memory → EndsPlay choices scenario w w fault
+plays_unopened choices scenario w fault is =
+    subst (EndsPlay choices scenario w w) (sym is)
+    (record { text = []; front = inl (ok_line, refl); appended = Appends-nil w.contents; cause = want_of_memory w.failed Memory refl })
 
-pub ends_play : (choices : Choices) (failed_old failed_now failed_new : Failed) (scenario : Scenario) (stage : Stage) (w v u : Option (List ℕ)) (fault : ScenarioFault) → stage ≡ new_stage scenario.nodes → Appends w v ok_line
-    → FailsNoMore failed_old failed_now → EndsCommands choices failed_now failed_new stage scenario.commands v u fault → EndsPlay choices failed_old failed_new scenario w u fault
-ends_play choices failed_old failed_now failed_new scenario stage w v u (BadLine number) opens ok kept ends = absurd ends
-ends_play choices failed_old failed_now failed_new scenario stage w v u Limit opens ok kept ends =
+pub ends_play : (choices : Choices) (scenario : Scenario) (stage : Stage) (w v u : SinkAt) (fault : ScenarioFault) → stage ≡ new_stage scenario.nodes → Appends w.contents v.contents ok_line
+    → FailsNoMore w.failed v.failed → EndsCommands choices stage scenario.commands v u fault → EndsPlay choices scenario w u fault
+ends_play choices scenario stage w v u (BadLine number) opens ok kept ends = absurd ends
+ends_play choices scenario stage w v u Limit opens ok kept ends =
     let writes = ends.0 in (
       record {
         done = writes.done;
@@ -215,15 +216,15 @@ ends_play choices failed_old failed_now failed_new scenario stage w v u Limit op
         stage = writes.stage;
         obeyed = subst (λ (s : Stage). ObeyAll choices s writes.done writes.text writes.stage) opens writes.obeyed;
         limit = writes.limit;
-        appended = Appends-then w v u ok_line writes.text ok writes.appended;
+        appended = Appends-then w.contents v.contents u.contents ok_line writes.text ok writes.appended;
       },
-      FailsNoMore-then failed_old failed_now failed_new kept ends.1,
+      FailsNoMore-then w.failed v.failed u.failed kept ends.1,
     )
-ends_play choices failed_old failed_now failed_new scenario stage w v u (Stream fault) opens ok kept ends = record {
+ends_play choices scenario stage w v u (Stream fault) opens ok kept ends = record {
   text = ok_line ++ ends.text;
   front = inr (ends.text, subst (λ (s : Stage). RunsFront choices s scenario.commands ends.text) opens ends.front, refl);
-  appended = Appends-then w v u ok_line ends.text ok ends.appended;
-  cause = write_fault_then failed_old failed_now failed_new fault kept ends.cause;
+  appended = Appends-then w.contents v.contents u.contents ok_line ends.text ok ends.appended;
+  cause = write_fault_then w.failed v.failed u.failed fault kept ends.cause;
 }
 
 -- ---- a text
@@ -289,7 +290,7 @@ whole_front choices scenario stage text obeyed =
     )
 
 -- the scenario of a text was played
-pub writes_scenario : (choices : Choices) (text : List ℕ) (scenario : Scenario) (w v : Option (List ℕ)) → first_bad (length choices) text ≡ None → scenario_of (commands_of (length choices) text) ≡ Some scenario
+pub writes_scenario : (choices : Choices) (text : List ℕ) (scenario : Scenario) (w v : SinkAt) → first_bad (length choices) text ≡ None → scenario_of (commands_of (length choices) text) ≡ Some scenario
     → PlaysAll choices scenario w v → WritesOutput choices text w v
 writes_scenario choices text scenario w v none_bad scenario_is plays = record {
   output = ok_line ++ plays.text;
@@ -300,11 +301,11 @@ writes_scenario choices text scenario w v none_bad scenario_is plays = record {
   appended = plays.appended;
 }
 
-pub ends_scenario : (choices : Choices) (failed_old failed_new : Failed) (text : List ℕ) (scenario : Scenario) (w v : Option (List ℕ)) (fault : ScenarioFault) → first_bad (length choices) text ≡ None
-    → scenario_of (commands_of (length choices) text) ≡ Some scenario → EndsPlay choices failed_old failed_new scenario w v fault → EndsBefore choices failed_old failed_new text w v fault
-ends_scenario choices failed_old failed_new text scenario w v (BadLine number) none_bad scenario_is ends = absurd ends
-ends_scenario choices failed_old failed_new text scenario w v Limit none_bad scenario_is ends = (record { scenario = scenario; none_bad = none_bad; scenario_is = scenario_is; plays = ends.0 }, ends.1)
-ends_scenario choices failed_old failed_new text scenario w v (Stream fault) none_bad scenario_is ends = record {
+pub ends_scenario : (choices : Choices) (text : List ℕ) (scenario : Scenario) (w v : SinkAt) (fault : ScenarioFault) → first_bad (length choices) text ≡ None
+    → scenario_of (commands_of (length choices) text) ≡ Some scenario → EndsPlay choices scenario w v fault → EndsBefore choices text w v fault
+ends_scenario choices text scenario w v (BadLine number) none_bad scenario_is ends = absurd ends
+ends_scenario choices text scenario w v Limit none_bad scenario_is ends = (record { scenario = scenario; none_bad = none_bad; scenario_is = scenario_is; plays = ends.0 }, ends.1)
+ends_scenario choices text scenario w v (Stream fault) none_bad scenario_is ends = record {
   output = ends.text;
   front = inr (inr (scenario, none_bad, scenario_is, ends.front));
   appended = ends.appended;
@@ -314,19 +315,26 @@ ends_scenario choices failed_old failed_new text scenario w v (Stream fault) non
 -- ---- the end of a text
 
 -- passing on failed
-pub stops_passing : (choices : Choices) (failed_old failed_now failed_new : Failed) (text : List ℕ) (w v u : Option (List ℕ)) (fault : StreamFault) → WritesOutput choices text w v → FailsNoMore failed_old failed_now → Keeps v u
-    → IsWriterFault failed_now failed_new fault → StopsPrinting choices failed_old failed_new text w u fault
-stops_passing choices failed_old failed_now failed_new text w v u fault writes kept keeps cause = record {
+pub stops_passing : (choices : Choices) (text : List ℕ) (w v u : SinkAt) (fault : StreamFault) → WritesOutput choices text w v → FailsNoMore w.failed v.failed → Keeps v.contents u.contents
+    → IsWriterFault v.failed u.failed fault → StopsPrinting choices text w u fault
+stops_passing choices text w v u fault writes kept keeps cause = record {
   output = writes.output;
   front = writes.front;
-  appended = Appends-kept w v u writes.output writes.appended keeps;
-  cause = write_fault_then failed_old failed_now failed_new fault kept (cause_of_writer failed_now failed_new fault cause);
+  appended = Appends-kept w.contents v.contents u.contents writes.output writes.appended keeps;
+  cause = write_fault_then w.failed v.failed u.failed fault kept (cause_of_writer v.failed u.failed fault cause);
+}
+
+-- the line of a fault was written, and passing it on failed
+pub line_passing : (text : List ℕ) (w v u : SinkAt) (fault : StreamFault) → Appends w.contents v.contents text → FailsNoMore w.failed v.failed → Keeps v.contents u.contents → IsWriterFault v.failed u.failed fault → EndsLine text w u fault
+line_passing text w v u fault writes kept keeps cause = record {
+  appended = record { front = text; rest = []; parts = sym (append-nil text); appended = Appends-kept w.contents v.contents u.contents text writes keeps };
+  cause = write_fault_then w.failed v.failed u.failed fault kept (cause_of_writer v.failed u.failed fault cause);
 }
 
 bad_output : (choices : Choices) (text : List ℕ) (number : ℕ) → first_bad (length choices) text ≡ Some number → IsOutput choices text (bad_line number) (Some (BadLine number))
 bad_output choices text number is = subst (λ (bad : Option ℕ). PlaysUnless bad choices text (bad_line number) (Some (BadLine number))) (sym is) (refl, refl)
 
-limit_output : (choices : Choices) (text : List ℕ) (scenario : Scenario) (w v : Option (List ℕ)) → first_bad (length choices) text ≡ None → scenario_of (commands_of (length choices) text) ≡ Some scenario
+limit_output : (choices : Choices) (text : List ℕ) (scenario : Scenario) (w v : SinkAt) → first_bad (length choices) text ≡ None → scenario_of (commands_of (length choices) text) ≡ Some scenario
     → (plays : PlaysToLimit choices scenario w v) → IsOutput choices text ((ok_line ++ plays.text) ++ limit_line) (Some Limit)
 limit_output choices text scenario w v none_bad scenario_is plays =
     is_played choices text ((ok_line ++ plays.text) ++ limit_line) scenario (Some Limit) none_bad scenario_is
@@ -339,39 +347,39 @@ limit_output choices text scenario w v none_bad scenario_is plays =
     })
 
 -- the line of a bad line, or of the limit, was written
-pub prints_bad : (choices : Choices) (failed_old failed_now failed_new : Failed) (passed : Type 0) (text : List ℕ) (number : ℕ) (w v u : Option (List ℕ)) → first_bad (length choices) text ≡ Some number → Appends w v []
-    → FailsNoMore failed_old failed_now → WritesEnd failed_now failed_new passed (bad_line number) v u → Prints choices failed_old failed_new passed text w u (Some (BadLine number))
-prints_bad choices failed_old failed_now failed_new passed text number w v u is before kept writes = record {
+pub prints_bad : (choices : Choices) (text : List ℕ) (number : ℕ) (w v u : SinkAt) → first_bad (length choices) text ≡ Some number → Appends w.contents v.contents []
+    → FailsNoMore w.failed v.failed → WritesEnd (bad_line number) v u → Prints choices text w u (Some (BadLine number))
+prints_bad choices text number w v u is before kept writes = record {
   output = bad_line number;
   output_is = bad_output choices text number is;
-  appended = Appends-then w v u [] (bad_line number) before writes.appended;
+  appended = Appends-then w.contents v.contents u.contents [] (bad_line number) before writes.appended;
   passed = writes.passed;
-  sound = FailsNoMore-then failed_old failed_now failed_new kept writes.sound;
+  sound = FailsNoMore-then w.failed v.failed u.failed kept writes.sound;
 }
 
-pub prints_limit : (choices : Choices) (failed_old failed_now failed_new : Failed) (passed : Type 0) (text : List ℕ) (w v u : Option (List ℕ)) → StopsAtLimit choices text w v → FailsNoMore failed_old failed_now
-    → WritesEnd failed_now failed_new passed limit_line v u → Prints choices failed_old failed_new passed text w u (Some Limit)
-prints_limit choices failed_old failed_now failed_new passed text w v u stops kept writes = record {
+pub prints_limit : (choices : Choices) (text : List ℕ) (w v u : SinkAt) → StopsAtLimit choices text w v → FailsNoMore w.failed v.failed
+    → WritesEnd limit_line v u → Prints choices text w u (Some Limit)
+prints_limit choices text w v u stops kept writes = record {
   output = (ok_line ++ stops.plays.text) ++ limit_line;
   output_is = limit_output choices text stops.scenario w v stops.none_bad stops.scenario_is stops.plays;
-  appended = Appends-then w v u (ok_line ++ stops.plays.text) limit_line stops.plays.appended writes.appended;
+  appended = Appends-then w.contents v.contents u.contents (ok_line ++ stops.plays.text) limit_line stops.plays.appended writes.appended;
   passed = writes.passed;
-  sound = FailsNoMore-then failed_old failed_now failed_new kept writes.sound;
+  sound = FailsNoMore-then w.failed v.failed u.failed kept writes.sound;
 }
 
 -- or a front of it
-pub stops_bad : (choices : Choices) (failed_old failed_now failed_new : Failed) (text : List ℕ) (number : ℕ) (w v u : Option (List ℕ)) (fault : StreamFault) → first_bad (length choices) text ≡ Some number → Appends w v []
-    → EndsLine failed_now failed_new (bad_line number) v u fault → FailsNoMore failed_old failed_now → StopsPrinting choices failed_old failed_new text w u fault
-stops_bad choices failed_old failed_now failed_new text number w v u fault is before ends kept = record {
+pub stops_bad : (choices : Choices) (text : List ℕ) (number : ℕ) (w v u : SinkAt) (fault : StreamFault) → first_bad (length choices) text ≡ Some number → Appends w.contents v.contents []
+    → EndsLine (bad_line number) v u fault → FailsNoMore w.failed v.failed → StopsPrinting choices text w u fault
+stops_bad choices text number w v u fault is before ends kept = record {
   output = ends.appended.front;
   front = inr (inl (number, ends.appended.rest, is, ends.appended.parts));
-  appended = Appends-then w v u [] ends.appended.front before ends.appended.appended;
-  cause = write_fault_then failed_old failed_now failed_new fault kept ends.cause;
+  appended = Appends-then w.contents v.contents u.contents [] ends.appended.front before ends.appended.appended;
+  cause = write_fault_then w.failed v.failed u.failed fault kept ends.cause;
 }
 
-pub stops_limit : (choices : Choices) (failed_old failed_now failed_new : Failed) (text : List ℕ) (w v u : Option (List ℕ)) (fault : StreamFault) → StopsAtLimit choices text w v → EndsLine failed_now failed_new limit_line v u fault
-    → FailsNoMore failed_old failed_now → StopsPrinting choices failed_old failed_new text w u fault
-stops_limit choices failed_old failed_now failed_new text w v u fault stops ends kept =
+pub stops_limit : (choices : Choices) (text : List ℕ) (w v u : SinkAt) (fault : StreamFault) → StopsAtLimit choices text w v → EndsLine limit_line v u fault
+    → FailsNoMore w.failed v.failed → StopsPrinting choices text w u fault
+stops_limit choices text w v u fault stops ends kept =
     let plays = stops.plays in
     let front = ends.appended.front in
     record {
@@ -396,24 +404,24 @@ stops_limit choices failed_old failed_now failed_new text w v u fault stops ends
           append_assoc ok_line plays.text front,
         ),
       ));
-      appended = Appends-then w v u (ok_line ++ plays.text) front plays.appended ends.appended.appended;
-      cause = write_fault_then failed_old failed_now failed_new fault kept ends.cause;
+      appended = Appends-then w.contents v.contents u.contents (ok_line ++ plays.text) front plays.appended ends.appended.appended;
+      cause = write_fault_then w.failed v.failed u.failed fault kept ends.cause;
     }
 
 -- how the line of a fault ends
-abbrev pub EndsBy : (failed_old failed_new : Failed) (passed : Type 0) (fault : ScenarioFault) (v u : Option (List ℕ)) (result : ScenarioFault) → Type 0
-EndsBy failed_old failed_new passed fault v u result =
-    ((result ≡ fault) × WritesEnd failed_old failed_new passed (end_line fault) v u)
-    ⊎ ((by_stream : StreamFault) × (result ≡ Stream by_stream) × EndsLine failed_old failed_new (end_line fault) v u by_stream)
+abbrev pub EndsBy : (fault : ScenarioFault) (v u : SinkAt) (result : ScenarioFault) → Type 0
+EndsBy fault v u result =
+    ((result ≡ fault) × WritesEnd (end_line fault) v u)
+    ⊎ ((by_stream : StreamFault) × (result ≡ Stream by_stream) × EndsLine (end_line fault) v u by_stream)
 
-pub ends_text : (choices : Choices) (failed_old failed_now failed_new : Failed) (passed : Type 0) (text : List ℕ) (w v u : Option (List ℕ)) (fault result : ScenarioFault) → ((f : StreamFault) → fault ≡ Stream f → ⊥)
-    → EndsBefore choices failed_old failed_now text w v fault → EndsBy failed_now failed_new passed fault v u result → EndsText choices failed_old failed_new passed text w u result
-ends_text choices failed_old failed_now failed_new passed text w v u (BadLine number) result other before (inl (is, writes)) =
-    subst (EndsText choices failed_old failed_new passed text w u) (sym is) (prints_bad choices failed_old failed_now failed_new passed text number w v u before.0 before.1 before.2 writes)
-ends_text choices failed_old failed_now failed_new passed text w v u (BadLine number) result other before (inr (by_stream, is, ends)) =
-    subst (EndsText choices failed_old failed_new passed text w u) (sym is) (stops_bad choices failed_old failed_now failed_new text number w v u by_stream before.0 before.1 ends before.2)
-ends_text choices failed_old failed_now failed_new passed text w v u Limit result other before (inl (is, writes)) =
-    subst (EndsText choices failed_old failed_new passed text w u) (sym is) (prints_limit choices failed_old failed_now failed_new passed text w v u before.0 before.1 writes)
-ends_text choices failed_old failed_now failed_new passed text w v u Limit result other before (inr (by_stream, is, ends)) =
-    subst (EndsText choices failed_old failed_new passed text w u) (sym is) (stops_limit choices failed_old failed_now failed_new text w v u by_stream before.0 ends before.1)
-ends_text choices failed_old failed_now failed_new passed text w v u (Stream f) result other before ends = absurd (other f refl)
+pub ends_text : (choices : Choices) (text : List ℕ) (w v u : SinkAt) (fault result : ScenarioFault) → ((f : StreamFault) → fault ≡ Stream f → ⊥)
+    → EndsBefore choices text w v fault → EndsBy fault v u result → EndsText choices text w u result
+ends_text choices text w v u (BadLine number) result other before (inl (is, writes)) =
+    subst (EndsText choices text w u) (sym is) (prints_bad choices text number w v u before.0 before.1 before.2 writes)
+ends_text choices text w v u (BadLine number) result other before (inr (by_stream, is, ends)) =
+    subst (EndsText choices text w u) (sym is) (stops_bad choices text number w v u by_stream before.0 before.1 ends before.2)
+ends_text choices text w v u Limit result other before (inl (is, writes)) =
+    subst (EndsText choices text w u) (sym is) (prints_limit choices text w v u before.0 before.1 writes)
+ends_text choices text w v u Limit result other before (inr (by_stream, is, ends)) =
+    subst (EndsText choices text w u) (sym is) (stops_limit choices text w v u by_stream before.0 ends before.1)
+ends_text choices text w v u (Stream f) result other before ends = absurd (other f refl)

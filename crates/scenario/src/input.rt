@@ -14,10 +14,8 @@ const PIECE_LEN: usize = 65_536;
 /// interruption too, with 8 `InputTooLong` once more than 67,108,864 bytes were read, and with 99
 /// `Memory`.
 pub fn read_text<R: Source>(alloc: Global, reader: &mut R) -> Result<Vec<u8>, StreamFault>
-    ensures ok { IfOk result (λ text. ReadsAll (R.read_failed reader.old)
-        (R.read_failed reader.new) (R.remaining reader.old) (R.remaining reader.new) text.items) }
-    ensures err { IfErr result (λ fault. ReadsPart (R.read_failed reader.old)
-        (R.read_failed reader.new) (R.remaining reader.old) (R.remaining reader.new) fault) }
+    ensures ok { IfOk result (λ text. ReadsAll (R.at reader.old) (R.at reader.new) text.items) }
+    ensures err { IfErr result (λ fault. ReadsPart (R.at reader.old) (R.at reader.new) fault) }
 {
     let mut piece = vec![in alloc; 0u8; PIECE_LEN]?;
     let mut text = Vec::new(alloc);
@@ -33,12 +31,11 @@ fn add_piece<R: Source>(
 ) -> Result<bool, StreamFault>
     requires some { 0 < length piece.old }
     requires room { length text.old.items ≤ input_limit }
-    ensures ok { IfOk result (λ more. AddsPiece (R.remaining reader.old) (R.remaining reader.new)
-        text.old.items text.new.items more) }
-    ensures err { IfErr result (λ fault. StopsPiece (R.read_failed reader.old)
-        (R.read_failed reader.new) (R.remaining reader.old) (R.remaining reader.new)
+    ensures ok { IfOk result (λ more. AddsPiece (R.at reader.old) (R.at reader.new) text.old.items
+        text.new.items more) }
+    ensures err { IfErr result (λ fault. StopsPiece (R.at reader.old) (R.at reader.new)
         text.old.items fault) }
-    ensures sound { OnOk result (R.read_failed reader.new → R.read_failed reader.old) }
+    ensures sound { OnOk result ((R.at reader.new).failed → (R.at reader.old).failed) }
 {
     let n = match reader.read_some(piece) {
         Ok(n) => n,

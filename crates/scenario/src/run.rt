@@ -27,11 +27,10 @@ fn play_command<W: Sink>(
     writer: &mut W,
 ) -> Result<(), ScenarioFault>
     ensures ok { OnOk result (WritesCommand (map (λ r. choice r) resolvers.now) stage.old
-        (command_word command.now) (W.contents writer.old) (W.contents writer.new) stage.new) }
-    ensures err { IfErr result (EndsCommand (map (λ r. choice r) resolvers.now)
-        (W.failed writer.old) (W.failed writer.new) stage.old (command_word command.now)
-        (W.contents writer.old) (W.contents writer.new)) }
-    ensures sound { OnOk result (FailsNoMore (W.failed writer.old) (W.failed writer.new)) }
+        (command_word command.now) (W.at writer.old) (W.at writer.new) stage.new) }
+    ensures err { IfErr result (EndsCommand (map (λ r. choice r) resolvers.now) stage.old
+        (command_word command.now) (W.at writer.old) (W.at writer.new)) }
+    ensures sound { OnOk result (FailsNoMore (W.at writer.old).failed (W.at writer.new).failed) }
 {
     text.clear();
     stage.obey(command, resolvers, text)?;
@@ -48,11 +47,10 @@ fn play_commands<W: Sink>(
     writer: &mut W,
 ) -> Result<(), ScenarioFault>
     ensures ok { OnOk result (WritesAll (map (λ r. choice r) resolvers.now) stage.old
-        script.old.commands (W.contents writer.old) (W.contents writer.new)) }
-    ensures err { IfErr result (EndsCommands (map (λ r. choice r) resolvers.now)
-        (W.failed writer.old) (W.failed writer.new) stage.old script.old.commands
-        (W.contents writer.old) (W.contents writer.new)) }
-    ensures sound { OnOk result (FailsNoMore (W.failed writer.old) (W.failed writer.new)) }
+        script.old.commands (W.at writer.old) (W.at writer.new)) }
+    ensures err { IfErr result (EndsCommands (map (λ r. choice r) resolvers.now) stage.old
+        script.old.commands (W.at writer.old) (W.at writer.new)) }
+    ensures sound { OnOk result (FailsNoMore (W.at writer.old).failed (W.at writer.new).failed) }
 {
     let mut text = Vec::new(alloc);
     while let Some(command) = script.next() {
@@ -63,11 +61,10 @@ fn play_commands<W: Sink>(
 
 /// Writes that the nodes are there.
 fn write_ok<W: Sink>(alloc: Global, writer: &mut W) -> Result<(), StreamFault>
-    ensures ok { OnOk result
-        (Appends (W.contents writer.old) (W.contents writer.new) (line (codes "ok"))) }
-    ensures err { IfErr result (EndsLine (W.failed writer.old) (W.failed writer.new)
-        (line (codes "ok")) (W.contents writer.old) (W.contents writer.new)) }
-    ensures sound { OnOk result (FailsNoMore (W.failed writer.old) (W.failed writer.new)) }
+    ensures ok { OnOk result (Appends (W.at writer.old).contents (W.at writer.new).contents
+        (line (codes "ok"))) }
+    ensures err { IfErr result (EndsLine (line (codes "ok")) (W.at writer.old) (W.at writer.new)) }
+    ensures sound { OnOk result (FailsNoMore (W.at writer.old).failed (W.at writer.new).failed) }
 {
     let mut text = Vec::new(alloc);
     print_line(&mut text, "ok")?;
@@ -82,10 +79,10 @@ fn play<W: Sink>(
     writer: &mut W,
 ) -> Result<(), ScenarioFault>
     ensures ok { OnOk result (PlaysAll (map (λ r. choice r) resolvers.now) script.old
-        (W.contents writer.old) (W.contents writer.new)) }
-    ensures err { IfErr result (EndsPlay (map (λ r. choice r) resolvers.now) (W.failed writer.old)
-        (W.failed writer.new) script.old (W.contents writer.old) (W.contents writer.new)) }
-    ensures sound { OnOk result (FailsNoMore (W.failed writer.old) (W.failed writer.new)) }
+        (W.at writer.old) (W.at writer.new)) }
+    ensures err { IfErr result (EndsPlay (map (λ r. choice r) resolvers.now) script.old
+        (W.at writer.old) (W.at writer.new)) }
+    ensures sound { OnOk result (FailsNoMore (W.at writer.old).failed (W.at writer.new).failed) }
 {
     let mut stage = Stage::new(alloc, script.nodes())?;
     write_ok(alloc, writer)?;
@@ -100,11 +97,10 @@ fn play_text<W: Sink>(
     writer: &mut W,
 ) -> Result<(), ScenarioFault>
     ensures ok { OnOk result (WritesOutput (map (λ r. choice r) resolvers.now) text.now
-        (W.contents writer.old) (W.contents writer.new)) }
-    ensures err { IfErr result (EndsBefore (map (λ r. choice r) resolvers.now)
-        (W.failed writer.old) (W.failed writer.new) text.now
-        (W.contents writer.old) (W.contents writer.new)) }
-    ensures sound { OnOk result (FailsNoMore (W.failed writer.old) (W.failed writer.new)) }
+        (W.at writer.old) (W.at writer.new)) }
+    ensures err { IfErr result (EndsBefore (map (λ r. choice r) resolvers.now) text.now
+        (W.at writer.old) (W.at writer.new)) }
+    ensures sound { OnOk result (FailsNoMore (W.at writer.old).failed (W.at writer.new).failed) }
 {
     match parse(text, resolvers.len())? {
         Some(mut script) => play(alloc, &mut script, resolvers, writer),
@@ -129,11 +125,8 @@ fn write_end<W: Sink>(
     writer: &mut W,
     fault: ScenarioFault,
 ) -> Result<(), StreamFault>
-    ensures ok { OnOk result (WritesEnd (W.failed writer.old) (W.failed writer.new)
-        (W.passed_on writer.new) (end_line fault)
-        (W.contents writer.old) (W.contents writer.new)) }
-    ensures err { IfErr result (EndsLine (W.failed writer.old) (W.failed writer.new)
-        (end_line fault) (W.contents writer.old) (W.contents writer.new)) }
+    ensures ok { OnOk result (WritesEnd (end_line fault) (W.at writer.old) (W.at writer.new)) }
+    ensures err { IfErr result (EndsLine (end_line fault) (W.at writer.old) (W.at writer.new)) }
 {
     let mut text = Vec::new(alloc);
     print_end(&mut text, fault)?;
@@ -144,12 +137,9 @@ fn write_end<W: Sink>(
 /// Writes the line of the fault that ends a scenario, if it has one, and passes on what was
 /// written. Answers that fault, or the one that the writing meets.
 pub fn end_run<W: Sink>(alloc: Global, writer: &mut W, fault: ScenarioFault) -> ScenarioFault
-    ensures { ((result ≡ fault) × WritesEnd (W.failed writer.old) (W.failed writer.new)
-        (W.passed_on writer.new) (end_line fault)
-        (W.contents writer.old) (W.contents writer.new))
+    ensures { ((result ≡ fault) × WritesEnd (end_line fault) (W.at writer.old) (W.at writer.new))
         ⊎ ((by_stream : ByStream) × (result ≡ Stream by_stream)
-        × EndsLine (W.failed writer.old) (W.failed writer.new) (end_line fault)
-        (W.contents writer.old) (W.contents writer.new) by_stream) }
+        × EndsLine (end_line fault) (W.at writer.old) (W.at writer.new) by_stream) }
 {
     match write_end(alloc, writer, fault) {
         Ok(()) => fault,
@@ -164,12 +154,10 @@ fn run_text<W: Sink>(
     writer: &mut W,
     resolvers: &[Box<dyn Resolver>],
 ) -> Result<(), ScenarioFault>
-    ensures ok { OnOk result (Prints (map (λ r. choice r) resolvers.now)
-        (W.failed writer.old) (W.failed writer.new) (W.passed_on writer.new) text.now
-        (W.contents writer.old) (W.contents writer.new) None) }
-    ensures err { IfErr result (EndsText (map (λ r. choice r) resolvers.now) (W.failed writer.old)
-        (W.failed writer.new) (W.passed_on writer.new) text.now
-        (W.contents writer.old) (W.contents writer.new)) }
+    ensures ok { OnOk result (Prints (map (λ r. choice r) resolvers.now) text.now
+        (W.at writer.old) (W.at writer.new) None) }
+    ensures err { IfErr result (EndsText (map (λ r. choice r) resolvers.now) text.now
+        (W.at writer.old) (W.at writer.new)) }
 {
     match play_text(alloc, text, resolvers, writer) {
         Ok(()) => Ok(flush(writer)?),
@@ -195,15 +183,9 @@ pub fn run_over<R: Source, W: Sink>(
     resolvers: &[Box<dyn Resolver>],
 ) -> Result<(), ScenarioFault>
     ensures ok { OnOk result (PrintsAll (map (λ r. choice r) resolvers.now)
-        (R.read_failed reader.old) (R.read_failed reader.new)
-        (W.failed writer.old) (W.failed writer.new) (W.passed_on writer.new)
-        (R.remaining reader.old) (R.remaining reader.new)
-        (W.contents writer.old) (W.contents writer.new)) }
+        (R.at reader.old) (R.at reader.new) (W.at writer.old) (W.at writer.new)) }
     ensures err { IfErr result (EndsEarly (map (λ r. choice r) resolvers.now)
-        (R.read_failed reader.old) (R.read_failed reader.new)
-        (W.failed writer.old) (W.failed writer.new) (W.passed_on writer.new)
-        (R.remaining reader.old) (R.remaining reader.new)
-        (W.contents writer.old) (W.contents writer.new)) }
+        (R.at reader.old) (R.at reader.new) (W.at writer.old) (W.at writer.new)) }
 {
     let text = read_text(alloc, reader)?;
     run_text(alloc, text.as_slice(), writer, resolvers)

@@ -62,12 +62,12 @@ impl LineBuffer {
     /// Reads a piece where nothing is pending. Returns whether something is pending then; otherwise
     /// the reader is at its end.
     fn fill<R: Source>(&mut self, reader: &mut R) -> Result<bool, StreamFault>
-        ensures ok { IfOk result (λ more. Fills self.old self.new (R.remaining reader.old)
-            (R.remaining reader.new) more) }
+        ensures ok { IfOk result (λ more. Fills self.old self.new (R.at reader.old).remaining
+            (R.at reader.new).remaining more) }
         ensures err { IfErr result
-            (λ fault. StopsReading (R.read_failed reader.new) ⊥ self.old (R.remaining reader.old)
-            (R.remaining reader.new) fault) }
-        ensures sound { OnOk result (R.read_failed reader.new → R.read_failed reader.old) }
+            (λ fault. StopsReading (R.at reader.new).failed ⊥ self.old (R.at reader.old).remaining
+            (R.at reader.new).remaining fault) }
+        ensures sound { OnOk result ((R.at reader.new).failed → (R.at reader.old).failed) }
     {
         if self.start < self.end {
             return Ok(true);
@@ -115,13 +115,13 @@ impl LineBuffer {
         reader: &mut R,
         line: &mut Vec<u8>,
     ) -> Result<bool, StreamFault>
-        ensures ok { IfOk result (λ ended. TakesLine self.old self.new (R.remaining reader.old)
-            (R.remaining reader.new) line.new.items ended) }
+        ensures ok { IfOk result (λ ended. TakesLine self.old self.new (R.at reader.old).remaining
+            (R.at reader.new).remaining line.new.items ended) }
         ensures err { IfErr result
-            (λ fault. StopsReading (R.read_failed reader.new)
-            (R.read_failed reader.new → R.read_failed reader.old) self.old
-            (R.remaining reader.old) (R.remaining reader.new) fault) }
-        ensures sound { OnOk result (R.read_failed reader.new → R.read_failed reader.old) }
+            (λ fault. StopsReading (R.at reader.new).failed
+            ((R.at reader.new).failed → (R.at reader.old).failed) self.old
+            (R.at reader.old).remaining (R.at reader.new).remaining fault) }
+        ensures sound { OnOk result ((R.at reader.new).failed → (R.at reader.old).failed) }
     {
         line.clear();
         while self.fill(reader)? {

@@ -4,7 +4,8 @@ ghost use Rattle.std.specs.Prelude.{◌≡◌, ◌<◌, ⊤, length, OnOk, IfOk,
 ghost use Rattle.std.specs.IoError.{error_kind};
 ghost use Rattle.std.specs.Io.{WritesAtMost};
 ghost use Rattle.std.specs.Io.KnownBytes.{WriteAppends, Keeps, Appends};
-ghost use Rattle.streams.specs.Fault.{Failed, FailsNoMore, FailsOnly, IsWriterFault, fault_of_kind};
+ghost use Rattle.streams.specs.Fault.{FailsNoMore, FailsOnly, IsWriterFault, fault_of_kind};
+ghost use Rattle.streams.specs.Moment.{SinkAt};
 ghost use Rattle.streams.specs.Written.{AppendsFront};
 
 use crate::fault::StreamFault;
@@ -14,43 +15,41 @@ use std::io::{self, ErrorKind, Write};
 /// A writer that says when a write of it may fail. A `Vec` fails for want of memory alone, so a run
 /// over it can't answer that its writer failed.
 pub trait Sink: Write {
-    // Holds of a writer and a kind of error that a call of it has answered. A write that took no
-    // byte of some counts as `WriteZero`.
-    ghost failed: { Self → Failed };
-
-    // Holds of a writer that holds nothing back.
-    ghost passed_on: { Self → Type 0 };
+    // The writer at a moment. A write that took no byte of some counts as an error `WriteZero`.
+    ghost at: { Self → SinkAt };
 
     /// One write.
     fn write_some(&mut self, bytes: &[u8]) -> io::Result<usize>
         ensures bound { WritesAtMost result bytes.now }
-        ensures bytes { WriteAppends (Self.contents self.old)
-            (Self.contents self.new) result bytes.now }
-        ensures cause { IfErr result (λ e. failed self.new (error_kind e)) }
-        ensures only { IfErr result (λ e. FailsOnly (failed self.old) (failed self.new)
+        ensures bytes { WriteAppends (at self.old).contents
+            (at self.new).contents result bytes.now }
+        ensures cause { IfErr result (λ e. (at self.new).failed (error_kind e)) }
+        ensures only { IfErr result (λ e. FailsOnly (at self.old).failed (at self.new).failed
             (error_kind e)) }
         ensures full { IfOk result (λ n. n ≡ 0 → 0 < length bytes.now
-            → failed self.new ErrorKind.WriteZero
-            × FailsOnly (failed self.old) (failed self.new) ErrorKind.WriteZero) }
-        ensures sound { IfOk result (λ n. 0 < n → FailsNoMore (failed self.old)
-            (failed self.new)) };
+            → (at self.new).failed ErrorKind.WriteZero
+            × FailsOnly (at self.old).failed (at self.new).failed ErrorKind.WriteZero) }
+        ensures sound { IfOk result (λ n. 0 < n → FailsNoMore (at self.old).failed
+            (at self.new).failed) };
 
     /// Passes on what is held back.
     fn pass_on(&mut self) -> io::Result<()>
-        ensures bytes { Keeps (Self.contents self.old) (Self.contents self.new) }
-        ensures cause { IfErr result (λ e. failed self.new (error_kind e)) }
-        ensures only { IfErr result (λ e. FailsOnly (failed self.old) (failed self.new)
+        ensures bytes { Keeps (at self.old).contents (at self.new).contents }
+        ensures cause { IfErr result (λ e. (at self.new).failed (error_kind e)) }
+        ensures only { IfErr result (λ e. FailsOnly (at self.old).failed (at self.new).failed
             (error_kind e)) }
-        ensures done { OnOk result (passed_on self.new) }
-        ensures sound { OnOk result (FailsNoMore (failed self.old) (failed self.new)) };
+        ensures done { OnOk result (at self.new).passed_on }
+        ensures sound { OnOk result (FailsNoMore (at self.old).failed (at self.new).failed) };
 }
 
 impl Sink for Vec<u8> {
     ghost use Rattle.std.specs.declared.io.ErrorKind.TheVariants.{OutOfMemory};
 
-    ghost failed = { λ _ kind. kind ≡ OutOfMemory };
-
-    ghost passed_on = { λ _. ⊤ };
+    ghost at = { λ w. record {
+      failed = λ kind. kind ≡ OutOfMemory;
+      passed_on = ⊤;
+      contents = Self.contents w;
+    } };
 
     fn write_some(&mut self, bytes: &[u8]) -> io::Result<usize> {
         self.write(bytes)
@@ -74,9 +73,11 @@ impl<W: Write> Write for MayFail<W> {
 }
 
 impl<W: Write> Sink for MayFail<W> {
-    ghost failed = { λ _ _. ⊤ };
-
-    ghost passed_on = { λ _. ⊤ };
+    ghost at = { λ w. record {
+      failed = λ _. ⊤;
+      passed_on = ⊤;
+      contents = W.contents w.0;
+    } };
 
     fn write_some(&mut self, bytes: &[u8]) -> io::Result<usize> {
         self.0.write(bytes)
@@ -101,12 +102,13 @@ pub fn write_fault(kind: ErrorKind) -> StreamFault
 /// Writes all the bytes, or after a fault a front of them. The first error ends it, an interruption
 /// too.
 pub fn write_whole<W: Sink>(writer: &mut W, bytes: &[u8]) -> Result<(), StreamFault>
-    ensures ok { OnOk result (Appends (W.contents writer.old) (W.contents writer.new) bytes.now) }
+    ensures ok { OnOk result
+        (Appends (W.at writer.old).contents (W.at writer.new).contents bytes.now) }
     ensures err { OnErr result
-        (AppendsFront (W.contents writer.old) (W.contents writer.new) bytes.now) }
-    ensures cause { IfErr result (λ fault. IsWriterFault (W.failed writer.old)
-        (W.failed writer.new) fault) }
-    ensures sound { OnOk result (FailsNoMore (W.failed writer.old) (W.failed writer.new)) }
+        (AppendsFront (W.at writer.old).contents (W.at writer.new).contents bytes.now) }
+    ensures cause { IfErr result (λ fault. IsWriterFault (W.at writer.old).failed
+        (W.at writer.new).failed fault) }
+    ensures sound { OnOk result (FailsNoMore (W.at writer.old).failed (W.at writer.new).failed) }
 {
     let mut rest = bytes;
     while !rest.is_empty() {
@@ -121,11 +123,11 @@ pub fn write_whole<W: Sink>(writer: &mut W, bytes: &[u8]) -> Result<(), StreamFa
 
 /// Passes on what the writer holds back.
 pub fn flush<W: Sink>(writer: &mut W) -> Result<(), StreamFault>
-    ensures bytes { Keeps (W.contents writer.old) (W.contents writer.new) }
-    ensures cause { IfErr result (λ fault. IsWriterFault (W.failed writer.old)
-        (W.failed writer.new) fault) }
-    ensures done { OnOk result (W.passed_on writer.new) }
-    ensures sound { OnOk result (FailsNoMore (W.failed writer.old) (W.failed writer.new)) }
+    ensures bytes { Keeps (W.at writer.old).contents (W.at writer.new).contents }
+    ensures cause { IfErr result (λ fault. IsWriterFault (W.at writer.old).failed
+        (W.at writer.new).failed fault) }
+    ensures done { OnOk result (W.at writer.new).passed_on }
+    ensures sound { OnOk result (FailsNoMore (W.at writer.old).failed (W.at writer.new).failed) }
 {
     match writer.pass_on() {
         Ok(()) => Ok(()),

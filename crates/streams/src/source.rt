@@ -3,26 +3,27 @@
 ghost use Rattle.std.specs.Prelude.{⊤, OnOk, OnErr};
 ghost use Rattle.std.specs.Io.{ReadsAtMost, WritesAtMost};
 ghost use Rattle.std.specs.Io.KnownBytes.{ReadConsumes, WriteAppends, Keeps};
+ghost use Rattle.streams.specs.Moment.{SourceAt};
 
 use std::io::{self, Read, Write};
 
 /// A reader that says when a read of it may fail. Bytes in memory never do, so a run over them
 /// can't answer that its reader failed.
 pub trait Source: Read {
-    // Holds of a reader of which a read has failed.
-    ghost read_failed: { Self → Type 0 };
+    // The reader at a moment.
+    ghost at: { Self → SourceAt };
 
     /// One read.
     fn read_some(&mut self, piece: &mut [u8]) -> io::Result<usize>
         ensures bound { ReadsAtMost result piece.new }
-        ensures bytes { ReadConsumes (Self.remaining self.old)
-            (Self.remaining self.new) result piece.new }
-        ensures cause { OnErr result (read_failed self.new) }
-        ensures sound { OnOk result (read_failed self.new → read_failed self.old) };
+        ensures bytes { ReadConsumes (at self.old).remaining (at self.new).remaining result
+            piece.new }
+        ensures cause { OnErr result (at self.new).failed }
+        ensures sound { OnOk result ((at self.new).failed → (at self.old).failed) };
 }
 
 impl Source for &[u8] {
-    ghost read_failed = { λ _. ⊥ };
+    ghost at = { λ r. record { failed = ⊥; remaining = Self.remaining r } };
 
     fn read_some(&mut self, piece: &mut [u8]) -> io::Result<usize> {
         self.read(piece)
@@ -43,7 +44,7 @@ impl<R: Read> Read for MayFail<R> {
 }
 
 impl<R: Read> Source for MayFail<R> {
-    ghost read_failed = { λ _. ⊤ };
+    ghost at = { λ r. record { failed = ⊤; remaining = R.remaining r.0 } };
 
     fn read_some(&mut self, piece: &mut [u8]) -> io::Result<usize> {
         self.0.read(piece)

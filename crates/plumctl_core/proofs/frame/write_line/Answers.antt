@@ -7,12 +7,12 @@ use Rattle.plumctl_core.proofs.frame.write_line.Goals as goal
 pub returns-in_err-is_frame-clause-err : goal.returns-in_err-is_frame-clause-err
 returns-in_err-is_frame-clause-err g c =
     let p = err_from_is_err_and c.from_residual.result c.from_residual.ensures.1 in
-    rw p.1 (stopped_before _ c.args.line.now _ p.0 p.2)
+    rw p.1 (stopped_before c.args.line.now _ p.0 p.2)
 
 pub returns-in_err-push-clause-err : goal.returns-in_err-push-clause-err
 returns-in_err-push-clause-err g c =
     let p = err_from_is_err_and c.from_residual-in_err-push.result c.from_residual-in_err-push.ensures.1 in
-    rw p.1 (stopped_before _ c.args.line.now _ p.0 p.2)
+    rw p.1 (stopped_before c.args.line.now _ p.0 p.2)
 
 pub returns-in_err-write_whole-clause-err : goal.returns-in_err-write_whole-clause-err
 returns-in_err-write_whole-clause-err g c =
@@ -22,6 +22,6 @@ returns-in_err-write_whole-clause-err g c =
     rw (p.1, p.2) (record {
       text = text;
       text_is = c.in_ok-is_frame.ensures.text;
-      appended = subst (AppendsFront (g.W.Write.contents c.args.writer.now) (g.W.Write.contents c.write_whole.new.writer)) bytes c.in_err-write_whole.ensures.err;
-      cause = cause_of_writer (g.W.Sink.failed c.args.writer.now) (g.W.Sink.failed c.write_whole.new.writer) c.in_err-write_whole.field-0.0 c.in_err-write_whole.ensures.cause;
+      appended = subst (AppendsFront (g.W.Sink.at c.args.writer.now).contents (g.W.Sink.at c.write_whole.new.writer).contents) bytes c.in_err-write_whole.ensures.err;
+      cause = cause_of_writer (g.W.Sink.at c.args.writer.now).failed (g.W.Sink.at c.write_whole.new.writer).failed c.in_err-write_whole.field-0.0 c.in_err-write_whole.ensures.cause;
     })

@@ -4,4 +4,11 @@ use Rattle.plumctl_core.proofs.status.run_frame.Goals as goal
 
 pub returns-in-Ok-clause-ends : goal.returns-in-Ok-clause-ends
 returns-in-Ok-clause-ends g c =
-    inl (c.in-Ok.ended, c.status.ensures, Keeps-self _, c.in-Ok.ensures.sound.0, c.in-Ok.ensures.sound.1, c.in-Ok.ensures.ok)
+    inl (record {
+      ended = c.in-Ok.ended;
+      status_is = c.status.ensures;
+      kept = Keeps-self _;
+      read_sound = c.in-Ok.ensures.sound.0;
+      write_sound = c.in-Ok.ensures.sound.1;
+      prints = c.in-Ok.ensures.ok;
+    })

@@ -6,26 +6,24 @@ use Rattle.scenario.proofs.Reading.{reads_all, reads_more, reads_none, reads_sto
 use Rattle.scenario.proofs.input.read_text.Goals as goal
 
 pub loop-text-init : goal.loop-text-init
-loop-text-init g c = (rw c.new-text.ensures.items (reads_none _ _), search rules)
+loop-text-init g c = (rw c.new-text.ensures.items (reads_none _), search rules)
 
 pub returns-in_err-add_piece-clause-err : goal.returns-in_err-add_piece-clause-err
 returns-in_err-add_piece-clause-err g c =
     let p = err_from_is_err_and c.from_residual-in_err-add_piece.result c.from_residual-in_err-add_piece.ensures.1 in
     rw (p.1, p.2)
-    (reads_stopped _ _ _ _ _ _ c.loop-text.text.items _ c.loop-text.invariant.0 c.in_err-add_piece.ensures.err)
+    (reads_stopped _ _ _ c.loop-text.text.items _ c.loop-text.invariant.0 c.in_err-add_piece.ensures.err)
 
 pub loop-text-preserved : goal.loop-text-preserved
 loop-text-preserved g c =
-    let remaining = g.R.Read.remaining in
-    let piece = subst (λ more. AddsPiece (remaining c.loop-text.reader) (remaining c.add_piece.new.reader) c.loop-text.text.items c.add_piece.new.text.items more) c.if-branch.true c.in_ok-add_piece.ensures.ok in
+    let piece = subst (λ more. AddsPiece (g.R.Source.at c.loop-text.reader) (g.R.Source.at c.add_piece.new.reader) c.loop-text.text.items c.add_piece.new.text.items more) c.if-branch.true c.in_ok-add_piece.ensures.ok in
     let len : length c.add_piece.new.piece ≡ c.loop-text.piece.len = search rules in
     let some : 0 < length c.add_piece.new.piece = omega (arith, len, c.loop-text.invariant.1, c.loop-text.piece.ok.0) in (
-      reads_more _ _ _ _ _ _ c.loop-text.text.items _ c.loop-text.invariant.0 piece c.in_ok-add_piece.ensures.sound,
+      reads_more _ _ _ c.loop-text.text.items _ c.loop-text.invariant.0 piece c.in_ok-add_piece.ensures.sound,
       rw (with_items_is c.loop-text.piece c.add_piece.new.piece len) some,
     )
 
 pub returns-clause-ok : goal.returns-clause-ok
 returns-clause-ok g c =
-    let remaining = g.R.Read.remaining in
-    let piece = subst (λ more. AddsPiece (remaining c.loop-text.reader) (remaining c.add_piece.new.reader) c.loop-text.text.items c.add_piece.new.text.items more) c.if-branch.false c.in_ok-add_piece.ensures.ok in
-    reads_all _ _ _ _ _ _ c.loop-text.text.items _ c.loop-text.invariant.0 piece c.in_ok-add_piece.ensures.sound
+    let piece = subst (λ more. AddsPiece (g.R.Source.at c.loop-text.reader) (g.R.Source.at c.add_piece.new.reader) c.loop-text.text.items c.add_piece.new.text.items more) c.if-branch.false c.in_ok-add_piece.ensures.ok in
+    reads_all _ _ _ c.loop-text.text.items _ c.loop-text.invariant.0 piece c.in_ok-add_piece.ensures.sound

@@ -5,7 +5,7 @@ use Rattle.scenario.proofs.input.read_text.Given as goal
 
 abbrev pub invariant-loop-text : goal.invariant-loop-text
 invariant-loop-text g l =
-    ReadsSoFar (g.R.Source.read_failed l.fn.reader) (g.R.Source.read_failed l.reader) (g.R.Read.remaining l.fn.reader) (g.R.Read.remaining l.reader) l.text.items
+    ReadsSoFar (g.R.Source.at l.fn.reader) (g.R.Source.at l.reader) l.text.items
     × (0 < length l.piece.items)
 
 abbrev pub decreases-loop-text : goal.decreases-loop-text

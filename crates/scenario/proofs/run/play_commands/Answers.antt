@@ -12,7 +12,7 @@ pub returns-in_err-play_command-clause-err : goal.returns-in_err-play_command-cl
 returns-in_err-play_command-clause-err g c =
     let p = err_from_is_err_and c.from_residual.result c.from_residual.ensures.1 in
     rw (p.1, p.2)
-    (playing_ends _ _ _ _ _ _ _ _ _ _ _ _ _ _ c.loop-command.invariant.0 c.in-Some.ensures.commands c.loop-command.invariant.1 c.in_err-play_command.ensures.err)
+    (playing_ends _ _ _ _ _ _ _ _ _ _ _ c.loop-command.invariant.0 c.in-Some.ensures.commands c.loop-command.invariant.1 c.in_err-play_command.ensures.err)
 
 pub loop-command-init : goal.loop-command-init
 loop-command-init g c = (playing_none _ _ _ _, λ kind failed. failed)

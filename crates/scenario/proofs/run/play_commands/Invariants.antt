@@ -6,8 +6,8 @@ use Rattle.scenario.proofs.run.play_commands.Given as goal
 abbrev pub invariant-loop-command : goal.invariant-loop-command
 invariant-loop-command g l =
     Playing (map (λ r. (goal.Resolver-dyn g (r.vtable, r.value)).choice r.value) l.resolvers) l.fn.stage l.fn.script.commands l.stage l.script.commands
-    (g.W.Write.contents l.fn.writer) (g.W.Write.contents l.writer)
-    × FailsNoMore (g.W.Sink.failed l.fn.writer) (g.W.Sink.failed l.writer)
+    (g.W.Sink.at l.fn.writer) (g.W.Sink.at l.writer)
+    × FailsNoMore (g.W.Sink.at l.fn.writer).failed (g.W.Sink.at l.writer).failed
 
 abbrev pub decreases-loop-command : goal.decreases-loop-command
 decreases-loop-command g l = length l.script.commands

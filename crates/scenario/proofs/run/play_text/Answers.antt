@@ -16,5 +16,5 @@ pub returns-in-Some-clause-err : goal.returns-in-Some-clause-err
 returns-in-Some-clause-err g c =
     let same = sym (length-map c.args.resolvers.now (λ r. (goal.Resolver-dyn g (r.vtable, r.value)).choice r.value)) in
     on_err c.play.result
-    (λ fault. ends_scenario _ _ _ c.args.text.now c.in-Some.script _ _ fault (subst (λ n. first_bad n c.args.text.now ≡ None) same c.in_ok-script.ensures.0)
+    (λ fault. ends_scenario _ c.args.text.now c.in-Some.script _ _ fault (subst (λ n. first_bad n c.args.text.now ≡ None) same c.in_ok-script.ensures.0)
     (subst (λ n. scenario_of (commands_of n c.args.text.now) ≡ Some c.in-Some.script) same (sym c.in_ok-script.ensures.1 ∙ c.in-Some.is))) c.play.ensures.err

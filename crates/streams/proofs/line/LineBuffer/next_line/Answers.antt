@@ -5,7 +5,7 @@ use Rattle.streams.proofs.Taking.{taking_none, taking_filled, taking_moved, taki
 use Rattle.streams.proofs.line.LineBuffer.next_line.Goals as goal
 
 pub loop-self-init : goal.loop-self-init
-loop-self-init g c = (rw c.clear.ensures.items (taking_none c.args.self.now (g.R.Read.remaining c.args.reader.now)), λ failed. failed)
+loop-self-init g c = (rw c.clear.ensures.items (taking_none c.args.self.now (g.R.Source.at c.args.reader.now).remaining), λ failed. failed)
 
 pub returns-in_err-fill-clause-err : goal.returns-in_err-fill-clause-err
 returns-in_err-fill-clause-err g c =
@@ -37,7 +37,7 @@ loop-self-preserved g c = (
 
 pub returns-clause-ok : goal.returns-clause-ok
 returns-clause-ok g c =
-    let fill = subst (λ more. Fills c.loop-self.self c.fill.new.self (g.R.Read.remaining c.loop-self.reader) (g.R.Read.remaining c.fill.new.reader) more) c.if-branch.false c.in_ok-fill.ensures.ok in
+    let fill = subst (λ more. Fills c.loop-self.self c.fill.new.self (g.R.Source.at c.loop-self.reader).remaining (g.R.Source.at c.fill.new.reader).remaining more) c.if-branch.false c.in_ok-fill.ensures.ok in
     taking_rest c.args.self.now c.fill.new.self _ _ c.loop-self.line.items
     (taking_filled c.args.self.now c.loop-self.self c.fill.new.self _ _ _ c.loop-self.line.items _ c.loop-self.invariant.0 fill) fill.answer.0 fill.answer.1
 
