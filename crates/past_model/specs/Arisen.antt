@@ -3,6 +3,7 @@ use Rattle.std.specs.Prelude.{◌≡◌, ℕ, List, [], ◌∷◌, ◌++◌, Opt
 use Rattle.meta_types.specs.Name.{Key}
 use Rattle.meta_types.specs.Value.{ValueParts}
 use Rattle.dvvset.specs.Object.{Entry}
+use Rattle.dvvset.specs.Clock.{join, update}
 use Rattle.past_model.specs.declared.happening.Happening.{Happening}
 use Rattle.past_model.specs.declared.happening.Happening.TheVariants.{Wrote}
 use Rattle.past_model.specs.Sets.{Places, IsSubset}
@@ -56,6 +57,10 @@ IsObjectKnown hs n k es = IsObjectOf (writes hs) k (known hs n k) es
 -- the object of what a write under the key has read
 abbrev pub IsObjectRead : List Happening → Option ℕ → Key → List Entry → Type 0
 IsObjectRead hs r k es = IsObjectOf (writes hs) k (read hs k r) es
+
+-- the object that a node with the first one has once it wrote the value with the context of the second
+abbrev pub object_after_write : List Happening → ℕ → ValueParts → List Entry → List Entry → List Entry
+object_after_write before n v a b = update (join b) a (writer_after before n) v
 
 -- after these happenings the history has a write of the node under the key, and this is its counter
 pub record HasWriteAfter (hs before : List Happening) (n : ℕ) (k : Key) (counter : ℕ)

@@ -10,7 +10,7 @@ use Rattle.past_model.specs.declared.happening.Happening.{Happening}
 use Rattle.past_model.specs.declared.happening.Happening.TheVariants.{Wrote, Looked, Sent, Got, Kept, Restarted}
 use Rattle.past_model.specs.Sets.{Places, Knowledge}
 use Rattle.meta_types.specs.Equal.{key_eq}
-use Rattle.past_model.specs.Past.{Past, Write, In, past, next_write, writer_of}
+use Rattle.past_model.specs.Past.{Past, Write, In, past, next_write}
 use Rattle.past_model.specs.History.{IsHistory}
 
 -- the node that it happened to

@@ -5,7 +5,7 @@ ghost use Rattle.std.specs.Prelude.{◌≡◌, ◌≢◌, ◌↔◌, ◌∷◌, 
 ghost use Rattle.meta_types.specs.Name.{Key};
 ghost use Rattle.meta_types.specs.Value.{ValueParts};
 ghost use Rattle.dvvset.specs.Object.{Counter, Entry};
-ghost use Rattle.dvvset.specs.Clock.{descends, join, sync, update, values_of};
+ghost use Rattle.dvvset.specs.Clock.{descends, join, sync, values_of};
 ghost use Rattle.dvvset.specs.Writer.{count_of};
 ghost use Rattle.past_model.specs.declared.happening.Happening.{Happening as H};
 ghost use Rattle.past_model.specs.declared.happening.Happening.TheVariants.{Got, Wrote};
@@ -13,7 +13,7 @@ ghost use Rattle.past_model.specs.Sets.{IsSubset, Places, empty, singleton, unio
 ghost use Rattle.past_model.specs.Past.{known, load, read, writes};
 ghost use Rattle.past_model.specs.History.{IsHistory, NoRestart};
 ghost use Rattle.past_model.specs.Shown.{IsClosed, IsContext, IsObjectOf, Shows};
-ghost use Rattle.past_model.specs.Arisen.{HasWriteAfter, IsArisen, IsBelow, IsLeastUpperBound, IsObjectKnown, IsObjectRead, ReachesClosed, counter_of, writer_after};
+ghost use Rattle.past_model.specs.Arisen.{HasWriteAfter, IsArisen, IsBelow, IsLeastUpperBound, IsObjectKnown, IsObjectRead, ReachesClosed, counter_of, object_after_write, writer_after};
 
 /// What a node knows, what a read saw, what was sent, what a write had read, and what an image
 /// holds is a closed set of writes.
@@ -120,13 +120,11 @@ pub fn a_write_adds_what_it_read_and_itself()
     ensures object { (hs : List H) → IsHistory hs
         → (n : ℕ) (k : Key) (v : ValueParts) (r : Option ℕ) (a b : List Entry)
         → IsObjectKnown hs n k a → IsObjectRead hs r k b
-        → IsObjectKnown (hs ++ Wrote n k v r ∷ []) n k
-        (update (join b) a (writer_after hs n) v) }
+        → IsObjectKnown (hs ++ Wrote n k v r ∷ []) n k (object_after_write hs n v a b) }
     ensures counter { (hs : List H) → IsHistory hs
         → (n : ℕ) (k : Key) (v : ValueParts) (r : Option ℕ) (a b : List Entry)
         → IsObjectKnown hs n k a → IsObjectRead hs r k b
-        → count_of (update (join b) a (writer_after hs n) v) (writer_after hs n)
-        ≡ counter_of hs n k v r }
+        → count_of (object_after_write hs n v a b) (writer_after hs n) ≡ counter_of hs n k v r }
 {}
 
 /// Two writes of one writer under one key have unequal counters.

@@ -1,5 +1,5 @@
 -- What a call gives out goes to others, and each message of it has a spelling.
-use Rattle.std.proofs.Common.{◌≡◌, ◌≢◌, ℕ, zero, suc, ◌+◌, ◌-◌, ◌<◌, ◌^◌, min, Bool, true, false, cond, ◌||◌, List, [], ◌∷◌, ◌++◌, map, nat_eq, nat_lt, slice_index_or, All, ⊎_elim, refl, sym, ap, ◌∙◌, true≢false, arith, Option, Some, None}
+use Rattle.std.proofs.Common.{◌≡◌, ◌≢◌, ℕ, zero, suc, ◌+◌, ◌-◌, ◌<◌, ◌^◌, min, Bool, false, cond, ◌||◌, List, [], ◌∷◌, ◌++◌, map, nat_eq, nat_lt, slice_index_or, All, ⊎_elim, refl, sym, ap, ◌∙◌, true≢false, arith, Option, Some, None}
 use Rattle.std.specs.List.{position}
 use Rattle.std.proofs.lemmas.Bool.{eqb-true, cases_Bool, cond_both}
 use Rattle.std.proofs.lemmas.List.Elements.{All-nil, All-cons, All-head, All-tail, All-push, All-append, All-map, All-weaker, All-filter, All-set}

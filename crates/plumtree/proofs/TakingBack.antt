@@ -1,5 +1,5 @@
 -- A call that changes nothing of what is missing is taken back.
-use Rattle.std.proofs.Common.{◌≡◌, true, false, List, ◌++◌, length, take, refl, ap, arith}
+use Rattle.std.proofs.Common.{◌≡◌, List, ◌++◌, length, take, refl, ap, arith}
 use Rattle.std.proofs.lemmas.List.{take_at, take_all}
 use Rattle.plumtree.specs.declared.entry.Announcement.{Announcement}
 use Rattle.plumtree.specs.Rows.{on_broadcast, on_fresh, on_stale, on_prune, on_graft}

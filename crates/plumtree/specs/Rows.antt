@@ -1,7 +1,6 @@
 -- The table of the broadcast: what each call does, one definition for each row, in the table's
 -- order. The idea and the names of messages are Plumtree's, the rules are our own.
-use Rattle.std.specs.Prelude.{ℕ, ◌+◌, ◌-◌, Bool, true, false, not, ◌||◌, ◌&&◌, List, [], ◌∷◌, ◌++◌, map, min, Option, Some, None, slice_set, slice_index_or, nat_eq, nat_lt, if◌then◌else◌}
-use Rattle.std.specs.Cmp.Lexicographic.{pointwise}
+use Rattle.std.specs.Prelude.{ℕ, ◌+◌, ◌-◌, Bool, not, ◌||◌, ◌&&◌, List, [], ◌∷◌, ◌++◌, map, min, Option, Some, None, slice_set, slice_index_or, nat_eq, nat_lt, if◌then◌else◌}
 use Rattle.std.specs.List.{list_any, filter, position}
 use Rattle.meta_types.specs.Name.{Key}
 use Rattle.dvvset.specs.Object.{Counter}

@@ -1,4 +1,4 @@
-use Rattle.std.proofs.Common.{◌≡◌, ◌+◌, ◌-◌, true, false, is_some, length, cond, sym, ap, ◌∙◌, arith}
+use Rattle.std.proofs.Common.{◌≡◌, ◌+◌, true, false, is_some, length, sym, ◌∙◌, arith}
 use Rattle.std.specs.FinMap.{find}
 use Rattle.meta_types.specs.Order.{bytes_cmp}
 use Rattle.meta_store.specs.Kept.{rows_at, table_of, with_rows, without_row}

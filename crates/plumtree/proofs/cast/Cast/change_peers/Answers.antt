@@ -1,4 +1,4 @@
-use Rattle.std.proofs.Common.{◌≡◌, ◌<◌, ◌+◌, drop, length, map, List, sym, ap, subst, ◌∙◌, arith}
+use Rattle.std.proofs.Common.{◌<◌, ◌+◌, drop, length, map, List, sym, ap, subst, ◌∙◌, arith}
 use Rattle.dvvset.proofs.Rising.{drop_is}
 use Rattle.plumtree.specs.declared.entry.PeerChange.{PeerChange}
 use Rattle.plumtree.specs.Broadcast.{broadcast_with, peer_call}
