@@ -1,5 +1,5 @@
 -- In a shuffle nobody comes or goes, so the broadcast stays as a tick left it.
-use Rattle.std.proofs.Common.{◌≡◌, ◌%◌, ◌==◌, ℕ, Bool, cond, [], ◌++◌, map, refl, sym, ap}
+use Rattle.std.proofs.Common.{◌≡◌, ℕ, [], map, refl, sym, ap}
 use Rattle.std.proofs.lemmas.Bool.{cond_both}
 use Rattle.hyparview.specs.declared.event.ViewEvent.TheVariants.{ShuffleDue}
 use Rattle.hyparview.specs.Draft.{Draft}

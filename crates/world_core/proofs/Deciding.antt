@@ -1,11 +1,9 @@
 -- Of each event there is one outcome, and one world is left.
-use Rattle.std.proofs.Common.{◌≡◌, ◌≢◌, ◌⊎◌, ℕ, ◌+◌, List, ◌++◌, ◌∷◌, [], length, Result, Ok, Err, inl, inr, refl, sym, ap, subst, ◌∙◌}
-use Rattle.meta_types.specs.Name.{Key}
-use Rattle.meta_store.specs.Table.{Table, object_at}
+use Rattle.std.proofs.Common.{◌≡◌, ◌≢◌, ◌⊎◌, ℕ, ◌+◌, List, ◌++◌, ◌∷◌, [], length, Result, Ok, Err, inl, inr, sym, ap, ◌∙◌}
 use Rattle.meta_store.proofs.Tables.{same_table}
 use Rattle.node_core.specs.declared.state.Stepped.{Stepped}
 use Rattle.node_core.specs.Node.{NodeParts, opening}
-use Rattle.node_core.specs.Step.{CanComeOf, IsNodeStep}
+use Rattle.node_core.specs.Step.{CanComeOf}
 use Rattle.node_core.specs.Run.{IsOneCause}
 use Rattle.node_core.proofs.Outcomes.{one_outcome as one_outcome_of_step}
 use Rattle.node_events.specs.Event.{stored_key}
@@ -20,8 +18,8 @@ use Rattle.world_core.specs.declared.fault.WorldFault.{WorldFault}
 use Rattle.world_core.specs.declared.fault.WorldFault.TheVariants.{IncarnationSpent, LooksLikeFrame, Memory, NoSuchFrame, NoSuchImage, NoSuchNode, NoSuchRead}
 use Rattle.world_core.specs.Events.{Begin, Doing, Step, node_of_event}
 use Rattle.world_core.specs.Fault.{of_step}
-use Rattle.world_core.specs.Outcome.{Accepts, Makes, MakesRestart, MakesStep, OneOutcomeForEachEvent, Outcome, Declines, list_of, next_frames, read_after, with_node}
-use Rattle.world_core.specs.Refusal.{HasNoLifeLeft, IsFrameAsJunk, NamesNoFrame, NamesNoImage, NamesNoNode, NamesNoRead, RefusesDoing, RefusesEvent, RefusesStep, doing_in, first_cause, node_at}
+use Rattle.world_core.specs.Outcome.{Accepts, Makes, MakesRestart, MakesStep, OneOutcomeForEachEvent, Outcome, Declines, next_frames, read_after, with_node}
+use Rattle.world_core.specs.Refusal.{HasNoLifeLeft, IsFrameAsJunk, NamesNoFrame, NamesNoImage, NamesNoNode, NamesNoRead, RefusesDoing, RefusesEvent, doing_in, first_cause, node_at}
 use Rattle.world_core.specs.World.{World}
 
 -- ---- one refusal

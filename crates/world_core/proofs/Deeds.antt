@@ -1,5 +1,5 @@
 -- An accepted event is one deed more of its node, and none of any other.
-use Rattle.std.proofs.Common.{◌≡◌, ◌≢◌, ℕ, ◌+◌, ◌<◌, ◌≤◌, List, [], ◌∷◌, ◌++◌, length, Some, None, Result, Ok, Err, inl, inr, refl, sym, ap, ◌∙◌}
+use Rattle.std.proofs.Common.{◌≡◌, ℕ, ◌+◌, List, [], ◌∷◌, ◌++◌, length, Some, None, Result, Ok, Err, inl, inr, refl, sym, ap, ◌∙◌}
 use Rattle.std.specs.Prelude.{IfOk}
 use Rattle.std.proofs.lemmas.Bool.{cases_lt}
 use Rattle.std.proofs.lemmas.List.{append-nil}
@@ -15,7 +15,7 @@ use Rattle.world_core.specs.declared.fault.WorldFault.TheVariants.{NoSuchFrame, 
 use Rattle.world_core.specs.Events.{Begin, Doing, Step, node_of_event}
 use Rattle.world_core.specs.Lives.{deed_of, deeds_of}
 use Rattle.world_core.specs.Numbers.{frames_at}
-use Rattle.world_core.specs.Outcome.{Accepts, AddsDeed, Makes, Outcome, given_in, list_of}
+use Rattle.world_core.specs.Outcome.{Accepts, AddsDeed, Makes, Outcome, list_of}
 use Rattle.world_core.specs.Refusal.{NamesNoFrame, NamesNoNode, NamesNoRead, RefusesEvent, doing_in, node_at}
 use Rattle.world_core.specs.World.{World, deeds_in}
 use Rattle.world_core.specs.Invariant.{IsFrameWithin, IsReadWithin, IsWholeWorld, IsWorld}

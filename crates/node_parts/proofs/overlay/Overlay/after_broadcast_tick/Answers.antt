@@ -1,4 +1,4 @@
-use Rattle.std.proofs.Common.{◌≡◌, Vec, Global, All, ap, subst, ◌∙◌}
+use Rattle.std.proofs.Common.{◌≡◌, Vec, Global, All, ap, subst}
 use Rattle.std.proofs.lemmas.Result.{IfOk-at_ok, IfOk-weaker}
 use Rattle.std.proofs.lemmas.List.Elements.{All-same}
 use Rattle.plumtree.specs.Lawful.{MayBeSent}

@@ -1,4 +1,4 @@
-use Rattle.std.proofs.Common.{◌≡◌, ◌++◌, Vec, Global, All, refl, sym, ap, subst, ◌∙◌}
+use Rattle.std.proofs.Common.{◌≡◌, ◌++◌, Vec, Global, All, sym, ap, subst, ◌∙◌}
 use Rattle.std.proofs.lemmas.Result.{IfOk-at_ok}
 use Rattle.hyparview.specs.declared.event.ViewEvent.TheVariants.{ShuffleDue}
 use Rattle.hyparview.specs.Views.{NodeViews, draft_after, views_of}

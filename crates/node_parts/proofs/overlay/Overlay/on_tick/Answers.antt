@@ -3,7 +3,6 @@ use Rattle.std.proofs.lemmas.Bool.{ne_eqb}
 use Rattle.std.proofs.lemmas.Result.{IfOk-weaker, on_ok_weaker}
 use Rattle.hyparview.specs.declared.event.ViewEvent.TheVariants.{ShuffleDue}
 use Rattle.plumtree.specs.Broadcast.{Tick}
-use Rattle.node_parts.specs.declared.envelope.Envelope.{Envelope}
 use Rattle.node_parts.specs.Origin.{overlay_after_tick, sent_by_tick, whole_messages}
 use Rattle.node_parts.specs.Overlay.{Overlay, out_of, overlay_after_call, overlay_after_view, sent_by_view}
 use Rattle.node_parts.proofs.Naming.{same_frames}

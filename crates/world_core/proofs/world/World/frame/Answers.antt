@@ -1,6 +1,4 @@
-use Rattle.std.proofs.Common.{subst}
 use Rattle.world_core.specs.World.{World}
-use Rattle.world_core.specs.Invariant.{IsWholeWorld}
 use Rattle.world_core.specs.contracts.world.World.{the_view}
 use Rattle.world_core.proofs.Outcomes.{world_of}
 use Rattle.world_core.proofs.Retelling.{lent_spells}
