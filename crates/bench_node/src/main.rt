@@ -1,7 +1,7 @@
 //! Measures what nodes do, and prints lines `name value unit`: with the argument `store`, writes,
-//! reads and the tree of one; with `exchange`, exchanges of two; with `steps`, steps of a node. With
-//! another one, or none, it prints nothing. The names of the first two are those of a baseline in
-//! plain Rust.
+//! reads and the tree of one; with `exchange`, exchanges of two; with `steps`, steps of a node.
+//! With another one, or none, it prints nothing. The names of the first two are those of a baseline
+//! in plain Rust.
 //!
 //! A node is handed on by reference, so that no function owns two where a call may fail.
 #![tactic(auto)]

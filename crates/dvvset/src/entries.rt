@@ -1,4 +1,4 @@
-ghost use Rattle.std.specs.Prelude.{◌≡◌, ◌≢◌, ◌+◌, ◌≤◌, ◌↔◌, ◌++◌, [], IfOk, IsTrue, All};
+ghost use Rattle.std.specs.Prelude.{◌≡◌, ◌≢◌, ◌+◌, ◌↔◌, [], IfOk, IsTrue, All};
 ghost use Rattle.meta_types.specs.Value.{IsValue};
 ghost use Rattle.dvvset.specs.Object.{IsEntry, IsObject};
 ghost use Rattle.dvvset.specs.Clock.{values_of};

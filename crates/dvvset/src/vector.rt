@@ -1,5 +1,5 @@
 ghost use Rattle.std.specs.Prelude.{◌≡◌, ◌+◌, ◌↔◌, IfOk, IsTrue};
-ghost use Rattle.dvvset.specs.Object.{IsCounter, IsVector};
+ghost use Rattle.dvvset.specs.Object.{IsVector};
 ghost use Rattle.dvvset.specs.Clock.{join};
 
 use crate::entries::Entries;

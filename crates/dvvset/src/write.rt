@@ -1,6 +1,6 @@
 //! One more event of a writer.
 
-ghost use Rattle.std.specs.Prelude.{◌≡◌, ◌≢◌, ◌<◌, ◌⊎◌, [], max, IfOk, IfErr, OnOk};
+ghost use Rattle.std.specs.Prelude.{◌≡◌, ◌≢◌, ◌<◌, [], max, IfOk, OnOk};
 ghost use Rattle.meta_types.specs.Failing.{FailsWith};
 ghost use Rattle.dvvset.specs.Object.{IsObject};
 ghost use Rattle.dvvset.specs.Clock.{blanks, raise, count_for, update, values_of};

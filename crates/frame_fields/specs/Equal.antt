@@ -16,7 +16,8 @@ abbrev pub digests_eq : List (List ℕ) → List (List ℕ) → Bool
 digests_eq = pointwise (pointwise nat_eq)
 
 abbrev pub prefix_row_eq : PrefixDigest → PrefixDigest → Bool
-prefix_row_eq = eq_of_both (on (λ r. r.prefix) prefix_parts_eq) (on (λ r. r.digest) (pointwise nat_eq))
+prefix_row_eq =
+    eq_of_both (on (λ r. r.prefix) prefix_parts_eq) (on (λ r. r.digest) (pointwise nat_eq))
 
 abbrev pub prefixes_eq : List PrefixDigest → List PrefixDigest → Bool
 prefixes_eq = pointwise prefix_row_eq

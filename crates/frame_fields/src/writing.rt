@@ -1,6 +1,6 @@
 //! Writing fields at the end of bytes.
 
-ghost use Rattle.std.specs.Prelude.{◌≡◌, ◌++◌, ◌∷◌, [], ◌<◌, ◌≤◌, ◌^◌, List, length, OnOk, All};
+ghost use Rattle.std.specs.Prelude.{◌≡◌, ◌++◌, [], ◌<◌, ◌^◌, length, OnOk, All};
 ghost use Rattle.std.specs.Int.{w8, w16, w32, w64, to_be_bytes};
 ghost use Rattle.std.specs.List.{flat_map};
 ghost use Rattle.frame_fields.specs.Field.{answer, name, prefix, priority, key, value, entry, object, counter_form, vector, node, nodes, digest, digests, prefix_row, prefixes, lowest, key_row, keys, writer_from};

@@ -2,7 +2,6 @@
 //! where both stand in the bytes.
 
 ghost use Rattle.std.specs.Prelude.{◌≡◌, ◌≢◌, ◌<◌, [], IfOk, IfErr};
-ghost use Rattle.std.specs.Int.{w16};
 ghost use Rattle.frame_fields.specs.Field.{no_state, forget, is_before, lowest, prefix_of, key_bytes};
 ghost use Rattle.meta_types.specs.Name.{IsName};
 ghost use Rattle.frame_readers.specs.Reader.{Gives, MatchesReader, each_reader, node_reader, nodes_reader, digest_reader, digests_reader, first_reader, second_reader, prefix_above_reader, prefix_row_reader, prefixes_reader, key_above_reader, key_row_reader, keys_reader};

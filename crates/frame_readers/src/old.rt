@@ -1,7 +1,7 @@
 //! Reading objects as the first version of node files has them: their writers are nodes alone,
 //! without the number of a life. What was read is an object whose writers are in life 0.
 
-ghost use Rattle.std.specs.Prelude.{◌≡◌, ◌≢◌, ◌≤◌, IfOk, IfErr};
+ghost use Rattle.std.specs.Prelude.{◌≢◌, ◌≤◌, IfOk, IfErr};
 ghost use Rattle.meta_types.specs.Actor.{writer_number};
 ghost use Rattle.meta_types.specs.Node.{IsNode};
 ghost use Rattle.frame_fields.specs.Field.{above_entry};

@@ -1,6 +1,6 @@
 //! Reading fields from the front of bytes. Each function answers the value and the bytes after it.
 
-ghost use Rattle.std.specs.Prelude.{◌≡◌, ◌≢◌, ◌+◌, ◌≤◌, ◌<◌, List, length, Ok, IfOk, IfErr, IsTrue, ◌↔◌};
+ghost use Rattle.std.specs.Prelude.{◌≡◌, ◌≢◌, ◌+◌, ◌≤◌, ◌<◌, length, Ok, IfOk, IfErr};
 ghost use Rattle.std.specs.Int.{w8, w16, w32, w64};
 ghost use Rattle.meta_types.specs.Node.{IsNode};
 ghost use Rattle.meta_types.specs.Actor.{writer_number};

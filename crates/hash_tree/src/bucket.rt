@@ -1,8 +1,7 @@
 //! The keys of one leaf.
 
 ghost use Rattle.std.specs.Prelude.{◌≡◌, [], ◌∷◌, map, IfOk, IfErr, OnOk, OnErr, None, true, All};
-ghost use Rattle.std.specs.List.{flat_map};
-ghost use Rattle.std.specs.FinMap.{find, is_sorted, put};
+ghost use Rattle.std.specs.FinMap.{find, put};
 ghost use Rattle.sha2.specs.Sha256.{sha256};
 ghost use Rattle.frame_fields.specs.Field.{key_row_parts};
 ghost use Rattle.meta_types.specs.Name.{IsName};

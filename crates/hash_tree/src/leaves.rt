@@ -1,11 +1,10 @@
 //! The leaves of one full prefix.
 
-ghost use Rattle.std.specs.Prelude.{◌≡◌, [], map, true, IfOk, OnOk, OnErr, None};
+ghost use Rattle.std.specs.Prelude.{◌≡◌, [], true, IfOk, OnOk, OnErr, None};
 ghost use Rattle.std.specs.FinMap.{find, is_sorted, put};
 ghost use Rattle.std.specs.Ordering.{nat_cmp};
 ghost use Rattle.meta_types.specs.Name.{IsName};
 ghost use Rattle.meta_types.specs.Order.{bytes_cmp};
-ghost use Rattle.meta_store.specs.Kept.{AreRows};
 ghost use Rattle.sha2.specs.Sha256.{sha256};
 ghost use Rattle.hash_tree.specs.Tree.{bucket, leaf_digest, leaf_of};
 ghost use Rattle.hash_tree.specs.Rising.{do_keys_rise};

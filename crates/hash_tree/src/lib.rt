@@ -2,9 +2,9 @@
 //!
 //! Each full prefix has 256 leaves, in which its keys stand by the first byte of SHA-256 of their
 //! own bytes; 16 inner nodes over 16 leaves each; and a root over these. The root of the tree goes
-//! over the roots of the full prefixes, and is computed when it is asked for. An update computes one
-//! leaf, one inner node and one prefix root anew, and for the first key of a full prefix the digests
-//! of an empty one.
+//! over the roots of the full prefixes, and is computed when it is asked for. An update computes
+//! one leaf, one inner node and one prefix root anew, and for the first key of a full prefix the
+//! digests of an empty one.
 //!
 //! ```
 //! let mut tree = Tree::from_store(alloc, &store)?;
@@ -14,8 +14,8 @@
 //!
 //! `Held` is a store with its tree, of which one never changes without the other.
 //!
-//! Read `tree`, `object`, `held`, then `laws`; `parts`, `prefix_tree`, `leaves`, `bucket`, `hashing` and
-//! `text_hasher` are private.
+//! Read `tree`, `object`, `held`, then `laws`; `parts`, `prefix_tree`, `leaves`, `bucket`,
+//! `hashing` and `text_hasher` are private.
 #![tactic(auto)]
 
 mod bucket;

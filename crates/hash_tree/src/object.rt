@@ -1,6 +1,6 @@
 //! The digest of an object.
 
-ghost use Rattle.std.specs.Prelude.{◌≡◌, ◌<◌, ◌^◌, length, All};
+ghost use Rattle.std.specs.Prelude.{◌≡◌, All};
 ghost use Rattle.std.specs.List.{flat_map};
 ghost use Rattle.frame_fields.specs.Field.{entry, value, writer_from};
 ghost use Rattle.frame_fields.specs.Size.{IsShort};

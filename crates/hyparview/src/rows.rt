@@ -398,7 +398,8 @@ impl Draft {
 /// Tells each of these nodes of one that joined.
 fn forward_to_each(out: &mut Vec<ViewOut>, to: &[NodeId], node: NodeId) -> Result<(), AllocError>
     ensures { OnOk result
-        (out.new.items ≡ out.old.items ++ map (λ to. Send to (ForwardJoin node active_random_walk_length)) to.now) }
+        (out.new.items ≡ out.old.items
+        ++ map (λ to. Send to (ForwardJoin node active_random_walk_length)) to.now) }
 {
     for peer in to {
         let ttl = ACTIVE_RANDOM_WALK_LENGTH;

@@ -1,7 +1,6 @@
 //! Reading the body of each kind. A kind of several fields has a function of its own, since the
 //! proof of one function that read them all takes many times as long.
 
-ghost use Rattle.std.specs.Prelude.{◌≡◌};
 ghost use Rattle.meta_frame.specs.declared.message.Message.TheVariants.{IHave, Graft, Neighbor, NeighborReply, ShuffleReply, XRoot, XPrefixes, XWant, Hello};
 ghost use Rattle.frame_readers.specs.Reader.{MatchesReader, made_reader, priority_reader, answer_reader, nodes_reader, digest_reader, prefixes_reader, key_reader};
 ghost use Rattle.meta_frame.specs.Reading.{message_reader, gossip_reader, announced_reader, forwarded_reader, shuffle_reader, inner_reader, leaves_reader, bucket_reader, carried_reader, life_reader};

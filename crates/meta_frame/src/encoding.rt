@@ -1,6 +1,6 @@
 //! Bytes from frames.
 
-ghost use Rattle.std.specs.Prelude.{◌≡◌, ◌++◌, ◌<◌, ◌⊎◌, length, OnOk, OnErr, IfOk, IfErr};
+ghost use Rattle.std.specs.Prelude.{◌≡◌, ◌++◌, ◌<◌, length, OnOk, OnErr, IfOk};
 ghost use Rattle.meta_types.specs.Failing.{FailsWith};
 ghost use Rattle.frame_fields.specs.Field.{object};
 ghost use Rattle.meta_frame.specs.Frame.{IsLawful, Spells, spelling, limit, body};

@@ -1,6 +1,6 @@
 //! The fields that other formats are made of too, from the front of bytes.
 
-ghost use Rattle.std.specs.Prelude.{◌≡◌, ◌⊎◌, IfOk, IfErr};
+ghost use Rattle.std.specs.Prelude.{◌≡◌, IfOk};
 ghost use Rattle.meta_types.specs.Failing.{FailsWith};
 ghost use Rattle.frame_fields.specs.Field.{prefix, key, vector, object};
 ghost use Rattle.meta_frame.specs.Reading.{offset_of};

@@ -1,6 +1,6 @@
 //! Merges.
 
-ghost use Rattle.std.specs.Prelude.{◌≡◌, ◌≢◌, ◌⊎◌, if◌then◌else◌, true, false, List, Ok, Some, None, IfOk, IfSome, OnOk, OnErr};
+ghost use Rattle.std.specs.Prelude.{◌≡◌, ◌≢◌, true, false, List, Ok, Some, None, IfOk, IfSome, OnOk, OnErr};
 ghost use Rattle.meta_types.specs.Failing.{FailsBy};
 ghost use Rattle.meta_types.specs.Name.{Key};
 ghost use Rattle.dvvset.specs.Clock.{join};

@@ -1,9 +1,9 @@
 //! The rows under one full prefix.
 
-ghost use Rattle.std.specs.Prelude.{◌≡◌, List, ℕ, [], ◌∷◌, length, map, IfOk, IfSome, OnOk, OnErr, None, is_none, is_some};
+ghost use Rattle.std.specs.Prelude.{◌≡◌, [], ◌∷◌, length, map, IfOk, OnOk, OnErr, None, is_none, is_some};
 ghost use Rattle.std.specs.Option.{option_copied};
 ghost use Rattle.std.specs.FinMap.{find, put};
-ghost use Rattle.meta_types.specs.Name.{Key, IsName};
+ghost use Rattle.meta_types.specs.Name.{IsName};
 ghost use Rattle.meta_types.specs.Order.{bytes_cmp};
 ghost use Rattle.meta_store.specs.Kept.{AreRows, without_row};
 

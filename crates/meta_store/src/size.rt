@@ -1,8 +1,7 @@
 //! Whether an object is small enough.
 
-ghost use Rattle.std.specs.Prelude.{◌≡◌, ◌↔◌, ◌≢◌, [], true, IsTrue};
+ghost use Rattle.std.specs.Prelude.{◌≡◌, ◌↔◌, true, IsTrue};
 ghost use Rattle.std.specs.List.{list_all};
-ghost use Rattle.dvvset.specs.Clock.{values_of};
 ghost use Rattle.frame_fields.specs.Field.{has_value};
 ghost use Rattle.meta_store.specs.Table.{has_few_values, is_small_enough, IsHeld};
 

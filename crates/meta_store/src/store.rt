@@ -1,8 +1,7 @@
-ghost use Rattle.std.specs.Prelude.{◌≡◌, ◌≢◌, [], length, map, None, IfOk, IfErr, OnOk, OnErr, IfSome, true, false, IsTrue, ◌↔◌, ◌≤◌, All};
+ghost use Rattle.std.specs.Prelude.{◌≡◌, [], length, None, IfOk, OnOk, OnErr, IfSome, false, IsTrue, ◌↔◌};
 ghost use Rattle.std.specs.Option.{option_copied};
-ghost use Rattle.std.specs.FinMap.{find, is_sorted};
-ghost use Rattle.meta_types.specs.Name.{Key};
-ghost use Rattle.meta_types.specs.Order.{key_cmp, prefix_cmp};
+ghost use Rattle.std.specs.FinMap.{find};
+ghost use Rattle.meta_types.specs.Order.{key_cmp};
 ghost use Rattle.dvvset.specs.Clock.{join, values_of};
 ghost use Rattle.meta_store.specs.Table.{IsHeld, IsTable, is_stale, keys_under, object_at, prefixes_of, with_object, without_object};
 ghost use Rattle.meta_store.specs.Kept.{AreParts, table_of};
@@ -148,8 +147,8 @@ impl Store {
         knows(self.object_or(key, &absent), other)
     }
 
-    /// Returns whether an object may be held under the key: it is held, or there are fewer keys than
-    /// 8,192. It takes no memory.
+    /// Returns whether an object may be held under the key: it is held, or there are fewer keys
+    /// than 8,192. It takes no memory.
     pub fn has_room_for(&self, key: &MetaKey) -> bool
         ensures { IsTrue result ↔ (is_full_for self.now key.now ≡ false) }
     {

@@ -38,8 +38,6 @@ impl Model for Actor {
 }
 
 impl Actor {
-    ghost use Rattle.meta_types.specs.Node.{IsNode};
-
     pub fn new(node: NodeId, incarnation: u32) -> Self
         ensures { result ≡ writer_number node incarnation }
     {

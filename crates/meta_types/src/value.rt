@@ -31,7 +31,7 @@ impl Model for Value {
 
 impl Value {
     ghost use Rattle.std.specs.Prelude.{◌≡◌, ◌↔◌, IfOk, IsOk, IfErr};
-    ghost use Rattle.std.specs.Option.{option_map, option_copied};
+    ghost use Rattle.std.specs.Option.{option_copied};
     ghost use Rattle.meta_types.specs.Value.{ValueParts, IsBody, IsValue, body_of};
     ghost use Rattle.meta_types.specs.declared.fault.TypeFault.TheVariants.{ValueTooLong};
 

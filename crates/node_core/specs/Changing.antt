@@ -25,7 +25,8 @@ holding key object s = record s { table = with_object key object s.table }
 -- it is held, and the peers are told
 abbrev pub spreading : Origin → Key → List Entry → NodeParts → NodeParts
 spreading origin key object s =
-    holding key object (with_overlay (overlay_after_call (call_of origin key (join object)) s.overlay) s)
+    holding key object
+    (with_overlay (overlay_after_call (call_of origin key (join object)) s.overlay) s)
 
 -- what the peers are sent
 abbrev pub gossips : Origin → Key → List Entry → NodeParts → List Envelope

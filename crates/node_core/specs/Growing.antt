@@ -1,5 +1,5 @@
--- What a step changes of what is held, by its event and its reply; that what is held only grows; and
--- which event hands out a context.
+-- What a step changes of what is held, by its event and its reply; that what is held only grows;
+-- and which event hands out a context.
 use Rattle.std.specs.Prelude.{◌≡◌, ◌≢◌, ℕ, List, Option, Some, None, slice_get, true}
 use Rattle.std.specs.FinMap.{find}
 use Rattle.meta_types.specs.Name.{Key}
@@ -31,8 +31,8 @@ pub record CarriesUnder (key : Key) (bytes : List ℕ) : Type 0 where
   pub object : List Entry
   pub carried : carried_object frame.message ≡ Some (key, object)
 
--- the key under which an accepted event with this reply changed what is held: that of a write, and of
--- the object in a frame that was taken fresh
+-- the key under which an accepted event with this reply changed what is held: that of a write, and
+-- of the object in a frame that was taken fresh
 abbrev pub IsKeyChanged : NodeEvent → Reply → Key → Type 0
 IsKeyChanged (Write written value context) reply key = key ≡ written
 IsKeyChanged (PutOver written value) reply key = key ≡ written
@@ -73,7 +73,8 @@ KeepsKeys old new = (key : Key) → find key_cmp key old ≢ None → find key_c
 
 -- under each key the later object knows all events that the earlier one knew
 abbrev pub Descends : Table → Table → Type 0
-Descends old new = (key : Key) → descends (join (object_at new key)) (join (object_at old key)) ≡ true
+Descends old new =
+    (key : Key) → descends (join (object_at new key)) (join (object_at old key)) ≡ true
 
 -- ---- the laws
 

@@ -12,9 +12,9 @@ use Rattle.node_parts.specs.Overlay.{IsOverlay, Overlay, empty_overlay}
 use Rattle.node_parts.specs.Watches.{most_watches}
 
 -- which node it is, and in which of its lives; what it holds, whom it talks to, and who watches it;
--- the greatest life that it heard of each of the sixteen nodes, in the order of their numbers, 0 where
--- it heard of none; and of its life, how many steps it made, how many frames it sent, and how many
--- ticks it had
+-- the greatest life that it heard of each of the sixteen nodes, in the order of their numbers, 0
+-- where it heard of none; and of its life, how many steps it made, how many frames it sent, and how
+-- many ticks it had
 pub record NodeParts : Type 0 where
   pub node : ℕ
   pub incarnation : ℕ

@@ -14,8 +14,8 @@ use Rattle.node_core.specs.declared.state.Stepped.{Stepped}
 use Rattle.node_core.specs.Node.{NodeParts}
 use Rattle.node_core.specs.Step.{CanComeOf, IsNodeStep}
 
--- of two or more siblings, the one at the place that is chosen, which is in the list by the law of a
--- resolver
+-- of two or more siblings, the one at the place that is chosen, which is in the list by the law of
+-- a resolver
 abbrev pub chosen : (List ValueParts → ℕ) → List ValueParts → Option ValueParts
 chosen choice siblings =
     if nat_le 2 (length siblings) then slice_get siblings (choice siblings) else None

@@ -1,5 +1,5 @@
--- What a node does with each event and each message: the rows that take more than one small step, and
--- then the two tables, `on_message` and `row_of_event`.
+-- What a node does with each event and each message: the rows that take more than one small step,
+-- and then the two tables, `on_message` and `row_of_event`.
 use Rattle.std.specs.Prelude.{ℕ, ◌≡◌, nat_lt, Bool, not, List, [], ◌∷◌, ◌++◌, slice_index, slice_set, Option, Some, if◌then◌else◌}
 use Rattle.peer_lists.specs.Lists.{has}
 use Rattle.meta_types.specs.Name.{Key, Prefix}
@@ -92,7 +92,8 @@ row_of_message from word Prune = call_broadcast (TakesPrune from)
 row_of_message from word (XRoot root) = reply_to from (XRoot root)
 row_of_message from word (XPrefixes prefixes) = reply_to from (XPrefixes prefixes)
 row_of_message from word (XInner prefix digests) = reply_to from (XInner prefix digests)
-row_of_message from word (XLeaves prefix inner digests) = reply_to from (XLeaves prefix inner digests)
+row_of_message from word (XLeaves prefix inner digests) =
+    reply_to from (XLeaves prefix inner digests)
 row_of_message from word (XBucket prefix leaf keys) = reply_to from (XBucket prefix leaf keys)
 row_of_message from word (XWant key) = reply_to from (XWant key)
 row_of_message from word (XObject key object) = merge key object
@@ -120,8 +121,8 @@ abbrev pub hand_out_changes : ℕ → NodeDraft → NodeDraft
 hand_out_changes number t =
     record t { parts = record t.parts { watches = hand_out number t.parts.watches } }
 
--- ---- what a node is asked to do: an event of its own, which is any but `Take` (`IsInput`), or a frame
--- that was received, with its word
+-- ---- what a node is asked to do: an event of its own, which is any but `Take` (`IsInput`), or a
+-- frame that was received, with its word
 
 pub data Input : Type 0 where
   Local : NodeEvent → Input

@@ -105,8 +105,8 @@ reply_of (Received frame word) s = reply_of_message frame.message s
 -- it isn't refused; the old node becomes what is left when all is done, with this reply, and what
 -- is to be sent goes out as frames, as bytes, numbered over the life from 1, in order; each frame
 -- is lawful, and so one to another node, and its bytes are no more than a frame may have
-pub record IsStepTo (old : NodeParts) (refusal : Option StepFault) (done : NodeDraft) (reply : Reply)
-    (new : NodeParts) (stepped : Stepped) : Type 0 where
+pub record IsStepTo (old : NodeParts) (refusal : Option StepFault) (done : NodeDraft)
+    (reply : Reply) (new : NodeParts) (stepped : Stepped) : Type 0 where
   pub accepted : refusal ≡ None
   pub node : new ≡ with_counts (length done.sent) done.parts
   pub replies : stepped.reply ≡ reply

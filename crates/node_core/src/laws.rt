@@ -41,8 +41,8 @@ pub fn what_a_step_leaves()
 {}
 
 /// The event changes the object under one key at most. The reply to a write is the vector of that
-/// object, whose newest value of the writer is the one that was written. Each object descends the one
-/// that was there.
+/// object, whose newest value of the writer is the one that was written. Each object descends the
+/// one that was there.
 pub fn each_step_grows(event: &NodeEvent)
     ensures { EachStepGrows event.now }
 {

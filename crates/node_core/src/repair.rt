@@ -2,7 +2,6 @@
 
 ghost use Rattle.std.specs.Prelude.{◌≡◌, ◌<◌, length, IfOk, IfErr, OnErr};
 ghost use Rattle.node_core.specs.Repair.{CanComeOfRepair, IsRepair, chosen, repair_event};
-ghost use Rattle.node_events.specs.declared.fault.StepFault.TheVariants.{Memory};
 
 use crate::state::{NodeState, Stepped};
 use meta_types::{MetaKey, Value};

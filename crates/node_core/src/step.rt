@@ -9,9 +9,9 @@ use node_events::{NodeEvent, StepFault};
 impl NodeState {
     /// What the node does with an event: the reply, and the frames to send. A refused event changes
     /// nothing, and doesn't count as a step. The refusals are, for a `Join`, `PeerDown`, `Exchange`
-    /// or `Hello` of the node itself, 3 `BadNode`; for a `Take`, 10 to 16 as bytes are decoded, then
-    /// 40 `NotAddressed`, then for an object 21, 25 and 27 as a store merges; for a write, as a store
-    /// writes; 28 `BadWatch` and 29 `NoSuchWatch`; and 99 `Memory` at any of them.
+    /// or `Hello` of the node itself, 3 `BadNode`; for a `Take`, 10 to 16 as bytes are decoded,
+    /// then 40 `NotAddressed`, then for an object 21, 25 and 27 as a store merges; for a write, as
+    /// a store writes; 28 `BadWatch` and 29 `NoSuchWatch`; and 99 `Memory` at any of them.
     pub fn step(&mut self, event: NodeEvent) -> Result<Stepped, StepFault>
         ensures step { IfOk result (IsNodeStep self.old event self.new) }
         ensures refused { IfErr result (λ fault. Rejects self.old event fault self.new) }

@@ -4,14 +4,13 @@ ghost use Rattle.std.specs.Prelude.{◌≡◌, None, Some, IfOk, IfErr, IfSome};
 ghost use Rattle.std.specs.Option.{option_copied};
 ghost use Rattle.meta_types.specs.Failing.{FailsBy};
 ghost use Rattle.dvvset.specs.Clock.{join};
-ghost use Rattle.meta_store.specs.Table.{IsHeld, IsTable};
 ghost use Rattle.node_events.specs.declared.event.NodeEvent.TheVariants as OfEvent;
 ghost use Rattle.node_events.specs.declared.fault.StepFault.TheVariants.{Memory};
 ghost use Rattle.node_events.specs.declared.reply.Reply.TheVariants.{Wrote};
 ghost use Rattle.node_parts.specs.Watches.{at_number, reply_of_changes};
 ghost use Rattle.node_core.specs.Rows.{Local};
 ghost use Rattle.node_core.specs.Step.{CanComeOf, refusal_of, refusal_of_write};
-ghost use Rattle.node_images.specs.Ahead.{IsAhead, IsReady, object_written};
+ghost use Rattle.node_images.specs.Ahead.{IsAhead, IsReady};
 ghost use Rattle.node_images.specs.Images.{IsChange};
 ghost use Rattle.node_images.specs.Keeping.{change_at};
 

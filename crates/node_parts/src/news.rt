@@ -7,8 +7,8 @@ use std::alloc::{AllocError, Global};
 use std::marker::Model;
 use subscriptions::Change;
 
-/// A change, and as many notes of it as are still to be given to the watches that hear its key. They
-/// are made before anything changes, so that nothing fails afterwards.
+/// A change, and as many notes of it as are still to be given to the watches that hear its key.
+/// They are made before anything changes, so that nothing fails afterwards.
 #[derive(Drop)]
 pub struct News {
     change: Change,

@@ -107,7 +107,8 @@ impl Overlay {
         requires another { from ≢ self.old.views.node }
         requires spelled { IsSpelledVector vector.now }
         ensures overlay { OnOk result
-            (self.new ≡ overlay_after_call (TakesIHave from round key.now vector.now stale) self.old) }
+            (self.new
+            ≡ overlay_after_call (TakesIHave from round key.now vector.now stale) self.old) }
         ensures unchanged { OnErr result (self.new ≡ self.old) }
     {
         // Read for what it tells: the key is in range.
@@ -190,8 +191,8 @@ fn object_outbox(
     outbox(alloc, node, number, sent)
 }
 
-/// Hands the frames of a call of the broadcast on. Where memory ran out, the broadcast comes back to
-/// where it stood before the call.
+/// Hands the frames of a call of the broadcast on. Where memory ran out, the broadcast comes back
+/// to where it stood before the call.
 fn or_take_back(
     cast: &mut Cast,
     savepoint: Savepoint,

@@ -58,8 +58,10 @@ IsObjectKnown hs n k es = IsObjectOf (writes hs) k (known hs n k) es
 abbrev pub IsObjectRead : List Happening → Option ℕ → Key → List Entry → Type 0
 IsObjectRead hs r k es = IsObjectOf (writes hs) k (read hs k r) es
 
--- the object that a node with the first one has once it wrote the value with the context of the second
-abbrev pub object_after_write : List Happening → ℕ → ValueParts → List Entry → List Entry → List Entry
+-- the object that a node with the first one has once it wrote the value with the context of the
+-- second
+abbrev pub object_after_write :
+    List Happening → ℕ → ValueParts → List Entry → List Entry → List Entry
 object_after_write before n v a b = update (join b) a (writer_after before n) v
 
 -- after these happenings the history has a write of the node under the key, and this is its counter

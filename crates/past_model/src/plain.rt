@@ -7,7 +7,7 @@ ghost use Rattle.meta_types.specs.Node.{IsNode};
 ghost use Rattle.meta_types.specs.Value.{ValueParts};
 ghost use Rattle.past_model.specs.declared.happening.Happening.{Happening as H};
 ghost use Rattle.past_model.specs.declared.happening.Happening.TheVariants.{Wrote};
-ghost use Rattle.past_model.specs.Past.{Past, known, past, read, writer_of, writes};
+ghost use Rattle.past_model.specs.Past.{known, past, read, writer_of, writes};
 ghost use Rattle.past_model.specs.History.{IsHistory, most_restarts};
 ghost use Rattle.past_model.specs.Shown.{ArePlaces, IsContext, Shows, count_in, is_sibling, siblings_by, was_read};
 ghost use Rattle.past_model.specs.Moment.{AreWriters, IsAccount, lives_of, is_write_under, marked_places, node_of, writes_of_happening};

@@ -1,13 +1,11 @@
 //! The laws of the object machine, over histories. Each function does nothing: its contract is the
 //! law.
 
-ghost use Rattle.std.specs.Prelude.{◌≡◌, ◌≢◌, ◌≤◌, ◌↔◌, ◌∷◌, ◌++◌, [], ℕ, true, List, Option, None, Some, length};
+ghost use Rattle.std.specs.Prelude.{◌≡◌, ◌≢◌, ◌↔◌, ◌∷◌, ◌++◌, [], ℕ, true, List, Option, length};
 ghost use Rattle.meta_types.specs.Name.{Key};
 ghost use Rattle.meta_types.specs.Value.{ValueParts};
-ghost use Rattle.dvvset.specs.Object.{Entry};
 ghost use Rattle.dvvset.specs.Clock.{descends, join, sync, values_of};
 ghost use Rattle.past_model.specs.declared.happening.Happening.{Happening as H};
-ghost use Rattle.past_model.specs.declared.happening.Happening.TheVariants.{Got, Looked, Restarted, Sent, Wrote};
 ghost use Rattle.past_model.specs.Sets.{IsSubset};
 ghost use Rattle.past_model.specs.Past.{known, load, image, incarnation_of, past, seen, writer_of, writes};
 ghost use Rattle.past_model.specs.History.{IsHistory};

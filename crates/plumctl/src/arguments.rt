@@ -58,9 +58,9 @@ const RUN_HELP: &str =
   root N             images N           views N             settle
   junk N HEX
 KEY is as a/b/k and PREFIX as a/b, of letters, digits, . _ and -; VALUE is of the same, or hex: and
-digits; CAP is 1 to 1024. A carriage return is no part of a command. An empty line is skipped, and so
-is one that begins with #. Each command prints a line, and a line for each frame that it sent. Where
-a line is no command, error 70 BadLine and its number is all that is printed.
+digits; CAP is 1 to 1024. A carriage return is no part of a command. An empty line is skipped, and
+so is one that begins with #. Each command prints a line, and a line for each frame that it sent.
+Where a line is no command, error 70 BadLine and its number is all that is printed.
 
 Example:
   printf 'nodes 1\\nput 0 a/b/k x\\nshow 0 a/b/k\\n' | plumctl run

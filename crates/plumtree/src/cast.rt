@@ -282,8 +282,8 @@ impl Cast {
         Ok(draft.out)
     }
 
-    /// The broadcast after a tick, and what the tick gives out, while this one stays as it is. Fails
-    /// only when memory runs out. What waits for the tick isn't copied.
+    /// The broadcast after a tick, and what the tick gives out, while this one stays as it is.
+    /// Fails only when memory runs out. What waits for the tick isn't copied.
     #[tactic(auto, unfolding(crate::specs::Rows::on_tick))]
     pub fn after_tick(&self) -> Result<(Cast, Vec<CastOut>), AllocError>
         ensures { IfOk result (λ after. IsCall Tick self.now after.0 after.1.items) }

@@ -4,7 +4,7 @@ ghost use Rattle.std.specs.Prelude.{◌≡◌, ◌++◌, ◌∷◌, [], true, ma
 ghost use Rattle.dvvset.specs.Clock.{values_of};
 ghost use Rattle.printing.specs.Field.{value_text};
 ghost use Rattle.printing.specs.Joined.{joined, separated, AddsTexts};
-ghost use Rattle.printing.specs.Object.{counter_text, vector_text, values_text, object_text};
+ghost use Rattle.printing.specs.Object.{counter_text, vector_text, object_text};
 
 use crate::field::{add_actor, add_number, add_value};
 use dvvset::{Counter, Entries, Entry, Vector, join};

@@ -2,7 +2,7 @@
 //! nothing.
 
 ghost use Rattle.std.specs.Prelude.{◌≡◌, ◌++◌, OnOk, OnErr, decimal, map};
-ghost use Rattle.printing.specs.Field.{are_plain, bytes_text, key_text, value_text};
+ghost use Rattle.printing.specs.Field.{bytes_text, key_text, value_text};
 ghost use Rattle.printing.specs.Frame.{frame_text, frame_fault_text};
 ghost use Rattle.printing.specs.Joined.{joined};
 ghost use Rattle.printing.specs.Object.{vector_text, object_text};

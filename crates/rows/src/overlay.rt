@@ -9,8 +9,8 @@ use meta_types::NodeId;
 use std::alloc::{AllocError, Global};
 use std::collections::BTreeMap;
 
-/// What the lines of a row give out. A line that begins with `#` stands as it is, and one that is no
-/// command after `error`.
+/// What the lines of a row give out. A line that begins with `#` stands as it is, and one that is
+/// no command after `error`.
 pub fn output_of_events(alloc: Global, lines: &[u8]) -> Result<Vec<u8>, AllocError> {
     let mut text = Vec::new(alloc);
     let mut nodes = Nodes::new(alloc);

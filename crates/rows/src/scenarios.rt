@@ -39,11 +39,12 @@ pub fn try_explained(
     report.compare(alloc, row, output.as_slice())
 }
 
-/// The most bytes of a scenario that is explained too: what that prints grows with the square of its
-/// length.
+/// The most bytes of a scenario that is explained too: what that prints grows with the square of
+/// its length.
 const MAX_EXPLAINED: usize = 4_000;
 
-/// Adds where a scenario, explained, prints something else besides its indented lines than `output`.
+/// Adds where a scenario, explained, prints something else besides its indented lines than
+/// `output`.
 fn compare_explained(
     alloc: Global,
     row: &Row,

@@ -14,8 +14,8 @@ use std::alloc::{AllocError, Global};
 /// How many nodes each schedule has.
 pub const NODES: u64 = 4;
 
-/// Runs the schedule of a row. Adds where a node didn't show what the past does when it was compared,
-/// and what there was less of than the row wants.
+/// Runs the schedule of a row. Adds where a node didn't show what the past does when it was
+/// compared, and what there was less of than the row wants.
 pub fn try_schedule(
     alloc: Global,
     row: &Row,

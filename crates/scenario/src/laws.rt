@@ -1,5 +1,5 @@
-//! Laws of what scenarios print, and of faults. The contract of a function is the law; its body does
-//! nothing, or compares.
+//! Laws of what scenarios print, and of faults. The contract of a function is the law; its body
+//! does nothing, or compares.
 
 ghost use Rattle.std.specs.Prelude.{◌≡◌, ◌↔◌, ◌++◌, ℕ, List, Option, IsTrue};
 ghost use Rattle.scenario_stage.specs.Obeying.{Choices};

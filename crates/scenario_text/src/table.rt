@@ -80,7 +80,8 @@ fn put<'a>(words: &mut Words<'a>) -> Option<Command<'a>>
 }
 
 fn del<'a>(words: &mut Words<'a>) -> Option<Command<'a>>
-    ensures { ReadsWords (just forms.Del and forms.a_number and forms.a_key and forms.stamp and forms.read)
+    ensures { ReadsWords
+        (just forms.Del and forms.a_number and forms.a_key and forms.stamp and forms.read)
         words.old (option_map command_word result) words.new }
 {
     Some(Command::Del {
@@ -92,7 +93,8 @@ fn del<'a>(words: &mut Words<'a>) -> Option<Command<'a>>
 }
 
 fn over<'a>(words: &mut Words<'a>) -> Option<Command<'a>>
-    ensures { ReadsWords (just forms.Over and forms.a_number and forms.a_key and forms.a_value and forms.stamp)
+    ensures { ReadsWords
+        (just forms.Over and forms.a_number and forms.a_key and forms.a_value and forms.stamp)
         words.old (option_map command_word result) words.new }
 {
     Some(Command::Over {
@@ -124,7 +126,8 @@ fn show<'a>(words: &mut Words<'a>) -> Option<Command<'a>>
 }
 
 fn resolve<'a>(words: &mut Words<'a>, resolvers: usize) -> Option<Command<'a>>
-    ensures { ReadsWords (just forms.Resolve and forms.a_number and forms.a_key and forms.resolver resolvers)
+    ensures { ReadsWords
+        (just forms.Resolve and forms.a_number and forms.a_key and forms.resolver resolvers)
         words.old (option_map command_word result) words.new }
 {
     Some(Command::Resolve {

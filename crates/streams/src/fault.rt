@@ -1,4 +1,4 @@
-ghost use Rattle.std.specs.Prelude.{◌≡◌, option_map};
+ghost use Rattle.std.specs.Prelude.{◌≡◌};
 ghost use Rattle.streams.specs.Fault.{code_of, fault_name};
 ghost use Rattle.streams.specs.declared.fault.StreamFault.TheVariants.{Memory};
 

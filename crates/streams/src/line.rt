@@ -1,7 +1,6 @@
 //! The lines of a reader, read in pieces within a limit.
 
-ghost use Rattle.std.specs.Prelude.{◌≡◌, ◌≢◌, ◌<◌, ◌⊎◌, ◌++◌, ◌∷◌, [], ℕ, List, length, IfOk, IfErr, OnOk, OnErr, IsTrue, ◌↔◌, MatchBool};
-ghost use Rattle.streams.specs.Fault.{IsReadFault};
+ghost use Rattle.std.specs.Prelude.{◌≡◌, ◌<◌, [], length, IfOk, IfErr, OnOk, IsTrue, ◌↔◌};
 ghost use Rattle.streams.specs.Line.{input_limit, IsOneLine, TakesLine, StopsReading, Fills, Moves};
 
 use crate::fault::StreamFault;

@@ -1,8 +1,8 @@
 //! Readers that say when a read may fail.
 
 ghost use Rattle.std.specs.Prelude.{⊤, OnOk, OnErr};
-ghost use Rattle.std.specs.Io.{ReadsAtMost, WritesAtMost};
-ghost use Rattle.std.specs.Io.KnownBytes.{ReadConsumes, WriteAppends, Keeps};
+ghost use Rattle.std.specs.Io.{ReadsAtMost};
+ghost use Rattle.std.specs.Io.KnownBytes.{ReadConsumes};
 ghost use Rattle.streams.specs.Moment.{SourceAt};
 
 use std::io::{self, Read, Write};

@@ -1,6 +1,6 @@
-//! The tests of `meta_types`, `dvvset`, `past_model`, `meta_store`, `hash_tree` and `exchange`, over
-//! their public calls and apart from them: a crate is proved once more with its tests. No crate uses
-//! this one.
+//! The tests of `meta_types`, `dvvset`, `past_model`, `meta_store`, `hash_tree` and `exchange`,
+//! over their public calls and apart from them: a crate is proved once more with its tests. No
+//! crate uses this one.
 #![tactic(auto)]
 
 // What is proved of a function grows with the places at which it may end while it owns something.

@@ -1,8 +1,9 @@
-//! The tests of `printing`, `streams`, `plumctl_core` and `scenario`, over their public calls, apart
-//! from them, since a crate is proved once more with its tests. They show what no contract says and
-//! what one run of a program over standard input and output can't: readers and writers that fail in
-//! mid-stream, when a line is answered, the limit of an input, and memory that is refused. Which line
-//! is printed how shows the stored run of the program `plumctl`, and what a scenario prints, a row of
+//! The tests of `printing`, `streams`, `plumctl_core` and `scenario`, over their public calls,
+//! apart from them, since a crate is proved once more with its tests. They show what no contract
+//! says and what one run of a program over standard input and output can't: readers and writers
+//! that fail in mid-stream, when a line is answered, the limit of an input, and memory that is
+//! refused. Which line is printed how shows the stored run of the program `plumctl`, and what a
+//! scenario prints, a row of
 //! `rows`. No crate uses this one.
 #![tactic(auto)]
 

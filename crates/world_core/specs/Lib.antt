@@ -1,5 +1,6 @@
--- What must be believed of the world, in the order in which to read it: first names, values, clocks,
--- the past, frames, stores, nodes and images, of which the contracts of this crate speak too
+-- What must be believed of the world, in the order in which to read it: first names, values,
+-- clocks, the past, frames, stores, nodes and images, of which the contracts of this crate speak
+-- too
 pub use Rattle.meta_types.specs.Name
 pub use Rattle.meta_types.specs.Value
 pub use Rattle.dvvset.specs.Object

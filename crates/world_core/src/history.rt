@@ -1,7 +1,6 @@
 //! The history that accepted events tell.
 
 ghost use Rattle.std.specs.Prelude.{◌≡◌, ◌+◌, ◌<◌, ◌≤◌, ℕ, List, Some, length, IfOk, OnOk};
-ghost use Rattle.std.specs.Option.{option_copied};
 ghost use Rattle.meta_types.specs.Failing.{FailsWith};
 ghost use Rattle.meta_frame.specs.Frame.{Spells};
 ghost use Rattle.meta_frame.specs.declared.fault.FrameFault.TheVariants as OfFrame;

@@ -143,8 +143,8 @@ impl World {
 
     /// The node; `None` for one that the world doesn't have, and only then. Under each key it holds
     /// the object of the writes that it knows, whose values are those of them that none of them had
-    /// read. What the accepted events were to it took it there from a new node, life after life. The
-    /// number of its life is that of the history.
+    /// read. What the accepted events were to it took it there from a new node, life after life.
+    /// The number of its life is that of the history.
     pub fn state(&self, node: u64) -> Option<&NodeState>
         ensures node { IsNone result ↔ (length self.now.nodes ≤ node) }
         ensures lends { IfSome result (λ state. state.now ≡ (node_at self.now node).state) }
