@@ -1,0 +1,10 @@
+mod Limits
+mod Folding
+mod Parting
+mod Torn
+mod Made
+mod Appending
+mod Writing
+mod Lives
+mod Tables
+mod Payloads

@@ -1,0 +1,10 @@
+-- Why bytes weren't written and synced, as a refusal of a file.
+use Rattle.node_file.specs.declared.fault.FileFault.{FileFault}
+use Rattle.node_file.specs.declared.fault.FileFault.TheVariants.{Device, Memory}
+use Rattle.node_file.specs.declared.putting.WriteFault.{WriteFault}
+use Rattle.node_file.specs.declared.putting.WriteFault.TheVariants as writes
+
+abbrev pub of_write : WriteFault → FileFault
+of_write writes.NotBegun = Memory
+of_write writes.Memory = Memory
+of_write writes.Device = Device

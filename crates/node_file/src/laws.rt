@@ -1,0 +1,36 @@
+//! Laws of node files. The contract of a function is the law; its body does nothing.
+
+ghost use Rattle.std.specs.Prelude.{◌≡◌, ◌↔◌, ◌+◌, ◌++◌, List, ℕ, None, Some, Ok, length, take, drop};
+ghost use Rattle.frame_readers.proofs.Readers.{IsBytes};
+ghost use Rattle.node_file.specs.File.{opened, FileState};
+ghost use Rattle.node_file.specs.Lives.{IsTold};
+ghost use Rattle.node_file.specs.Record.{IsRecord, payload, record_bytes, record_in, record_of, Says};
+ghost use Rattle.node_file.specs.declared.record.Record.{Record};
+
+/// A payload of version 2 is read as a record exactly where it is the payload of that record. So
+/// no payload says two things, and each record that may be written is read again.
+pub fn a_payload_says_one_record()
+    ensures { (bytes : List ℕ) (said : Record) → IsBytes bytes
+        → (record_of 2 bytes ≡ Some said) ↔ Says bytes said }
+{}
+
+/// What a file stands for is what its records say, one after the other, and the numbers of its
+/// lives rise strictly, the last being that of the file. So the life that `serve` answers is
+/// greater than each before it.
+pub fn lives_rise()
+    ensures { (bytes : List ℕ) (s : FileState) (gate : ℕ)
+        → opened None bytes ≡ Ok (s, gate) → IsTold s.version (drop 10 bytes) s.contents }
+{}
+
+/// What stands behind the closed gate of a file, a torn record for example, counts for nothing.
+pub fn nothing_counts_behind_the_closed_gate()
+    ensures { (bytes behind : List ℕ) (s : FileState) (gate : ℕ)
+        → opened None bytes ≡ Ok (s, gate)
+        → opened None (take (gate + 1) bytes ++ behind) ≡ Ok (s, gate) }
+{}
+
+/// A record that was written is read again from the front of its bytes, whatever is behind them.
+pub fn a_record_is_read_again()
+    ensures { (said : Record) (rest : List ℕ) → IsRecord said
+        → record_in 2 (record_bytes (payload said) ++ rest) ≡ Some (said, 36 + length (payload said)) }
+{}

@@ -1,0 +1,30 @@
+//! The file of a node on a device: whatever moment a crash comes, it holds the table from before a
+//! call or the table with the one new object; and each life of the node has a number of its own.
+//!
+//! ```
+//! let device = FileDevice::open(rt, alloc, "node-3")?;
+//! let (mut file, mut table, life) = serve(alloc, device, Some(node))?;
+//! // .. a write of the node in this life makes `object` under `key`
+//! file.append(alloc, &key, &object)?; // durable from here on
+//! ```
+//!
+//! Read `node_file` and `opening`, then `record`, `laws` and `fault`; `reading`, `contents`,
+//! `found`, `putting` and `rewriting` hold the code.
+#![tactic(auto)]
+
+mod contents;
+mod fault;
+mod found;
+pub mod laws;
+mod node_file;
+mod opening;
+mod putting;
+mod reading;
+mod record;
+mod rewriting;
+
+pub use fault::FileFault;
+pub use found::MAX_FILE_LEN;
+pub use node_file::NodeFile;
+pub use opening::{create, open_node, serve};
+pub use record::Record;

@@ -1,0 +1,265 @@
+ghost use Rattle.std.specs.Prelude.{◌≡◌, ◌⊎◌, ◌+◌, ◌≤◌, true, false, length, None, Some, Err, OnOk, OnErr, IfErr};
+ghost use Rattle.devices.specs.Device.{LeavesOnly};
+ghost use Rattle.frame_fields.specs.Field.{has_value};
+ghost use Rattle.meta_store.specs.Step as store;
+ghost use Rattle.meta_store.specs.Table.{has_few_values};
+ghost use Rattle.std.specs.List.{list_all};
+ghost use Rattle.node_file.specs.Record.{IsRecord};
+ghost use Rattle.node_file.specs.Fault.{IsOfDevice};
+ghost use Rattle.node_file.specs.File.{file_state, IsAppended, record_size, state_with, WithOrWithout};
+ghost use Rattle.node_file.specs.Refusal.{has_spelling, refusal_of_append};
+ghost use Rattle.node_file.specs.View.{IsSettled};
+ghost use Rattle.node_file.specs.declared.fault.FileFault.{FileFault};
+ghost use Rattle.node_file.specs.declared.record.Record.TheVariants.{Object};
+
+use crate::fault::FileFault;
+use crate::found::MAX_FILE_LEN;
+use crate::putting::{WriteFault, put_record};
+use crate::record::{AROUND_PAYLOAD, NewRecord, spell_record};
+use devices::Device;
+use dvvset::{Entries, Entry};
+use frame_fields::lengths::{key_len, object_len};
+use meta_store::StoreFault;
+use meta_store::size::{MAX_ENTRIES, MAX_VALUES_OF_A_WRITER, may_be_held};
+use meta_types::{MetaKey, NodeId};
+use std::alloc::Global;
+use std::marker::Model;
+
+/// A node's file on a device: the objects of its table, one record after the other, and the lives
+/// of the node among them.
+///
+/// Unless it is stopped it is settled: its device holds a file, and a crash leaves just that. It
+/// keeps no table: `open_node` and `serve` hand one out, and whoever changes it appends each object
+/// that changed.
+#[derive(Drop)]
+pub struct NodeFile<D: Device> {
+    device: D,
+    node: NodeId,
+    life: u32,
+    /// The offset of the closed gate.
+    gate: usize,
+    is_served: bool,
+    is_stopped: bool,
+}
+
+impl<D: Device> Model for NodeFile<D> {
+    ghost use Rattle.std.specs.Prelude.{◌≡◌, false};
+    ghost use Rattle.node_file.specs.View.{FileView, IsSettled};
+
+    ghost Value = { FileView D };
+
+    ghost view = { λ f. record {
+      device = f.device;
+      node = f.node;
+      life = f.life;
+      gate = f.gate;
+      is_served = f.is_served;
+      is_stopped = f.is_stopped;
+    } };
+
+    ghost invariant = { λ f. f.is_stopped ≡ false → IsSettled D.content D.may_leave
+        (record {
+          device = f.device;
+          node = f.node;
+          life = f.life;
+          gate = f.gate;
+          is_served = f.is_served;
+          is_stopped = f.is_stopped;
+        }) };
+}
+
+impl<D: Device> NodeFile<D> {
+    /// A file that was opened or made.
+    pub(crate) fn new(
+        device: D,
+        node: NodeId,
+        life: u32,
+        gate: usize,
+        is_served: bool,
+    ) -> NodeFile<D>
+        requires settled { IsSettled D.content D.may_leave (record {
+          device = device;
+          node = node;
+          life = life;
+          gate = gate;
+          is_served = is_served;
+          is_stopped = false;
+        }) }
+        ensures { result ≡ record {
+          device = device;
+          node = node;
+          life = life;
+          gate = gate;
+          is_served = is_served;
+          is_stopped = false;
+        } }
+    {
+        NodeFile {
+            device,
+            node,
+            life,
+            gate,
+            is_served,
+            is_stopped: false,
+        }
+    }
+
+    /// The device, as it stands.
+    pub fn device(&self) -> &D
+        ensures value { result.now ≡ self.now.device }
+        ensures settled { self.now.is_stopped ≡ false
+            → IsSettled D.content D.may_leave self.now }
+    {
+        &self.device
+    }
+
+    /// The same by value.
+    pub fn into_device(self) -> D
+        ensures value { result ≡ self.device }
+        ensures settled { self.is_stopped ≡ false → IsSettled D.content D.may_leave self }
+    {
+        self.device
+    }
+
+    /// The node whose file it is.
+    pub fn node(&self) -> NodeId
+        ensures { result ≡ self.now.node }
+    {
+        self.node
+    }
+
+    /// The number of the node's last life in the file, 0 for none.
+    pub fn life(&self) -> u32
+        ensures { result ≡ self.now.life }
+    {
+        self.life
+    }
+
+    /// Returns whether a life was begun by the call that opened the file, so that it takes objects.
+    pub fn is_served(&self) -> bool
+        ensures { result ≡ self.now.is_served }
+    {
+        self.is_served
+    }
+
+    /// Returns whether an append failed after the device may have changed, so that the file takes nothing until it is opened
+    /// again.
+    pub fn is_stopped(&self) -> bool
+        ensures { result ≡ self.now.is_stopped }
+    {
+        self.is_stopped
+    }
+
+    /// Appends that this is the object under the key from now on. After `Ok` it is durable.
+    ///
+    /// Refused in this order: 34 `Stopped`; 33 `FileFull`, where the file would have more than
+    /// 1,099,511,627,776 bytes; 27 `ObjectTooLarge`, where a store may not hold the object; 30
+    /// `Device`, which stops the file. 99 `Memory` stops it too where the device was asked for
+    /// something before. The object of a call that stopped the file may stand in it or not.
+    ///
+    /// It makes four calls of the device: a write, a sync, a write of one byte, and a sync. It
+    /// takes memory for the record, and time for nothing else.
+    #[tactic(auto, using(crate::proofs::Lives::room_for))]
+    pub fn append(
+        &mut self,
+        alloc: Global,
+        key: &MetaKey,
+        object: &Entries,
+    ) -> Result<(), FileFault>
+        requires served { self.old.is_served ≡ true }
+        requires shows { has_value object.now ≡ true }
+        requires room { self.old.is_stopped ≡ false → store.is_full_for
+            (file_state (D.content self.old.device)).contents.table key.now ≡ false }
+        ensures refusals { (fault : FileFault) → refusal_of_append self.old.is_stopped self.old.gate
+            key.now object.now ≡ Some fault → (result ≡ Err fault) × (self.new ≡ self.old) }
+        ensures appended { OnOk result (file_state (D.content self.new.device)
+            ≡ state_with (file_state (D.content self.old.device)) (Object key.now object.now)) }
+        ensures written { OnOk result (IsAppended self.old.gate (Object key.now object.now)
+            (D.content self.old.device) (D.content self.new.device)) }
+        ensures gate { OnOk result (self.new.gate
+            ≡ self.old.gate + record_size (Object key.now object.now)) }
+        ensures goes_on { OnOk result
+            ((self.old.is_stopped ≡ false) × (self.new.is_stopped ≡ false)) }
+        ensures settled { self.new.is_stopped ≡ false
+            → IsSettled D.content D.may_leave self.new }
+        ensures any_moment { self.old.is_stopped ≡ false → LeavesOnly D.moment D.left_since
+            self.old.device self.new.device
+            (WithOrWithout (D.content self.old.device) (Object key.now object.now)) }
+        ensures refused { IfErr result (λ fault.
+            IsOfDevice fault (D.failed self.old.device) (D.failed self.new.device)
+            ⊎ (refusal_of_append self.old.is_stopped self.old.gate key.now object.now
+            ≡ Some fault)) }
+        ensures stopped_or_same { OnErr result ((self.new.is_stopped ≡ true)
+            ⊎ ((D.content self.new.device ≡ D.content self.old.device)
+            × (self.new.gate ≡ self.old.gate))) }
+        ensures stops { IfErr result (λ fault. fault ≡ FileFault.Device
+            → self.new.is_stopped ≡ true) }
+        ensures whose { (self.new.node ≡ self.old.node) × (self.new.life ≡ self.old.life)
+            × (self.new.is_served ≡ true) }
+    {
+        if self.is_stopped {
+            return Err(FileFault::Stopped);
+        }
+        if let Some(fault) = refusal_of(self.gate, key, object) {
+            return Err(fault);
+        }
+        let record = NewRecord::Object(key, object);
+        let bytes = spell_record(alloc, record)?;
+        let spelled = &bytes[1..];
+        match put_record(&mut self.device, self.gate, record, spelled) {
+            Ok(()) => {
+                self.gate += spelled.len();
+                Ok(())
+            }
+            Err(WriteFault::NotBegun) => Err(FileFault::Memory),
+            Err(WriteFault::Memory) => {
+                self.is_stopped = true;
+                Err(FileFault::Memory)
+            }
+            Err(WriteFault::Device) => {
+                self.is_stopped = true;
+                Err(FileFault::Device)
+            }
+        }
+    }
+}
+
+/// Returns whether no entry shows more values than a record can count.
+fn have_few_values(entries: &[Entry]) -> bool
+    ensures { result ≡ list_all has_few_values entries.now }
+{
+    entries
+        .iter()
+        .all(|entry| entry.values().len() <= MAX_VALUES_OF_A_WRITER)
+}
+
+/// Returns whether the object has few enough entries, each with few enough values, for a record.
+fn has_spelling(object: &Entries) -> bool
+    ensures { result ≡ has_spelling object.now }
+{
+    let entries = object.entries();
+    entries.len() <= MAX_ENTRIES && have_few_values(entries)
+}
+
+/// Why no record of the object is put behind this gate.
+#[tactic(auto, using(crate::proofs::Limits::of_refusals))]
+fn refusal_of(gate: usize, key: &MetaKey, object: &Entries) -> Option<FileFault>
+    requires shows { has_value object.now ≡ true }
+    ensures first { result ≡ refusal_of_append false gate key.now object.now }
+    ensures lawful { result ≡ None → IsRecord (Object key.now object.now) }
+{
+    // Read for what they tell: the key and the object are lawful.
+    let _ = key.key();
+    let _ = object.entries();
+    if has_spelling(object) {
+        let len = 1 + key_len(key) + object_len(object);
+        if gate.saturating_add(len + AROUND_PAYLOAD) > MAX_FILE_LEN {
+            return Some(FileFault::FileFull);
+        }
+    }
+    if may_be_held(object) {
+        None
+    } else {
+        Some(FileFault::Store(StoreFault::ObjectTooLarge))
+    }
+}

@@ -1,0 +1,117 @@
+//! Putting a record behind the others, so that a crash at any moment leaves a file with it or
+//! without it: it is written behind the closed gate and synced, and then the gate is opened and
+//! synced.
+
+ghost use Rattle.std.specs.Prelude.{◌≡◌, ◌+◌, ◌<◌, ◌≤◌, ◌^◌, ◌++◌, [], ◌∷◌, true, length, None, Ok, OnOk, IsErrOf};
+ghost use Rattle.devices.specs.Device.{HasFailed, IsDurable, LeavesOnly, Overwrites, Torn};
+ghost use Rattle.meta_store.specs.Table.{most_keys};
+ghost use Rattle.node_file.specs.File.{file_state, IsAppended, opened, state_with, WithOrWithout};
+ghost use Rattle.node_file.specs.Fold.{may_follow};
+ghost use Rattle.node_file.specs.Reads.{record_given};
+ghost use Rattle.node_file.specs.Record.{IsRecord, payload, record_bytes};
+
+use crate::fault::FileFault;
+use crate::record::{NewRecord, OPEN_GATE};
+use devices::{Device, DeviceFault};
+
+/// Why bytes weren't written and synced.
+#[derive(Clone, Copy, Debug)]
+pub(crate) enum WriteFault {
+    /// Memory ran out before the device was asked for anything.
+    NotBegun,
+    /// Memory ran out later.
+    Memory,
+    Device,
+}
+
+impl From<WriteFault> for FileFault {
+    ghost use Rattle.node_file.specs.Putting.{of_write};
+
+    ghost from_gives = { λ write fault. fault ≡ of_write write };
+
+    fn from(fault: WriteFault) -> Self {
+        match fault {
+            WriteFault::NotBegun => FileFault::Memory,
+            WriteFault::Memory => FileFault::Memory,
+            WriteFault::Device => FileFault::Device,
+        }
+    }
+}
+
+/// Writes, and syncs what was written.
+fn write_synced<D: Device>(device: &mut D, at: usize, bytes: &[u8]) -> Result<(), WriteFault>
+    requires within { at ≤ length (D.content device.old) }
+    requires durable { IsDurable (D.content device.old) (D.may_leave device.old) }
+    ensures any_moment { LeavesOnly D.moment D.left_since device.old device.new
+        (Torn at (length bytes.now) (D.content device.old)) }
+    ensures written { OnOk result
+        (Overwrites (D.content device.old) at bytes.now (D.content device.new)) }
+    ensures synced { OnOk result (IsDurable (D.content device.new) (D.may_leave device.new)) }
+    ensures not_begun { IsErrOf result WriteFault.NotBegun
+        → (D.content device.new ≡ D.content device.old)
+        × IsDurable (D.content device.new) (D.may_leave device.new) }
+    ensures cause { IsErrOf result WriteFault.Device
+        → HasFailed (D.failed device.old) (D.failed device.new) }
+    ensures counts { D.failed device.old ≤ D.failed device.new }
+{
+    match device.write_at(at, bytes) {
+        Err(DeviceFault::Memory) => return Err(WriteFault::NotBegun),
+        Err(DeviceFault::Failed) => return Err(WriteFault::Device),
+        Ok(()) => {}
+    }
+    match device.sync() {
+        Err(DeviceFault::Memory) => Err(WriteFault::Memory),
+        Err(DeviceFault::Failed) => Err(WriteFault::Device),
+        Ok(()) => Ok(()),
+    }
+}
+
+/// Puts a record behind the closed gate, and opens the gate. `spelled` are the record's bytes
+/// behind its gate, with the closed gate that follows.
+pub(crate) fn put_record<D: Device>(
+    device: &mut D,
+    gate: usize,
+    given: NewRecord<'_>,
+    spelled: &[u8],
+) -> Result<(), WriteFault>
+    requires bytes { spelled.now ≡ record_bytes (payload (record_given given)) ++ 0 ∷ [] }
+    requires lawful { IsRecord (record_given given) }
+    requires opens { opened None (D.content device.old)
+        ≡ Ok (file_state (D.content device.old), gate) }
+    requires version { (file_state (D.content device.old)).version ≡ 2 }
+    requires follows { may_follow (file_state (D.content device.old)).contents
+        (record_given given) ≡ true }
+    requires room { length (state_with (file_state (D.content device.old))
+        (record_given given)).contents.table ≤ most_keys }
+    requires durable { IsDurable (D.content device.old) (D.may_leave device.old) }
+    requires short { gate < 2 ^ 60 }
+    ensures any_moment { LeavesOnly D.moment D.left_since device.old device.new
+        (WithOrWithout (D.content device.old) (record_given given.entry)) }
+    ensures written { OnOk result (IsAppended gate (record_given given.entry)
+        (D.content device.old) (D.content device.new)) }
+    ensures opens { OnOk result (opened None (D.content device.new)
+        ≡ Ok (
+          state_with (file_state (D.content device.old)) (record_given given.entry),
+          gate + length spelled.now,
+        )) }
+    ensures synced { OnOk result (IsDurable (D.content device.new) (D.may_leave device.new)) }
+    ensures not_begun { IsErrOf result WriteFault.NotBegun
+        → (D.content device.new ≡ D.content device.old)
+        × IsDurable (D.content device.new) (D.may_leave device.new) }
+    ensures cause { IsErrOf result WriteFault.Device
+        → HasFailed (D.failed device.old) (D.failed device.new) }
+    ensures counts { D.failed device.old ≤ D.failed device.new }
+{
+    match write_synced(device, gate + 1, spelled) {
+        Ok(()) => {}
+        Err(WriteFault::NotBegun) => return Err(WriteFault::NotBegun),
+        Err(WriteFault::Memory) => return Err(WriteFault::Memory),
+        Err(WriteFault::Device) => return Err(WriteFault::Device),
+    }
+    match write_synced(device, gate, &[OPEN_GATE]) {
+        Ok(()) => Ok(()),
+        Err(WriteFault::NotBegun) => Err(WriteFault::Memory),
+        Err(WriteFault::Memory) => Err(WriteFault::Memory),
+        Err(WriteFault::Device) => Err(WriteFault::Device),
+    }
+}

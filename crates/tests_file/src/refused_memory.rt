@@ -1,0 +1,105 @@
+//! Node files where memory is refused: a call that was refused memory answers 99, and the file is
+//! as it was or has the record.
+
+use crate::files::{EMPTY, ONE, SERVED, TWO, TWO_ANEW};
+use crate::parts::{device, found_in};
+use devices::MemoryDevice;
+use dvvset::Entries;
+use meta_store::size::may_be_held;
+use meta_types::MetaKey;
+use node_file::{FileFault, open_node, serve};
+use std::alloc::Global;
+
+/// Whether the bytes open as one of the two: the last life and how many keys.
+fn is_one_of(alloc: Global, bytes: &[u8], states: [(u32, usize); 2]) -> bool {
+    let found = found_in(alloc, bytes);
+    found == Ok(states[0]) || found == Ok(states[1])
+}
+
+/// Whether serving the empty file leaves the one that was served; where memory is refused, the
+/// empty file or that one.
+fn is_served(alloc: Global) -> Option<bool> {
+    match serve(alloc, device(alloc, EMPTY).ok()?, None) {
+        Ok((file, _, life)) => Some(life == 1 && file.device().content() == SERVED),
+        Err((device, FileFault::Memory)) => {
+            if is_one_of(alloc, device.content(), [(0, 0), (1, 0)]) {
+                None
+            } else {
+                Some(false)
+            }
+        }
+        Err(_) => Some(false),
+    }
+}
+
+/// The key and the object of the file of one record.
+fn key_and_object(alloc: Global) -> Option<(MetaKey, Entries)> {
+    let (_, table, _) = open_node(alloc, device(alloc, ONE).ok()?, None).ok()?;
+    let (prefix, rows) = table.iter().next()?;
+    let (key, object) = rows.iter().next()?;
+    let own = key.as_slice().to_vec(alloc).ok()?;
+    let key = MetaKey::new(prefix.copy().ok()?, own).ok()?;
+    Some((key, object.copy().ok()?))
+}
+
+/// Whether an append to the served file leaves the file of one record; where memory is refused,
+/// the served file, or where the append stopped it one of the two.
+fn is_appended(alloc: Global) -> Option<bool> {
+    let (key, object) = key_and_object(alloc)?;
+    let (mut file, table, _) = serve(alloc, device(alloc, EMPTY).ok()?, None).ok()?;
+    if !may_be_held(&object) || !table.has_room_for(&key) {
+        return Some(false);
+    }
+    match file.append(alloc, &key, &object) {
+        Ok(()) => Some(file.device().content() == ONE),
+        Err(fault) => {
+            let same = file.device().content() == SERVED;
+            let one_of = is_one_of(alloc, file.device().content(), [(1, 0), (1, 1)]);
+            if fault == FileFault::Memory && (same || file.is_stopped() && one_of) {
+                None
+            } else {
+                Some(false)
+            }
+        }
+    }
+}
+
+/// Whether a file with two records is written anew.
+fn is_written_anew(alloc: Global) -> Option<bool> {
+    let (file, table, life) = match open_node(alloc, device(alloc, TWO).ok()?, None) {
+        Ok(opened) => opened,
+        Err((_, fault)) => return if fault == FileFault::Memory {
+            None
+        } else {
+            Some(false)
+        },
+    };
+    let mut target = device(alloc, b"").ok()?;
+    match file.rewrite(alloc, &table, life, &mut target) {
+        Ok(()) => Some(target.content() == TWO_ANEW),
+        Err(fault) => if fault == FileFault::Memory {
+            None
+        } else {
+            Some(false)
+        },
+    }
+}
+
+// Each passes whichever single allocation is refused: what was refused memory is done again.
+#[test]
+fn a_file_is_served_again_under_refused_memory(rt: HostRuntime) {
+    let done = is_served(rt.alloc()).or_else(|| is_served(rt.alloc()));
+    assert!(rt; done == Some(true));
+}
+
+#[test]
+fn a_file_is_appended_to_again_under_refused_memory(rt: HostRuntime) {
+    let done = is_appended(rt.alloc()).or_else(|| is_appended(rt.alloc()));
+    assert!(rt; done == Some(true));
+}
+
+#[test]
+fn a_file_is_written_anew_again_under_refused_memory(rt: HostRuntime) {
+    let done = is_written_anew(rt.alloc()).or_else(|| is_written_anew(rt.alloc()));
+    assert!(rt; done == Some(true));
+}
