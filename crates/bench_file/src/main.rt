@@ -3,8 +3,8 @@
 //! - `disk FOLDER` prints lines `name value unit`: appends to a file in the folder, the same writes
 //!   and syncs bare, appends in memory, and how long a file of 8,192 keys takes to open. The names
 //!   are those of a baseline in plain Rust.
-//! - `append PATH` opens the file at the path, or makes one, begins a life, and appends under one key
-//!   without end; for each append that was acknowledged it prints its number.
+//! - `append PATH` opens the file at the path, or makes one, begins a life, and appends under one
+//!   key without end; for each append that was acknowledged it prints its number.
 //! - `tell PATH` prints the number in the file's object, 0 for none.
 //!
 //! With another first argument, or none, it prints nothing.

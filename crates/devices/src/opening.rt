@@ -87,8 +87,8 @@ impl FileDevice {
         take_over(rt, alloc, file, path, Sharing::Nobody)
     }
 
-    /// Opens the file at the path, for this device alone, and makes an empty one where nothing is. A
-    /// path that was mistyped is made too: who knows that a file is there calls `open`.
+    /// Opens the file at the path, for this device alone, and makes an empty one where nothing is.
+    /// A path that was mistyped is made too: who knows that a file is there calls `open`.
     pub fn open_or_create(
         rt: &HostRuntime,
         alloc: Global,

@@ -36,6 +36,7 @@ abbrev pub of_device : DeviceFault → FileFault
 of_device OfDevice.Memory = Memory
 of_device OfDevice.Failed = Device
 
--- it is 99, or it is 30 and a device's count of failures has risen from the first number to the second
+-- it is 99, or it is 30 and a device's count of failures has risen from the first number to the
+-- second
 abbrev pub IsOfDevice : FileFault → ℕ → ℕ → Type 0
 IsOfDevice fault before now = (fault ≡ Memory) ⊎ ((fault ≡ Device) × HasFailed before now)

@@ -14,8 +14,8 @@ use Rattle.node_file.specs.declared.record.Record.TheVariants.{Life, Object}
 
 -- ---- what a record says
 
--- what a record of version 2 may say: the number of a life (0 never follows), or a key and an object
--- that a store may hold
+-- what a record of version 2 may say: the number of a life (0 never follows), or a key and an
+-- object that a store may hold
 abbrev pub IsRecord : Record → Type 0
 IsRecord (Life n) = n < 2 ^ 32
 IsRecord (Object k o) = IsKey k × IsHeld o

@@ -32,5 +32,6 @@ pub fn nothing_counts_behind_the_closed_gate()
 /// A record that was written is read again from the front of its bytes, whatever is behind them.
 pub fn a_record_is_read_again()
     ensures { (said : Record) (rest : List ℕ) → IsRecord said
-        → record_in 2 (record_bytes (payload said) ++ rest) ≡ Some (said, 36 + length (payload said)) }
+        → record_in 2 (record_bytes (payload said) ++ rest)
+        ≡ Some (said, 36 + length (payload said)) }
 {}

@@ -142,8 +142,8 @@ impl<D: Device> NodeFile<D> {
         self.is_served
     }
 
-    /// Returns whether an append failed after the device may have changed, so that the file takes nothing until it is opened
-    /// again.
+    /// Returns whether an append failed after the device may have changed, so that the file takes
+    /// nothing until it is opened again.
     pub fn is_stopped(&self) -> bool
         ensures { result ≡ self.now.is_stopped }
     {
