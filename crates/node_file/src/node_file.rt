@@ -158,7 +158,7 @@ impl<D: Device> NodeFile<D> {
     /// something before. The object of a call that stopped the file may stand in it or not.
     ///
     /// It makes four calls of the device: a write, a sync, a write of one byte, and a sync. It
-    /// takes memory for the record, and time for nothing else.
+    /// takes memory for the record, and its time doesn't grow with the file.
     #[tactic(auto, using(crate::proofs::Lives::room_for))]
     pub fn append(
         &mut self,

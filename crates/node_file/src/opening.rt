@@ -202,7 +202,7 @@ fn find<D: Device>(alloc: Global, device: &mut D, asked: Option<NodeId>) -> Resu
     ensures durable { IsDurable (D.content device.new) (D.may_leave device.new) }
     ensures any_moment { LeavesOnly D.moment D.left_since device.old device.new
         (λ c. c ≡ D.content device.old) }
-    ensures counts { D.failed device.old ≤ D.failed device.new }
+    ensures still { OnOk result (D.failed device.new ≡ D.failed device.old) }
 {
     if let Some(bytes) = device.held() {
         return stands_for(alloc, bytes, asked);

@@ -52,7 +52,8 @@ fn write_synced<D: Device>(device: &mut D, at: usize, bytes: &[u8]) -> Result<()
         × IsDurable (D.content device.new) (D.may_leave device.new) }
     ensures cause { IsErrOf result WriteFault.Device
         → HasFailed (D.failed device.old) (D.failed device.new) }
-    ensures counts { D.failed device.old ≤ D.failed device.new }
+    ensures still { (IsErrOf result WriteFault.Device → ⊥)
+        → D.failed device.new ≡ D.failed device.old }
 {
     match device.write_at(at, bytes) {
         Err(DeviceFault::Memory) => return Err(WriteFault::NotBegun),
@@ -100,7 +101,8 @@ pub(crate) fn put_record<D: Device>(
         × IsDurable (D.content device.new) (D.may_leave device.new) }
     ensures cause { IsErrOf result WriteFault.Device
         → HasFailed (D.failed device.old) (D.failed device.new) }
-    ensures counts { D.failed device.old ≤ D.failed device.new }
+    ensures still { (IsErrOf result WriteFault.Device → ⊥)
+        → D.failed device.new ≡ D.failed device.old }
 {
     match write_synced(device, gate + 1, spelled) {
         Ok(()) => {}

@@ -87,7 +87,7 @@ fn write_record<D: Device>(
         end ≡ gate + (37 + length (payload (record_given given.entry)))) }
     ensures refused { IfErr result (λ fault.
         IsOfDevice fault (D.failed device.old) (D.failed device.new)) }
-    ensures counts { D.failed device.old ≤ D.failed device.new }
+    ensures still { OnOk result (D.failed device.new ≡ D.failed device.old) }
 {
     let bytes = spell_record(alloc, given)?;
     device.write_at(gate, &bytes)?;
@@ -107,7 +107,7 @@ fn write_life<D: Device>(
     ensures short { IfOk result (λ gate. gate ≤ 52) }
     ensures refused { IfErr result (λ fault.
         IsOfDevice fault (D.failed device.old) (D.failed device.new)) }
-    ensures counts { D.failed device.old ≤ D.failed device.new }
+    ensures still { OnOk result (D.failed device.new ≡ D.failed device.old) }
 {
     if life == 0 {
         return Ok(FRONT_LEN);
@@ -131,7 +131,7 @@ fn write_table<D: Device>(
         (with_table table.now (file_state (D.content device.old))) (D.content device.new)) }
     ensures refused { IfErr result (λ fault.
         IsOfDevice fault (D.failed device.old) (D.failed device.new)) }
-    ensures counts { D.failed device.old ≤ D.failed device.new }
+    ensures still { OnOk result (D.failed device.new ≡ D.failed device.old) }
 {
     let mut gate = begun;
     for (prefix, rows) in table.iter() {
@@ -171,7 +171,7 @@ fn write_rows<D: Device>(
         ≤ 52 + 16777253 * length (file_state (D.content device.new)).contents.table) }
     ensures refused { IfErr result (λ fault.
         IsOfDevice fault (D.failed device.old) (D.failed device.new)) }
-    ensures counts { D.failed device.old ≤ D.failed device.new }
+    ensures still { OnOk result (D.failed device.new ≡ D.failed device.old) }
 {
     let mut gate = begun;
     for (key, object) in rows.iter() {
@@ -204,7 +204,7 @@ fn write_object<D: Device>(
     ensures end { IfOk result (λ end. end ≤ gate + 16777253) }
     ensures refused { IfErr result (λ fault.
         IsOfDevice fault (D.failed device.old) (D.failed device.new)) }
-    ensures counts { D.failed device.old ≤ D.failed device.new }
+    ensures still { OnOk result (D.failed device.new ≡ D.failed device.old) }
 {
     // Read for what it tells: the key is lawful.
     let _ = key.key();

@@ -1,4 +1,4 @@
-use Rattle.std.proofs.Common.{◌≡◌, ◌++◌, ◌∷◌, All, List, ℕ, rules, sym, subst, arith}
+use Rattle.std.proofs.Common.{◌≡◌, ◌++◌, ◌∷◌, All, List, ℕ, rules, sym, subst, ◌∙◌}
 use Rattle.std.proofs.lemmas.List.Elements.{All-head, All-tail}
 use Rattle.meta_types.specs.Name.{Key}
 use Rattle.dvvset.specs.Object.{Entry}
@@ -37,5 +37,5 @@ loop-key-preserved g c =
     record {
       written = next_written c.under-key.result c.in-Some.object.now w (g.D.Device.content c.write_object.new.device) c.in-Ok.end c.in-Ok.ensures.opens c.in-Ok.ensures.end;
       named = All-tail IsNamed (c.in-Some.key.now, c.in-Some.object.now) c.next.new.self (subst (All IsNamed) c.in-Some.ensures.steps c.loop-key.invariant.named);
-      counts = omega (arith, c.loop-key.invariant.counts, c.write_object.ensures.counts);
+      still = c.in-Ok.ensures.still ∙ c.loop-key.invariant.still;
     }

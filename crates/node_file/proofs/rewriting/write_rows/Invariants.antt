@@ -1,4 +1,4 @@
-use Rattle.std.proofs.Common.{◌≡◌, ◌≤◌, ◌++◌, All}
+use Rattle.std.proofs.Common.{◌≡◌, ◌++◌, All}
 use Rattle.meta_store.specs.Kept.{rows_under}
 use Rattle.meta_store.proofs.Kept.{IsNamed}
 use Rattle.node_file.specs.File.{file_state}
@@ -9,5 +9,5 @@ abbrev pub invariant-loop-key : goal.invariant-loop-key
 invariant-loop-key g l = record {
   written : IsWritten (g.D.Device.content l.fn.device) (g.D.Device.content l.device) ((file_state (g.D.Device.content l.fn.device)).contents.table ++ rows_under l.prefix l.rows) (rows_under l.prefix l.key-iterator) l.gate;
   named : All IsNamed l.key-iterator;
-  counts : g.D.Device.failed l.fn.device ≤ g.D.Device.failed l.device;
+  still : g.D.Device.failed l.device ≡ g.D.Device.failed l.fn.device;
 }

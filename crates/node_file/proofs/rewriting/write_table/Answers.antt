@@ -1,4 +1,4 @@
-use Rattle.std.proofs.Common.{◌≡◌, ◌++◌, List, ℕ, subst, arith}
+use Rattle.std.proofs.Common.{◌≡◌, ◌++◌, List, ℕ, subst, ◌∙◌}
 use Rattle.dvvset.specs.Object.{Entry}
 use Rattle.meta_store.specs.Kept.{PartsOf, rows_under, table_of}
 use Rattle.node_file.proofs.Tables.{IsWritten, rows_held, rows_rise, rows_few, rows_written}
@@ -19,5 +19,5 @@ loop-prefix-preserved g c =
     let w = subst (λ (parts : PartsOf (List Entry)). IsWritten (g.D.Device.content c.args.device.now) (g.D.Device.content c.loop-prefix.device) c.args.table.now (table_of parts) c.loop-prefix.gate) c.in-Some.ensures.steps c.loop-prefix.invariant.written in
     record {
       written = rows_written (rows_under c.in-Some.prefix.now c.in-Some.rows.now) (table_of c.next.new.self) w (g.D.Device.content c.write_rows.new.device) c.in-Ok.end c.in-Ok.ensures.opens c.in-Ok.ensures.short;
-      counts = omega (arith, c.loop-prefix.invariant.counts, c.write_rows.ensures.counts);
+      still = c.in-Ok.ensures.still ∙ c.loop-prefix.invariant.still;
     }

@@ -1,4 +1,4 @@
-use Rattle.std.proofs.Common.{◌≤◌}
+use Rattle.std.proofs.Common.{◌≡◌}
 use Rattle.node_file.proofs.Tables.{IsWritten}
 use Rattle.meta_store.specs.Kept.{table_of}
 use Rattle.node_file.proofs.rewriting.write_table.Given as goal
@@ -6,5 +6,5 @@ use Rattle.node_file.proofs.rewriting.write_table.Given as goal
 abbrev pub invariant-loop-prefix : goal.invariant-loop-prefix
 invariant-loop-prefix g l = record {
   written : IsWritten (g.D.Device.content l.fn.device) (g.D.Device.content l.device) l.table (table_of l.prefix-iterator) l.gate;
-  counts : g.D.Device.failed l.fn.device ≤ g.D.Device.failed l.device;
+  still : g.D.Device.failed l.device ≡ g.D.Device.failed l.fn.device;
 }
