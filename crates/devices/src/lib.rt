@@ -23,4 +23,4 @@ pub use device::{Device, DeviceFault};
 pub use failing::{FailsAfter, FailsOnce};
 pub use file::FileDevice;
 pub use memory::{Call, MemoryDevice};
-pub use opening::OpenFault;
+pub use opening::{OpenFault, read_front};

@@ -1,7 +1,7 @@
 //! Opening a path as a device. The file is locked without waiting, is synced with the folder that
 //! names it, and is read whole.
 
-ghost use Rattle.std.specs.Prelude.{IfOk};
+ghost use Rattle.std.specs.Prelude.{◌≡◌, ◌≤◌, IfOk, length};
 ghost use Rattle.devices.specs.Device.{IsDurable};
 
 use crate::device::Device;
@@ -74,6 +74,7 @@ impl FileDevice {
     }
 
     /// Makes an empty file at the path, where nothing is, not even a link, for this device alone.
+    /// Where that fails it removes what it made.
     pub fn create_new(rt: &HostRuntime, alloc: Global, path: &str) -> Result<FileDevice, OpenFault>
         ensures { IfOk result (λ d. IsDurable
             (⟦<FileDevice as Device>⟧.content d) (⟦<FileDevice as Device>⟧.may_leave d)) }
@@ -84,7 +85,11 @@ impl FileDevice {
             .write(true)
             .create_new(true)
             .open(rt, path)?;
-        take_over(rt, alloc, file, path, Sharing::Nobody)
+        let device = take_over(rt, alloc, file, path, Sharing::Nobody);
+        if device.is_err() {
+            let _ = fs::remove_file(rt, path);
+        }
+        device
     }
 
     /// Opens the file at the path, for this device alone, and makes an empty one where nothing is.
@@ -102,6 +107,21 @@ impl FileDevice {
             opened => opened,
         }
     }
+}
+
+/// Reads the first bytes of the file at the path, as many as the buffer has or as there are, and
+/// answers how many. The path is opened and locked as `open_to_read` does, and let go again. It
+/// takes no memory.
+pub fn read_front(rt: &HostRuntime, path: &str, buffer: &mut [u8]) -> Result<usize, OpenFault>
+    ensures within { IfOk result (λ n. n ≤ length buffer.old) }
+    ensures len { length buffer.new ≡ length buffer.old }
+{
+    refuse_other_kinds(rt, path)?;
+    let file = OpenOptions::new().read(true).open(rt, path)?;
+    lock(&file, Sharing::Readers)?;
+    let len = buffer.len().min(file.metadata()?.len() as usize);
+    file.read_exact_at(&mut buffer[..len], 0)?;
+    Ok(len)
 }
 
 /// Refuses what is no regular file, before it is opened: to open a pipe would wait for its other

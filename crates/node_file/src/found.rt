@@ -1,7 +1,7 @@
 //! What the bytes of a file stand for.
 
-ghost use Rattle.std.specs.Prelude.{◌≡◌, ◌≢◌, length, None, Ok, IfOk};
-ghost use Rattle.node_file.specs.File.{front_in, opened};
+ghost use Rattle.std.specs.Prelude.{◌≡◌, ◌≢◌, ◌++◌, ℕ, List, length, None, Ok, IfOk, IsTrue};
+ghost use Rattle.node_file.specs.File.{front_in, is_refused_by_front, opened};
 ghost use Rattle.node_file.specs.Reads.{OpensAs};
 ghost use Rattle.node_file.specs.Refusal.{refusal_of_life};
 ghost use Rattle.meta_types.specs.Node.{IsNode};
@@ -18,6 +18,9 @@ pub const MAX_FILE_LEN: usize = 1 << 40;
 
 /// How many bytes stand in front of the first gate.
 pub(crate) const FRONT_LEN: usize = 10;
+
+/// The fewest bytes of a file: its front, and a gate.
+pub const MIN_FILE_LEN: usize = FRONT_LEN + 1;
 
 pub(crate) const MAGIC: [u8; 8] = *b"PMNODE02";
 
@@ -80,6 +83,17 @@ fn read_front(bytes: &[u8]) -> Result<(u8, NodeId), FileFault>
     }
 }
 
+/// Returns whether a file that begins with these bytes is refused for its front, by its magic or
+/// the number of its node: then opening it answers what opening these bytes alone does, so that no
+/// more need be read. It wants `MIN_FILE_LEN` bytes; of fewer it can't be told.
+pub fn is_refused_by_front(front: &[u8]) -> bool
+    ensures value { result ≡ is_refused_by_front front.now }
+    ensures whatever_follows { IsTrue result → (rest : List ℕ)
+        → opened None (front.now ++ rest) ≡ opened None front.now }
+{
+    front.len() >= MIN_FILE_LEN && read_front(&front[..FRONT_LEN]).is_err()
+}
+
 /// What the bytes of a file stand for.
 #[tactic(auto, unfolding(crate::specs::File::opened))]
 pub(crate) fn open_bytes(
@@ -98,7 +112,7 @@ pub(crate) fn open_bytes(
         result (opened asked bytes.now) }
     ensures node { IfOk result (λ f. IsNode f.node) }
 {
-    if bytes.len() < FRONT_LEN + 1 {
+    if bytes.len() < MIN_FILE_LEN {
         return Err(FileFault::Damaged { at: bytes.len() });
     }
     let (version, node) = read_front(&bytes[..FRONT_LEN])?;

@@ -24,7 +24,7 @@ mod record;
 mod rewriting;
 
 pub use fault::FileFault;
-pub use found::MAX_FILE_LEN;
+pub use found::{MAX_FILE_LEN, MIN_FILE_LEN, is_refused_by_front};
 pub use node_file::NodeFile;
 pub use opening::{create, open_node, serve};
 pub use record::Record;

@@ -18,6 +18,11 @@ pub enum Asked<'a> {
         /// Whether each command is explained.
         explain: bool,
     },
+    /// The report of the node file at a path, and with `rewrite` a clean copy of it at another.
+    File {
+        path: &'a str,
+        rewrite: Option<&'a str>,
+    },
 }
 
 /// The exit status of wrong arguments.
@@ -30,7 +35,8 @@ const NO_FILE: &str = "tip: frame reads standard input, as in 'plumctl frame <FI
 
 const HELP: &str = "Examples:
   plumctl run siblings.scenario
-  plumctl frame <frames.hex";
+  plumctl frame <frames.hex
+  plumctl file node-0 --rewrite node-0.clean";
 
 const FRAME_HELP: &str =
     "Each line gives one line: the frame that its digits spell, or the refusal that comes first.
@@ -73,16 +79,36 @@ Exit status: 0 done, 1 a line is no command, a settle would deliver more than 10
 input is longer than 67,108,864 bytes, 2 wrong arguments, 3 reading or writing failed, 4 want of
 memory.";
 
-/// The names of the arguments of `run`.
+const FILE_HELP: &str =
+    "Prints a line for the node, its last life and how many keys there are, a line for each key in
+order, and a line for the root of the table's tree:
+  node 0 life 1 keys 1
+  key a/b/k ctx 0.1:1 values x
+  root 4368d585cc1af0cf1167149ae68c0ee7ed5714817d2a67e966816308178e4dff
+Two nodes that print the same root hold the same objects. Nothing is changed, and a file that a node
+has open is not read.
+
+Where the file is damaged, `error 31 Damaged at 52` tells the first byte that is not as a file has
+it; a node can't be started from it. Where it could not be read, or OUT not be written, `error 30
+Device` is printed, and the cause stands at standard error.
+
+OUT is a node file once the status is 0: give it the name of the old one then, while no node runs.
+OUT is removed where it could not be written whole. A file of version 1 becomes one of version 2.
+
+Exit status: 0 done, 1 the file is damaged or has too many keys, 2 wrong arguments, 3 reading or
+writing failed, 4 want of memory.";
+
+/// The names of the arguments of `run` and `file`.
 const FILE: &str = "FILE";
 
 const EXPLAIN: &str = "explain";
 
-/// The command line, with its help.
-fn command<'a>(alloc: Global) -> Result<Command<'a>, AllocError> {
-    let frame = Command::new(alloc, "frame")
-        .about("Print the frames that lines of hexadecimal digits at standard input spell")
-        .after_help(FRAME_HELP);
+const PATH: &str = "PATH";
+
+const REWRITE: &str = "rewrite";
+
+/// The command `run`.
+fn run_command<'a>(alloc: Global) -> Result<Command<'a>, AllocError> {
     let file = Arg::new(alloc, FILE)
         .help("The scenario; standard input if there is none, or for -")
         .action(ArgAction::Set);
@@ -90,18 +116,44 @@ fn command<'a>(alloc: Global) -> Result<Command<'a>, AllocError> {
         .long("explain")
         .help("After each command, tell what is on its way and what nodes show anew")
         .action(ArgAction::SetTrue);
-    let run = Command::new(alloc, "run")
+    Command::new(alloc, "run")
         .about("Run a scenario over the nodes of a new cluster")
         .after_help(RUN_HELP)
         .arg(file)?
-        .arg(explain)?;
+        .arg(explain)
+}
+
+/// The command `file`.
+fn file_command<'a>(alloc: Global) -> Result<Command<'a>, AllocError> {
+    let path = Arg::new(alloc, PATH)
+        .help("The file of a node")
+        .required(true)
+        .action(ArgAction::Set);
+    let rewrite = Arg::new(alloc, REWRITE)
+        .long("rewrite")
+        .value_name("OUT")
+        .help("Make a clean copy here, one record for each key, where nothing is yet")
+        .action(ArgAction::Set);
+    Command::new(alloc, "file")
+        .about("Print what the file of a node holds, or where it is damaged")
+        .after_help(FILE_HELP)
+        .arg(path)?
+        .arg(rewrite)
+}
+
+/// The command line, with its help.
+fn command<'a>(alloc: Global) -> Result<Command<'a>, AllocError> {
+    let frame = Command::new(alloc, "frame")
+        .about("Print the frames that lines of hexadecimal digits at standard input spell")
+        .after_help(FRAME_HELP);
     Command::new(alloc, "plumctl")
         .about("The commands of Zomtagi, a cluster metadata store")
         .version(VERSION)
         .after_help(HELP)
         .subcommand_required(true)
         .subcommand(frame)?
-        .subcommand(run)
+        .subcommand(run_command(alloc)?)?
+        .subcommand(file_command(alloc)?)
 }
 
 /// The arguments of the program, its name among them; `None` where one is no text.
@@ -148,6 +200,13 @@ pub fn read_arguments<'a>(rt: &HostRuntime, words: &'a [String]) -> Result<Asked
             Some(("run", matches)) => Ok(Asked::Run {
                 file: path(matches.get_str(FILE)),
                 explain: matches.get_flag(EXPLAIN),
+            }),
+            Some(("file", matches)) => Ok(match matches.get_str(PATH) {
+                Some(path) => Asked::File {
+                    path,
+                    rewrite: matches.get_str(REWRITE),
+                },
+                None => Asked::Nothing(USAGE),
             }),
             _ => Ok(Asked::Nothing(USAGE)),
         },

@@ -9,7 +9,7 @@ use std::io::{BufWriter, ErrorKind};
 use streams::{MayFail, Source, StreamFault};
 
 /// The most bytes of one write.
-const OUTPUT_LEN: usize = 65_536;
+pub const OUTPUT_LEN: usize = 65_536;
 
 /// `frame`, from standard input to standard output. Returns the exit status, which is never that of
 /// wrong arguments.

@@ -4,21 +4,25 @@
 
 mod arguments;
 mod command;
+mod file;
+mod progress;
 
 use arguments::{Asked, USAGE, read_arguments, read_words};
 use plumctl_core::tell;
 use std::process::ExitCode;
+use std::sync::Wait;
+use std::thread::Threads;
 use streams::{MayFail, StreamFault};
 
 fn main(rt: HostRuntime) -> ExitCode {
-    ExitCode::from(match run(&rt) {
+    ExitCode::from(match run(&rt, &rt) {
         Ok(status) => status,
         Err(fault) => tell(&mut MayFail(rt.stderr()), fault),
     })
 }
 
 /// Does what the arguments ask for, and returns the exit status.
-fn run(rt: &HostRuntime) -> Result<u8, StreamFault> {
+fn run<R: Threads + Wait + Sync>(rt: &HostRuntime, handle: &R) -> Result<u8, StreamFault> {
     let Some(words) = read_words(rt)? else {
         let _ = eprintln!(rt; "error: the arguments are not text");
         return Ok(USAGE);
@@ -26,6 +30,7 @@ fn run(rt: &HostRuntime) -> Result<u8, StreamFault> {
     Ok(match read_arguments(rt, words.as_slice())? {
         Asked::Frame => command::frame(rt),
         Asked::Run { file, explain } => command::run(rt, file, explain),
+        Asked::File { path, rewrite } => file::file(rt, handle, path, rewrite),
         Asked::Nothing(status) => status,
     })
 }

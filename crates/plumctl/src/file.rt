@@ -1,0 +1,41 @@
+//! The command `file`, over the streams of the process.
+
+ghost use Rattle.std.specs.Prelude.{◌≢◌};
+
+use crate::command::OUTPUT_LEN;
+use crate::progress::told;
+use plumctl_core::tell;
+use plumctl_file::{Reported, copy_to_path, report_path};
+use std::io::BufWriter;
+use std::sync::Wait;
+use std::thread::Threads;
+use streams::{MayFail, StreamFault};
+
+/// `file`, told of at a terminal where it takes its time. Returns the exit status.
+pub fn file<R: Threads + Wait + Sync>(
+    rt: &HostRuntime,
+    handle: &R,
+    path: &str,
+    rewrite: Option<&str>,
+) -> u8 {
+    told(rt, handle, || report(rt, path, rewrite))
+}
+
+/// The report of the file at a path, and a clean copy at another, where that is asked for and a
+/// file was shown. Returns the exit status, which is never that of wrong arguments.
+fn report(rt: &HostRuntime, path: &str, rewrite: Option<&str>) -> u8
+    ensures { result ≢ 2 }
+{
+    let mut errors = MayFail(rt.stderr());
+    let Ok(buffered) = BufWriter::with_capacity(rt.alloc(), OUTPUT_LEN, rt.stdout()) else {
+        return tell(&mut errors, StreamFault::Memory);
+    };
+    let mut writer = MayFail(buffered);
+    let (status, reported) = report_path(rt, path, &mut writer, &mut errors);
+    match (rewrite, reported) {
+        (Some(out), Some(Reported::Shown(shown))) => {
+            copy_to_path(rt, &shown, out, &mut writer, &mut errors)
+        }
+        _ => status,
+    }
+}

@@ -1,0 +1,45 @@
+-- What `plumctl file` prints of a node's file: a rule of this project.
+use Rattle.std.specs.Prelude.{ℕ, List, [], ◌++◌, length, Result, Ok, Err, codes, decimal}
+use Rattle.std.specs.List.{flat_map}
+use Rattle.dvvset.specs.Object.{Entry}
+use Rattle.meta_types.specs.Name.{Key}
+use Rattle.meta_store.specs.Table.{Table}
+use Rattle.node_file.specs.declared.fault.FileFault.{FileFault}
+use Rattle.node_file.specs.declared.fault.FileFault.TheVariants.{Damaged}
+use Rattle.node_file.specs.Fault.{code_of, fault_name}
+use Rattle.node_file.specs.File.{FileState}
+use Rattle.printing.specs.Field.{key_text}
+use Rattle.printing.specs.Object.{object_text}
+use Rattle.scenario_stage.specs.Meaning.{root_text}
+use Rattle.scenario_stage.specs.Printed.{line}
+
+-- as `node 0 life 1 keys 2`
+abbrev pub node_line : (node life keys : ℕ) → List ℕ
+node_line node life keys = line (codes "node " ++ decimal node ++ codes " life " ++ decimal life
+    ++ codes " keys " ++ decimal keys)
+
+-- as `key a/b/k ctx 0.1:1 values x`
+abbrev pub key_line : Key × List Entry → List ℕ
+key_line row = line (codes "key " ++ key_text row.0 ++ codes " " ++ object_text row.1)
+
+-- of a file: its node and last life, each key in order, and the root that `root N` of a scenario
+-- prints of the same table
+unfoldable pub report_text : (node life : ℕ) → Table → List ℕ
+report_text node life table = node_line node life (length table) ++ flat_map key_line table
+    ++ line (root_text table)
+
+-- where a file is damaged
+abbrev pub place_text : FileFault → List ℕ
+place_text (Damaged at) = codes " at " ++ decimal at
+place_text fault = []
+
+-- as `error 31 Damaged at 10`
+unfoldable pub refusal_line : FileFault → List ℕ
+refusal_line fault = line (codes "error " ++ decimal (code_of fault) ++ codes " "
+    ++ fault_name fault ++ place_text fault)
+
+-- of what bytes stand for, or why they are no file
+abbrev pub printed_of : Result (FileState × ℕ) FileFault → List ℕ
+printed_of (Ok file) =
+    report_text file.0.node file.0.contents.life file.0.contents.table
+printed_of (Err fault) = refusal_line fault

@@ -1,0 +1,25 @@
+//! What `plumctl file` prints of a node's file, and how it exits: over any device, any writer, and
+//! any standard error; and over paths. The program itself only reads its arguments.
+//!
+//! ```
+//! let (status, reported) = report_path(rt, "node-0", &mut writer, &mut errors);
+//! if let Some(Reported::Shown(shown)) = reported {
+//!     // a clean copy of what was shown
+//!     let status = copy_to_path(rt, &shown, "node-0.clean", &mut writer, &mut errors);
+//! }
+//! ```
+//!
+//! Read `report` (`file_report`), then `run` (`run_file`, `run_rewrite`) and `paths`
+//! (`report_path`, `copy_to_path`); `text` has the lines, and `cause` what standard error is told
+//! of a path. Their rows are the program `rows_file`.
+#![tactic(auto)]
+
+mod cause;
+mod paths;
+mod report;
+mod run;
+mod text;
+
+pub use paths::{copy_to_path, report_path};
+pub use report::{Reported, ShownFile, file_report};
+pub use run::{run_file, run_rewrite};

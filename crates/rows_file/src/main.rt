@@ -1,0 +1,60 @@
+//! Reports the node files of `data/` as `plumctl file` does. Each line of standard input is a path;
+//! for each it prints the path, what is reported, what standard error would be told, and the exit
+//! status; and of a file that was shown, the bytes of its clean copy in digits.
+#![tactic(auto)]
+
+use devices::{FileDevice, MemoryDevice};
+use plumctl_file::{Reported, ShownFile, report_path, run_rewrite};
+use std::alloc::AllocError;
+use std::io;
+
+fn main(rt: HostRuntime) -> io::Result<()> {
+    for line in rt.lines(rt.alloc()) {
+        let path = line?;
+        println!(rt; "== {path}")?;
+        show(&rt, path.as_str())?;
+    }
+    Ok(())
+}
+
+/// Prints bytes that are text.
+fn print_text(rt: &HostRuntime, before: &str, bytes: &[u8]) -> io::Result<()> {
+    match std::str::from_utf8(bytes) {
+        Ok("") => Ok(()),
+        Ok(text) => print!(rt; "{before}{text}"),
+        Err(_) => println!(rt; "no text"),
+    }
+}
+
+/// Prints what is reported of a path.
+fn show(rt: &HostRuntime, path: &str) -> io::Result<()> {
+    let mut printed = Vec::new(rt.alloc());
+    let mut told = Vec::new(rt.alloc());
+    let (status, reported) = report_path(rt, path, &mut printed, &mut told);
+    print_text(rt, "", &printed)?;
+    print_text(rt, "told ", &told)?;
+    println!(rt; "status {status}")?;
+    match reported {
+        Some(Reported::Shown(shown)) => print_copy(rt, &shown),
+        _ => Ok(()),
+    }
+}
+
+/// A new device in memory.
+fn new_device(rt: &HostRuntime) -> Result<MemoryDevice, AllocError> {
+    MemoryDevice::new(rt.alloc(), Vec::new(rt.alloc()))
+}
+
+/// Prints the bytes of a clean copy.
+fn print_copy(rt: &HostRuntime, shown: &ShownFile<FileDevice>) -> io::Result<()> {
+    let mut printed = Vec::new(rt.alloc());
+    let mut told = Vec::new(rt.alloc());
+    let target = new_device(rt)?;
+    match run_rewrite(rt.alloc(), shown, Ok(target), &mut printed, &mut told) {
+        (0, Some(target)) => {
+            let digits = hex::encode(rt.alloc(), target.content())?;
+            println!(rt; "anew {digits}")
+        }
+        (status, _) => println!(rt; "no copy, status {status}"),
+    }
+}
