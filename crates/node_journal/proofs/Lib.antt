@@ -1,0 +1,2 @@
+-- numbers that stand twice, or once
+mod Apart

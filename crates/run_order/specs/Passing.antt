@@ -1,0 +1,59 @@
+-- What private functions say of journals that have been gone through so far.
+use Rattle.std.specs.Prelude.{ℕ, ◌≡◌, ◌<◌, ◌≤◌, ◌⊎◌, List, length, slice_index, Some}
+use Rattle.node_events.specs.declared.event.NodeEvent.{NodeEvent}
+use Rattle.node_journal.specs.declared.entry.Entry.{Entry}
+use Rattle.node_journal.specs.Closed.{ClosedNode}
+use Rattle.run_order.specs.Giving.{Supplies, Needs}
+use Rattle.run_order.specs.Journals.{entry_at, journal_of}
+use Rattle.run_order.specs.Order.{HasEnded, IsReady}
+use Rattle.run_order.specs.Refusal.{IsStuck, Lists, RiseFrom}
+use Rattle.run_order.specs.declared.fault.Place.{Place}
+use Rattle.run_order.specs.declared.walk.Head.{Head}
+use Rattle.run_order.specs.declared.walk.Head.TheVariants as OfHead
+
+-- a place for each journal, none past its end
+pub record AreNextPlaces (closed : List ClosedNode) (next : List ℕ) : Type 0 where
+  pub number : length next ≡ length closed
+  pub within : (n : ℕ) → slice_index next n ≤ length (journal_of closed n)
+
+-- no entry that was gone through gives what the event needs
+abbrev pub NonePassed : List ClosedNode → List ℕ → NodeEvent → Type 0
+NonePassed closed next event = (m q : ℕ) (e : Entry) → q < slice_index next m
+    → entry_at closed m q ≡ Some e → Supplies e event → ⊥
+
+-- the next entry of the node is there, and what it needs was not gone through
+pub record IsBlocked (closed : List ClosedNode) (next : List ℕ) (n : ℕ) : Type 0 where
+  pub entry : Entry
+  pub there : entry_at closed n (slice_index next n) ≡ Some entry
+  pub needs : Needs entry.event
+  pub none : NonePassed closed next entry.event
+
+abbrev pub IsHead : List ClosedNode → List ℕ → ℕ → Head → Type 0
+IsHead closed next n OfHead.Ended = HasEnded closed next n
+IsHead closed next n OfHead.Blocked = IsBlocked closed next n
+IsHead closed next n (OfHead.Ready giver) =
+    IsReady closed next (record { node = n; giver = giver })
+
+-- of the first so many nodes none can go on
+abbrev pub AllWait : List ClosedNode → List ℕ → ℕ → Type 0
+AllWait closed next all =
+    (n : ℕ) → n < all → HasEnded closed next n ⊎ IsBlocked closed next n
+
+-- the places of the next entries of those that haven't ended, of the first so many nodes
+pub record AreHeads (closed : List ClosedNode) (next : List ℕ) (all : ℕ) (places : List Place)
+    : Type 0 where
+  pub rise : RiseFrom 0 places
+  pub listed : (n : ℕ) → n < all → slice_index next n < length (journal_of closed n)
+      → Lists places n (slice_index next n)
+  pub only : (n p : ℕ) → Lists places n p
+      → (n < all) × ((p ≡ slice_index next n) × (p < length (journal_of closed n)))
+
+-- where some places are stuck, nobody was gone past them
+abbrev pub NoneIsPast : List ClosedNode → List ℕ → Type 0
+NoneIsPast closed next = (places : List Place) → IsStuck closed places
+    → (n r : ℕ) → Lists places n r → slice_index next n ≤ r
+
+-- the places behind all entries
+pub record AreEnds (closed : List ClosedNode) (ends : List ℕ) : Type 0 where
+  pub number : length ends ≡ length closed
+  pub behind : (n : ℕ) → slice_index ends n ≡ length (journal_of closed n)

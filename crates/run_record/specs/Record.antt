@@ -1,0 +1,91 @@
+-- A world that holds what many journals tell, or why there is none.
+use Rattle.std.specs.Prelude.{ℕ, ◌≡◌, ◌<◌, List, [], length, map, slice_get, Some, Result, Ok}
+use Rattle.meta_store.specs.Table.{object_at}
+use Rattle.meta_types.specs.Name.{Key}
+use Rattle.node_core.specs.Node.{NodeParts, opening}
+use Rattle.node_core.specs.Run.{IsRun}
+use Rattle.node_core.specs.declared.state.Stepped.{Stepped}
+use Rattle.node_journal.specs.declared.entry.Entry.{Entry}
+use Rattle.node_journal.specs.declared.receipt.Receipt.{Receipt}
+use Rattle.node_journal.specs.Closed.{ClosedNode}
+use Rattle.node_journal.specs.Entry.{step_of, stepped_of}
+use Rattle.run_order.specs.Journals.{entry_at, journal_of, last_table}
+use Rattle.run_order.specs.Refusal.{IsStuck, IsUnsent, NoneIsStuck, NoneIsUnsent}
+use Rattle.world_core.specs.declared.answer.Accepted.{Accepted}
+use Rattle.world_core.specs.declared.answer.Answer.{Answer}
+use Rattle.world_core.specs.declared.event.Event.{Event}
+use Rattle.world_core.specs.declared.fault.WorldFault.{WorldFault}
+use Rattle.world_core.specs.Events.{Doing, Step}
+use Rattle.world_core.specs.Knowledge.{OfAllTold, ShowsKnown}
+use Rattle.world_core.specs.Outcome.{Outcomes}
+use Rattle.world_core.specs.Refusal.{table_at}
+use Rattle.world_core.specs.World.{World, deeds_in, new_world}
+use Rattle.run_record.specs.declared.fault.RecordFault.{RecordFault}
+use Rattle.run_record.specs.declared.fault.RecordFault.TheVariants.{Unsent, Stuck, Unequal, StrangeReceipt, Memory}
+
+-- ---- what a world holds
+
+abbrev pub event_of : Accepted → Event
+event_of a = a.event
+
+abbrev pub outcome_of : Accepted → Result Answer WorldFault
+outcome_of a = Ok a.answer
+
+-- it is what a run of events makes of so many new nodes, each of which was accepted
+abbrev pub IsOfARun : ℕ → World → Type 0
+IsOfARun count w =
+    Outcomes (new_world count) (map event_of w.accepted) (map outcome_of w.accepted) w
+
+-- an entry as a deed of its node
+abbrev pub deed : Entry → Doing × Stepped
+deed e = (Step e.event, stepped_of e)
+
+-- what it accepted of each node, with what that gave, is the node's whole journal
+abbrev pub HoldsJournals : List ClosedNode → World → Type 0
+HoldsJournals closed w =
+    (n : ℕ) → n < length closed → deeds_in w n ≡ map deed (journal_of closed n)
+
+-- each node holds what it held at the end
+abbrev pub HoldsTables : List ClosedNode → World → Type 0
+HoldsTables closed w = (n : ℕ) → n < length closed → table_at w n ≡ last_table closed n
+
+-- what each node held at the end shows what it knows, by the one history that all journals tell
+abbrev pub ShowWhatIsKnown : List ClosedNode → World → Type 0
+ShowWhatIsKnown closed w = OfAllTold w (λ t. (n : ℕ) (key : Key) → n < length closed
+    → ShowsKnown t.history n key (object_at (last_table closed n) key))
+
+-- ---- 62: a journal is no run of a node that ends with its table
+
+pub record RanAsTold (closed : List ClosedNode) (n : ℕ) : Type 0 where
+  pub end : NodeParts
+  pub ran : IsRun (opening n 1 []) (map step_of (journal_of closed n)) end
+  pub table : end.table ≡ last_table closed n
+
+abbrev pub AllRanAsTold : List ClosedNode → Type 0
+AllRanAsTold closed = (n : ℕ) → n < length closed → RanAsTold closed n
+
+pub record IsUnequal (closed : List ClosedNode) (n : ℕ) : Type 0 where
+  pub node : n < length closed
+  pub otherwise : RanAsTold closed n → ⊥
+
+-- ---- 63: a receipt is of no entry
+
+abbrev pub IsKept : List ClosedNode → Receipt → Type 0
+IsKept closed r = entry_at closed r.node r.place ≡ Some r.entry
+
+pub record IsStrange (closed : List ClosedNode) (receipts : List Receipt) : Type 0 where
+  pub at : ℕ
+  pub receipt : Receipt
+  pub there : slice_get receipts at ≡ Some receipt
+  pub strange : IsKept closed receipt → ⊥
+
+-- ---- the refusals, the first that applies
+
+abbrev pub Refuses : List ClosedNode → List Receipt → RecordFault → Type 0
+Refuses closed receipts (Unsent at) = IsUnsent closed at.node at.place
+Refuses closed receipts (Stuck places) = NoneIsUnsent closed × IsStuck closed places.items
+Refuses closed receipts (Unequal n) =
+    NoneIsUnsent closed × (NoneIsStuck closed × IsUnequal closed n)
+Refuses closed receipts StrangeReceipt = NoneIsUnsent closed × (NoneIsStuck closed
+    × (AllRanAsTold closed × IsStrange closed receipts))
+Refuses closed receipts Memory = Unit {0}
