@@ -1,8 +1,7 @@
 -- A replay, with one entry more.
-use Rattle.std.proofs.Common.{◌≡◌, ◌≢◌, ◌<◌, ◌≤◌, ◌+◌, ℕ, List, [], ◌∷◌, ◌++◌, length, map, get_or, set, slice_get, Some, Result, Ok, Err, sym, subst, ap, ◌∙◌, inl, inr, arith, get_or-set_other, get_or-set_same, length-append, Vec, Global}
+use Rattle.std.proofs.Common.{◌≡◌, ◌≢◌, ◌<◌, ◌+◌, ℕ, List, [], ◌∷◌, ◌++◌, length, map, get_or, set, slice_get, Some, Result, Ok, Err, sym, subst, ap, ◌∙◌, inl, inr, arith, get_or-set_other, get_or-set_same, length-append, Vec, Global}
 use Rattle.std.proofs.lemmas.List.{map-append, length-set}
 use Rattle.std.proofs.lemmas.Bool.{cases_eq}
-use Rattle.std.proofs.lemmas.Option.{slice_get_within}
 use Rattle.node_core.specs.Growing.{OnlyReadsHandOut}
 use Rattle.node_events.specs.declared.event.NodeEvent.{NodeEvent}
 use Rattle.node_events.specs.Event.{stored_key}
@@ -10,7 +9,7 @@ use Rattle.node_images.specs.Node.{ImagedNode, arrived, context_read}
 use Rattle.node_journal.specs.Closed.{ClosedNode}
 use Rattle.node_journal.specs.declared.entry.Entry.{Entry}
 use Rattle.run_order.proofs.Waiting.{places_step}
-use Rattle.run_order.specs.Journals.{entry_at, journal_of}
+use Rattle.run_order.specs.Journals.{entry_at}
 use Rattle.run_order.specs.Order.{IsReady, with_turn}
 use Rattle.run_order.specs.declared.order.Turn.{Turn}
 use Rattle.world_core.specs.declared.answer.Accepted.{Accepted}
@@ -21,7 +20,6 @@ use Rattle.world_core.specs.Events.{Doing, node_of_event}
 use Rattle.world_core.specs.Outcome.{Accepts, Declines, Makes, MakesStep, Outcome, Outcomes, Passes, WorldRunsGoOn, list_of}
 use Rattle.world_core.specs.Refusal.{node_at}
 use Rattle.world_core.specs.World.{World, new_world}
-use Rattle.run_order.specs.Passing.{AreNextPlaces}
 use Rattle.run_record.specs.declared.replay.Mark.{Mark}
 use Rattle.run_record.specs.Record.{IsOfARun, event_of, outcome_of}
 use Rattle.run_record.specs.Replay.{AsTold, IsEventOf, IsReplayOf}
