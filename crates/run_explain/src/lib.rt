@@ -1,0 +1,20 @@
+//! Why journals are no run of the world, in words: what `assemble` refused is looked at again, and
+//! it is said what waits for what, or where a journal and the node differ.
+//!
+//! ```
+//! if let Err(fault) = assemble(alloc, &closed, &receipts) {
+//!     let text = explain_fault(alloc, &closed, &receipts, &fault)?;
+//!     // node 1, call 1: takes a frame that no node sent: XROOT from 0 to 1 number 1 root ..
+//! }
+//! ```
+//!
+//! Read `explain`, then `needed` (what an entry needs), `difference` (where a node does otherwise)
+//! and `reply`. Calls are counted from 1, for people.
+#![tactic(auto)]
+
+mod difference;
+mod explain;
+mod needed;
+mod reply;
+
+pub use explain::explain_fault;
