@@ -1,0 +1,2 @@
+-- passes of one inbox
+pub mod Passes
