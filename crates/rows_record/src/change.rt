@@ -1,0 +1,166 @@
+//! What is done to a journal.
+
+use meta_types::{ByteString, NodeId};
+use node_events::{NodeEvent, Outbox, Reply};
+use node_journal::Entry;
+use std::alloc::{AllocError, Global};
+
+/// A change of the entry at a place.
+#[derive(Clone, Copy, Debug, PartialEq, Eq)]
+pub struct Change {
+    pub kind: Kind,
+    pub place: usize,
+}
+
+/// What is done to an entry.
+#[derive(Clone, Copy, Debug, PartialEq, Eq)]
+pub enum Kind {
+    /// It is left out.
+    LeaveOut,
+    /// It stands twice.
+    Double,
+    /// It comes after the next one.
+    Swap,
+    /// It has another reply.
+    Reply,
+    /// One bit of the byte at this place of its first frame is another.
+    Send(usize),
+    /// Its first frame is left out.
+    Unsend,
+    /// One bit of the byte at this place of the frame that it takes is another.
+    Take(usize),
+    /// Its write has read nothing.
+    Unread,
+    /// Before it the node was told that this peer is down, which gave nothing.
+    Down(usize),
+    /// Not of the journal, but of the table: its first object is left out.
+    Untable,
+}
+
+/// A copy of a journal, with a change.
+pub fn changed(
+    alloc: Global,
+    journal: &[Entry],
+    change: Option<Change>,
+) -> Result<Vec<Entry>, AllocError> {
+    let mut entries = Vec::new(alloc);
+    for entry in journal {
+        entries.push(entry.copy()?)?;
+    }
+    if let Some(change) = change {
+        make(alloc, &mut entries, change)?;
+    }
+    Ok(entries)
+}
+
+/// Makes the change. Nothing is done where there is no such entry.
+fn make(alloc: Global, entries: &mut Vec<Entry>, change: Change) -> Result<(), AllocError> {
+    let at = change.place;
+    if at >= entries.len() {
+        return Ok(());
+    }
+    match change.kind {
+        Kind::LeaveOut => leave_out(entries, at),
+        Kind::Double => double(entries, at)?,
+        Kind::Down(peer) => entries.insert(at, peer_down(alloc, peer))?,
+        Kind::Swap => {
+            if at + 1 < entries.len() {
+                entries.swap(at, at + 1);
+            }
+        }
+        kind => {
+            if let Some(entry) = entries.get_mut(at) {
+                alter(alloc, entry, kind)?;
+            }
+        }
+    }
+    Ok(())
+}
+
+fn leave_out(entries: &mut Vec<Entry>, at: usize) {
+    if at < entries.len() {
+        drop(entries.remove(at));
+    }
+}
+
+fn double(entries: &mut Vec<Entry>, at: usize) -> Result<(), AllocError> {
+    match entries.get(at) {
+        Some(entry) => {
+            let again = entry.copy()?;
+            Ok(entries.insert(at, again)?)
+        }
+        None => Ok(()),
+    }
+}
+
+/// Changes what an entry tells.
+fn alter(alloc: Global, entry: &mut Entry, kind: Kind) -> Result<(), AllocError> {
+    match kind {
+        Kind::Reply => entry.reply = other_reply(&entry.reply),
+        Kind::Send(byte) => entry.outbox = with_first(alloc, &entry.outbox, Some(byte))?,
+        Kind::Unsend => entry.outbox = with_first(alloc, &entry.outbox, None)?,
+        Kind::Take(byte) => flip_taken(&mut entry.event, byte)?,
+        Kind::Unread => forget_context(&mut entry.event),
+        _ => {}
+    }
+    Ok(())
+}
+
+/// The entry of a peer that is down, which gave nothing. A node that is no node's is node 0.
+fn peer_down(alloc: Global, peer: usize) -> Entry {
+    let number = u16::try_from(peer).unwrap_or(0);
+    let peer = match NodeId::new(number) {
+        Ok(peer) => peer,
+        Err(_) => NodeId::new(0).unwrap(),
+    };
+    Entry {
+        event: NodeEvent::PeerDown { peer, word: 0 },
+        reply: Reply::Done,
+        outbox: Outbox::new(Vec::new(alloc)),
+    }
+}
+
+/// A reply that isn't this one.
+fn other_reply(reply: &Reply) -> Reply {
+    match reply {
+        Reply::Done => Reply::Took,
+        _ => Reply::Done,
+    }
+}
+
+/// A copy of the frame with one bit of the byte at the place another.
+fn flipped(frame: &ByteString, byte: usize) -> Result<ByteString, AllocError> {
+    let mut bytes = frame.copy()?.into_vec();
+    if byte < bytes.len() {
+        bytes[byte] ^= 1;
+    }
+    Ok(ByteString::new(bytes))
+}
+
+/// The frames with a bit of the first one another, or without it.
+fn with_first(alloc: Global, outbox: &Outbox, byte: Option<usize>) -> Result<Outbox, AllocError> {
+    let mut frames = Vec::new(alloc);
+    for (place, frame) in outbox.as_slice().iter().enumerate() {
+        match byte {
+            Some(byte) if place == 0 => frames.push(flipped(frame, byte)?)?,
+            None if place == 0 => {}
+            _ => frames.push(frame.copy()?)?,
+        }
+    }
+    Ok(Outbox::new(frames))
+}
+
+/// Changes a bit of the frame that the event takes.
+fn flip_taken(event: &mut NodeEvent, byte: usize) -> Result<(), AllocError> {
+    if let NodeEvent::Take { frame, .. } = event {
+        *frame = flipped(frame, byte)?;
+    }
+    Ok(())
+}
+
+/// Lets a write have read nothing.
+fn forget_context(event: &mut NodeEvent) {
+    if let NodeEvent::Write { context, .. } = event {
+        *context = None;
+    }
+}

@@ -1,0 +1,379 @@
+//! Nodes that are driven by the commands of a scenario, without a world: what each of them accepts
+//! goes to its journal.
+
+ghost use Rattle.std.specs.Prelude.{◌≡◌, ◌<◌, None, length};
+ghost use Rattle.meta_types.specs.Name.{IsKey};
+ghost use Rattle.scenario_text.specs.Coded.{command_word, key_word};
+ghost use Rattle.scenario_text.specs.Commands.{fault_in};
+
+use crate::change::{Change, Kind, changed};
+use meta_frame::read_header;
+use meta_store::{Context, Store};
+use meta_types::{ByteString, NodeId, Value};
+use node_core::NodeState;
+use node_events::{NodeEvent, Reply};
+use node_journal::{Closed, Entry, Receipt};
+use scenario_text::{BytesWord, Command, KeyWord, Script, parse};
+use std::alloc::{AllocError, Global};
+
+/// Nodes with their journals, all frames that they sent, and all contexts that they handed out, in
+/// the order in which they came.
+#[derive(Drop)]
+pub struct Nodes {
+    alloc: Global,
+    states: Vec<NodeState>,
+    pub journals: Vec<Vec<Entry>>,
+    frames: Vec<ByteString>,
+    contexts: Vec<Context>,
+}
+
+/// The node of this number.
+fn node_id(number: u64) -> Option<NodeId> {
+    NodeId::new(u16::try_from(number).ok()?).ok()
+}
+
+/// The numbered of a list, where the first has number 1.
+fn numbered<T>(list: &[T], number: u64) -> Option<&T> {
+    list.get(usize::try_from(number.checked_sub(1)?).ok()?)
+}
+
+impl Nodes {
+    /// No nodes.
+    fn none(alloc: Global) -> Self {
+        Nodes {
+            alloc,
+            states: Vec::new(alloc),
+            journals: Vec::new(alloc),
+            frames: Vec::new(alloc),
+            contexts: Vec::new(alloc),
+        }
+    }
+
+    /// Adds the new node of this number.
+    fn add(&mut self, number: u64) -> Result<(), AllocError> {
+        if let Some(node) = node_id(number) {
+            let state = NodeState::new(self.alloc, node, 1)?;
+            self.states.push(state)?;
+            self.journals.push(Vec::new(self.alloc))?;
+        }
+        Ok(())
+    }
+
+    /// Obeys the commands of a script, of so many new nodes.
+    fn follow(&mut self, script: Script<'_>) -> Result<(), AllocError> {
+        let mut script = script;
+        for number in 0..script.nodes() {
+            self.add(number)?;
+        }
+        // (a script has fewer commands than that)
+        for _place in 0..u64::MAX {
+            match script.next() {
+                Some(command) => self.obey(&command)?,
+                None => break,
+            }
+        }
+        Ok(())
+    }
+
+    /// The nodes after the commands of a scenario; none where it is no scenario.
+    pub fn driven(alloc: Global, text: &str) -> Result<Option<Self>, AllocError> {
+        let Ok(Some(script)) = parse(text.as_bytes(), 0) else {
+            return Ok(None);
+        };
+        let mut nodes = Nodes::none(alloc);
+        match nodes.follow(script) {
+            Ok(()) => Ok(Some(nodes)),
+            Err(error) => Err(error),
+        }
+    }
+
+    /// The node makes the step that the command is. Nothing is done with one that is no step, or
+    /// that the node refuses.
+    fn obey(&mut self, command: &Command<'_>) -> Result<(), AllocError> {
+        if command.fault().is_some() {
+            return Ok(());
+        }
+        match self.event_of(command)? {
+            Some((number, event)) => self.step(
+                usize::try_from(number).unwrap_or(usize::MAX),
+                event,
+            ),
+            None => Ok(()),
+        }
+    }
+
+    fn step(&mut self, at: usize, event: NodeEvent) -> Result<(), AllocError> {
+        let given = match self.states.get_mut(at) {
+            Some(state) => state.step_on(&event).ok(),
+            None => None,
+        };
+        match given {
+            Some(given) => self.journal(
+                at,
+                Entry {
+                    event,
+                    reply: given.reply,
+                    outbox: given.outbox,
+                },
+            ),
+            None => {
+                drop(event);
+                Ok(())
+            }
+        }
+    }
+
+    /// Puts an entry behind the others of its node.
+    fn journal(&mut self, at: usize, entry: Entry) -> Result<(), AllocError> {
+        let kept = self.keep(&entry);
+        match (kept, self.journals.get_mut(at)) {
+            (Ok(()), Some(journal)) => Ok(journal.push(entry)?),
+            (kept, _) => kept,
+        }
+    }
+
+    /// Keeps the frames and the context that an entry gave.
+    fn keep(&mut self, entry: &Entry) -> Result<(), AllocError> {
+        if let Reply::Looked { context, .. } = &entry.reply {
+            self.contexts.push(context.copy()?)?;
+        }
+        for frame in entry.outbox.as_slice() {
+            self.frames.push(frame.copy()?)?;
+        }
+        Ok(())
+    }
+
+    /// The step that a command is, and whose it is.
+    fn event_of(&self, command: &Command<'_>) -> Result<Option<(u64, NodeEvent)>, AllocError>
+        requires { fault_in (command_word command.now) ≡ None }
+    {
+        match command {
+            Command::Put {
+                node,
+                key,
+                value,
+                stamp,
+                read,
+            } => self.write(*node, key, Some(value), *stamp, *read),
+            Command::Del {
+                node,
+                key,
+                stamp,
+                read,
+            } => self.write(*node, key, None, *stamp, *read),
+            Command::Over {
+                node,
+                key,
+                value,
+                stamp,
+            } => self.over(*node, key, value, *stamp),
+            Command::Read { node, key } => self.read(*node, key),
+            Command::Deliver { frame, node, word } => self.take(*frame, *node, *word),
+            command => Ok(event_of_numbers(command)),
+        }
+    }
+
+    fn read(&self, node: u64, key: &KeyWord<'_>) -> Result<Option<(u64, NodeEvent)>, AllocError>
+        requires { IsKey (key_word key.now) }
+    {
+        let key = key.to_key(self.alloc)?;
+        Ok(Some((node, NodeEvent::Read { key })))
+    }
+
+    fn value(
+        &self,
+        bytes: Option<&BytesWord<'_>>,
+        stamp: u64,
+    ) -> Result<Option<Value>, AllocError> {
+        let body = match bytes {
+            Some(bytes) => Some(bytes.to_bytes(self.alloc)?.into_vec()),
+            None => None,
+        };
+        Ok(Value::new(stamp, body).ok())
+    }
+
+    fn write(
+        &self,
+        node: u64,
+        key: &KeyWord<'_>,
+        bytes: Option<&BytesWord<'_>>,
+        stamp: u64,
+        read: Option<u64>,
+    ) -> Result<Option<(u64, NodeEvent)>, AllocError>
+        requires { IsKey (key_word key.now) }
+    {
+        let context = match read {
+            Some(read) => match numbered(self.contexts.as_slice(), read) {
+                Some(context) => Some(context.copy()?),
+                None => return Ok(None),
+            },
+            None => None,
+        };
+        let key = key.to_key(self.alloc)?;
+        match self.value(bytes, stamp)? {
+            Some(value) => Ok(Some((
+                node,
+                NodeEvent::Write {
+                    key,
+                    value,
+                    context,
+                },
+            ))),
+            None => Ok(None),
+        }
+    }
+
+    fn over(
+        &self,
+        node: u64,
+        key: &KeyWord<'_>,
+        bytes: &BytesWord<'_>,
+        stamp: u64,
+    ) -> Result<Option<(u64, NodeEvent)>, AllocError>
+        requires { IsKey (key_word key.now) }
+    {
+        let key = key.to_key(self.alloc)?;
+        match self.value(Some(bytes), stamp)? {
+            Some(value) => Ok(Some((node, NodeEvent::PutOver { key, value }))),
+            None => Ok(None),
+        }
+    }
+
+    /// The frame of this number goes to the node, or to its addressee.
+    fn take(
+        &self,
+        number: u64,
+        node: Option<u64>,
+        word: u64,
+    ) -> Result<Option<(u64, NodeEvent)>, AllocError> {
+        let Some(frame) = numbered(self.frames.as_slice(), number) else {
+            return Ok(None);
+        };
+        let node = match (node, read_header(frame.as_slice())) {
+            (Some(node), _) => node,
+            (None, Ok(header)) => u64::from(header.to.number()),
+            (None, Err(_)) => return Ok(None),
+        };
+        let frame = frame.copy()?;
+        Ok(Some((node, NodeEvent::Take { frame, word })))
+    }
+
+    /// A receipt that tells the entry of the node `of` at `at` as that of another.
+    pub fn receipt(
+        &self,
+        node: usize,
+        place: usize,
+        of: usize,
+        at: usize,
+    ) -> Result<Option<Receipt>, AllocError> {
+        let (Some(state), Some(journal)) = (self.states.get(node), self.journals.get(of)) else {
+            return Ok(None);
+        };
+        let Some(entry) = journal.get(at) else {
+            return Ok(None);
+        };
+        let receipt = Receipt {
+            node: state.node(),
+            place: place as u64,
+            entry: entry.copy()?,
+        };
+        // A copy, as who keeps a receipt makes one.
+        let copy = receipt.copy();
+        drop(receipt);
+        Ok(Some(copy?))
+    }
+
+    /// The nodes, closed, with these changes, at most one of a node.
+    pub fn closed(&self, changes: &[(usize, Change)]) -> Result<Vec<Closed>, AllocError> {
+        let mut closed = Vec::new(self.alloc);
+        self.close_all(changes, &mut closed)?;
+        Ok(closed)
+    }
+
+    fn close_all(
+        &self,
+        changes: &[(usize, Change)],
+        closed: &mut Vec<Closed>,
+    ) -> Result<(), AllocError> {
+        for number in 0..self.states.len() {
+            let change = changes
+                .iter()
+                .find(|change| change.0 == number)
+                .map(|change| change.1);
+            closed.push(self.close(number, change)?)?;
+        }
+        Ok(())
+    }
+
+    /// The node, closed, with this change.
+    fn close(&self, number: usize, change: Option<Change>) -> Result<Closed, AllocError>
+        requires { number < length self.now.states.items }
+    {
+        let state = &self.states[number];
+        let journal = match self.journals.get(number) {
+            Some(journal) => changed(self.alloc, journal.as_slice(), change)?,
+            None => Vec::new(self.alloc),
+        };
+        let base = NodeState::new(self.alloc, state.node(), 1)?;
+        let table = table_of(state.store(), change)?;
+        Ok(Closed::from_parts(base, journal, table))
+    }
+}
+
+/// A copy of a table, without its first object where that is the change.
+fn table_of(store: &Store, change: Option<Change>) -> Result<Store, AllocError> {
+    let mut table = store.copy()?;
+    if change.is_some_and(|change| change.kind == Kind::Untable) {
+        forget_first(&mut table, store)?;
+    }
+    Ok(table)
+}
+
+/// Forgets the first object of a table.
+fn forget_first(table: &mut Store, store: &Store) -> Result<(), AllocError> {
+    if let Some(prefix) = store.prefixes()?.first() {
+        if let Some(key) = store.list(prefix)?.first() {
+            table.forget(key);
+        }
+    }
+    Ok(())
+}
+
+/// The step that a command is which is made of numbers alone.
+fn event_of_numbers(command: &Command<'_>) -> Option<(u64, NodeEvent)> {
+    Some(match *command {
+        Command::Tick { node, word } => (node, NodeEvent::Tick { word }),
+        Command::Join {
+            node,
+            contact,
+            word,
+        } => (
+            node,
+            NodeEvent::Join {
+                contact: node_id(contact)?,
+                word,
+            },
+        ),
+        Command::Down { node, peer, word } => (
+            node,
+            NodeEvent::PeerDown {
+                peer: node_id(peer)?,
+                word,
+            },
+        ),
+        Command::Exchange { node, peer } => (
+            node,
+            NodeEvent::Exchange {
+                peer: node_id(peer)?,
+            },
+        ),
+        Command::Hello { node, peer } => (
+            node,
+            NodeEvent::Hello {
+                peer: node_id(peer)?,
+            },
+        ),
+        Command::Leave { node } => (node, NodeEvent::Leave),
+        _ => return None,
+    })
+}
