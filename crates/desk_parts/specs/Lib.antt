@@ -1,0 +1,10 @@
+-- the journal, and what its entries published
+pub mod Journaled
+-- what an event stores in the file
+pub mod Stored
+-- what is made ready before an entry is kept
+pub mod Ready
+-- what an accepted call answers
+pub mod Acknowledged
+-- the numbers and names of refusals
+pub mod Fault

@@ -1,0 +1,101 @@
+-- What an event stores in a node's file.
+use Rattle.std.specs.Prelude.{◌≡◌, ◌⊎◌, ℕ, List, Option, Some, None, false, true}
+use Rattle.std.specs.FinMap.{find, is_sorted}
+use Rattle.meta_types.specs.Name.{Key}
+use Rattle.meta_types.specs.Order.{key_cmp}
+use Rattle.dvvset.specs.Object.{Entry}
+use Rattle.meta_store.specs.Table.{Table}
+use Rattle.node_events.specs.Event.{stored_key}
+use Rattle.node_events.specs.declared.event.NodeEvent.{NodeEvent}
+use Rattle.node_core.specs.declared.state.Stepped.{Stepped}
+use Rattle.node_core.specs.Growing.{KeepsKeys}
+use Rattle.node_core.specs.Node.{NodeParts}
+use Rattle.node_core.specs.Step.{IsNodeStep}
+use Rattle.devices.specs.Device.{HasFailed}
+use Rattle.node_file.specs.declared.fault.FileFault.{FileFault}
+use Rattle.node_file.specs.declared.fault.FileFault.TheVariants.{FileFull, Device, Memory}
+use Rattle.node_file.specs.declared.record.Record.{Record}
+use Rattle.node_file.specs.declared.record.Record.TheVariants.{Object}
+use Rattle.node_file.specs.File.{FileState, OpensLike, WithOrWithout, file_state, state_with}
+use Rattle.node_file.specs.Refusal.{is_too_long_with}
+use Rattle.node_file.specs.View.{FileView, IsSettled}
+
+-- ---- the record that tells what an event left
+
+abbrev pub object_record : Key → Option (List Entry) → Option Record
+object_record key None = None
+object_record key (Some object) = Some (Object key object)
+
+abbrev pub record_under : Option Key → Table → Option Record
+record_under None held = None
+record_under (Some key) held = object_record key (find key_cmp key held)
+
+-- of an event after which this is held: that the object under its key is what is held there, where
+-- it is one that is stored, and something is held
+abbrev pub record_after : NodeEvent → Table → Option Record
+record_after event held = record_under (stored_key event) held
+
+-- ---- the file afterwards
+
+abbrev pub with_stored : Option Record → FileState → FileState
+with_stored None s = s
+with_stored (Some record_) s = state_with s record_
+
+-- the file tells of the record, if there is one, beside all that it had, and every crash leaves that
+pub record HasStored {D : Type 0} (content : D → List ℕ) (may_leave : D → List ℕ → Type 0)
+    (stored : Option Record) (old new : FileView D) : Type 0 where
+  pub tells : file_state (content new.device)
+      ≡ with_stored stored (file_state (content old.device))
+  pub settled : IsSettled content may_leave new
+
+-- unless the file is stopped, it holds what it held, and every crash leaves that
+abbrev pub IsStillWhole : {D : Type 0} → (D → List ℕ) → (D → List ℕ → Type 0)
+    → FileView D → FileView D → Type 0
+IsStillWhole content may_leave old new = new.is_stopped ≡ false
+    → (content new.device ≡ content old.device) × IsSettled content may_leave new
+
+-- it is the file of the same node in the same life
+pub record IsOfSameLife {D : Type 0} (old new : FileView D) : Type 0 where
+  pub node : new.node ≡ old.node
+  pub life : new.life ≡ old.life
+  pub served : new.is_served ≡ old.is_served
+
+-- what the file tells of: keys that rise, each of which is held
+pub record IsStoredOf (held stored : Table) : Type 0 where
+  pub rising : is_sorted key_cmp stored ≡ true
+  pub keys : KeepsKeys stored held
+
+-- ---- what a crash leaves on the way
+
+-- bytes that open as before, or that tell of the record too
+abbrev pub LeavesRecord : List ℕ → Option Record → List ℕ → Type 0
+LeavesRecord content None bytes = OpensLike content bytes
+LeavesRecord content (Some record_) bytes = WithOrWithout content record_ bytes
+
+-- bytes that open as before, or that tell too of what a step of the event stores
+pub record LeavesStep (old : NodeParts) (event : NodeEvent) (content bytes : List ℕ) : Type 0 where
+  pub new : NodeParts
+  pub stepped : Stepped
+  pub step : IsNodeStep old event new stepped
+  pub left : LeavesRecord content (record_after event new.table) bytes
+
+abbrev pub LeavesOfEvent : NodeParts → NodeEvent → List ℕ → List ℕ → Type 0
+LeavesOfEvent old event content bytes =
+    OpensLike content bytes ⊎ LeavesStep old event content bytes
+
+-- ---- why it isn't stored
+
+-- the file would be too long with the record
+abbrev pub IsTooLong : ℕ → Option Record → Type 0
+IsTooLong gate None = ⊥
+IsTooLong gate (Some record_) = is_too_long_with gate record_ ≡ true
+
+-- a file of this closed gate, of which the count of failures was `before` and is `now`, is full; or
+-- its device failed, which stops it; or memory was wanting
+abbrev pub RefusesStoring : {D : Type 0} → ℕ → Option Record → ℕ → ℕ → FileView D → FileFault
+    → Type 0
+RefusesStoring gate stored before now new FileFull =
+    IsTooLong gate stored × (new.is_stopped ≡ false)
+RefusesStoring gate stored before now new Device = HasFailed before now × (new.is_stopped ≡ true)
+RefusesStoring gate stored before now new Memory = Unit {0}
+RefusesStoring gate stored before now new fault = ⊥

@@ -1,0 +1,11 @@
+//! Laws of published changes. The contract of a function is the law; its body does nothing.
+
+ghost use Rattle.std.specs.Prelude.{◌≡◌, ◌++◌, ◌∷◌, [], List};
+ghost use Rattle.meta_store.specs.Table.{Table};
+ghost use Rattle.node_history.specs.Published.{Published, with_all, with_published};
+
+/// The change that is published last is put in last.
+pub fn the_last_change_is_put_in_last()
+    ensures { (opening : Table) (list : List Published) (change : Published)
+        → with_all opening (list ++ change ∷ []) ≡ with_published (with_all opening list) change }
+{}

@@ -1,0 +1,32 @@
+-- What is published only grows: later objects of a key know all that earlier ones knew.
+use Rattle.std.specs.Prelude.{◌≡◌, true, List, [], ◌∷◌, ◌++◌}
+use mathlib.Core.List.{IsPrefix}
+use Rattle.meta_types.specs.Name.{Key}
+use Rattle.dvvset.specs.Object.{Counter}
+use Rattle.dvvset.specs.Clock.{descends, join}
+use Rattle.meta_store.specs.Table.{IsTable, Table, object_at}
+use Rattle.node_core.specs.Growing.{Descends}
+use Rattle.node_history.specs.Published.{Published, with_all, with_published}
+
+-- the table with the change put in is a table, whose objects know all that was known before
+pub record GrowsBy (table : Table) (change : Published) : Type 0 where
+  pub is_table : IsTable (with_published table change)
+  pub descends : Descends table (with_published table change)
+
+-- after each first so many of the changes there is a table, and what all of them leave knows all
+-- that was known there
+pub record Grows (opening : Table) (list : List Published) : Type 0 where
+  pub tables : (first : List Published) → IsPrefix first list → IsTable (with_all opening first)
+  pub descends : (first : List Published) → IsPrefix first list
+      → Descends (with_all opening first) (with_all opening list)
+
+-- the vector knows all that was known under the key after each first so many of the changes
+abbrev pub DescendsEach : Table → List Published → Key → List Counter → Type 0
+DescendsEach opening list key vector = (first : List Published) → IsPrefix first list
+    → descends vector (join (object_at (with_all opening first) key)) ≡ true
+
+-- what has only grown and grows by one more change has only grown
+abbrev pub GrowthGoesOn : Type 0
+GrowthGoesOn = (opening : Table) (list : List Published) (change : Published)
+    → Grows opening list → GrowsBy (with_all opening list) change
+    → Grows opening (list ++ change ∷ [])

@@ -1,0 +1,17 @@
+-- What must be believed of readers, in the order in which to read it. The contracts speak of
+-- tables and which of them descend others, of clocks and of published changes too.
+pub use Rattle.meta_types.specs.Name
+pub use Rattle.dvvset.specs.Object
+pub use Rattle.dvvset.specs.Clock
+pub use Rattle.meta_store.specs.Table
+pub use Rattle.node_core.specs.Growing
+pub use Rattle.node_history.specs.Published
+-- what is published only grows
+pub mod Growth
+-- what a seat and the publisher are
+pub mod Views
+-- the numbers of refusals
+pub mod Fault
+-- ---- not needed to believe the public contracts: the copies that readers take, and their rule
+pub mod Copies
+pub mod Rule

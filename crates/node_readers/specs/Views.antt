@@ -1,0 +1,27 @@
+-- What contracts see of a seat and of the publisher, and what a look shows.
+use Rattle.std.specs.Prelude.{◌≡◌, Bool, List}
+use Rattle.meta_types.specs.Name.{Key}
+use Rattle.dvvset.specs.Clock.{join, values_of}
+use Rattle.meta_store.specs.Table.{Table, object_at}
+use Rattle.node_history.specs.Published.{Published, with_all}
+use Rattle.node_readers.specs.Growth.{DescendsEach}
+use Rattle.node_readers.specs.declared.shown.Shown.{Shown}
+
+-- the changes that the seat was shown, and those of what it learnt
+pub record SeatView : Type 0 where
+  pub shown : List Published
+  pub learnt : List Published
+
+-- all changes that were published, and whether no more will be
+pub record PublisherView : Type 0 where
+  pub list : List Published
+  pub stopped : Bool
+
+-- ---- what private functions cite
+
+-- what a look under the key finds after all changes of `list`, for a seat that learnt `learnt`
+pub record FoundUnder (opening : Table) (learnt list : List Published) (key : Key) (it : Shown)
+    : Type 0 where
+  pub values : it.values.items ≡ values_of (object_at (with_all opening list) key)
+  pub vector : it.vector ≡ join (object_at (with_all opening list) key)
+  pub descends : DescendsEach opening learnt key it.vector

@@ -1,0 +1,121 @@
+//! The two copies of the table, of which readers take one, and what is added to both.
+
+ghost use Rattle.std.specs.Prelude.{◌≡◌, IfOk};
+ghost use Rattle.dvvset.specs.Clock.{join, values_of};
+ghost use Rattle.meta_store.specs.Table.{object_at};
+
+use crate::shown::Shown;
+use left_right::Absorb;
+use meta_store::Store;
+use meta_types::MetaKey;
+use node_history::{Extent, Naming, Published, Revision};
+use std::alloc::AllocError;
+use std::marker::Model;
+
+/// The table that readers take, and the history up to it.
+#[derive(Drop)]
+pub struct PublishedTable {
+    table: Store,
+    extent: Extent,
+}
+
+impl Model for PublishedTable {
+    ghost use Rattle.node_readers.specs.Copies.{TableView};
+
+    ghost Value = { TableView };
+
+    ghost view = { λ p. record {
+      book = p.extent.book;
+      list = p.extent.list;
+      table = p.table;
+    } };
+}
+
+impl PublishedTable {
+    pub(crate) fn new<J: Naming>(table: Store, revision: &Revision<J>) -> Self
+        ensures book { result.book ≡ J.book }
+        ensures list { result.list ≡ revision.now }
+        ensures table { result.table ≡ table }
+    {
+        PublishedTable {
+            table,
+            extent: revision.extent().again(),
+        }
+    }
+
+    /// How far the history of the table goes.
+    pub(crate) fn revision<J: Naming>(&self) -> Revision<J>
+        requires { self.now.book ≡ J.book }
+        ensures { result ≡ self.now.list }
+    {
+        Revision::of(&self.extent)
+    }
+
+    /// The values under the key, and their vector. They are copies.
+    pub(crate) fn look(&self, key: &MetaKey) -> Result<Shown, AllocError>
+        ensures values { IfOk result
+            (λ it. it.values.items ≡ values_of (object_at self.now.table key.now)) }
+        ensures vector { IfOk result (λ it. it.vector ≡ join (object_at self.now.table key.now)) }
+    {
+        let (values, vector) = self.table.get(key)?;
+        Ok(Shown { values, vector })
+    }
+}
+
+/// A change, and the history that it ends.
+#[derive(Drop)]
+pub struct Addition {
+    change: Published,
+    extent: Extent,
+}
+
+impl Model for Addition {
+    ghost use Rattle.node_readers.specs.Copies.{AdditionView};
+
+    ghost Value = { AdditionView };
+
+    ghost view = { λ a. record {
+      book = a.extent.book;
+      list = a.extent.list;
+      change = a.change;
+    } };
+}
+
+impl Addition {
+    pub(crate) fn new<J: Naming>(change: Published, revision: &Revision<J>) -> Self
+        ensures book { result.book ≡ J.book }
+        ensures list { result.list ≡ revision.now }
+        ensures change { result.change ≡ change }
+    {
+        Addition {
+            change,
+            extent: revision.extent().again(),
+        }
+    }
+}
+
+/// A copy takes a change in. It is refused only for want of memory.
+impl Absorb<Addition> for PublishedTable {
+    ghost use Rattle.node_readers.specs.Copies.{taken_in};
+
+    type State = PublishedTable;
+
+    ghost state = { λ p. p };
+
+    ghost applied = { taken_in };
+
+    fn absorb_first(
+        &mut self,
+        addition: &Addition,
+        _other: &PublishedTable,
+    ) -> Result<(), AllocError> {
+        let change = &addition.change;
+        if !self.table.has_room_for(change.key()) {
+            return Err(AllocError);
+        }
+        let (key, object) = (change.key().copy()?, change.object().copy()?);
+        self.table.hold(key, object)?;
+        self.extent = addition.extent.again();
+        Ok(())
+    }
+}

@@ -1,0 +1,46 @@
+ghost use Rattle.std.specs.Prelude.{◌≡◌};
+ghost use Rattle.node_readers.specs.Fault.{code_of, fault_name};
+ghost use Rattle.node_readers.specs.declared.fault.PeekFault.TheVariants.{Memory};
+
+use std::alloc::AllocError;
+use thiserror::Error;
+
+/// Why a look was refused. It prints as the name of the variant.
+#[derive(Debug, Drop, Error, PartialEq, Eq)]
+#[error("{}", self.name())]
+pub enum PeekFault {
+    /// 34: nothing is published any more. While the publisher is there it isn't expected.
+    Stopped,
+    /// 99: an allocation was refused.
+    Memory,
+}
+
+impl PeekFault {
+    /// The number of the refusal, as programs print it.
+    pub fn code(&self) -> u16
+        ensures { result ≡ code_of self.now }
+    {
+        match self {
+            PeekFault::Stopped => 34,
+            PeekFault::Memory => 99,
+        }
+    }
+
+    /// The name of the refusal, as programs print it.
+    pub fn name(&self) -> &'static str
+        ensures { result.now ≡ fault_name self.now }
+    {
+        match self {
+            PeekFault::Stopped => "Stopped",
+            PeekFault::Memory => "Memory",
+        }
+    }
+}
+
+impl From<AllocError> for PeekFault {
+    ghost from_gives = { λ _ fault. fault ≡ Memory };
+
+    fn from(_error: AllocError) -> Self {
+        PeekFault::Memory
+    }
+}

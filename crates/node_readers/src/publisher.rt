@@ -1,0 +1,205 @@
+ghost use Rattle.std.specs.Prelude.{◌≡◌, ◌↔◌, ◌++◌, ◌∷◌, ◌^◌, ◌<◌, [], IfOk, OnOk, OnErr, true, false, drop, IsTrue, Some};
+ghost use mathlib.Core.List.{IsPrefix};
+ghost use Rattle.left_right.specs.Sides.{view};
+ghost use Rattle.node_history.specs.Published.{with_all};
+ghost use Rattle.node_readers.specs.Copies.{IsCopy, IsCopyOf};
+ghost use Rattle.node_readers.specs.Growth.{GrowsBy};
+
+use crate::copies::{Addition, PublishedTable};
+use crate::rule::{CopiesOf, Known};
+use crate::seat::ReadSeat;
+use left_right::writer::Writer;
+use meta_store::Store;
+use node_history::{Naming, Published, Revision, Tail};
+use std::alloc::{AllocError, Global};
+use std::marker::Model;
+use std::sync::Wait;
+
+/// Who publishes a node's changes. It keeps a handle, since its drop waits for the readers that are
+/// inside a `peek`, which never wait themselves.
+pub struct Publisher<J: Naming, H: Wait + Drop> {
+    // None only inside of a call
+    writer: Option<Writer<PublishedTable, Addition, Known, CopiesOf<J>>>,
+    none: Revision<J>,
+    revision: Revision<J>,
+    is_stopped: bool,
+    handle: H,
+}
+
+impl<J: Naming, H: Wait + Drop> Drop for Publisher<J, H> {
+    fn drop(self) {
+        let Self {
+            writer,
+            none: _none,
+            revision: _revision,
+            is_stopped: _,
+            handle,
+        } = self;
+        if let Some(writer) = writer {
+            drop(writer.take(&handle));
+        }
+    }
+}
+
+impl<J: Naming, H: Wait + Drop> Model for Publisher<J, H> {
+    ghost use Rattle.std.specs.Prelude.{◌≡◌, false, [], drop, IfSome};
+    ghost use Rattle.left_right.specs.Sides.{view as view_of};
+    ghost use Rattle.node_readers.specs.Copies.{IsCopyOf};
+    ghost use Rattle.node_readers.specs.Growth.{Grows};
+    ghost use Rattle.node_readers.specs.Views.{PublisherView};
+
+    ghost Value = { PublisherView };
+
+    ghost view = { λ p. record { list = p.revision; stopped = p.is_stopped } };
+
+    ghost invariant = { λ p. record {
+      published : IfSome p.writer (λ w. (view_of w.desk.place ≡ p.revision)
+          × IsCopyOf J.book J.opening p.revision w.desk.shown.value);
+      settled : p.is_stopped ≡ false → IfSome p.writer (λ w. drop w.behind w.log.items ≡ []);
+      grown : Grows J.opening p.revision;
+      nothing : p.none ≡ [];
+    } };
+}
+
+impl<J: Naming, H: Wait + Drop> Publisher<J, H> {
+    /// A publisher of two copies of the opening table, with places for so many readers at a time.
+    /// Fails only when memory runs out.
+    pub fn new(
+        alloc: Global,
+        table: &Store,
+        revision: Revision<J>,
+        readers: usize,
+        handle: H,
+    ) -> Result<Self, AllocError>
+        requires readers { (0 < readers) × (readers < 2 ^ 32) }
+        requires opening { table.now ≡ J.opening }
+        requires first { revision ≡ [] }
+        ensures { IfOk result (λ p. p ≡ record { list = []; stopped = false }) }
+    {
+        // Read for what it tells: what the store holds is a table.
+        let _ = table.len();
+        let one = PublishedTable::new(table.copy()?, &revision);
+        let two = PublishedTable::new(table.copy()?, &revision);
+        Ok(Publisher {
+            writer: Some(Writer::new(alloc, one, two, readers)?),
+            none: revision.again(),
+            revision,
+            is_stopped: false,
+            handle,
+        })
+    }
+
+    /// A seat that was shown nothing and learnt nothing. Fails where as many readers are there as
+    /// there are places, and when memory runs out.
+    pub fn seat(&self) -> Result<ReadSeat<J>, AllocError>
+        ensures { IfOk result (λ seat. seat ≡ record { shown = []; learnt = [] }) }
+    {
+        match &self.writer {
+            Some(writer) => ReadSeat::new(writer.factory(), &self.none),
+            None => Err(AllocError),
+        }
+    }
+
+    /// Adds the change to the history and shows readers a copy that has it. Answers how far the
+    /// history goes then, for a seat to learn. It waits for readers that are still inside a `peek`
+    /// of the copy before. Where memory runs out, readers see what they saw, and from then on every
+    /// call fails.
+    pub fn publish<R: Wait>(
+        &mut self,
+        rt: &R,
+        tail: &Tail<J>,
+        change: Published,
+    ) -> Result<Revision<J>, AllocError>
+        requires grows { GrowsBy (with_all J.opening self.old.list) change }
+        ensures revision { IfOk result (λ r. r ≡ self.old.list ++ change ∷ []) }
+        ensures list { IfOk result (λ r. self.new.list ≡ r) }
+        ensures goes_on { OnOk result (self.new.stopped ≡ false) }
+        ensures went_on { OnOk result (self.old.stopped ≡ false) }
+        ensures same { OnErr result (self.new.list ≡ self.old.list) }
+        ensures stopped { OnErr result (self.new.stopped ≡ true) }
+    {
+        if self.is_stopped || !self.revision.has_room() {
+            self.is_stopped = true;
+            return Err(AllocError);
+        }
+        self.is_stopped = true;
+        let Some(writer) = self.writer.take() else {
+            return Err(AllocError);
+        };
+        let mut next = self.revision.again();
+        let was_added = next.add(tail, &change);
+        if !was_added {
+            put_back(rt, &mut self.writer, writer);
+            return Err(AllocError);
+        }
+        let (writer, told) = show(rt, writer, Addition::new(change, &next));
+        put_back(rt, &mut self.writer, writer);
+        told?;
+        self.revision = next.again();
+        self.is_stopped = false;
+        Ok(next)
+    }
+
+    /// How far the history goes: all changes that were published.
+    pub fn revision(&self) -> &Revision<J>
+        ensures { result.now ≡ self.now.list }
+    {
+        &self.revision
+    }
+
+    /// Returns whether it publishes no more, since a call failed.
+    pub fn is_stopped(&self) -> bool
+        ensures { result ≡ self.now.stopped }
+    {
+        self.is_stopped
+    }
+
+    /// Returns whether all that the seat was shown and learnt of was published.
+    pub fn covers(&self, seat: &ReadSeat<J>) -> bool
+        ensures { IsTrue result ↔ IsPrefix seat.now.shown self.now.list
+            × IsPrefix seat.now.learnt self.now.list }
+    {
+        self.revision.covers(seat.shown()) && self.revision.covers(seat.learnt())
+    }
+}
+
+/// Puts the writer into its empty place.
+fn put_back<J: Naming, R: Wait>(
+    rt: &R,
+    place: &mut Option<Writer<PublishedTable, Addition, Known, CopiesOf<J>>>,
+    writer: Writer<PublishedTable, Addition, Known, CopiesOf<J>>,
+)
+    ensures { place.new ≡ Some writer }
+{
+    if let Some(old) = place.replace(writer) {
+        old.take(rt);
+    }
+}
+
+/// Shows readers a copy that has the addition.
+fn show<J: Naming, R: Wait>(
+    rt: &R,
+    mut writer: Writer<PublishedTable, Addition, Known, CopiesOf<J>>,
+    addition: Addition,
+) -> (
+    Writer<PublishedTable, Addition, Known, CopiesOf<J>>,
+    Result<(), AllocError>,
+)
+    requires copy { IsCopy J.book J.opening writer.desk.shown.value }
+    requires none { drop writer.behind writer.log.items ≡ [] }
+    requires known { view writer.desk.place ≡ writer.desk.shown.value.list }
+    requires book { addition.book ≡ J.book }
+    requires next { addition.list ≡ writer.desk.shown.value.list ++ addition.change ∷ [] }
+    requires grows { GrowsBy writer.desk.shown.value.table addition.change }
+    ensures same { OnErr result.1 (result.0.desk.shown.value ≡ writer.desk.shown.value) }
+    ensures same_view { OnErr result.1 (view result.0.desk.place ≡ view writer.desk.place) }
+    ensures copy { OnOk result.1
+        (IsCopyOf J.book J.opening addition.list result.0.desk.shown.value) }
+    ensures known { OnOk result.1 (view result.0.desk.place ≡ addition.list) }
+    ensures none { OnOk result.1 (drop result.0.behind result.0.log.items ≡ []) }
+{
+    match writer.append(addition) {
+        Ok(()) => writer.publish_as::<CopiesOf<J>, R>(rt),
+        Err(_) => (writer, Err(AllocError)),
+    }
+}
