@@ -5,6 +5,7 @@ use Rattle.meta_types.specs.Name.{Key}
 use Rattle.meta_types.specs.Order.{key_cmp}
 use Rattle.meta_store.specs.Table.{IsTable, Table}
 use Rattle.node_events.specs.declared.event.NodeEvent.{NodeEvent}
+use Rattle.node_events.specs.declared.fault.StepFault.TheVariants as OfStep
 use Rattle.node_events.specs.declared.reply.Reply.{Reply}
 use Rattle.node_core.specs.declared.state.Stepped.{Stepped}
 use Rattle.meta_frame.specs.declared.fault.FrameFault.{FrameFault}
@@ -86,10 +87,16 @@ pub record IsReady (old : NodeParts) (event : NodeEvent) (new : NodeParts) (read
   pub copy : ready.copy ≡ ready.entry
   pub change : IsPublishedBy ready.entry.event ready.entry.reply new.table (listed ready.change)
 
--- why nothing is made ready: the step is refused, or there is no room in the journal, of this limit
--- and length
+-- the step is one that the node can make
+pub record CanStep (old : NodeParts) (event : NodeEvent) : Type 0 where
+  pub new : NodeParts
+  pub stepped : Stepped
+  pub step : IsNodeStep old event new stepped
+
+-- why nothing is made ready: the step is refused, or it can be made and there is no room in the
+-- journal, of this limit and length
 abbrev pub Prevents : NodeParts → NodeEvent → ℕ → ℕ → LockFault → Type 0
-Prevents old event limit count (Step fault) = CanComeOf old event fault
-Prevents old event limit count JournalFull = IsFullFor limit count old.steps
+Prevents old event limit count (Step fault) = (fault ≢ OfStep.Memory) × CanComeOf old event fault
+Prevents old event limit count JournalFull = CanStep old event × IsFullFor limit count old.steps
 Prevents old event limit count Memory = Unit {0}
 Prevents old event limit count fault = ⊥

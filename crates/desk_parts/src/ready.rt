@@ -8,7 +8,7 @@ ghost use Rattle.meta_store.specs.Table.{IsTable, object_at};
 ghost use Rattle.node_core.specs.Step.{CanComeOf};
 ghost use Rattle.desk_parts.specs.Journaled.{IsPublishedBy};
 ghost use Rattle.node_core.specs.Leaving.{carried_object};
-ghost use Rattle.desk_parts.specs.Ready.{HoldsChanged, IsFullFor, IsCarriedKey, IsChangedKey, IsKeyOf, IsKnownStep, IsMade, IsReady, Prevents, entry_made, listed};
+ghost use Rattle.desk_parts.specs.Ready.{CanStep, HoldsChanged, IsFullFor, IsCarriedKey, IsChangedKey, IsKeyOf, IsKnownStep, IsMade, IsReady, Prevents, entry_made, listed};
 ghost use Rattle.desk_parts.specs.declared.fault.LockFault.TheVariants.{JournalFull, Memory};
 
 use crate::fault::LockFault;
@@ -148,6 +148,7 @@ fn try_known(
 ) -> Result<Stepped, StepFault>
     requires { is_even.old ≡ true → spare.old ≡ state.now }
     ensures known { IfOk result (IsKnownStep state.now event.now spare.new) }
+    ensures can { OnOk result (CanStep state.now event.now) }
     ensures refused { IfErr result (CanComeOf state.now event.now) }
     ensures even { is_even.new ≡ true → spare.new ≡ state.now }
 {

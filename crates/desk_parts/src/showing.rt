@@ -1,6 +1,6 @@
 //! What an event published is shown to readers.
 
-ghost use Rattle.std.specs.Prelude.{◌≡◌, ◌++◌, false, IfSome, OnOk, OnErr};
+ghost use Rattle.std.specs.Prelude.{◌≡◌, ◌++◌, true, false, IfSome, OnOk, OnErr};
 ghost use Rattle.node_history.specs.Published.{with_all};
 ghost use Rattle.node_readers.specs.Growth.{GrowsBy};
 ghost use Rattle.desk_parts.specs.Ready.{listed};
@@ -22,6 +22,7 @@ pub fn publish_change<J: Naming, H: Wait + Drop, R: Wait>(
     ensures going { OnOk result
         (publisher.old.stopped ≡ false → publisher.new.stopped ≡ false) }
     ensures same { OnErr result (publisher.new.list ≡ publisher.old.list) }
+    ensures stopped { OnErr result (publisher.new.stopped ≡ true) }
 {
     match change {
         Some(change) => match publisher.publish(rt, tail, change) {

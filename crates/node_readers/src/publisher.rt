@@ -42,7 +42,7 @@ impl<J: Naming, H: Wait + Drop> Drop for Publisher<J, H> {
 }
 
 impl<J: Naming, H: Wait + Drop> Model for Publisher<J, H> {
-    ghost use Rattle.std.specs.Prelude.{◌≡◌, false, [], drop, IfSome};
+    ghost use Rattle.std.specs.Prelude.{◌≡◌, false, [], drop, IsSomeAnd};
     ghost use Rattle.left_right.specs.Sides.{view as view_of};
     ghost use Rattle.node_readers.specs.Copies.{IsCopyOf};
     ghost use Rattle.node_readers.specs.Growth.{Grows};
@@ -53,9 +53,9 @@ impl<J: Naming, H: Wait + Drop> Model for Publisher<J, H> {
     ghost view = { λ p. record { list = p.revision; stopped = p.is_stopped } };
 
     ghost invariant = { λ p. record {
-      published : IfSome p.writer (λ w. (view_of w.desk.place ≡ p.revision)
+      published : IsSomeAnd p.writer (λ w. (view_of w.desk.place ≡ p.revision)
           × IsCopyOf J.book J.opening p.revision w.desk.shown.value);
-      settled : p.is_stopped ≡ false → IfSome p.writer (λ w. drop w.behind w.log.items ≡ []);
+      settled : p.is_stopped ≡ false → IsSomeAnd p.writer (λ w. drop w.behind w.log.items ≡ []);
       grown : Grows J.opening p.revision;
       nothing : p.none ≡ [];
     } };
@@ -96,7 +96,7 @@ impl<J: Naming, H: Wait + Drop> Publisher<J, H> {
     {
         match &self.writer {
             Some(writer) => ReadSeat::new(writer.factory(), &self.none),
-            None => Err(AllocError),
+            None => unreachable!(),
         }
     }
 
@@ -124,7 +124,7 @@ impl<J: Naming, H: Wait + Drop> Publisher<J, H> {
         }
         self.is_stopped = true;
         let Some(writer) = self.writer.take() else {
-            return Err(AllocError);
+            unreachable!()
         };
         let mut next = self.revision.again();
         let was_added = next.add(tail, &change);

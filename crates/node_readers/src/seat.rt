@@ -22,13 +22,14 @@ use std::marker::Model;
 /// learnt. It may go to another thread.
 #[derive(Drop)]
 pub struct ReadSeat<J: Naming> {
+    // None only inside of a call
     reader: Option<Reader<PublishedTable, Known, CopiesOf<J>>>,
     shown: Revision<J>,
     learnt: Revision<J>,
 }
 
 impl<J: Naming> Model for ReadSeat<J> {
-    ghost use Rattle.std.specs.Prelude.{◌≡◌, IfSome};
+    ghost use Rattle.std.specs.Prelude.{◌≡◌, IsSomeAnd};
     ghost use Rattle.left_right.specs.Sides.{view as view_of};
     ghost use Rattle.node_readers.specs.Views.{SeatView};
 
@@ -36,7 +37,7 @@ impl<J: Naming> Model for ReadSeat<J> {
 
     ghost view = { λ s. record { shown = s.shown; learnt = s.learnt } };
 
-    ghost invariant = { λ s. IfSome s.reader (λ r. view_of r.place ≡ s.shown) };
+    ghost invariant = { λ s. IsSomeAnd s.reader (λ r. view_of r.place ≡ s.shown) };
 }
 
 impl<J: Naming> ReadSeat<J> {
@@ -98,7 +99,7 @@ impl<J: Naming> ReadSeat<J> {
             (λ it. DescendsEach J.opening self.old.learnt key.now it.vector) }
     {
         let Some(reader) = self.reader.take() else {
-            return Err(PeekFault::Stopped);
+            unreachable!()
         };
         let (back, found) = look(reader, &mut self.shown, &self.learnt, key);
         self.reader = Some(back);
