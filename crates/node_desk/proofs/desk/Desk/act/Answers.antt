@@ -1,0 +1,120 @@
+use Rattle.std.proofs.Common.{◌≡◌, ◌++◌, ◌∷◌, [], ℕ, List, length, sym, ap, ◌∙◌, subst, arith, length-append}
+use Rattle.meta_types.specs.Actor.{writer_number}
+use Rattle.meta_store.specs.Table.{Table}
+use Rattle.node_history.specs.Published.{Published}
+use Rattle.node_file.specs.File.{file_state}
+use Rattle.desk_parts.specs.Journaled.{TellsOfEntry}
+use Rattle.desk_parts.specs.Ready.{listed}
+use Rattle.desk_parts.specs.Stored.{HasStored, IsStoredOf, LeavesRecord, record_after}
+use Rattle.desk_parts.proofs.Listing.{grows_by}
+use Rattle.node_core.specs.Step.{IsNodeStep}
+use Rattle.node_journal.specs.Entry.{stepped_of}
+use Rattle.node_desk.specs.Acting.{RefusesKeeping}
+use Rattle.node_desk.specs.Desk.{DeskView}
+use Rattle.devices.specs.Device.{LeavesOnly}
+use Rattle.node_desk.proofs.Kept.{call_refused, goes_on, kept_within, leaves_of, one_more, still_of_life, stored_within, told}
+use Rattle.node_desk.proofs.desk.Desk.act.Goals as goal
+
+pub settle-done-requires-clause-within : goal.settle-done-requires-clause-within
+settle-done-requires-clause-within g c =
+    let s = c.self.inside in
+    let r = c.in_ok-ready.ensures.ready in
+    let w = (c.self.invariant.9 c.if-self.false).within in
+    subst (λ (t : Table). IsStoredOf t (file_state (g.D.Device.content s.file.device)).contents.table) (sym c.store.ensures)
+    (kept_within s.state.table c.prepare.new.spare.table _ r.known.keeps w)
+
+pub settle-done-requires-clause-grows : goal.settle-done-requires-clause-grows
+settle-done-requires-clause-grows g c =
+    let s = c.self.inside in
+    let r = c.in_ok-ready.ensures.ready in
+    let e = c.in_ok-ready.ready.entry in
+    grows_by g.J.Naming.opening s.publisher.list e.event e.reply s.state.table c.prepare.new.spare.table c.in_ok-ready.ready.change c.self.invariant.6 r.known.grows.changes r.known.lawful r.known.grows.descends r.change
+
+pub invariant_of-self-in-Err : goal.invariant_of-self-in-Err
+invariant_of-self-in-Err g c =
+    let i = c.self.invariant in
+    let w = i.9 c.if-self.false in
+    rw (c.prepare.ensures.same, c.in-Err.ensures.same) (
+      i.0,
+      i.1,
+      i.2,
+      i.3,
+      i.4,
+      i.5,
+      i.6,
+      c.prepare.ensures.even,
+      c.settle-done.ensures.whose.served ∙ i.8,
+      (λ going. let still = c.in-Err.ensures.still going in record {
+        file = still.0;
+        publisher = still.1 ∙ w.publisher;
+        within = subst (λ (b : List ℕ). IsStoredOf c.self.inside.state.table (file_state b).contents.table) (sym (c.in-Err.ensures.whole going still.0).0) w.within;
+      }),
+    )
+
+pub returns-in-Err-clause-refused : goal.returns-in-Err-clause-refused
+returns-in-Err-clause-refused g c =
+    let r = c.in_ok-ready.ensures.ready in
+    let e = c.in_ok-ready.ready.entry in
+    let refused = subst (λ (t : Table). RefusesKeeping c.self.inside.file.gate (record_after e.event t) (g.D.Device.failed c.self.inside.file.device) (g.D.Device.failed c.settle-done.new.file.device) c.settle-done.new.is_stopped c.in-Err.fault) c.store.ensures c.in-Err.ensures.refused in
+    let step = subst (λ (v : DeskView g.row.D.Denot). IsNodeStep v.state e.event c.prepare.new.spare (stepped_of e)) c.self.view_is r.known.step in
+    let kept = subst (λ (v : DeskView g.row.D.Denot). RefusesKeeping v.file.gate (record_after e.event c.prepare.new.spare.table) (g.D.Device.failed v.file.device) (g.D.Device.failed c.settle-done.new.file.device) c.settle-done.new.is_stopped c.in-Err.fault) c.self.view_is refused in
+    call_refused g.D.Device.failed c.args.self.now _ c.args.event c.prepare.new.spare e c.in-Err.fault r.is_event step kept
+
+pub returns-in-Err-clause-any_moment : goal.returns-in-Err-clause-any_moment
+returns-in-Err-clause-any_moment g c = λ _.
+    let s = c.self.inside in
+    let r = c.in_ok-ready.ensures.ready in
+    let e = c.in_ok-ready.ready.entry in
+    let d = g.D.Device in
+    let left = subst (λ (t : Table). LeavesOnly d.moment d.left_since s.file.device c.settle-done.new.file.device (LeavesRecord (d.content s.file.device) (record_after e.event t))) c.store.ensures c.settle-done.ensures.any_moment in
+    rw (← c.self.view_is) (leaves_of d.content d.moment d.left_since s.file.device c.settle-done.new.file.device s.state c.prepare.new.spare c.args.event e r.is_event r.known.step left)
+
+pub of-requires : goal.of-requires
+of-requires g c =
+    let s = c.self.inside in
+    let r = c.in_ok-ready.ensures.ready in
+    let e = c.in_ok-ready.ready.entry in
+    let change = listed c.in_ok-ready.ready.change in
+    let n = g.J.Naming in
+    let copy = c.into_entries-entry.ensures.1 ∙ (c.settle-done.ensures.entries.1 ∙ r.copy) in
+    let list = c.again.ensures ∙ (c.revision.ensures ∙ c.in_default.ensures.list) in
+    subst (λ (l : List Published). TellsOfEntry (writer_number n.node n.incarnation) c.into_entries-entry.result.1 l) (sym list)
+    (told n.node n.incarnation s.state c.prepare.new.spare e c.into_entries-entry.result.1 s.publisher.list change c.self.invariant.2 r.known r.change copy)
+
+pub invariant_of-self-2 : goal.invariant_of-self-2
+invariant_of-self-2 g c =
+    let s = c.self.inside in
+    let i = c.self.invariant in
+    let w = i.9 c.if-self.false in
+    let r = c.in_ok-ready.ensures.ready in
+    let e = c.in_ok-ready.ready.entry in
+    let new = c.prepare.new.spare in
+    let n = g.J.Naming in
+    let go = goes_on s.base s.state new n.opening s.journal.items s.publisher.list (listed c.in_ok-ready.ready.change) e i.0 i.6 r.known r.change in
+    let steps = one_more s.state new (length e.outbox) r.known.counts c.in_ok-ready.ensures.few.1 in
+    let stored = subst (λ (t : Table). HasStored g.D.Device.content g.D.Device.may_leave (record_after e.event t) s.file c.settle-done.new.file) c.store.ensures c.in_default.ensures.stored in
+    rw (c.swap.ensures.x_after, c.push_reserved.ensures.items, c.into_entries-entry.ensures.0, c.settle-done.ensures.entries.0, c.prepare.ensures.same, c.in_default.ensures.list) (
+      go.journaled,
+      i.1,
+      still_of_life n.node n.incarnation s.state new (length e.outbox) i.2 r.known.counts,
+      omega (arith, i.3, c.count.ensures.total, steps),
+      omega (arith, i.4, steps, length-append s.journal.items (e ∷ [])),
+      i.5,
+      go.table,
+      (λ even. c.catch_up-self-inside.ensures even ∙ c.swap.ensures.x_after),
+      c.settle-done.ensures.whose.served ∙ i.8,
+      (λ _. record {
+        file = c.in_default.ensures.going.0;
+        publisher = c.in_default.ensures.going.1 w.publisher;
+        within = stored_within e.event s.state.table new.table (file_state (g.D.Device.content s.file.device)) (file_state (g.D.Device.content c.settle-done.new.file.device)) r.known.keeps w.within stored.tells;
+      }),
+    )
+
+pub returns-clause-any_moment : goal.returns-clause-any_moment
+returns-clause-any_moment g c = λ _.
+    let s = c.self.inside in
+    let r = c.in_ok-ready.ensures.ready in
+    let e = c.in_ok-ready.ready.entry in
+    let d = g.D.Device in
+    let left = subst (λ (t : Table). LeavesOnly d.moment d.left_since s.file.device c.settle-done.new.file.device (LeavesRecord (d.content s.file.device) (record_after e.event t))) c.store.ensures c.settle-done.ensures.any_moment in
+    rw (← c.self.view_is) (leaves_of d.content d.moment d.left_since s.file.device c.settle-done.new.file.device s.state c.prepare.new.spare c.args.event e r.is_event r.known.step left)

@@ -1,0 +1,22 @@
+use Rattle.std.proofs.Common.{◌≡◌, ◌+◌, [], length, arith}
+use Rattle.desk_parts.proofs.Runs.{journaled_cut}
+use Rattle.node_desk.proofs.Kept.{began_on}
+use Rattle.node_desk.proofs.desk.Desk.cut.Goals as goal
+
+pub invariant_of-self : goal.invariant_of-self
+invariant_of-self g c =
+    let s = c.self.inside in
+    let i = c.self.invariant in
+    let n = g.J.Naming in
+    rw (c.replace.ensures.after, c.in_ok-state.ensures, c.clear.ensures.items) (
+      journaled_cut s.base s.state s.journal.items s.publisher.list i.4 i.0,
+      began_on n.node n.incarnation n.opening s.base s.state s.journal.items s.publisher.list i.1 i.0,
+      i.2,
+      i.3,
+      omega arith,
+      i.5,
+      i.6,
+      i.7,
+      i.8,
+      i.9,
+    )

@@ -1,0 +1,29 @@
+-- What is left of a node that was closed.
+use Rattle.std.specs.Prelude.{◌≡◌, ◌≢◌, ℕ, List, map}
+use mathlib.Core.List.{IsPrefix}
+use Rattle.node_core.specs.Node.{NodeParts}
+use Rattle.node_core.specs.Run.{IsRun}
+use Rattle.node_journal.specs.Closed.{ClosedNode}
+use Rattle.node_journal.specs.Entry.{step_of}
+use Rattle.node_history.specs.Published.{Published}
+use Rattle.node_readers.specs.Views.{SeatView}
+use Rattle.desk_parts.specs.declared.fault.LockFault.{LockFault}
+use Rattle.desk_parts.specs.declared.fault.LockFault.TheVariants.{SeatsMissing, Stopped}
+
+-- its journal is a run of the node from its base, which ends with its table
+pub record EndsWithTable (c : ClosedNode) : Type 0 where
+  pub end : NodeParts
+  pub run : IsRun c.base (map step_of c.journal) end
+  pub table : end.table ≡ c.table
+
+-- what the reader was shown, and what it learnt, are beginnings of the list
+pub record IsWithin (list : List Published) (seat : SeatView) : Type 0 where
+  pub shown : IsPrefix seat.shown list
+  pub learnt : IsPrefix seat.learnt list
+
+-- of so many seats that are out not all were handed in; that it is `Stopped` has no cause that can
+-- come
+abbrev pub RefusesClosing : ℕ → ℕ → LockFault → Type 0
+RefusesClosing out given SeatsMissing = given ≢ out
+RefusesClosing out given Stopped = given ≡ out
+RefusesClosing out given fault = ⊥

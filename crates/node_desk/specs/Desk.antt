@@ -1,0 +1,93 @@
+-- What contracts see of what lies under a node's lock.
+use Rattle.std.specs.Prelude.{◌≡◌, ◌≢◌, ◌⊎◌, ◌≤◌, ◌-◌, ◌^◌, ℕ, nat_le, Bool, false, List, [], ◌∷◌, map, Option, None}
+use Rattle.meta_types.specs.First.{first_that_applies}
+use Rattle.meta_store.specs.Table.{Table}
+use Rattle.node_core.specs.Node.{NodeParts, opening}
+use Rattle.node_core.specs.Run.{IsRun}
+use Rattle.node_file.specs.View.{FileView}
+use Rattle.node_events.specs.declared.event.NodeEvent.{NodeEvent}
+use Rattle.node_journal.specs.declared.entry.Entry.{Entry}
+use Rattle.node_journal.specs.declared.receipt.Receipt.{Receipt}
+use Rattle.node_journal.specs.Entry.{step_of}
+use Rattle.node_history.specs.Published.{Published}
+use Rattle.desk_parts.specs.Stored.{IsStoredOf}
+use Rattle.desk_parts.specs.declared.fault.LockFault.{LockFault}
+use Rattle.desk_parts.specs.declared.fault.LockFault.TheVariants.{NoSeat, Stopped}
+
+-- the state from which the journal began, the state now, and the journal between them; all that was
+-- published; the file; how many write seats are out; how many calls were counted by seats that were
+-- given up; how many entries the journal may have; whether the node is stopped
+pub record DeskView (D : Type 0) : Type 0 where
+  pub base : NodeParts
+  pub state : NodeParts
+  pub journal : List Entry
+  pub list : List Published
+  pub file : FileView D
+  pub out : ℕ
+  pub given_up : ℕ
+  pub limit : ℕ
+  pub stopped : Bool
+
+-- all that the desk is, but its file, and whether it is stopped
+pub record KeepsAll {D : Type 0} (old new : DeskView D) : Type 0 where
+  pub base : new.base ≡ old.base
+  pub state : new.state ≡ old.state
+  pub journal : new.journal ≡ old.journal
+  pub list : new.list ≡ old.list
+  pub out : new.out ≡ old.out
+  pub given_up : new.given_up ≡ old.given_up
+  pub limit : new.limit ≡ old.limit
+
+-- what no call that makes a step changes
+pub record KeepsSeats {D : Type 0} (old new : DeskView D) : Type 0 where
+  pub base : new.base ≡ old.base
+  pub out : new.out ≡ old.out
+  pub given_up : new.given_up ≡ old.given_up
+  pub limit : new.limit ≡ old.limit
+
+-- a new node in its life, with the table that it opened with, has come to the base
+pub record BeganWith (node incarnation : ℕ) (opened : Table) (base : NodeParts) : Type 0 where
+  pub entries : List Entry
+  pub run : IsRun (opening node incarnation opened) (map step_of entries) base
+
+-- the receipt of a call: of this node, for the event, at the place of its step
+pub record IsReceiptOf (old : NodeParts) (event : NodeEvent) (r : Receipt) : Type 0 where
+  pub node : r.node ≡ old.node
+  pub place : r.place ≡ old.steps
+  pub is_event : r.entry.event ≡ event
+
+-- the state is one of the node in its life
+pub record IsOfLife (number incarnation : ℕ) (state : NodeParts) : Type 0 where
+  pub node : state.node ≡ number
+  pub life : state.incarnation ≡ incarnation
+
+-- file and publisher go on, and what the file tells of is held
+pub record IsGoing (file_stopped publisher_stopped : Bool) (stored held : Table) : Type 0 where
+  pub file : file_stopped ≡ false
+  pub publisher : publisher_stopped ≡ false
+  pub within : IsStoredOf held stored
+
+-- all but base and journal is as before
+pub record KeepsButJournal {D : Type 0} (old new : DeskView D) : Type 0 where
+  pub state : new.state ≡ old.state
+  pub list : new.list ≡ old.list
+  pub file : new.file ≡ old.file
+  pub out : new.out ≡ old.out
+  pub given_up : new.given_up ≡ old.given_up
+  pub limit : new.limit ≡ old.limit
+  pub stopped : new.stopped ≡ old.stopped
+
+-- all but the seats that are out, and what was counted by those that were given up
+pub record KeepsButSeats {D : Type 0} (old new : DeskView D) : Type 0 where
+  pub base : new.base ≡ old.base
+  pub state : new.state ≡ old.state
+  pub journal : new.journal ≡ old.journal
+  pub list : new.list ≡ old.list
+  pub file : new.file ≡ old.file
+  pub limit : new.limit ≡ old.limit
+  pub stopped : new.stopped ≡ old.stopped
+
+-- of a new seat: eight are out, or the node is stopped
+abbrev pub refusal_of_seat : ℕ → Bool → Option LockFault
+refusal_of_seat out stopped =
+    first_that_applies ((nat_le 8 out, NoSeat) ∷ (stopped, Stopped) ∷ [])

@@ -1,0 +1,8 @@
+-- a desk
+pub mod Desk
+-- how a node is started
+pub mod Starting
+-- a call that makes a step
+pub mod Acting
+-- what is left of a node
+pub mod Closing

@@ -1,0 +1,107 @@
+//! What is left of a node when it is closed.
+
+ghost use Rattle.std.specs.Prelude.{◌≡◌, ◌≢◌, ◌+◌, ◌↔◌, IsTrue, length, sum_by, All, IfOk, IfErr, OnOk};
+ghost use Rattle.node_history.specs.Published.{with_all};
+ghost use Rattle.node_desk.specs.Closing.{EndsWithTable, IsWithin, RefusesClosing};
+ghost use Rattle.node_desk.specs.Desk.{BeganWith};
+
+use crate::desk::Desk;
+use desk_parts::{LockFault, WriteSeat, merge_all};
+use devices::Device;
+use node_history::Naming;
+use node_journal::Closed;
+use node_readers::{Publisher, ReadSeat};
+use std::sync::Wait;
+
+/// A desk that wasn't closed: why, and what was handed in.
+#[derive(Drop)]
+pub struct NotClosed<D: Device + Drop, J: Naming, H: Wait + Drop> {
+    pub fault: LockFault,
+    pub desk: Desk<D, J, H>,
+    pub seats: Vec<WriteSeat<J>>,
+}
+
+impl<D: Device + Drop, J: Naming, H: Wait + Drop> Desk<D, J, H> {
+    /// Ends the desk, where all seats that are out are handed in: what is left of the node, and its
+    /// file's device. What each of the readers was shown is a beginning of what was published. It
+    /// takes no memory, and waits for readers that are inside a `peek`.
+    ///
+    /// Refused: 54 `SeatsMissing`, and then desk and seats come back. 34 `Stopped` would be the
+    /// answer where a reader was shown more than was published, which no reader is.
+    pub fn close(
+        self,
+        seats: Vec<WriteSeat<J>>,
+        readers: &[ReadSeat<J>],
+    ) -> Result<(Closed, D), NotClosed<D, J, H>>
+        ensures parts { IfOk result (λ r. r.0 ≡ record {
+          base = self.base;
+          journal = self.journal;
+          table = self.state.table;
+        }) }
+        ensures device { IfOk result (λ r. r.1 ≡ self.file.device) }
+        ensures began { IfOk result (λ r. BeganWith J.node J.incarnation J.opening r.0.base) }
+        ensures run { IfOk result (λ r. EndsWithTable r.0) }
+        ensures list { IfOk result (λ r. with_all J.opening self.list ≡ r.0.table) }
+        ensures readers { OnOk result (All (IsWithin self.list) readers.now) }
+        ensures counts { IfOk result (λ r. r.0.base.steps + length r.0.journal
+            ≡ self.given_up + sum_by (λ s. s) seats.items) }
+        ensures back { IfErr result (λ not. (not.desk ≡ self) × (not.seats ≡ seats)) }
+        ensures refused { IfErr result (λ not.
+            RefusesClosing self.out (length seats.items) not.fault) }
+    {
+        if seats.len() as u64 != self.out {
+            return Err(NotClosed {
+                fault: LockFault::SeatsMissing,
+                desk: self,
+                seats,
+            });
+        }
+        if !all_within(&self.publisher, readers) {
+            return Err(NotClosed {
+                fault: LockFault::Stopped,
+                desk: self,
+                seats,
+            });
+        }
+        let Desk {
+            base,
+            state,
+            spare,
+            journal,
+            file,
+            publisher,
+            tail,
+            mut counts,
+            mut rest,
+            ..
+        } = self;
+        drop((spare, publisher, tail));
+        merge_all(&mut rest, seats);
+        counts.audit(&mut rest);
+        drop((counts, rest));
+        let table = state.into_store();
+        Ok((Closed::from_parts(base, journal, table), file.into_device()))
+    }
+}
+
+/// Returns whether what the reader was shown, and what it learnt, are beginnings of the list.
+fn is_within<J: Naming, H: Wait + Drop>(publisher: &Publisher<J, H>, seat: &ReadSeat<J>) -> bool
+    ensures { IsTrue result ↔ IsWithin publisher.now.list seat.now }
+{
+    publisher.covers(seat)
+}
+
+/// Returns whether it is so of each reader.
+fn all_within<J: Naming, H: Wait + Drop>(
+    publisher: &Publisher<J, H>,
+    readers: &[ReadSeat<J>],
+) -> bool
+    ensures { IsTrue result → All (IsWithin publisher.now.list) readers.now }
+{
+    for seat in readers {
+        if !is_within(publisher, seat) {
+            return false;
+        }
+    }
+    true
+}

@@ -1,0 +1,78 @@
+//! What lies under a node's lock.
+
+use devices::Device;
+use node_core::NodeState;
+use node_file::NodeFile;
+use node_history::{Naming, Tail};
+use node_journal::Entry;
+use node_readers::Publisher;
+use std::alloc::Global;
+use std::marker::Model;
+use std::sync::Wait;
+use std::sync::ledger::{Book, Share};
+
+/// How many write seats are out at most.
+pub const MAX_SEATS: u64 = 8;
+
+/// A node's state, its journal, its file and what readers are shown, which are moved together.
+///
+/// The state is held twice: each step is tried on the spare, and only once the file has what it
+/// stores and readers are shown what it changed, the two change places, and the other makes the
+/// step too. So nothing of the node can fail once a byte went out, and no table is copied for a
+/// call; each step is made twice.
+#[derive(Drop)]
+pub struct Desk<D: Device + Drop, J: Naming, H: Wait + Drop> {
+    pub(crate) alloc: Global,
+    pub(crate) limit: usize,
+    /// The state from which the journal began.
+    pub(crate) base: NodeState,
+    pub(crate) state: NodeState,
+    /// What the next step is tried on.
+    pub(crate) spare: NodeState,
+    /// The spare is the state.
+    pub(crate) is_even: bool,
+    pub(crate) journal: Vec<Entry>,
+    pub(crate) file: NodeFile<D>,
+    pub(crate) publisher: Publisher<J, H>,
+    pub(crate) tail: Tail<J>,
+    pub(crate) counts: Book<J>,
+    /// The share of those seats that aren't out, with what was counted by those that were given up.
+    pub(crate) rest: Share<J>,
+    /// How many seats are out.
+    pub(crate) out: u64,
+    pub(crate) is_stopped: bool,
+}
+
+impl<D: Device + Drop, J: Naming, H: Wait + Drop> Model for Desk<D, J, H> {
+    ghost use Rattle.std.specs.Prelude.{◌≡◌, ◌+◌, true, false, length};
+    ghost use Rattle.node_history.specs.Published.{with_all};
+    ghost use Rattle.node_file.specs.File.{file_state};
+    ghost use Rattle.node_desk.specs.Desk.{BeganWith, DeskView, IsGoing, IsOfLife};
+    ghost use Rattle.desk_parts.specs.Journaled.{IsJournaled};
+
+    ghost Value = { DeskView D };
+
+    ghost view = { λ d. record {
+      base = d.base;
+      state = d.state;
+      journal = d.journal.items;
+      list = d.publisher.list;
+      file = d.file;
+      out = d.out;
+      given_up = d.rest.amount;
+      limit = d.limit;
+      stopped = d.is_stopped;
+    } };
+
+    ghost invariant = { λ d. IsJournaled d.base d.state d.journal.items d.publisher.list
+        × BeganWith J.node J.incarnation J.opening d.base
+        × IsOfLife J.node J.incarnation d.state
+        × (d.counts.total ≡ d.state.steps)
+        × (d.base.steps + length d.journal.items ≡ d.state.steps)
+        × (d.rest.parts + d.out ≡ J.parts)
+        × (with_all J.opening d.publisher.list ≡ d.state.table)
+        × (d.is_even ≡ true → d.spare ≡ d.state)
+        × (d.file.is_served ≡ true)
+        × (d.is_stopped ≡ false → IsGoing d.file.is_stopped d.publisher.stopped
+        (file_state (D.content d.file.device)).contents.table d.state.table) };
+}

@@ -1,0 +1,21 @@
+//! What lies under a node's lock: its state, its journal, its file and what readers are shown, moved
+//! together by one call.
+//!
+//! ```
+//! let done = desk.act(rt, &mut seat, NodeEvent::Write { key, value, context: None })?;
+//! // the entry is journaled, the file has the object for good, and readers are shown it
+//! reader.learn(done.revision()); // from here on this reader shows it or what came later
+//! ```
+//!
+//! Read `desk` (`Desk::act`), `seats`, `starting` and `closing`; `desk_parts` has what a call is made of.
+#![tactic(auto)]
+
+mod acting;
+mod closing;
+mod desk;
+mod seats;
+mod starting;
+
+pub use closing::NotClosed;
+pub use desk::{Desk, MAX_SEATS};
+pub use starting::{Capacity, MAX_JOURNAL, NotStarted, Started};

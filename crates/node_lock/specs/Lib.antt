@@ -1,0 +1,2 @@
+-- what a call of a node answers
+pub mod Call

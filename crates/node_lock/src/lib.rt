@@ -1,0 +1,24 @@
+//! A node that threads share: whoever calls it from any thread gets a step of the proved core, which
+//! is journaled, durable where it writes, and shown to readers that take no lock.
+//!
+//! ```
+//! let tokens = (Blank::new(9), Beginning::new());
+//! let Started { node, mut writers, mut readers } = Node::start(rt, alloc, tokens, file, table, capacity)?;
+//! let done = node.put(rt, &mut writers[0], key, value, None)?;
+//! readers[0].learn(done.revision());
+//! let (values, vector) = readers[0].peek(&key)?; // without a lock: what was put, or what came later
+//! let closed = node.close(writers, &readers)?;
+//! ```
+//!
+//! Read `node` (`Node`), then `node_desk` for what a call does under the lock, and `node_readers` for
+//! what a reader sees.
+#![tactic(auto)]
+
+mod node;
+
+pub use desk_parts::{Acknowledgement, LockFault, WriteSeat};
+pub use node::{Node, NotClosed, Started};
+pub use node_desk::{Capacity, MAX_JOURNAL, MAX_SEATS, NotStarted};
+pub use node_history::{Beginning, Naming, Revision};
+pub use node_journal::{Closed, Entry, Receipt};
+pub use node_readers::{PeekFault, ReadSeat, Shown};

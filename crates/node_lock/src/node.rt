@@ -1,0 +1,348 @@
+//! A desk under a lock, which threads share.
+
+ghost use Rattle.std.specs.Prelude.{◌≡◌, ◌≤◌, ◌⊎◌, ◌+◌, ℕ, None, length, sum_by, IfOk, IfErr, OnOk};
+ghost use Rattle.node_events.specs.declared.event.NodeEvent.TheVariants.{Read, Write, PutOver, Take, Tick, Join, PeerDown, Exchange, Keep, Watch, Changes, Hello, Leave};
+ghost use Rattle.desk_parts.specs.declared.fault.LockFault.TheVariants.{Memory, NoSeat, SeatsMissing, Stopped};
+ghost use Rattle.node_desk.specs.Closing.{EndsWithTable};
+ghost use Rattle.node_desk.specs.Desk.{BeganWith};
+ghost use Rattle.node_desk.specs.Starting.{AreNewReaders, AreNewWriters, IsFileOf, RefusesStarting, refusal_of_start};
+ghost use Rattle.node_lock.specs.Call.{AnswersCall, Counts, EndsList, RefusesCall};
+
+use desk_parts::{Acknowledgement, LockFault, WriteSeat};
+use devices::Device;
+use meta_store::{Context, Store};
+use meta_types::{ByteString, FullPrefix, MetaKey, NodeId, Value};
+use node_desk::{Capacity, Desk, NotStarted};
+use node_events::NodeEvent;
+use node_file::NodeFile;
+use node_history::{Beginning, Naming};
+use node_journal::Closed;
+use node_readers::ReadSeat;
+use std::alloc::Global;
+use std::sync::ledger::Blank;
+use std::sync::{Mutex, Wait};
+
+/// A node under its lock. Threads share it by reference; each call but those of readers takes the
+/// lock, and may wait for it. What is under the lock is a [`Desk`], whose contracts say what a call
+/// does; through a lock it is only known what always holds.
+#[derive(Drop)]
+pub struct Node<D: Device + Drop, J: Naming, H: Wait + Drop> {
+    desk: Mutex<Desk<D, J, H>>,
+}
+
+/// A node, and the seats that were handed out.
+#[derive(Drop)]
+pub struct Started<D: Device + Drop, J: Naming, H: Wait + Drop> {
+    pub node: Node<D, J, H>,
+    pub writers: Vec<WriteSeat<J>>,
+    pub readers: Vec<ReadSeat<J>>,
+}
+
+/// A node that wasn't closed: why, and what was handed in.
+#[derive(Drop)]
+pub struct NotClosed<D: Device + Drop, J: Naming, H: Wait + Drop> {
+    pub fault: LockFault,
+    pub node: Node<D, J, H>,
+    pub seats: Vec<WriteSeat<J>>,
+}
+
+impl<D: Device + Drop, J: Naming, H: Wait + Drop> Node<D, J, H> {
+    fn of(desk: Desk<D, J, H>) -> Self {
+        Node {
+            desk: Mutex::new(desk),
+        }
+    }
+
+    /// Takes the lock and makes the event.
+    fn act<R: Wait>(
+        &self,
+        rt: &R,
+        seat: &mut WriteSeat<J>,
+        event: NodeEvent,
+    ) -> Result<Acknowledgement<J>, LockFault>
+        ensures answers { IfOk result (AnswersCall J.node J.incarnation event) }
+        ensures counted { Counts result seat.old seat.new }
+        ensures refused { IfErr result (RefusesCall J.node J.incarnation event) }
+    {
+        self.desk.lock(rt).act(rt, seat, event)
+    }
+
+    /// A write: the value stands under the key, in place of all that the context has read.
+    pub fn put<R: Wait>(
+        &self,
+        rt: &R,
+        seat: &mut WriteSeat<J>,
+        key: MetaKey,
+        value: Value,
+        context: Option<Context>,
+    ) -> Result<Acknowledgement<J>, LockFault>
+        ensures answers { IfOk result (AnswersCall J.node J.incarnation (Write key value context)) }
+        ensures counted { Counts result seat.old seat.new }
+        ensures refused { IfErr result (RefusesCall J.node J.incarnation (Write key value context)) }
+    {
+        self.act(
+            rt,
+            seat,
+            NodeEvent::Write {
+                key,
+                value,
+                context,
+            },
+        )
+    }
+
+    /// A read, by a step of the node: its reply has the values and the context for a later write.
+    pub fn get<R: Wait>(
+        &self,
+        rt: &R,
+        seat: &mut WriteSeat<J>,
+        key: MetaKey,
+    ) -> Result<Acknowledgement<J>, LockFault>
+        ensures answers { IfOk result (AnswersCall J.node J.incarnation (Read key)) }
+        ensures counted { Counts result seat.old seat.new }
+        ensures refused { IfErr result (RefusesCall J.node J.incarnation (Read key)) }
+    {
+        self.act(rt, seat, NodeEvent::Read { key })
+    }
+
+    /// A write in place of all that the node holds under the key.
+    pub fn put_over<R: Wait>(
+        &self,
+        rt: &R,
+        seat: &mut WriteSeat<J>,
+        key: MetaKey,
+        value: Value,
+    ) -> Result<Acknowledgement<J>, LockFault>
+        ensures answers { IfOk result (AnswersCall J.node J.incarnation (PutOver key value)) }
+        ensures counted { Counts result seat.old seat.new }
+        ensures refused { IfErr result (RefusesCall J.node J.incarnation (PutOver key value)) }
+    {
+        self.act(rt, seat, NodeEvent::PutOver { key, value })
+    }
+
+    /// A frame comes in.
+    pub fn take<R: Wait>(
+        &self,
+        rt: &R,
+        seat: &mut WriteSeat<J>,
+        frame: ByteString,
+        word: u64,
+    ) -> Result<Acknowledgement<J>, LockFault>
+        ensures answers { IfOk result (AnswersCall J.node J.incarnation (Take frame word)) }
+        ensures counted { Counts result seat.old seat.new }
+        ensures refused { IfErr result (RefusesCall J.node J.incarnation (Take frame word)) }
+    {
+        self.act(rt, seat, NodeEvent::Take { frame, word })
+    }
+
+    /// Time goes on.
+    pub fn tick<R: Wait>(
+        &self,
+        rt: &R,
+        seat: &mut WriteSeat<J>,
+        word: u64,
+    ) -> Result<Acknowledgement<J>, LockFault>
+        ensures answers { IfOk result (AnswersCall J.node J.incarnation (Tick word)) }
+        ensures counted { Counts result seat.old seat.new }
+        ensures refused { IfErr result (RefusesCall J.node J.incarnation (Tick word)) }
+    {
+        self.act(rt, seat, NodeEvent::Tick { word })
+    }
+
+    /// Joins the cluster by a contact.
+    pub fn join<R: Wait>(
+        &self,
+        rt: &R,
+        seat: &mut WriteSeat<J>,
+        contact: NodeId,
+        word: u64,
+    ) -> Result<Acknowledgement<J>, LockFault>
+        ensures answers { IfOk result (AnswersCall J.node J.incarnation (Join contact word)) }
+        ensures counted { Counts result seat.old seat.new }
+        ensures refused { IfErr result (RefusesCall J.node J.incarnation (Join contact word)) }
+    {
+        self.act(rt, seat, NodeEvent::Join { contact, word })
+    }
+
+    /// A peer is known to be down.
+    pub fn peer_down<R: Wait>(
+        &self,
+        rt: &R,
+        seat: &mut WriteSeat<J>,
+        peer: NodeId,
+        word: u64,
+    ) -> Result<Acknowledgement<J>, LockFault>
+        ensures answers { IfOk result (AnswersCall J.node J.incarnation (PeerDown peer word)) }
+        ensures counted { Counts result seat.old seat.new }
+        ensures refused { IfErr result (RefusesCall J.node J.incarnation (PeerDown peer word)) }
+    {
+        self.act(rt, seat, NodeEvent::PeerDown { peer, word })
+    }
+
+    /// Begins an exchange with a peer.
+    pub fn exchange<R: Wait>(
+        &self,
+        rt: &R,
+        seat: &mut WriteSeat<J>,
+        peer: NodeId,
+    ) -> Result<Acknowledgement<J>, LockFault>
+        ensures answers { IfOk result (AnswersCall J.node J.incarnation (Exchange peer)) }
+        ensures counted { Counts result seat.old seat.new }
+        ensures refused { IfErr result (RefusesCall J.node J.incarnation (Exchange peer)) }
+    {
+        self.act(rt, seat, NodeEvent::Exchange { peer })
+    }
+
+    /// What is held under the key is stored in the file once more, or for the first time.
+    pub fn keep<R: Wait>(
+        &self,
+        rt: &R,
+        seat: &mut WriteSeat<J>,
+        key: MetaKey,
+    ) -> Result<Acknowledgement<J>, LockFault>
+        ensures answers { IfOk result (AnswersCall J.node J.incarnation (Keep key)) }
+        ensures counted { Counts result seat.old seat.new }
+        ensures refused { IfErr result (RefusesCall J.node J.incarnation (Keep key)) }
+    {
+        self.act(rt, seat, NodeEvent::Keep { key })
+    }
+
+    /// Tells a peer which life this is.
+    pub fn hello<R: Wait>(
+        &self,
+        rt: &R,
+        seat: &mut WriteSeat<J>,
+        peer: NodeId,
+    ) -> Result<Acknowledgement<J>, LockFault>
+        ensures answers { IfOk result (AnswersCall J.node J.incarnation (Hello peer)) }
+        ensures counted { Counts result seat.old seat.new }
+        ensures refused { IfErr result (RefusesCall J.node J.incarnation (Hello peer)) }
+    {
+        self.act(rt, seat, NodeEvent::Hello { peer })
+    }
+
+    /// Takes leave of all peers.
+    pub fn leave<R: Wait>(
+        &self,
+        rt: &R,
+        seat: &mut WriteSeat<J>,
+    ) -> Result<Acknowledgement<J>, LockFault>
+        ensures answers { IfOk result (AnswersCall J.node J.incarnation (Leave)) }
+        ensures counted { Counts result seat.old seat.new }
+        ensures refused { IfErr result (RefusesCall J.node J.incarnation (Leave)) }
+    {
+        self.act(rt, seat, NodeEvent::Leave)
+    }
+
+    /// Watches the keys under a prefix: the last changes, so many at most.
+    pub fn watch<R: Wait>(
+        &self,
+        rt: &R,
+        seat: &mut WriteSeat<J>,
+        prefix: FullPrefix,
+        capacity: usize,
+    ) -> Result<Acknowledgement<J>, LockFault>
+        ensures answers { IfOk result (AnswersCall J.node J.incarnation (Watch prefix capacity)) }
+        ensures counted { Counts result seat.old seat.new }
+        ensures refused { IfErr result (RefusesCall J.node J.incarnation (Watch prefix capacity)) }
+    {
+        self.act(rt, seat, NodeEvent::Watch { prefix, capacity })
+    }
+
+    /// Takes what a watch has noted.
+    pub fn changes<R: Wait>(
+        &self,
+        rt: &R,
+        seat: &mut WriteSeat<J>,
+        number: u64,
+    ) -> Result<Acknowledgement<J>, LockFault>
+        ensures answers { IfOk result (AnswersCall J.node J.incarnation (Changes number)) }
+        ensures counted { Counts result seat.old seat.new }
+        ensures refused { IfErr result (RefusesCall J.node J.incarnation (Changes number)) }
+    {
+        self.act(rt, seat, NodeEvent::Changes { number })
+    }
+
+    /// Moves the whole journal into the base, and answers how many entries it had. Who makes calls
+    /// may cut, by a seat of theirs. Refused as `Desk::cut` is: 34 `Stopped`, 99 `Memory`.
+    pub fn cut<R: Wait>(&self, rt: &R, _seat: &WriteSeat<J>) -> Result<usize, LockFault>
+        ensures refused { IfErr result (λ fault. (fault ≡ Memory) ⊎ (fault ≡ Stopped)) }
+    {
+        self.desk.lock(rt).cut()
+    }
+
+    /// One more seat. Refused in this order: 52 `NoSeat` where eight are out, 34 `Stopped`.
+    pub fn new_seat<R: Wait>(&self, rt: &R) -> Result<WriteSeat<J>, LockFault>
+        requires { 9 ≤ J.parts }
+        ensures seat { IfOk result (λ seat. seat ≡ 0) }
+        ensures refused { IfErr result (λ fault. (fault ≡ NoSeat) ⊎ (fault ≡ Stopped)) }
+    {
+        self.desk.lock(rt).new_seat()
+    }
+
+    /// The seat goes for good; what it counted stays counted. A stopped node takes it too.
+    pub fn give_up<R: Wait>(&self, rt: &R, seat: WriteSeat<J>) {
+        self.desk.lock(rt).give_up(seat);
+    }
+
+    /// Starts a node, as [`Desk::start`] makes a desk.
+    pub fn start(
+        handle: H,
+        alloc: Global,
+        tokens: (Blank, Beginning),
+        file: NodeFile<D>,
+        table: Store,
+        capacity: Capacity,
+    ) -> Result<Started<D, J, H>, NotStarted<D>>
+        requires ledger { (tokens.0.name ≡ J.name) × (tokens.0.parts ≡ J.parts) }
+        requires book { tokens.1 ≡ J.book }
+        requires enough { 9 ≤ J.parts }
+        requires opening { table ≡ J.opening }
+        requires served { IsFileOf D.content J.node J.incarnation table file }
+        ensures writers { IfOk result (λ s. AreNewWriters capacity.writers s.writers.items) }
+        ensures readers { IfOk result (λ s. AreNewReaders capacity.readers s.readers.items) }
+        ensures accepted { OnOk result (refusal_of_start capacity ≡ None) }
+        ensures refused { IfErr result (λ not. RefusesStarting capacity not.fault) }
+        ensures back { IfErr result (λ not. (not.file ≡ file) × (not.table ≡ table)) }
+    {
+        match Desk::start(handle, alloc, tokens, file, table, capacity) {
+            Ok(started) => Ok(Started {
+                node: Node::of(started.desk),
+                writers: started.writers,
+                readers: started.readers,
+            }),
+            Err(not) => Err(not),
+        }
+    }
+
+    /// Ends the node, where all seats that are out are handed in: what is left of it, and its
+    /// file's device. No other thread has it any more. It takes no memory, and waits for readers
+    /// that are inside a `peek`.
+    ///
+    /// Refused: 54 `SeatsMissing`, and then node and seats come back; 34 `Stopped` has no cause that
+    /// can come.
+    pub fn close(
+        self,
+        seats: Vec<WriteSeat<J>>,
+        readers: &[ReadSeat<J>],
+    ) -> Result<(Closed, D), NotClosed<D, J, H>>
+        ensures began { IfOk result (λ r. BeganWith J.node J.incarnation J.opening r.0.base) }
+        ensures run { IfOk result (λ r. EndsWithTable r.0) }
+        ensures list { IfOk result (λ r. EndsList J.opening r.0.table readers.now) }
+        ensures counts { IfOk result (λ r. (given : ℕ) × (r.0.base.steps + length r.0.journal
+            ≡ given + sum_by (λ s. s) seats.items)) }
+        ensures back { IfErr result (λ not. not.seats ≡ seats) }
+        ensures refused { IfErr result (λ not.
+            (not.fault ≡ SeatsMissing) ⊎ (not.fault ≡ Stopped)) }
+    {
+        let Node { desk } = self;
+        match desk.into_inner().close(seats, readers) {
+            Ok(left) => Ok(left),
+            Err(not) => Err(NotClosed {
+                fault: not.fault,
+                node: Node::of(not.desk),
+                seats: not.seats,
+            }),
+        }
+    }
+}
