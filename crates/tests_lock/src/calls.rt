@@ -1,0 +1,151 @@
+//! Each call's event stands in its entry, and its receipt is that of the entry.
+
+use crate::parts::{Left, Trial, key, tried, value};
+use devices::MemoryDevice;
+use meta_types::{ByteString, FullPrefix, NodeId};
+use node_events::NodeEvent;
+use node_lock::{
+    Acknowledgement, Capacity, Closed, LockFault, Naming, Node, ReadSeat, Receipt, WriteSeat,
+};
+use std::alloc::Global;
+use std::process::Abort;
+use std::sync::Wait;
+
+fn node_id(rt: &impl Abort, number: u16) -> NodeId {
+    NodeId::new(number).expect(rt, "a node")
+}
+
+fn prefix(rt: &impl Abort, alloc: Global) -> FullPrefix {
+    let a = b"a".to_vec(alloc).expect(rt, "memory");
+    let b = b"b".to_vec(alloc).expect(rt, "memory");
+    FullPrefix::new(a, b).expect(rt, "a prefix")
+}
+
+/// The calls that are tried, in their order.
+const CALLS: usize = 12;
+
+/// Makes the call of this number.
+fn call<J: Naming, R: Wait + Abort>(
+    rt: &R,
+    alloc: Global,
+    node: &Node<MemoryDevice, J, &R>,
+    seat: &mut WriteSeat<J>,
+    number: usize,
+) -> Result<Acknowledgement<J>, LockFault> {
+    match number {
+        0..4 => of_a_key(rt, alloc, node, seat, number),
+        4 => node.tick(rt, seat, 7),
+        5 => node.join(rt, seat, node_id(rt, 1), 8),
+        6 => node.peer_down(rt, seat, node_id(rt, 1), 9),
+        7 => node.exchange(rt, seat, node_id(rt, 1)),
+        8 => node.hello(rt, seat, node_id(rt, 2)),
+        9 => node.watch(rt, seat, prefix(rt, alloc), 4),
+        10 => node.changes(rt, seat, 1),
+        _ => node.leave(rt, seat),
+    }
+}
+
+/// The calls under a key.
+fn of_a_key<J: Naming, R: Wait + Abort>(
+    rt: &R,
+    alloc: Global,
+    node: &Node<MemoryDevice, J, &R>,
+    seat: &mut WriteSeat<J>,
+    number: usize,
+) -> Result<Acknowledgement<J>, LockFault> {
+    let key = key(rt, alloc, b'1');
+    match number {
+        0 => node.put(rt, seat, key, value(rt, alloc, b'x'), None),
+        1 => node.get(rt, seat, key),
+        2 => node.put_over(rt, seat, key, value(rt, alloc, b'y')),
+        _ => node.keep(rt, seat, key),
+    }
+}
+
+/// Whether the event is that of the call of this number.
+fn is_of_call(event: &NodeEvent, number: usize) -> bool {
+    match (event, number) {
+        (NodeEvent::Write { context: None, .. }, 0)
+        | (NodeEvent::Read { .. }, 1)
+        | (NodeEvent::PutOver { .. }, 2)
+        | (NodeEvent::Keep { .. }, 3)
+        | (NodeEvent::Tick { word: 7 }, 4)
+        | (NodeEvent::Join { word: 8, .. }, 5)
+        | (NodeEvent::PeerDown { word: 9, .. }, 6)
+        | (NodeEvent::Exchange { .. }, 7)
+        | (NodeEvent::Hello { .. }, 8)
+        | (NodeEvent::Watch { capacity: 4, .. }, 9)
+        | (NodeEvent::Changes { number: 1 }, 10)
+        | (NodeEvent::Leave, 11) => true,
+        _ => false,
+    }
+}
+
+/// Whether the journal has the entry of this receipt, at this place, of its call.
+fn is_kept(closed: &Closed, receipt: &Receipt, number: usize) -> bool {
+    closed.journal().get(number) == Some(&receipt.entry)
+        && receipt.place == number as u64
+        && is_of_call(&receipt.entry.event, number)
+        && receipt.node == closed.node()
+}
+
+struct EachCall;
+
+impl Trial for EachCall {
+    fn run<J: Naming, R: Wait + Abort>(
+        rt: &R,
+        alloc: Global,
+        node: &Node<MemoryDevice, J, &R>,
+        writers: &mut Vec<WriteSeat<J>>,
+        _readers: &mut Vec<ReadSeat<J>>,
+    ) -> Vec<Receipt> {
+        let mut receipts = Vec::new(alloc);
+        let mut seat = writers.pop().expect(rt, "a seat");
+        for number in 0..CALLS {
+            let done = call(rt, alloc, node, &mut seat, number);
+            let receipt = done.ok().expect(rt, "an accepted call").into_receipt();
+            receipts.push(receipt).ok().expect(rt, "memory");
+        }
+        writers.push(seat).ok().expect(rt, "memory");
+        receipts
+    }
+}
+
+#[test]
+fn each_call_is_journaled_as_it_was_made(rt: HostRuntime) {
+    let Left { closed, receipts } = tried::<EachCall, HostRuntime>(
+        &rt,
+        rt.alloc(),
+        Capacity::new(1, 0),
+    );
+    assert!(rt; closed.journal().len() == CALLS && receipts.len() == CALLS);
+    for (number, receipt) in receipts.iter().enumerate() {
+        assert!(rt; is_kept(&closed, receipt, number));
+    }
+}
+
+/// Junk is refused by what the step answers, and a refused call leaves nothing.
+struct Junk;
+
+impl Trial for Junk {
+    fn run<J: Naming, R: Wait + Abort>(
+        rt: &R,
+        alloc: Global,
+        node: &Node<MemoryDevice, J, &R>,
+        writers: &mut Vec<WriteSeat<J>>,
+        _readers: &mut Vec<ReadSeat<J>>,
+    ) -> Vec<Receipt> {
+        let mut seat = writers.pop().expect(rt, "a seat");
+        let junk = ByteString::new(b"junk".to_vec(alloc).expect(rt, "memory"));
+        let refused = node.take(rt, &mut seat, junk, 1).err();
+        assert!(rt; refused.is_some_and(|fault| fault.code() == 10));
+        writers.push(seat).ok().expect(rt, "memory");
+        Vec::new(alloc)
+    }
+}
+
+#[test]
+fn a_refused_call_leaves_no_entry(rt: HostRuntime) {
+    let left = tried::<Junk, HostRuntime>(&rt, rt.alloc(), Capacity::new(1, 0));
+    assert!(rt; left.closed.journal().is_empty());
+}

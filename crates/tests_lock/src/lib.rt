@@ -1,0 +1,12 @@
+//! The tests of nodes under their locks, over the public calls of `node_lock` and apart from it: a
+//! crate is proved once more with its tests. No crate uses this one.
+#![tactic(auto)]
+
+#[cfg(test)]
+mod calls;
+#[cfg(test)]
+mod parts;
+#[cfg(test)]
+mod seats;
+#[cfg(test)]
+mod stops;

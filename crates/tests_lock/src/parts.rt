@@ -1,0 +1,179 @@
+//! A node that is started for a trial.
+
+ghost use Rattle.std.specs.Prelude.{◌≡◌, ◌≤◌};
+ghost use Rattle.devices.specs.Device.{IsDurable};
+ghost use Rattle.node_desk.specs.Starting.{IsFileOf};
+
+use devices::{Device, MemoryDevice};
+use meta_store::Store;
+use meta_types::{FullPrefix, MetaKey, NodeId, Value};
+use node_file::{NodeFile, create, serve};
+use node_lock::{
+    Beginning, Capacity, Closed, Naming, Node, NotStarted, ReadSeat, Receipt, Started, WriteSeat,
+};
+use std::alloc::Global;
+use std::marker::Brand;
+use std::process::Abort;
+use std::sync::Wait;
+use std::sync::ledger::Blank;
+
+/// What is tried on a node, which is lent with its seats. It answers receipts that it got.
+pub(crate) trait Trial {
+    fn run<J: Naming, R: Wait + Abort>(
+        rt: &R,
+        alloc: Global,
+        node: &Node<MemoryDevice, J, &R>,
+        writers: &mut Vec<WriteSeat<J>>,
+        readers: &mut Vec<ReadSeat<J>>,
+    ) -> Vec<Receipt>
+        requires { 9 ≤ J.parts };
+}
+
+/// What a trial left: the closed node, and the receipts.
+#[derive(Drop)]
+pub(crate) struct Left {
+    pub closed: Closed,
+    pub receipts: Vec<Receipt>,
+}
+
+/// Puts a letter under the key of a digit: the place of the entry, or the number of the refusal.
+pub(crate) fn put<D: Device + Drop, J: Naming, R: Wait + Abort>(
+    rt: &R,
+    alloc: Global,
+    node: &Node<D, J, &R>,
+    seat: &mut WriteSeat<J>,
+    letter: u8,
+) -> Result<u64, u16> {
+    let key = key(rt, alloc, b'1');
+    let value = value(rt, alloc, letter);
+    match node.put(rt, seat, key, value, None) {
+        Ok(done) => {
+            let place = done.receipt().place;
+            drop(done);
+            Ok(place)
+        }
+        Err(fault) => Err(fault.code()),
+    }
+}
+
+/// What a reader is shown under the key: how many values, or the number of the refusal.
+pub(crate) fn shown<J: Naming>(
+    rt: &impl Abort,
+    alloc: Global,
+    reader: &mut ReadSeat<J>,
+) -> Result<usize, u16> {
+    match reader.peek(&key(rt, alloc, b'1')) {
+        Ok(shown) => Ok(shown.values.len()),
+        Err(fault) => Err(fault.code()),
+    }
+}
+
+/// The key a/b/k and a digit.
+pub(crate) fn key(rt: &impl Abort, alloc: Global, digit: u8) -> MetaKey {
+    let a = b"a".to_vec(alloc).expect(rt, "memory");
+    let b = b"b".to_vec(alloc).expect(rt, "memory");
+    let prefix = FullPrefix::new(a, b).expect(rt, "a prefix");
+    let mut own = b"k".to_vec(alloc).expect(rt, "memory");
+    own.push(digit).ok().expect(rt, "memory");
+    MetaKey::new(prefix, own).expect(rt, "a key")
+}
+
+/// A value of one letter.
+pub(crate) fn value(rt: &impl Abort, alloc: Global, letter: u8) -> Value {
+    let mut body = Vec::new(alloc);
+    body.push(letter).ok().expect(rt, "memory");
+    Value::new(0, Some(body)).expect(rt, "a value")
+}
+
+/// A device in memory with an empty file of node 0, synced.
+pub(crate) fn open_first(rt: &impl Abort, alloc: Global) -> MemoryDevice
+    ensures { IsDurable (⟦<MemoryDevice as Device>⟧.content result)
+        (⟦<MemoryDevice as Device>⟧.may_leave result) }
+{
+    let device = MemoryDevice::new(alloc, Vec::new(alloc)).expect(rt, "memory");
+    match create(device, NodeId::new(0).expect(rt, "a node")) {
+        Ok(made) => made.into_device(),
+        Err(_) => panic!(rt; "a file"),
+    }
+}
+
+/// The file that the device holds, in its node's next life.
+pub(crate) fn next_life<D: Device + Drop>(
+    rt: &impl Abort,
+    alloc: Global,
+    device: D,
+) -> (NodeFile<D>, Store)
+    requires { IsDurable (D.content device) (D.may_leave device) }
+    ensures { IsFileOf D.content result.0.node result.0.life result.1 result.0 }
+{
+    match serve(alloc, device, None) {
+        Ok((file, table, _life)) => (file, table),
+        Err(_) => panic!(rt; "a life"),
+    }
+}
+
+/// What a trial leaves on a new node with these seats.
+pub(crate) fn tried<T: Trial, R: Wait + Abort>(rt: &R, alloc: Global, capacity: Capacity) -> Left {
+    let (file, table) = next_life(rt, alloc, open_first(rt, alloc));
+    let tokens = (Blank::new(9), Beginning::new());
+    begun::<Brand, T, R>(rt, alloc, tokens, file, table, capacity)
+}
+
+fn begun<J: Naming, T: Trial, R: Wait + Abort>(
+    rt: &R,
+    alloc: Global,
+    tokens: (Blank, Beginning),
+    file: NodeFile<MemoryDevice>,
+    table: Store,
+    capacity: Capacity,
+) -> Left
+    requires ledger { (tokens.0.name ≡ J.name) × (tokens.0.parts ≡ J.parts) }
+    requires book { tokens.1 ≡ J.book }
+    requires enough { 9 ≤ J.parts }
+    requires opening { table ≡ J.opening }
+    requires served { IsFileOf (⟦<MemoryDevice as Device>⟧.content)
+        J.node J.incarnation J.opening file }
+{
+    let started: Result<Started<MemoryDevice, J, &R>, NotStarted<MemoryDevice>> = Node::start(
+        rt, alloc, tokens, file, table, capacity,
+    );
+    match started {
+        Ok(started) => leave::<J, T, R>(rt, alloc, started),
+        Err(_) => panic!(rt; "a node"),
+    }
+}
+
+/// Tries it on the node, and closes that.
+fn leave<J: Naming, T: Trial, R: Wait + Abort>(
+    rt: &R,
+    alloc: Global,
+    started: Started<MemoryDevice, J, &R>,
+) -> Left
+    requires { 9 ≤ J.parts }
+{
+    let Started {
+        node,
+        mut writers,
+        mut readers,
+    } = started;
+    let receipts = T::run(rt, alloc, &node, &mut writers, &mut readers);
+    let closed = close(rt, node, writers, readers.as_slice());
+    drop(readers);
+    Left { closed, receipts }
+}
+
+/// Closes the node.
+fn close<J: Naming, R: Wait + Abort>(
+    rt: &R,
+    node: Node<MemoryDevice, J, &R>,
+    writers: Vec<WriteSeat<J>>,
+    readers: &[ReadSeat<J>],
+) -> Closed {
+    match node.close(writers, readers) {
+        Ok((closed, device)) => {
+            drop(device);
+            closed
+        }
+        Err(_) => panic!(rt; "a node that is closed"),
+    }
+}

@@ -1,0 +1,149 @@
+//! A device that fails at each of its calls in turn, under a node.
+
+ghost use Rattle.std.specs.Prelude.{◌≡◌, ◌≤◌};
+ghost use Rattle.node_desk.specs.Starting.{IsFileOf};
+
+use crate::parts::{key, next_life, open_first, put};
+use devices::{Device, FailsAfter, MemoryDevice};
+use meta_store::Store;
+use node_file::NodeFile;
+use node_lock::{Beginning, Capacity, Naming, Node, NotStarted, ReadSeat, Started, WriteSeat};
+use std::alloc::Global;
+use std::marker::Brand;
+use std::process::Abort;
+use std::sync::Wait;
+use std::sync::ledger::Blank;
+
+type Failing = FailsAfter<MemoryDevice>;
+
+/// What came of three writes: the answer to each, how many entries the journal had, and the device.
+struct Came {
+    answers: [Result<u64, u16>; 3],
+    entries: usize,
+    device: MemoryDevice,
+}
+
+/// Closes the node: how many entries the journal had, and the device.
+fn close<J: Naming, R: Wait + Abort>(
+    rt: &R,
+    node: Node<Failing, J, &R>,
+    writers: Vec<WriteSeat<J>>,
+    readers: &[ReadSeat<J>],
+) -> (usize, MemoryDevice) {
+    match node.close(writers, readers) {
+        Ok((closed, device)) => {
+            let entries = closed.journal().len();
+            drop(closed);
+            (entries, device.into_inner())
+        }
+        Err(_) => panic!(rt; "a node that is closed"),
+    }
+}
+
+/// Writes three times, and closes the node.
+fn write<J: Naming, R: Wait + Abort>(
+    rt: &R,
+    alloc: Global,
+    started: Started<Failing, J, &R>,
+) -> Came {
+    let Started {
+        node,
+        mut writers,
+        readers,
+    } = started;
+    let mut seat = writers.pop().expect(rt, "a seat");
+    let answers = [
+        put(rt, alloc, &node, &mut seat, b'x'),
+        put(rt, alloc, &node, &mut seat, b'y'),
+        put(rt, alloc, &node, &mut seat, b'z'),
+    ];
+    writers.push(seat).ok().expect(rt, "memory");
+    let (entries, device) = close(rt, node, writers, readers.as_slice());
+    drop(readers);
+    Came {
+        answers,
+        entries,
+        device,
+    }
+}
+
+fn begun<J: Naming, R: Wait + Abort>(
+    rt: &R,
+    alloc: Global,
+    tokens: (Blank, Beginning),
+    file: NodeFile<Failing>,
+    table: Store,
+) -> Came
+    requires ledger { (tokens.0.name ≡ J.name) × (tokens.0.parts ≡ J.parts) }
+    requires book { tokens.1 ≡ J.book }
+    requires enough { 9 ≤ J.parts }
+    requires opening { table ≡ J.opening }
+    requires served { IsFileOf (⟦<Failing as Device>⟧.content) J.node J.incarnation J.opening file }
+{
+    let started: Result<Started<Failing, J, &R>, NotStarted<Failing>> = Node::start(
+        rt,
+        alloc,
+        tokens,
+        file,
+        table,
+        Capacity::new(1, 0),
+    );
+    match started {
+        Ok(started) => write(rt, alloc, started),
+        Err(_) => panic!(rt; "a node"),
+    }
+}
+
+/// What comes of three writes on a device that passes so many of their calls.
+fn after<R: Wait + Abort>(rt: &R, alloc: Global, passed: u64) -> Came {
+    let device = FailsAfter::new(open_first(rt, alloc), passed.saturating_add(4));
+    let (file, table) = next_life(rt, alloc, device);
+    let tokens = (Blank::new(9), Beginning::new());
+    begun::<Brand, R>(rt, alloc, tokens, file, table)
+}
+
+/// How many writes stand under the key in what the device reads as.
+fn written(rt: &impl Abort, alloc: Global, device: MemoryDevice) -> u64 {
+    let mut device = device;
+    device.sync().ok().expect(rt, "a sync");
+    let (file, table) = next_life(rt, alloc, device);
+    drop(file);
+    let key = key(rt, alloc, b'1');
+    match table.object(&key) {
+        Some(object) => object
+            .entries()
+            .first()
+            .map(|entry| entry.count())
+            .unwrap_or(0),
+        None => 0,
+    }
+}
+
+/// What is answered to the write of this place, where so many are accepted before the device fails.
+fn wanted(place: u64, accepted: u64) -> Result<u64, u16> {
+    if place < accepted {
+        return Ok(place);
+    }
+    Err(if place == accepted { 30 } else { 34 })
+}
+
+/// Each write makes four calls: those before the failure are accepted, the next is 30, and then the
+/// node is stopped; the file has what was acknowledged, and perhaps what failed.
+#[test]
+fn a_device_that_fails_stops_the_node(rt: HostRuntime) {
+    for passed in 0..12 {
+        let Came {
+            answers,
+            entries,
+            device,
+        } = after(&rt, rt.alloc(), passed);
+        let accepted = passed / 4;
+        let [first, second, third] = answers;
+        assert!(&rt; first == wanted(0, accepted));
+        assert!(&rt; second == wanted(1, accepted));
+        assert!(&rt; third == wanted(2, accepted));
+        assert!(&rt; entries as u64 == accepted);
+        let written = written(&rt, rt.alloc(), device);
+        assert!(&rt; written == accepted || written == accepted.saturating_add(1));
+    }
+}
