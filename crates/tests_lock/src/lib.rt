@@ -10,3 +10,7 @@ mod parts;
 mod seats;
 #[cfg(test)]
 mod stops;
+#[cfg(test)]
+mod threads;
+#[cfg(test)]
+mod waiting;

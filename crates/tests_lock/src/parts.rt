@@ -163,7 +163,7 @@ fn leave<J: Naming, T: Trial, R: Wait + Abort>(
 }
 
 /// Closes the node.
-fn close<J: Naming, R: Wait + Abort>(
+pub(crate) fn close<J: Naming, R: Wait + Abort>(
     rt: &R,
     node: Node<MemoryDevice, J, &R>,
     writers: Vec<WriteSeat<J>>,
