@@ -1,5 +1,5 @@
 -- A file that is made, and one that is opened.
-use Rattle.std.proofs.Common.{◌≡◌, ◌⊎◌, inl, inr, ⊎_elim, nat_lt, Some, ◌≤◌, ℕ, ◌<◌, List, [], length, take, drop, Option, None, Result, Ok, Err, Bool, true, false, cond, refl, sym, ◌∙◌, ap, arith}
+use Rattle.std.proofs.Common.{◌≡◌, ◌⊎◌, inl, inr, ⊎_elim, nat_lt, Some, ◌≤◌, ℕ, ◌<◌, List, [], length, take, drop, Option, None, Result, Ok, Err, Bool, true, false, cond, refl, sym, ◌∙◌, ap, arith, eqb, ◌-◌}
 use Rattle.std.specs.Int.{w16, from_be_bytes, to_be_bytes}
 use Rattle.std.proofs.lemmas.Nat.{from_be_bytes-to_be_bytes_2}
 use Rattle.node_file.specs.declared.fault.FileFault.{FileFault}
@@ -7,7 +7,9 @@ use Rattle.node_file.specs.Fold.{Contents, contents_from, may_follow, no_content
 use Rattle.node_file.specs.File.{FileState, empty_file, ended, file_state, for_node, front_in, front_of, is_other, magic, old_magic, opened, state_or_none}
 use Rattle.node_file.specs.View.{FileView, IsSettled}
 use Rattle.std.specs.Str.{bytes_eq}
-use Rattle.std.proofs.lemmas.Bool.{cases_lt}
+use Rattle.std.proofs.lemmas.Bool.{cases_lt, eqb-true}
+use Rattle.meta_store.specs.Table.{most_keys}
+use Rattle.meta_store.specs.declared.fault.StoreFault.TheVariants.{StoreFull}
 use Rattle.devices.specs.Device.{IsDurable, HasFailed}
 use Rattle.node_file.proofs.Folding.{closed}
 use Rattle.node_file.proofs.Parting.{not_below, head_read}
@@ -28,6 +30,31 @@ any_asked asked bytes o e = short (Rattle.std.specs.Prelude.nat_lt (length bytes
     short : (b : Bool) → cond b (Err (FileFault.Damaged (length bytes))) (for_node asked (length bytes) (drop 10 bytes) (front_in (take 10 bytes))) ≡ Ok o → cond b (Err (FileFault.Damaged (length bytes))) (for_node None (length bytes) (drop 10 bytes) (front_in (take 10 bytes))) ≡ Ok o
     short true e = absurd cc
     short false e = for_any asked (length bytes) (drop 10 bytes) (front_in (take 10 bytes)) o e
+
+ended_node : (total : ℕ) (front : ℕ × ℕ) (read : Result (Contents × ℕ) ℕ) (o : FileState × ℕ) → ended total front read ≡ Ok o → o.0.node ≡ front.1
+ended_node total front (Err left) o e = absurd cc
+ended_node total front (Ok read) o e = full (nat_lt most_keys (length read.0.table)) e
+  where
+    full : (b : Bool) → cond b (Err (FileFault.Store StoreFull)) (Ok (record { version = front.0; node = front.1; contents = read.0 }, total - read.1)) ≡ Ok o → o.0.node ≡ front.1
+    full true e = absurd cc
+    full false e = ap (λ (r : Result (FileState × ℕ) FileFault). (state_or_none r).node) (sym e)
+
+asked_node : (node total : ℕ) (rest : List ℕ) (head : Result (ℕ × ℕ) FileFault) (o : FileState × ℕ) → for_node (Some node) total rest head ≡ Ok o → o.0.node ≡ node
+asked_node node total rest (Err fault) o e = absurd cc
+asked_node node total rest (Ok h) o e = same (eqb node h.1) refl e
+  where
+    same : (b : Bool) → eqb node h.1 ≡ b → cond (cond b false true) (Err FileFault.OtherNode) (ended total h (contents_from h.0 no_contents 0 rest)) ≡ Ok o → o.0.node ≡ node
+    same true is e = ended_node total h (contents_from h.0 no_contents 0 rest) o e ∙ sym (eqb-true node h.1 is)
+    same false is e = absurd cc
+
+-- who asks for a node gets that one
+pub of_asked : (node : ℕ) (bytes : List ℕ) (o : FileState × ℕ) → opened (Some node) bytes ≡ Ok o → o.0.node ≡ node
+unfolding opened
+of_asked node bytes o e = short (nat_lt (length bytes) 11) e
+  where
+    short : (b : Bool) → cond b (Err (FileFault.Damaged (length bytes))) (for_node (Some node) (length bytes) (drop 10 bytes) (front_in (take 10 bytes))) ≡ Ok o → o.0.node ≡ node
+    short true e = absurd cc
+    short false e = asked_node node (length bytes) (drop 10 bytes) (front_in (take 10 bytes)) o e
 
 abbrev pub fresh : ℕ → FileState
 fresh node = record { version = 2; node = node; contents = no_contents }

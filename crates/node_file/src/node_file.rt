@@ -185,6 +185,8 @@ impl<D: Device> NodeFile<D> {
         ensures any_moment { self.old.is_stopped ≡ false → LeavesOnly D.moment D.left_since
             self.old.device self.new.device
             (WithOrWithout (D.content self.old.device) (Object key.now object.now)) }
+        ensures still { OnOk result
+            (D.failed self.new.device ≡ D.failed self.old.device) }
         ensures refused { IfErr result (λ fault.
             IsOfDevice fault (D.failed self.old.device) (D.failed self.new.device)
             ⊎ (refusal_of_append self.old.is_stopped self.old.gate key.now object.now

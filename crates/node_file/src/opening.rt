@@ -30,6 +30,7 @@ pub fn create<D: Device>(device: D, node: NodeId) -> Result<NodeFile<D>, (D, Fil
         ≡ new_state node 0 []) }
     ensures settled { IfOk result (λ file. IsSettled D.content D.may_leave file) }
     ensures unserved { IfOk result (λ file. (file.is_stopped ≡ false) × (file.is_served ≡ false)) }
+    ensures still { IfOk result (λ file. D.failed file.device ≡ D.failed device) }
     ensures refused { IfErr result (λ e. IsOfDevice e.1 (D.failed device) (D.failed e.0)) }
 {
     let mut device = device;
@@ -59,7 +60,9 @@ pub fn open_node<D: Device>(
     ensures life { IfOk result (λ r. r.2 ≡ (file_state (D.content device)).contents.life) }
     ensures settled { IfOk result (λ r. IsSettled D.content D.may_leave r.0) }
     ensures unserved { IfOk result (λ r. (r.0.is_stopped ≡ false) × (r.0.is_served ≡ false)) }
+    ensures asked { IfOk result (λ r. (node : ℕ) → asked ≡ Some node → r.0.node ≡ node) }
     ensures same { IfOk result (λ r. D.content r.0.device ≡ D.content device) }
+    ensures still { IfOk result (λ r. D.failed r.0.device ≡ D.failed device) }
     ensures refused { IfErr result (λ e. IsOfDevice e.1 (D.failed device) (D.failed e.0)
         ⊎ (opened asked (D.content device) ≡ Err e.1)) }
     ensures same_refused { IfErr result (λ e. (D.content e.0 ≡ D.content device)
@@ -110,7 +113,9 @@ pub fn serve<D: Device>(
         × IsAppended gate (Life r.2) (D.content device) (D.content r.0.device)
         × (r.0.gate ≡ gate + 42)) }
     ensures settled { IfOk result (λ r. IsSettled D.content D.may_leave r.0) }
+    ensures asked { IfOk result (λ r. (node : ℕ) → asked ≡ Some node → r.0.node ≡ node) }
     ensures served { IfOk result (λ r. (r.0.is_stopped ≡ false) × (r.0.is_served ≡ true)) }
+    ensures still { IfOk result (λ r. D.failed r.0.device ≡ D.failed device) }
     ensures refused { IfErr result (λ e. IsOfDevice e.1 (D.failed device) (D.failed e.0)
         ⊎ (refusal_of_serve asked (D.content device) ≡ Some e.1)) }
     ensures unchanged { IfErr result (λ e. (fault : FileFault)
@@ -172,6 +177,7 @@ fn begin_life<D: Device>(
         (D.content device.old) (D.content device.new)) }
     ensures gate { IfOk result (λ end. end ≡ gate + 42) }
     ensures synced { OnOk result (IsDurable (D.content device.new) (D.may_leave device.new)) }
+    ensures still { OnOk result (D.failed device.new ≡ D.failed device.old) }
     ensures refused { IfErr result (λ fault.
         IsOfDevice fault (D.failed device.old) (D.failed device.new)) }
     ensures any_moment { LeavesOnly D.moment D.left_since device.old device.new
@@ -203,6 +209,7 @@ fn find<D: Device>(alloc: Global, device: &mut D, asked: Option<NodeId>) -> Resu
     ensures any_moment { LeavesOnly D.moment D.left_since device.old device.new
         (λ c. c ≡ D.content device.old) }
     ensures still { OnOk result (D.failed device.new ≡ D.failed device.old) }
+    ensures node { IfOk result (λ f. (node : ℕ) → asked ≡ Some node → f.node ≡ node) }
 {
     if let Some(bytes) = device.held() {
         return stands_for(alloc, bytes, asked);
@@ -220,6 +227,7 @@ fn stands_for(alloc: Global, bytes: &[u8], asked: Option<NodeId>) -> Result<Foun
     ensures version { IfOk result (λ f. (f.version ≡ 1) ⊎ (f.version ≡ 2)) }
     ensures refused { IfErr result (λ fault.
         (fault ≡ FileFault.Memory) ⊎ (opened asked bytes.now ≡ Err fault)) }
+    ensures node { IfOk result (λ f. (node : ℕ) → asked ≡ Some node → f.node ≡ node) }
 {
     match open_bytes(alloc, bytes, asked) {
         Ok(found) => Ok(found),

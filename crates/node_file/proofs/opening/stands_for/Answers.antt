@@ -1,6 +1,6 @@
-use Rattle.std.proofs.Common.{rules, ◌≡◌, Ok}
+use Rattle.std.proofs.Common.{rules, ◌≡◌, Ok, subst}
 use Rattle.node_file.specs.File.{opened, FileState}
-use Rattle.node_file.proofs.Made.{any_asked, asked_so, opens_so, stands_so, versions}
+use Rattle.node_file.proofs.Made.{any_asked, asked_so, of_asked, opens_so, stands_so, versions}
 use Rattle.node_file.proofs.opening.stands_for.Goals as goal
 
 pub returns-in-Ok-clause-asked : goal.returns-in-Ok-clause-asked
@@ -30,3 +30,10 @@ returns-in-Ok-clause-version c =
     let s : FileState = record { version = found.version; node = found.node; contents = found.contents } in
     let is : opened c.args.asked c.args.bytes.now ≡ Ok (s, found.gate) = search rules in
     versions c.args.bytes.now s found.gate (any_asked c.args.asked c.args.bytes.now (s, found.gate) is)
+
+pub returns-in-Ok-clause-node : goal.returns-in-Ok-clause-node
+returns-in-Ok-clause-node c node asked =
+    let found = c.in-Ok.found in
+    let s : FileState = record { version = found.version; node = found.node; contents = found.contents } in
+    let is : opened c.args.asked c.args.bytes.now ≡ Ok (s, found.gate) = search rules in
+    of_asked node c.args.bytes.now (s, found.gate) (subst (λ a. opened a c.args.bytes.now ≡ Ok (s, found.gate)) asked is)
