@@ -1,5 +1,5 @@
 -- What is stored in the file, and what a crash leaves where nothing is.
-use Rattle.std.proofs.Common.{◌≡◌, ◌⊎◌, ⊎_elim, ℕ, Bool, true, false, not, ◌&&◌, List, [], ◌∷◌, Option, Some, None, refl, sym, ap, subst, ◌∙◌}
+use Rattle.std.proofs.Common.{◌≡◌, ◌≢◌, ◌⊎◌, ⊎_elim, ℕ, Bool, true, false, not, ◌&&◌, List, [], ◌∷◌, Option, Some, None, refl, sym, ap, subst, ◌∙◌}
 use Rattle.std.specs.Option.{unwrap_or}
 use Rattle.std.specs.FinMap.{find}
 use Rattle.meta_types.specs.First.{first_that_applies}
@@ -15,6 +15,7 @@ use Rattle.node_events.specs.declared.event.NodeEvent.{NodeEvent}
 use Rattle.node_core.specs.Growing.{KeepsKeys}
 use Rattle.node_file.specs.declared.fault.FileFault.{FileFault}
 use Rattle.node_file.specs.declared.fault.FileFault.TheVariants.{Device, FileFull, Store}
+use Rattle.node_file.specs.declared.record.Record.{Record}
 use Rattle.node_file.specs.declared.record.Record.TheVariants.{Object}
 use Rattle.node_file.specs.Fault.{IsOfDevice}
 use Rattle.node_file.specs.File.{FileState, OpensLike, opened}
@@ -77,6 +78,9 @@ full_alone gate key object fault small refused =
       | false ↦ λ short is. absurd (cc)
     ] refl left
 
+something : (stored : Record) → Some stored ≢ None
+something stored none = absurd (cc)
+
 pub refuses : {D : Type 0} (gate : ℕ) (key : Key) (object : List Entry) (before now : ℕ)
     (new : FileView D) (fault : FileFault) → is_small_enough most_merged object ≡ true
     → IsOfDevice fault before now ⊎ (refusal_of_append false gate key object ≡ Some fault)
@@ -87,8 +91,8 @@ refuses gate key object before now new fault small cause stops goes =
     let P = RefusesStoring gate (Some (Object key object)) before now new in
     ⊎_elim
     (λ device. ⊎_elim
-    (λ memory. subst P (sym memory.0) tt)
-    (λ failed. subst P (sym failed.0) (failed.1, stops failed.0))
+    (λ memory. subst P (sym memory.0) (something (Object key object)))
+    (λ failed. subst P (sym failed.0) (something (Object key object), (failed.1, stops failed.0)))
     device)
     (λ refused. let full = full_alone gate key object fault small refused in subst P (sym full.0) (full.1, goes fault refused))
     cause

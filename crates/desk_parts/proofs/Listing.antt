@@ -1,7 +1,8 @@
 -- What a step published makes of the list, and of what the list makes of the opening table.
-use Rattle.std.proofs.Common.{◌≡◌, ◌≢◌, ℕ, List, [], ◌∷◌, ◌++◌, Option, Some, None, IfSome, cond, refl, sym, ap, subst, ◌∙◌}
+use Rattle.std.proofs.Common.{◌≡◌, ◌≢◌, ℕ, List, [], ◌∷◌, ◌++◌, Option, Some, None, IfSome, true, cond, refl, sym, ap, subst, ◌∙◌}
 use Rattle.std.specs.FinMap.{find}
 use Rattle.std.specs.Cmp.{tied_itself}
+use Rattle.std.specs.Option.{unwrap_or}
 use Rattle.std.specs.Ordering.{is_eq}
 use Rattle.std.specs.FinMap.Entries.{find-put}
 use Rattle.std.proofs.lemmas.List.{append-nil}
@@ -9,7 +10,7 @@ use Rattle.std.proofs.lemmas.List.Sums.{fold_push}
 use Rattle.meta_types.specs.Name.{Key}
 use Rattle.meta_types.specs.Order.{key_cmp}
 use Rattle.meta_types.specs.Value.{ValueParts}
-use Rattle.dvvset.specs.Clock.{join}
+use Rattle.dvvset.specs.Clock.{descends, join}
 use Rattle.dvvset.specs.Object.{Entry as Cell}
 use Rattle.meta_store.specs.Table.{IsTable, Table, object_at, with_object}
 use Rattle.meta_store.proofs.Keys.{key_total}
@@ -19,7 +20,9 @@ use Rattle.node_events.specs.declared.reply.Reply.{Reply}
 use Rattle.node_events.specs.declared.reply.Reply.TheVariants.{Wrote}
 use Rattle.node_core.specs.Growing.{ChangesUnder, Descends, IsKeyChanged, TellsOf, TellsWrite, newest}
 use Rattle.node_history.specs.Published.{Published, with_all, with_published}
+use Rattle.node_history.proofs.Beginnings.{prefix_trans}
 use Rattle.node_readers.specs.Growth.{GrowsBy}
+use Rattle.desk_parts.specs.Acknowledged.{LearntWritesAreKnown}
 use Rattle.desk_parts.specs.Journaled.{EndsWith, EndsWithWrite, IsPublishedBy}
 use Rattle.desk_parts.specs.Ready.{listed}
 
@@ -75,6 +78,23 @@ found_put : (key : Key) (object : List Cell) (table : Table)
 found_put key object table =
     find-put key_cmp key_total key key object table
     ∙ ap (λ c. cond (is_eq c) (Some object) (find key_cmp key table)) (tied_itself key_total key)
+
+-- a list that ends with the object of a write leaves that object under its key
+ends_there : (w : ℕ) (key : Key) (value : ValueParts) (reply : Reply) (opening : Table)
+    (list : List Published) (e : EndsWith w key value reply list)
+    → object_at (with_all opening list) key ≡ e.change.object
+ends_there w key value reply opening list e =
+    ap (λ l. object_at (with_all opening l) key) e.last
+    ∙ (ap (λ t. object_at t key) (fold_push with_published opening e.before e.change)
+    ∙ (ap (object_at (with_published (with_all opening e.before) e.change)) (sym e.under)
+    ∙ ap (λ found. unwrap_or found []) (found_put e.change.key e.change.object (with_all opening e.before))))
+
+pub learnt_is_known : LearntWritesAreKnown
+learnt_is_known w key value answered vector opening list learnt shown e first later each =
+    let is : answered ≡ join e.change.object = cc (e.vector) in
+    subst (λ v. descends vector v ≡ true)
+    (ap join (ends_there w key value (Wrote answered) opening list e) ∙ sym is)
+    (each list (prefix_trans list learnt shown first later))
 
 -- what the step changed is held
 pub holds_changed : (event : NodeEvent) (reply : Reply) (old new : Table)

@@ -1,5 +1,5 @@
 -- What an event stores in a node's file.
-use Rattle.std.specs.Prelude.{◌≡◌, ◌⊎◌, ℕ, List, Option, Some, None, false, true}
+use Rattle.std.specs.Prelude.{◌≡◌, ◌≢◌, ◌⊎◌, ℕ, List, Option, Some, None, false, true}
 use Rattle.std.specs.FinMap.{find, is_sorted}
 use Rattle.meta_types.specs.Name.{Key}
 use Rattle.meta_types.specs.Order.{key_cmp}
@@ -90,12 +90,13 @@ abbrev pub IsTooLong : ℕ → Option Record → Type 0
 IsTooLong gate None = ⊥
 IsTooLong gate (Some record_) = is_too_long_with gate record_ ≡ true
 
--- a file of this closed gate, of which the count of failures was `before` and is `now`, is full; or
--- its device failed, which stops it; or memory was wanting
+-- something was to be stored, and a file of this closed gate, of which the count of failures was
+-- `before` and is `now`, is full; or its device failed, which stops it; or memory was wanting
 abbrev pub RefusesStoring : {D : Type 0} → ℕ → Option Record → ℕ → ℕ → FileView D → FileFault
     → Type 0
 RefusesStoring gate stored before now new FileFull =
     IsTooLong gate stored × (new.is_stopped ≡ false)
-RefusesStoring gate stored before now new Device = HasFailed before now × (new.is_stopped ≡ true)
-RefusesStoring gate stored before now new Memory = Unit {0}
+RefusesStoring gate stored before now new Device =
+    (stored ≢ None) × (HasFailed before now × (new.is_stopped ≡ true))
+RefusesStoring gate stored before now new Memory = stored ≢ None
 RefusesStoring gate stored before now new fault = ⊥

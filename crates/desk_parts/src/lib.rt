@@ -2,11 +2,12 @@
 //! out is made ready, what the event stores goes into the file, and what it changes is shown to
 //! readers. Once these succeeded, keeping the entry can't fail.
 //!
-//! Read `trying`, `ready`, `storing`, `showing`; then `seat`, `acknowledgement` and `fault`.
+//! Read `trying`, `ready`, `storing`, `showing`; then `seat`, `acknowledgement`, `laws` and `fault`.
 #![tactic(auto)]
 
 mod acknowledgement;
 mod fault;
+pub mod laws;
 mod ready;
 mod seat;
 mod showing;

@@ -1,6 +1,6 @@
 //! What an event published is shown to readers.
 
-ghost use Rattle.std.specs.Prelude.{◌≡◌, ◌++◌, true, false, IfSome, OnOk, OnErr};
+ghost use Rattle.std.specs.Prelude.{◌≡◌, ◌≢◌, ◌++◌, true, false, None, IfSome, OnOk, OnErr};
 ghost use Rattle.node_history.specs.Published.{with_all};
 ghost use Rattle.node_readers.specs.Growth.{GrowsBy};
 ghost use Rattle.desk_parts.specs.Ready.{listed};
@@ -23,6 +23,7 @@ pub fn publish_change<J: Naming, H: Wait + Drop, R: Wait>(
         (publisher.old.stopped ≡ false → publisher.new.stopped ≡ false) }
     ensures same { OnErr result (publisher.new.list ≡ publisher.old.list) }
     ensures stopped { OnErr result (publisher.new.stopped ≡ true) }
+    ensures some { OnErr result (change ≢ None) }
 {
     match change {
         Some(change) => match publisher.publish(rt, tail, change) {

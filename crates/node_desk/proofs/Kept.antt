@@ -1,5 +1,5 @@
 -- What an accepted call leaves, of what was made ready.
-use Rattle.std.proofs.Common.{◌≡◌, ◌+◌, ◌<◌, ◌-◌, ◌^◌, ℕ, Option, Some, None, List, [], ◌∷◌, ◌++◌, length, map, T, true, inr, refl, sym, ap, ◌∙◌, subst, arith}
+use Rattle.std.proofs.Common.{◌≡◌, ◌≢◌, ◌⊎◌, ◌+◌, ◌<◌, ◌-◌, ◌^◌, ℕ, Option, Some, None, List, [], ◌∷◌, ◌++◌, length, map, T, true, false, inl, inr, ⊎_elim, refl, sym, ap, ◌∙◌, subst, arith}
 use Rattle.std.proofs.Math.Nat.{min-eq_left}
 use Rattle.std.proofs.lemmas.List.{map-append}
 use Rattle.std.specs.FinMap.{find, is_sorted}
@@ -14,7 +14,8 @@ use Rattle.devices.specs.Device.{LeavesOnly}
 use Rattle.devices.proofs.Moments.{weaker}
 use Rattle.node_events.specs.Event.{stored_key}
 use Rattle.node_events.specs.declared.event.NodeEvent.{NodeEvent}
-use Rattle.node_core.specs.Growing.{KeepsKeys}
+use Rattle.node_events.specs.declared.reply.Reply.{Reply}
+use Rattle.node_core.specs.Growing.{IsKeyChanged, KeepsKeys}
 use Rattle.node_core.specs.Node.{NodeParts, opening}
 use Rattle.node_core.specs.Run.{CountsOn, IsRun}
 use Rattle.node_core.specs.Step.{IsNodeStep}
@@ -28,15 +29,15 @@ use Rattle.node_file.specs.File.{FileState}
 use Rattle.node_file.specs.View.{FileView}
 use Rattle.node_history.specs.Published.{Published, with_all}
 use Rattle.desk_parts.specs.declared.fault.LockFault.{LockFault}
-use Rattle.desk_parts.specs.declared.fault.LockFault.TheVariants.{FileFull, Device, Memory}
+use Rattle.desk_parts.specs.declared.fault.LockFault.TheVariants.{Step, FileFull, Device, JournalFull, Memory}
 use Rattle.desk_parts.specs.Fault.{of_append}
 use Rattle.desk_parts.specs.Journaled.{IsJournaled, IsPublishedBy, TellsOfEntry}
-use Rattle.desk_parts.specs.Ready.{IsKnownStep}
+use Rattle.desk_parts.specs.Ready.{IsFullFor, IsKnownStep, Prevents, listed}
 use Rattle.desk_parts.specs.Stored.{IsStoredOf, LeavesOfEvent, LeavesRecord, RefusesStoring, object_record, record_after, record_under, with_stored}
 use Rattle.desk_parts.proofs.Files.{within_stored}
 use Rattle.desk_parts.proofs.Listing.{ends_on, list_on}
 use Rattle.desk_parts.proofs.Runs.{journaled_on, run_of}
-use Rattle.node_desk.specs.Acting.{Refuses, RefusesKeeping, WouldBeTooLong}
+use Rattle.node_desk.specs.Acting.{IsFull, Refuses, RefusesKeeping}
 use Rattle.node_desk.specs.Desk.{BeganWith, DeskView, IsOfLife}
 
 -- the list that is published then tells of the entry and of its copy
@@ -79,13 +80,14 @@ still_of_life number life old new sent of_life counts = record {
 }
 
 -- what refuses an append refuses the call
-pub keeping_refused : {D : Type 0} (gate : ℕ) (stored : Option Record) (before now : ℕ)
-    (file : FileView D) (fault : FileFault) → RefusesStoring gate stored before now file fault
-    → RefusesKeeping gate stored before now file.is_stopped (of_append fault)
-keeping_refused gate stored before now file OfFile.FileFull refused = refused
-keeping_refused gate stored before now file OfFile.Device refused = refused
-keeping_refused gate stored before now file OfFile.Memory refused = tt
-keeping_refused gate stored before now file _ refused = absurd refused
+pub keeping_refused : {D : Type 0} (gate : ℕ) (stored : Option Record) (change : Option Published)
+    (before now : ℕ) (file : FileView D) (fault : FileFault)
+    → RefusesStoring gate stored before now file fault
+    → RefusesKeeping gate stored change before now file.is_stopped (of_append fault)
+keeping_refused gate stored change before now file OfFile.FileFull refused = refused
+keeping_refused gate stored change before now file OfFile.Device refused = refused
+keeping_refused gate stored change before now file OfFile.Memory refused = λ _. inl refused
+keeping_refused gate stored change before now file _ refused = absurd refused
 
 -- ---- what is stored goes on to be within what is held
 
@@ -131,23 +133,56 @@ leaves_of content moment left_since from to old new event e is step leaves =
     (weaker moment left_since from to (LeavesRecord (content from) (record_after e.event new.table)) (LeavesOfEvent old e.event (content from)) leaves
     (λ c left. inr (record { new = new; stepped = stepped_of e; step = step; left = left })))
 
--- what refuses to keep what is ready refuses the call
+-- what prevents that anything is made ready refuses the call
+pub prevented : {D : Type 0} (failed : D → ℕ) (old new : DeskView D) (event : NodeEvent)
+    (fault : LockFault) → new.stopped ≡ false
+    → Prevents old.state event old.limit (length old.journal) fault
+    → Refuses failed old event fault new
+prevented failed old new event (Step fault) going is = (is.0, (is.1, going))
+prevented failed old new event JournalFull going is = (is.0, (is.1, going))
+prevented failed old new event Memory going is = λ stops. let clash : true ≡ false = sym stops ∙ going in absurd (cc)
+prevented failed old new event _ going is = absurd is
+
+pub not_full : (limit count steps : ℕ) → (count < limit) × (steps < 2 ^ 64 - 1)
+    → IsFullFor limit count steps → ⊥
+not_full limit count steps few full =
+    ⊎_elim (λ long. omega (arith, long, few.0)) (λ many. omega (arith, many, few.1)) full
+
+-- what is published changes what is held under its key
+changed : (event : NodeEvent) (reply : Reply) (held : Table) (change : Option Published)
+    → IsPublishedBy event reply held (listed change) → change ≢ None
+    → (key : Key) × IsKeyChanged event reply key
+changed event reply held None published some = absurd (some refl)
+changed event reply held (Some c) published some = (c.key, published.0)
+
+-- what refuses to keep what is ready refuses the call of its event
+own_refused : {D : Type 0} (failed : D → ℕ) (old new : DeskView D) (after : NodeParts) (e : Entry)
+    (change : Option Published) (fault : LockFault)
+    → IsNodeStep old.state e.event after (stepped_of e) → (IsFull old → ⊥)
+    → IsPublishedBy e.event e.reply after.table (listed change)
+    → RefusesKeeping old.file.gate (record_after e.event after.table) change (failed old.file.device)
+    (failed new.file.device) new.stopped fault
+    → Refuses failed old e.event fault new
+own_refused failed old new after e change FileFull step room published keeping =
+    (record { can = record { new = after; stepped = stepped_of e; step = step }; room = room }, keeping)
+own_refused failed old new after e change Device step room published keeping =
+    (record { can = record { new = after; stepped = stepped_of e; step = step }; room = room }, keeping)
+own_refused failed old new after e change Memory step room published keeping = λ stops. (
+  record { can = record { new = after; stepped = stepped_of e; step = step }; room = room },
+  ⊎_elim inl (λ some. inr (changed e.event e.reply after.table change published some)) (keeping stops),
+)
+own_refused failed old new after e change _ step room published keeping = absurd keeping
+
 pub call_refused : {D : Type 0} (failed : D → ℕ) (old new : DeskView D) (event : NodeEvent)
-    (after : NodeParts) (e : Entry) (fault : LockFault) → e.event ≡ event
-    → IsNodeStep old.state e.event after (stepped_of e)
-    → RefusesKeeping old.file.gate (record_after e.event after.table) (failed old.file.device)
+    (after : NodeParts) (e : Entry) (change : Option Published) (fault : LockFault) → e.event ≡ event
+    → IsNodeStep old.state e.event after (stepped_of e) → (IsFull old → ⊥)
+    → IsPublishedBy e.event e.reply after.table (listed change)
+    → RefusesKeeping old.file.gate (record_after e.event after.table) change (failed old.file.device)
     (failed new.file.device) new.stopped fault
     → Refuses failed old event fault new
-call_refused failed old new event after e FileFull is step keeping = (
-  subst (λ ev. WouldBeTooLong old.state ev old.file.gate) is (record {
-    can = record { new = after; stepped = stepped_of e; step = step };
-    long = keeping.0;
-  }),
-  keeping.1,
-)
-call_refused failed old new event after e Device is step keeping = keeping
-call_refused failed old new event after e Memory is step keeping = tt
-call_refused failed old new event after e _ is step keeping = absurd keeping
+call_refused failed old new event after e change fault is step room published keeping =
+    subst (λ ev. Refuses failed old ev fault new) is
+    (own_refused failed old new after e change fault step room published keeping)
 
 -- ---- a new desk, and one whose journal is cut
 

@@ -1,5 +1,5 @@
 -- What is left of a node that was closed.
-use Rattle.std.specs.Prelude.{◌≡◌, ◌≢◌, ℕ, List, map}
+use Rattle.std.specs.Prelude.{◌≡◌, ◌≢◌, ℕ, List, map, All}
 use mathlib.Core.List.{IsPrefix}
 use Rattle.node_core.specs.Node.{NodeParts}
 use Rattle.node_core.specs.Run.{IsRun}
@@ -21,9 +21,10 @@ pub record IsWithin (list : List Published) (seat : SeatView) : Type 0 where
   pub shown : IsPrefix seat.shown list
   pub learnt : IsPrefix seat.learnt list
 
--- of so many seats that are out not all were handed in; that it is `Stopped` has no cause that can
--- come
-abbrev pub RefusesClosing : ℕ → ℕ → LockFault → Type 0
-RefusesClosing out given SeatsMissing = given ≢ out
-RefusesClosing out given Stopped = given ≡ out
-RefusesClosing out given fault = ⊥
+-- of so many seats that are out not all were handed in; or, where all were, a reader was shown or
+-- has learnt what isn't in the list
+abbrev pub RefusesClosing : ℕ → ℕ → List Published → List SeatView → LockFault → Type 0
+RefusesClosing out given list readers SeatsMissing = given ≢ out
+RefusesClosing out given list readers Stopped =
+    (given ≡ out) × (All (IsWithin list) readers → ⊥)
+RefusesClosing out given list readers fault = ⊥

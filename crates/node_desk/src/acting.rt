@@ -6,7 +6,7 @@ ghost use Rattle.node_core.specs.Run.{IsRun};
 ghost use Rattle.node_core.specs.Step.{IsNodeStep};
 ghost use Rattle.node_journal.specs.Entry.{step_of, stepped_of};
 ghost use Rattle.node_desk.specs.Acting.{IsFull, ListsChange, Refuses, RefusesKeeping};
-ghost use Rattle.node_desk.specs.Desk.{IsOfLife, IsReceiptOf, KeepsAll, KeepsSeats};
+ghost use Rattle.node_desk.specs.Desk.{BeganWith, IsReceiptOf, KeepsAll, KeepsSeats};
 ghost use Rattle.desk_parts.specs.Fault.{of_append};
 ghost use Rattle.node_file.specs.File.{file_state};
 ghost use Rattle.node_history.specs.Published.{with_all};
@@ -32,12 +32,12 @@ use std::sync::Wait;
 
 impl<D: Device + Drop, J: Naming, H: Wait + Drop> Desk<D, J, H> {
     /// Makes the event: a step of the node, whose entry is journaled, what it stores durable in the
-    /// file, and what it changes shown to readers. It adds one to the seat's count. Where it is
-    /// refused, all is as before, but that the file may have grown where the node is stopped.
+    /// file, and what it changes shown to readers. It adds one to the seat's count.
     ///
     /// Refused in this order: 34 `Stopped`; what the step refuses; 51 `JournalFull`; 33 `FileFull`;
-    /// 30 `Device`, which stops the node. 99 `Memory` may come at any time, and stops the node once
-    /// a byte went out to the device, or where readers couldn't be shown the change.
+    /// 30 `Device`, which stops the node. 99 `Memory` may come at any time, and stops the node where
+    /// a byte went out to the device, or readers couldn't be shown the change. A refused call leaves
+    /// all as before, but that where it stops the node a crash may leave its object in the file.
     ///
     /// It waits for readers that are inside a `peek` while it publishes, and for the device.
     pub fn act<R: Wait>(
@@ -55,7 +55,7 @@ impl<D: Device + Drop, J: Naming, H: Wait + Drop> Desk<D, J, H> {
             self.new.state.table self.old.list self.new.list) }
         ensures revision { IfOk result (λ a. a.list ≡ self.new.list) }
         ensures rest { KeepsSeats self.old self.new }
-        ensures life { IsOfLife J.node J.incarnation self.old.state }
+        ensures began { BeganWith J.node J.incarnation J.opening self.old.state }
         ensures counted { MatchResult result (λ _. seat.new ≡ seat.old + 1)
             (λ _. seat.new ≡ seat.old) }
         ensures stored { OnOk result (HasStored D.content D.may_leave
@@ -144,8 +144,8 @@ fn settle<D: Device + Drop, J: Naming, H: Wait + Drop, R: Wait>(
     ensures entries { (ready.new.entry ≡ ready.old.entry) × (ready.new.copy ≡ ready.old.copy) }
     ensures same { OnErr result (publisher.new.list ≡ publisher.old.list) }
     ensures refused { IfErr result (RefusesKeeping file.old.gate
-        (record_after ready.old.entry.event spare.now) (D.failed file.old.device)
-        (D.failed file.new.device) is_stopped.new) }
+        (record_after ready.old.entry.event spare.now) ready.old.change
+        (D.failed file.old.device) (D.failed file.new.device) is_stopped.new) }
     ensures still { OnErr result (is_stopped.new ≡ false
         → (file.new.is_stopped ≡ false) × (publisher.new.stopped ≡ publisher.old.stopped)) }
     ensures whole { OnErr result (is_stopped.new ≡ false

@@ -2,6 +2,7 @@
 
 ghost use Rattle.std.specs.Prelude.{◌≡◌, ◌≢◌, ◌+◌, ◌↔◌, IsTrue, length, sum_by, All, IfOk, IfErr, OnOk};
 ghost use Rattle.node_history.specs.Published.{with_all};
+ghost use Rattle.desk_parts.specs.Journaled.{IsJournaled};
 ghost use Rattle.node_desk.specs.Closing.{EndsWithTable, IsWithin, RefusesClosing};
 ghost use Rattle.node_desk.specs.Desk.{BeganWith};
 
@@ -41,13 +42,15 @@ impl<D: Device + Drop, J: Naming, H: Wait + Drop> Desk<D, J, H> {
         ensures device { IfOk result (λ r. r.1 ≡ self.file.device) }
         ensures began { IfOk result (λ r. BeganWith J.node J.incarnation J.opening r.0.base) }
         ensures run { IfOk result (λ r. EndsWithTable r.0) }
+        ensures journaled { IsJournaled self.base self.state self.journal self.list }
+        ensures all { OnOk result (length seats.items ≡ self.out) }
         ensures list { IfOk result (λ r. with_all J.opening self.list ≡ r.0.table) }
         ensures readers { OnOk result (All (IsWithin self.list) readers.now) }
         ensures counts { IfOk result (λ r. r.0.base.steps + length r.0.journal
             ≡ self.given_up + sum_by (λ s. s) seats.items) }
         ensures back { IfErr result (λ not. (not.desk ≡ self) × (not.seats ≡ seats)) }
         ensures refused { IfErr result (λ not.
-            RefusesClosing self.out (length seats.items) not.fault) }
+            RefusesClosing self.out (length seats.items) self.list readers.now not.fault) }
     {
         if seats.len() as u64 != self.out {
             return Err(NotClosed {
@@ -96,7 +99,7 @@ fn all_within<J: Naming, H: Wait + Drop>(
     publisher: &Publisher<J, H>,
     readers: &[ReadSeat<J>],
 ) -> bool
-    ensures { IsTrue result → All (IsWithin publisher.now.list) readers.now }
+    ensures { IsTrue result ↔ All (IsWithin publisher.now.list) readers.now }
 {
     for seat in readers {
         if !is_within(publisher, seat) {

@@ -1,27 +1,31 @@
 -- What is known of a call of a node through its lock.
-use Rattle.std.specs.Prelude.{◌≡◌, ◌≢◌, ◌+◌, ℕ, List, All, Result, MatchResult}
+use Rattle.std.specs.Prelude.{◌≡◌, ◌≢◌, ◌+◌, ℕ, List, None, All, Result, MatchResult}
 use Rattle.meta_store.specs.Table.{Table}
+use Rattle.node_events.specs.Event.{stored_key}
 use Rattle.node_events.specs.declared.event.NodeEvent.{NodeEvent}
 use Rattle.node_events.specs.declared.fault.StepFault.{StepFault}
 use Rattle.node_events.specs.declared.fault.StepFault.TheVariants as OfStep
 use Rattle.node_core.specs.Node.{NodeParts}
 use Rattle.node_core.specs.Step.{CanComeOf, IsNodeStep}
+use Rattle.node_journal.specs.Closed.{ClosedNode}
 use Rattle.node_journal.specs.Entry.{stepped_of}
 use Rattle.node_history.specs.Published.{Published, with_all}
 use Rattle.node_readers.specs.Views.{SeatView}
 use Rattle.desk_parts.specs.declared.fault.LockFault.{LockFault}
-use Rattle.desk_parts.specs.declared.fault.LockFault.TheVariants.{Step, FileFull, JournalFull, NoSeat, SeatsMissing, BadLimit}
+use Rattle.desk_parts.specs.declared.fault.LockFault.TheVariants.{Step, Device, FileFull, JournalFull, NoSeat, SeatsMissing, BadLimit}
 use Rattle.node_desk.specs.Closing.{IsWithin}
 use Rattle.desk_parts.specs.Acknowledged.{Acknowledged}
+use Rattle.desk_parts.specs.Journaled.{IsJournaled}
 use Rattle.desk_parts.specs.Ready.{CanStep}
-use Rattle.node_desk.specs.Desk.{IsOfLife, IsReceiptOf}
+use Rattle.node_desk.specs.Desk.{BeganWith, IsReceiptOf}
 
--- from some state of the node in its life the event makes the step that the receipt tells, at its
--- place
-pub record AnswersCall (node incarnation : ℕ) (event : NodeEvent) (a : Acknowledged) : Type 0 where
+-- from some state that a node comes to which opens with this table in this life, the event makes the
+-- step that the receipt tells, at its place
+pub record AnswersCall (node incarnation : ℕ) (opened : Table) (event : NodeEvent)
+    (a : Acknowledged) : Type 0 where
   pub old : NodeParts
   pub new : NodeParts
-  pub life : IsOfLife node incarnation old
+  pub began : BeganWith node incarnation opened old
   pub step : IsNodeStep old event new (stepped_of a.receipt.entry)
   pub receipt : IsReceiptOf old event a.receipt
 
@@ -29,36 +33,46 @@ pub record AnswersCall (node incarnation : ℕ) (event : NodeEvent) (a : Acknowl
 abbrev pub Counts : {A : Type 0} → Result A LockFault → ℕ → ℕ → Type 0
 Counts result old new = MatchResult result (λ _. new ≡ old + 1) (λ _. new ≡ old)
 
--- some state of the node in its life refuses the event so
-pub record CanRefuse (node incarnation : ℕ) (event : NodeEvent) (fault : StepFault) : Type 0 where
+-- some such state refuses the event so
+pub record CanRefuse (node incarnation : ℕ) (opened : Table) (event : NodeEvent) (fault : StepFault)
+    : Type 0 where
   pub old : NodeParts
-  pub life : IsOfLife node incarnation old
+  pub began : BeganWith node incarnation opened old
   pub cause : CanComeOf old event fault
 
--- some state of the node in its life can make the step
-pub record CanMake (node incarnation : ℕ) (event : NodeEvent) : Type 0 where
+-- some such state can make the step
+pub record CanMake (node incarnation : ℕ) (opened : Table) (event : NodeEvent) : Type 0 where
   pub old : NodeParts
-  pub life : IsOfLife node incarnation old
+  pub began : BeganWith node incarnation opened old
   pub can : CanStep old event
 
--- the step is refused; or it can be made, and journal or file have no room for it; or the node is
--- stopped, or can't go on. What is answered to who asks for a seat, or closes or starts a node, is no
--- answer to a call
-abbrev pub RefusesCall : ℕ → ℕ → NodeEvent → LockFault → Type 0
-RefusesCall node incarnation event (Step fault) =
-    (fault ≢ OfStep.Memory) × CanRefuse node incarnation event fault
-RefusesCall node incarnation event JournalFull = CanMake node incarnation event
-RefusesCall node incarnation event FileFull = CanMake node incarnation event
-RefusesCall node incarnation event NoSeat = ⊥
-RefusesCall node incarnation event SeatsMissing = ⊥
-RefusesCall node incarnation event BadLimit = ⊥
-RefusesCall node incarnation event fault = Unit {0}
+-- it can be made, and it stores the object of a key
+abbrev pub CanStore : ℕ → ℕ → Table → NodeEvent → Type 0
+CanStore node incarnation opened event =
+    CanMake node incarnation opened event × (stored_key event ≢ None)
+
+-- the step is refused; or it can be made, and the journal has no room for it; or it stores what the
+-- file has no room for, or at which the device fails; or the node is stopped, or memory is wanting.
+-- What is answered to who asks for a seat, or closes or starts a node, is no answer to a call
+abbrev pub RefusesCall : ℕ → ℕ → Table → NodeEvent → LockFault → Type 0
+RefusesCall node incarnation opened event (Step fault) =
+    (fault ≢ OfStep.Memory) × CanRefuse node incarnation opened event fault
+RefusesCall node incarnation opened event JournalFull = CanMake node incarnation opened event
+RefusesCall node incarnation opened event FileFull = CanStore node incarnation opened event
+RefusesCall node incarnation opened event Device = CanStore node incarnation opened event
+RefusesCall node incarnation opened event NoSeat = ⊥
+RefusesCall node incarnation opened event SeatsMissing = ⊥
+RefusesCall node incarnation opened event BadLimit = ⊥
+RefusesCall node incarnation opened event fault = Unit {0}
 
 -- ---- when it is closed
 
--- some list of changes makes the table of the opening one, and what each reader was shown and has
--- learnt is a beginning of it
-pub record EndsList (opened table : Table) (readers : List SeatView) : Type 0 where
+-- one list of changes ends with those that the journal made, makes the table out of the opening one,
+-- and begins with what each reader was shown and has learnt
+pub record EndsList (opened : Table) (c : ClosedNode) (readers : List SeatView) : Type 0 where
   pub list : List Published
-  pub makes : with_all opened list ≡ table
+  pub end : NodeParts
+  pub journaled : IsJournaled c.base end c.journal list
+  pub table : end.table ≡ c.table
+  pub makes : with_all opened list ≡ c.table
   pub within : All (IsWithin list) readers

@@ -4,10 +4,10 @@
 //! ```
 //! let tokens = (Blank::new(9), Beginning::new());
 //! let Started { node, mut writers, mut readers } = Node::start(rt, alloc, tokens, file, table, capacity)?;
-//! let done = node.put(rt, &mut writers[0], key, value, None)?;
+//! let done = node.put(rt, &mut writers[0], key.copy()?, value, None)?;
 //! readers[0].learn(done.revision());
-//! let (values, vector) = readers[0].peek(&key)?; // without a lock: what was put, or what came later
-//! let closed = node.close(writers, &readers)?;
+//! let shown = readers[0].peek(&key)?; // without a lock: what was put, or what came later
+//! let (closed, device) = node.close(writers, &readers)?;
 //! ```
 //!
 //! Read `node` (`Node`), then `node_desk` for what a call does under the lock, and `node_readers` for

@@ -60,9 +60,9 @@ impl<D: Device + Drop, J: Naming, H: Wait + Drop> Node<D, J, H> {
         seat: &mut WriteSeat<J>,
         event: NodeEvent,
     ) -> Result<Acknowledgement<J>, LockFault>
-        ensures answers { IfOk result (AnswersCall J.node J.incarnation event) }
+        ensures answers { IfOk result (AnswersCall J.node J.incarnation J.opening event) }
         ensures counted { Counts result seat.old seat.new }
-        ensures refused { IfErr result (RefusesCall J.node J.incarnation event) }
+        ensures refused { IfErr result (RefusesCall J.node J.incarnation J.opening event) }
     {
         self.desk.lock(rt).act(rt, seat, event)
     }
@@ -76,9 +76,11 @@ impl<D: Device + Drop, J: Naming, H: Wait + Drop> Node<D, J, H> {
         value: Value,
         context: Option<Context>,
     ) -> Result<Acknowledgement<J>, LockFault>
-        ensures answers { IfOk result (AnswersCall J.node J.incarnation (Write key value context)) }
+        ensures answers { IfOk result
+            (AnswersCall J.node J.incarnation J.opening (Write key value context)) }
         ensures counted { Counts result seat.old seat.new }
-        ensures refused { IfErr result (RefusesCall J.node J.incarnation (Write key value context)) }
+        ensures refused { IfErr result
+            (RefusesCall J.node J.incarnation J.opening (Write key value context)) }
     {
         self.act(
             rt,
@@ -98,9 +100,9 @@ impl<D: Device + Drop, J: Naming, H: Wait + Drop> Node<D, J, H> {
         seat: &mut WriteSeat<J>,
         key: MetaKey,
     ) -> Result<Acknowledgement<J>, LockFault>
-        ensures answers { IfOk result (AnswersCall J.node J.incarnation (Read key)) }
+        ensures answers { IfOk result (AnswersCall J.node J.incarnation J.opening (Read key)) }
         ensures counted { Counts result seat.old seat.new }
-        ensures refused { IfErr result (RefusesCall J.node J.incarnation (Read key)) }
+        ensures refused { IfErr result (RefusesCall J.node J.incarnation J.opening (Read key)) }
     {
         self.act(rt, seat, NodeEvent::Read { key })
     }
@@ -113,9 +115,11 @@ impl<D: Device + Drop, J: Naming, H: Wait + Drop> Node<D, J, H> {
         key: MetaKey,
         value: Value,
     ) -> Result<Acknowledgement<J>, LockFault>
-        ensures answers { IfOk result (AnswersCall J.node J.incarnation (PutOver key value)) }
+        ensures answers { IfOk result
+            (AnswersCall J.node J.incarnation J.opening (PutOver key value)) }
         ensures counted { Counts result seat.old seat.new }
-        ensures refused { IfErr result (RefusesCall J.node J.incarnation (PutOver key value)) }
+        ensures refused { IfErr result
+            (RefusesCall J.node J.incarnation J.opening (PutOver key value)) }
     {
         self.act(rt, seat, NodeEvent::PutOver { key, value })
     }
@@ -128,9 +132,11 @@ impl<D: Device + Drop, J: Naming, H: Wait + Drop> Node<D, J, H> {
         frame: ByteString,
         word: u64,
     ) -> Result<Acknowledgement<J>, LockFault>
-        ensures answers { IfOk result (AnswersCall J.node J.incarnation (Take frame word)) }
+        ensures answers { IfOk result
+            (AnswersCall J.node J.incarnation J.opening (Take frame word)) }
         ensures counted { Counts result seat.old seat.new }
-        ensures refused { IfErr result (RefusesCall J.node J.incarnation (Take frame word)) }
+        ensures refused { IfErr result
+            (RefusesCall J.node J.incarnation J.opening (Take frame word)) }
     {
         self.act(rt, seat, NodeEvent::Take { frame, word })
     }
@@ -142,9 +148,9 @@ impl<D: Device + Drop, J: Naming, H: Wait + Drop> Node<D, J, H> {
         seat: &mut WriteSeat<J>,
         word: u64,
     ) -> Result<Acknowledgement<J>, LockFault>
-        ensures answers { IfOk result (AnswersCall J.node J.incarnation (Tick word)) }
+        ensures answers { IfOk result (AnswersCall J.node J.incarnation J.opening (Tick word)) }
         ensures counted { Counts result seat.old seat.new }
-        ensures refused { IfErr result (RefusesCall J.node J.incarnation (Tick word)) }
+        ensures refused { IfErr result (RefusesCall J.node J.incarnation J.opening (Tick word)) }
     {
         self.act(rt, seat, NodeEvent::Tick { word })
     }
@@ -157,9 +163,11 @@ impl<D: Device + Drop, J: Naming, H: Wait + Drop> Node<D, J, H> {
         contact: NodeId,
         word: u64,
     ) -> Result<Acknowledgement<J>, LockFault>
-        ensures answers { IfOk result (AnswersCall J.node J.incarnation (Join contact word)) }
+        ensures answers { IfOk result
+            (AnswersCall J.node J.incarnation J.opening (Join contact word)) }
         ensures counted { Counts result seat.old seat.new }
-        ensures refused { IfErr result (RefusesCall J.node J.incarnation (Join contact word)) }
+        ensures refused { IfErr result
+            (RefusesCall J.node J.incarnation J.opening (Join contact word)) }
     {
         self.act(rt, seat, NodeEvent::Join { contact, word })
     }
@@ -172,9 +180,11 @@ impl<D: Device + Drop, J: Naming, H: Wait + Drop> Node<D, J, H> {
         peer: NodeId,
         word: u64,
     ) -> Result<Acknowledgement<J>, LockFault>
-        ensures answers { IfOk result (AnswersCall J.node J.incarnation (PeerDown peer word)) }
+        ensures answers { IfOk result
+            (AnswersCall J.node J.incarnation J.opening (PeerDown peer word)) }
         ensures counted { Counts result seat.old seat.new }
-        ensures refused { IfErr result (RefusesCall J.node J.incarnation (PeerDown peer word)) }
+        ensures refused { IfErr result
+            (RefusesCall J.node J.incarnation J.opening (PeerDown peer word)) }
     {
         self.act(rt, seat, NodeEvent::PeerDown { peer, word })
     }
@@ -186,9 +196,10 @@ impl<D: Device + Drop, J: Naming, H: Wait + Drop> Node<D, J, H> {
         seat: &mut WriteSeat<J>,
         peer: NodeId,
     ) -> Result<Acknowledgement<J>, LockFault>
-        ensures answers { IfOk result (AnswersCall J.node J.incarnation (Exchange peer)) }
+        ensures answers { IfOk result (AnswersCall J.node J.incarnation J.opening (Exchange peer)) }
         ensures counted { Counts result seat.old seat.new }
-        ensures refused { IfErr result (RefusesCall J.node J.incarnation (Exchange peer)) }
+        ensures refused { IfErr result
+            (RefusesCall J.node J.incarnation J.opening (Exchange peer)) }
     {
         self.act(rt, seat, NodeEvent::Exchange { peer })
     }
@@ -200,9 +211,9 @@ impl<D: Device + Drop, J: Naming, H: Wait + Drop> Node<D, J, H> {
         seat: &mut WriteSeat<J>,
         key: MetaKey,
     ) -> Result<Acknowledgement<J>, LockFault>
-        ensures answers { IfOk result (AnswersCall J.node J.incarnation (Keep key)) }
+        ensures answers { IfOk result (AnswersCall J.node J.incarnation J.opening (Keep key)) }
         ensures counted { Counts result seat.old seat.new }
-        ensures refused { IfErr result (RefusesCall J.node J.incarnation (Keep key)) }
+        ensures refused { IfErr result (RefusesCall J.node J.incarnation J.opening (Keep key)) }
     {
         self.act(rt, seat, NodeEvent::Keep { key })
     }
@@ -214,9 +225,9 @@ impl<D: Device + Drop, J: Naming, H: Wait + Drop> Node<D, J, H> {
         seat: &mut WriteSeat<J>,
         peer: NodeId,
     ) -> Result<Acknowledgement<J>, LockFault>
-        ensures answers { IfOk result (AnswersCall J.node J.incarnation (Hello peer)) }
+        ensures answers { IfOk result (AnswersCall J.node J.incarnation J.opening (Hello peer)) }
         ensures counted { Counts result seat.old seat.new }
-        ensures refused { IfErr result (RefusesCall J.node J.incarnation (Hello peer)) }
+        ensures refused { IfErr result (RefusesCall J.node J.incarnation J.opening (Hello peer)) }
     {
         self.act(rt, seat, NodeEvent::Hello { peer })
     }
@@ -227,9 +238,9 @@ impl<D: Device + Drop, J: Naming, H: Wait + Drop> Node<D, J, H> {
         rt: &R,
         seat: &mut WriteSeat<J>,
     ) -> Result<Acknowledgement<J>, LockFault>
-        ensures answers { IfOk result (AnswersCall J.node J.incarnation (Leave)) }
+        ensures answers { IfOk result (AnswersCall J.node J.incarnation J.opening (Leave)) }
         ensures counted { Counts result seat.old seat.new }
-        ensures refused { IfErr result (RefusesCall J.node J.incarnation (Leave)) }
+        ensures refused { IfErr result (RefusesCall J.node J.incarnation J.opening (Leave)) }
     {
         self.act(rt, seat, NodeEvent::Leave)
     }
@@ -242,9 +253,11 @@ impl<D: Device + Drop, J: Naming, H: Wait + Drop> Node<D, J, H> {
         prefix: FullPrefix,
         capacity: usize,
     ) -> Result<Acknowledgement<J>, LockFault>
-        ensures answers { IfOk result (AnswersCall J.node J.incarnation (Watch prefix capacity)) }
+        ensures answers { IfOk result
+            (AnswersCall J.node J.incarnation J.opening (Watch prefix capacity)) }
         ensures counted { Counts result seat.old seat.new }
-        ensures refused { IfErr result (RefusesCall J.node J.incarnation (Watch prefix capacity)) }
+        ensures refused { IfErr result
+            (RefusesCall J.node J.incarnation J.opening (Watch prefix capacity)) }
     {
         self.act(rt, seat, NodeEvent::Watch { prefix, capacity })
     }
@@ -256,9 +269,11 @@ impl<D: Device + Drop, J: Naming, H: Wait + Drop> Node<D, J, H> {
         seat: &mut WriteSeat<J>,
         number: u64,
     ) -> Result<Acknowledgement<J>, LockFault>
-        ensures answers { IfOk result (AnswersCall J.node J.incarnation (Changes number)) }
+        ensures answers { IfOk result
+            (AnswersCall J.node J.incarnation J.opening (Changes number)) }
         ensures counted { Counts result seat.old seat.new }
-        ensures refused { IfErr result (RefusesCall J.node J.incarnation (Changes number)) }
+        ensures refused { IfErr result
+            (RefusesCall J.node J.incarnation J.opening (Changes number)) }
     {
         self.act(rt, seat, NodeEvent::Changes { number })
     }
@@ -328,7 +343,7 @@ impl<D: Device + Drop, J: Naming, H: Wait + Drop> Node<D, J, H> {
     ) -> Result<(Closed, D), NotClosed<D, J, H>>
         ensures began { IfOk result (λ r. BeganWith J.node J.incarnation J.opening r.0.base) }
         ensures run { IfOk result (λ r. EndsWithTable r.0) }
-        ensures list { IfOk result (λ r. EndsList J.opening r.0.table readers.now) }
+        ensures list { IfOk result (λ r. EndsList J.opening r.0 readers.now) }
         ensures counts { IfOk result (λ r. (given : ℕ) × (r.0.base.steps + length r.0.journal
             ≡ given + sum_by (λ s. s) seats.items)) }
         ensures back { IfErr result (λ not. not.seats ≡ seats) }

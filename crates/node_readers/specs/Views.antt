@@ -19,9 +19,9 @@ pub record PublisherView : Type 0 where
 
 -- ---- what private functions cite
 
--- what a look under the key finds after all changes of `list`, for a seat that learnt `learnt`
-pub record FoundUnder (opening : Table) (learnt list : List Published) (key : Key) (it : Shown)
+-- what a look under the key finds after all changes of the list
+pub record FoundUnder (opening : Table) (list : List Published) (key : Key) (it : Shown)
     : Type 0 where
   pub values : it.values.items ≡ values_of (object_at (with_all opening list) key)
   pub vector : it.vector ≡ join (object_at (with_all opening list) key)
-  pub descends : DescendsEach opening learnt key it.vector
+  pub descends : DescendsEach opening list key it.vector

@@ -96,7 +96,7 @@ impl<J: Naming> ReadSeat<J> {
             ≡ join (object_at (with_all J.opening self.new.shown) key.now)) }
         ensures holds_learnt { OnOk result (IsPrefix self.old.learnt self.new.shown) }
         ensures descends { IfOk result
-            (λ it. DescendsEach J.opening self.old.learnt key.now it.vector) }
+            (λ it. DescendsEach J.opening self.new.shown key.now it.vector) }
     {
         let Some(reader) = self.reader.take() else {
             unreachable!()
@@ -121,7 +121,7 @@ fn look<J: Naming>(
     ensures view { view result.0.place ≡ shown.new }
     ensures later { IsPrefix shown.old shown.new }
     ensures holds { OnOk result.1 (IsPrefix learnt.now shown.new) }
-    ensures found { IfOk result.1 (FoundUnder J.opening learnt.now shown.new key.now) }
+    ensures found { IfOk result.1 (FoundUnder J.opening shown.new key.now) }
 {
     match reader.enter_as::<CopiesOf<J>>() {
         Ok(reading) => {
@@ -141,7 +141,7 @@ fn look_in<J: Naming>(
 ) -> Result<Shown, PeekFault>
     requires { IsCopy J.book J.opening copy.now }
     ensures holds { OnOk result (IsPrefix learnt.now copy.now.list) }
-    ensures found { IfOk result (FoundUnder J.opening learnt.now copy.now.list key.now) }
+    ensures found { IfOk result (FoundUnder J.opening copy.now.list key.now) }
 {
     if !copy.revision::<J>().covers(learnt) {
         return Err(PeekFault::Stopped);

@@ -9,10 +9,10 @@ use Rattle.desk_parts.specs.Stored.{HasStored, IsStoredOf, LeavesRecord, record_
 use Rattle.desk_parts.proofs.Listing.{grows_by}
 use Rattle.node_core.specs.Step.{IsNodeStep}
 use Rattle.node_journal.specs.Entry.{stepped_of}
-use Rattle.node_desk.specs.Acting.{RefusesKeeping}
+use Rattle.node_desk.specs.Acting.{IsFull, RefusesKeeping}
 use Rattle.node_desk.specs.Desk.{DeskView}
 use Rattle.devices.specs.Device.{LeavesOnly}
-use Rattle.node_desk.proofs.Kept.{call_refused, goes_on, kept_within, leaves_of, one_more, still_of_life, stored_within, told}
+use Rattle.node_desk.proofs.Kept.{began_on, call_refused, goes_on, kept_within, leaves_of, not_full, one_more, still_of_life, stored_within, told}
 use Rattle.node_desk.proofs.desk.Desk.act.Goals as goal
 
 pub settle-done-requires-clause-within : goal.settle-done-requires-clause-within
@@ -55,10 +55,13 @@ pub returns-in-Err-clause-refused : goal.returns-in-Err-clause-refused
 returns-in-Err-clause-refused g c =
     let r = c.in_ok-ready.ensures.ready in
     let e = c.in_ok-ready.ready.entry in
-    let refused = subst (λ (t : Table). RefusesKeeping c.self.inside.file.gate (record_after e.event t) (g.D.Device.failed c.self.inside.file.device) (g.D.Device.failed c.settle-done.new.file.device) c.settle-done.new.is_stopped c.in-Err.fault) c.store.ensures c.in-Err.ensures.refused in
+    let change = c.in_ok-ready.ready.change in
+    let s = c.self.inside in
+    let refused = subst (λ (t : Table). RefusesKeeping s.file.gate (record_after e.event t) change (g.D.Device.failed s.file.device) (g.D.Device.failed c.settle-done.new.file.device) c.settle-done.new.is_stopped c.in-Err.fault) c.store.ensures c.in-Err.ensures.refused in
     let step = subst (λ (v : DeskView g.row.D.Denot). IsNodeStep v.state e.event c.prepare.new.spare (stepped_of e)) c.self.view_is r.known.step in
-    let kept = subst (λ (v : DeskView g.row.D.Denot). RefusesKeeping v.file.gate (record_after e.event c.prepare.new.spare.table) (g.D.Device.failed v.file.device) (g.D.Device.failed c.settle-done.new.file.device) c.settle-done.new.is_stopped c.in-Err.fault) c.self.view_is refused in
-    call_refused g.D.Device.failed c.args.self.now _ c.args.event c.prepare.new.spare e c.in-Err.fault r.is_event step kept
+    let kept = subst (λ (v : DeskView g.row.D.Denot). RefusesKeeping v.file.gate (record_after e.event c.prepare.new.spare.table) change (g.D.Device.failed v.file.device) (g.D.Device.failed c.settle-done.new.file.device) c.settle-done.new.is_stopped c.in-Err.fault) c.self.view_is refused in
+    let room = subst (λ (v : DeskView g.row.D.Denot). IsFull v → ⊥) c.self.view_is (not_full s.limit (length s.journal.items) s.state.steps c.in_ok-ready.ensures.few) in
+    call_refused g.D.Device.failed c.args.self.now _ c.args.event c.prepare.new.spare e change c.in-Err.fault r.is_event step room r.change kept
 
 pub returns-in-Err-clause-any_moment : goal.returns-in-Err-clause-any_moment
 returns-in-Err-clause-any_moment g c = λ _.
@@ -118,3 +121,27 @@ returns-clause-any_moment g c = λ _.
     let d = g.D.Device in
     let left = subst (λ (t : Table). LeavesOnly d.moment d.left_since s.file.device c.settle-done.new.file.device (LeavesRecord (d.content s.file.device) (record_after e.event t))) c.store.ensures c.settle-done.ensures.any_moment in
     rw (← c.self.view_is) (leaves_of d.content d.moment d.left_since s.file.device c.settle-done.new.file.device s.state c.prepare.new.spare c.args.event e r.is_event r.known.step left)
+
+pub returns-then-self-clause-began : goal.returns-then-self-clause-began
+returns-then-self-clause-began g c =
+    let s = c.self.inside in
+    let n = g.J.Naming in
+    rw (← c.self.view_is) (began_on n.node n.incarnation n.opening s.base s.state s.journal.items s.publisher.list c.self.invariant.1 c.self.invariant.0)
+
+pub returns-in_err-ready-clause-began : goal.returns-in_err-ready-clause-began
+returns-in_err-ready-clause-began g c =
+    let s = c.self.inside in
+    let n = g.J.Naming in
+    rw (← c.self.view_is) (began_on n.node n.incarnation n.opening s.base s.state s.journal.items s.publisher.list c.self.invariant.1 c.self.invariant.0)
+
+pub returns-in-Err-clause-began : goal.returns-in-Err-clause-began
+returns-in-Err-clause-began g c =
+    let s = c.self.inside in
+    let n = g.J.Naming in
+    rw (← c.self.view_is) (began_on n.node n.incarnation n.opening s.base s.state s.journal.items s.publisher.list c.self.invariant.1 c.self.invariant.0)
+
+pub returns-clause-began : goal.returns-clause-began
+returns-clause-began g c =
+    let s = c.self.inside in
+    let n = g.J.Naming in
+    rw (← c.self.view_is) (began_on n.node n.incarnation n.opening s.base s.state s.journal.items s.publisher.list c.self.invariant.1 c.self.invariant.0)

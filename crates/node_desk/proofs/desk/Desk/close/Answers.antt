@@ -1,4 +1,4 @@
-use Rattle.std.proofs.Common.{List, All, refl, sym, ap, subst}
+use Rattle.std.proofs.Common.{rules, ◌≡◌, List, All, true, false, refl, sym, ap, subst, ◌∙◌}
 use Rattle.node_history.specs.Published.{Published}
 use Rattle.desk_parts.proofs.Runs.{run_of}
 use Rattle.node_desk.specs.Closing.{EndsWithTable, IsWithin}
@@ -17,4 +17,14 @@ returns-clause-run g c =
 pub returns-clause-readers : goal.returns-clause-readers
 returns-clause-readers g c =
     subst (λ (l : List Published). All (IsWithin l) c.args.readers.now) (ap (λ v. v.list) c.self.view_is)
-    (c.if-not-all_within.ensures refl)
+    (c.if-not-all_within.ensures.0 refl)
+
+pub returns-then-not-all_within-clause-refused : goal.returns-then-not-all_within-clause-refused
+returns-then-not-all_within-clause-refused g c = (
+  search rules,
+  (λ all.
+      let here = subst (λ (l : List Published). All (IsWithin l) c.args.readers.now) (sym (ap (λ v. v.list) c.self.view_is)) all in
+      let is : c.all_within.result ≡ true = c.all_within.ensures.1 here in
+      let clash : true ≡ false = sym is ∙ c.if-not-all_within.true in
+      absurd (cc)),
+)
