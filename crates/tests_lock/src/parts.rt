@@ -9,7 +9,8 @@ use meta_store::Store;
 use meta_types::{FullPrefix, MetaKey, NodeId, Value};
 use node_file::{NodeFile, create, serve};
 use node_lock::{
-    Beginning, Capacity, Closed, Naming, Node, NotStarted, ReadSeat, Receipt, Started, WriteSeat,
+    Beginning, Capacity, Closed, Naming, Node, NotClosed, NotStarted, ReadSeat, Receipt, Started,
+    WriteSeat,
 };
 use std::alloc::Global;
 use std::marker::Brand;
@@ -114,6 +115,15 @@ pub(crate) fn next_life<D: Device + Drop>(
 
 /// What a trial leaves on a new node with these seats.
 pub(crate) fn tried<T: Trial, R: Wait + Abort>(rt: &R, alloc: Global, capacity: Capacity) -> Left {
+    start::<T, R>(rt, alloc, capacity).ok().expect(rt, "a node")
+}
+
+/// The same, or the number of the refusal where the node isn't started.
+pub(crate) fn start<T: Trial, R: Wait + Abort>(
+    rt: &R,
+    alloc: Global,
+    capacity: Capacity,
+) -> Result<Left, u16> {
     let (file, table) = next_life(rt, alloc, open_first(rt, alloc));
     let tokens = (Blank::new(9), Beginning::new());
     begun::<Brand, T, R>(rt, alloc, tokens, file, table, capacity)
@@ -126,7 +136,7 @@ fn begun<J: Naming, T: Trial, R: Wait + Abort>(
     file: NodeFile<MemoryDevice>,
     table: Store,
     capacity: Capacity,
-) -> Left
+) -> Result<Left, u16>
     requires ledger { (tokens.0.name ≡ J.name) × (tokens.0.parts ≡ J.parts) }
     requires book { tokens.1 ≡ J.book }
     requires enough { 9 ≤ J.parts }
@@ -138,12 +148,16 @@ fn begun<J: Naming, T: Trial, R: Wait + Abort>(
         rt, alloc, tokens, file, table, capacity,
     );
     match started {
-        Ok(started) => leave::<J, T, R>(rt, alloc, started),
-        Err(_) => panic!(rt; "a node"),
+        Ok(started) => Ok(leave::<J, T, R>(rt, alloc, started)),
+        Err(not) => {
+            let code = not.fault.code();
+            drop(not);
+            Err(code)
+        }
     }
 }
 
-/// Tries it on the node, and closes that.
+/// Tries it on the node, and closes that, at first without one of its seats.
 fn leave<J: Naming, T: Trial, R: Wait + Abort>(
     rt: &R,
     alloc: Global,
@@ -157,9 +171,41 @@ fn leave<J: Naming, T: Trial, R: Wait + Abort>(
         mut readers,
     } = started;
     let receipts = T::run(rt, alloc, &node, &mut writers, &mut readers);
-    let closed = close(rt, node, writers, readers.as_slice());
+    let seat = writers.pop().expect(rt, "a seat");
+    let not = not_closed(rt, node, writers, readers.as_slice());
+    let closed = close_with(rt, not, seat, readers.as_slice());
     drop(readers);
     Left { closed, receipts }
+}
+
+/// Why the node isn't closed, and what comes back.
+fn not_closed<'r, J: Naming, R: Wait + Abort>(
+    rt: &R,
+    node: Node<MemoryDevice, J, &'r R>,
+    writers: Vec<WriteSeat<J>>,
+    readers: &[ReadSeat<J>],
+) -> NotClosed<MemoryDevice, J, &'r R> {
+    match node.close(writers, readers) {
+        Ok(_) => panic!(rt; "it is closed without a seat"),
+        Err(not) => not,
+    }
+}
+
+/// Closes the node with this seat too.
+fn close_with<J: Naming, R: Wait + Abort>(
+    rt: &R,
+    not: NotClosed<MemoryDevice, J, &R>,
+    seat: WriteSeat<J>,
+    readers: &[ReadSeat<J>],
+) -> Closed {
+    let NotClosed {
+        fault,
+        node,
+        mut seats,
+    } = not;
+    assert!(rt; fault.code() == 54);
+    seats.push(seat).ok().expect(rt, "memory");
+    close(rt, node, seats, readers)
 }
 
 /// Closes the node.

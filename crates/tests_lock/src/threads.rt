@@ -3,11 +3,11 @@
 ghost use Rattle.std.specs.Prelude.{◌≡◌, ◌≤◌};
 ghost use Rattle.node_desk.specs.Starting.{IsFileOf};
 
-use crate::parts::{close, next_life, open_first, put};
+use crate::parts::{close, next_life, open_first, put, shown};
 use devices::{Device, MemoryDevice};
 use meta_store::Store;
 use node_file::NodeFile;
-use node_lock::{Beginning, Capacity, Naming, Node, NotStarted, Started, WriteSeat};
+use node_lock::{Beginning, Capacity, Naming, Node, NotStarted, ReadSeat, Started, WriteSeat};
 use std::alloc::Global;
 use std::marker::Brand;
 use std::process::Abort;
@@ -18,56 +18,119 @@ use std::thread::{self, Threads};
 /// How many writes each of two threads makes.
 const EACH: usize = 100;
 
-/// Writes so often, and answers the sum of the places.
+/// Writes so often, and answers the places.
 fn write<J: Naming, R: Wait + Abort>(
     rt: &R,
     alloc: Global,
     node: &Node<MemoryDevice, J, &R>,
     seat: WriteSeat<J>,
-) -> (WriteSeat<J>, u64) {
+) -> (WriteSeat<J>, Vec<u64>) {
     let mut seat = seat;
-    let mut sum = 0u64;
+    let mut places = Vec::new(alloc);
     for _write in 0..EACH {
         let place = put(rt, alloc, node, &mut seat, b'x');
-        sum = sum.saturating_add(place.ok().expect(rt, "an accepted call"));
+        places
+            .push(place.ok().expect(rt, "an accepted call"))
+            .ok()
+            .expect(rt, "memory");
     }
-    (seat, sum)
+    (seat, places)
 }
 
-/// Two threads write: the sum of all places, and how many entries there are.
+/// Looks so often, and is never shown fewer values than before.
+fn look<J: Naming, R: Wait + Abort>(rt: &R, alloc: Global, reader: ReadSeat<J>) -> ReadSeat<J> {
+    let mut reader = reader;
+    let mut last = 0;
+    for _look in 0..EACH {
+        let seen = shown(rt, alloc, &mut reader).ok().expect(rt, "a look");
+        assert!(rt; seen >= last);
+        last = seen;
+    }
+    reader
+}
+
+/// Two threads write: the places of all receipts.
 fn write_both<J: Naming + Send + Sync, R: Threads + Wait + Abort + Sync>(
     rt: &R,
     alloc: Global,
-    started: Started<MemoryDevice, J, &R>,
-) -> (u64, usize) {
-    let Started {
-        node,
-        mut writers,
-        readers,
-    } = started;
+    node: &Node<MemoryDevice, J, &R>,
+    writers: &mut Vec<WriteSeat<J>>,
+) -> Vec<u64> {
     let first = writers.pop().expect(rt, "a seat");
     let second = writers.pop().expect(rt, "a seat");
-    let shared = &node;
-    let ((first, one), (second, two)) = thread::join(
+    let ((first, mut places), (second, mut others)) = thread::join(
         rt,
-        move || write(rt, alloc, shared, first),
-        move || write(rt, alloc, shared, second),
+        move || write(rt, alloc, node, first),
+        move || write(rt, alloc, node, second),
     );
     writers.push(first).ok().expect(rt, "memory");
     writers.push(second).ok().expect(rt, "memory");
-    let closed = close(rt, node, writers, readers.as_slice());
-    drop(readers);
-    (one.saturating_add(two), closed.journal().len())
+    places.append(&mut others).ok().expect(rt, "memory");
+    places
 }
 
-/// The node that the file begins, with seats for two writers, in which two threads write.
+/// One thread writes while one looks: how many values the reader is shown at last, once it learnt of
+/// a call behind these writes.
+fn write_and_look<J: Naming + Send + Sync, R: Threads + Wait + Abort + Sync>(
+    rt: &R,
+    alloc: Global,
+    node: &Node<MemoryDevice, J, &R>,
+    writers: &mut Vec<WriteSeat<J>>,
+    readers: &mut Vec<ReadSeat<J>>,
+) -> Result<usize, u16> {
+    let writer = writers.pop().expect(rt, "a seat");
+    let reader = readers.pop().expect(rt, "a reader");
+    let ((mut writer, places), mut reader) = thread::join(
+        rt,
+        move || write(rt, alloc, node, writer),
+        move || look(rt, alloc, reader),
+    );
+    drop(places);
+    let last = node.tick(rt, &mut writer, 0);
+    reader.learn(last.ok().expect(rt, "an accepted call").revision());
+    let seen = shown(rt, alloc, &mut reader);
+    writers.push(writer).ok().expect(rt, "memory");
+    readers.push(reader).ok().expect(rt, "memory");
+    seen
+}
+
+/// What came of both: the places of the receipts of two that wrote side by side, what a reader was
+/// shown at last that looked beside one, and how many entries there are.
+struct Came {
+    places: Vec<u64>,
+    seen: Result<usize, u16>,
+    entries: usize,
+}
+
+fn used<J: Naming + Send + Sync, R: Threads + Wait + Abort + Sync>(
+    rt: &R,
+    alloc: Global,
+    started: Started<MemoryDevice, J, &R>,
+) -> Came {
+    let Started {
+        node,
+        mut writers,
+        mut readers,
+    } = started;
+    let places = write_both(rt, alloc, &node, &mut writers);
+    let seen = write_and_look(rt, alloc, &node, &mut writers, &mut readers);
+    let closed = close(rt, node, writers, readers.as_slice());
+    drop(readers);
+    Came {
+        places,
+        seen,
+        entries: closed.journal().len(),
+    }
+}
+
+/// The node that the file begins, with seats for two writers and a reader.
 fn begun<J: Naming + Send + Sync, R: Threads + Wait + Abort + Sync>(
     rt: &R,
     alloc: Global,
     tokens: (Blank, Beginning),
     file: NodeFile<MemoryDevice>,
     table: Store,
-) -> (u64, usize)
+) -> Came
     requires ledger { (tokens.0.name ≡ J.name) × (tokens.0.parts ≡ J.parts) }
     requires book { tokens.1 ≡ J.book }
     requires enough { 9 ≤ J.parts }
@@ -81,18 +144,36 @@ fn begun<J: Naming + Send + Sync, R: Threads + Wait + Abort + Sync>(
         tokens,
         file,
         table,
-        Capacity::new(2, 0),
+        Capacity::new(2, 1),
     );
     match started {
-        Ok(started) => write_both(rt, alloc, started),
+        Ok(started) => used(rt, alloc, started),
         Err(_) => panic!(rt; "a node"),
     }
 }
 
+/// Whether these are the places from 0 on, each once.
+fn are_all_places(places: &[u64]) -> bool {
+    let mut is_there = [false; 2 * EACH];
+    for place in places {
+        match is_there.get_mut(*place as usize) {
+            Some(there) if !*there => *there = true,
+            _ => return false,
+        }
+    }
+    places.len() == 2 * EACH
+}
+
 #[test]
-fn two_threads_write_side_by_side(rt: HostRuntime) {
+fn threads_share_a_node(rt: HostRuntime) {
     let (file, table) = next_life(&rt, rt.alloc(), open_first(&rt, rt.alloc()));
     let tokens = (Blank::new(9), Beginning::new());
-    let came = begun::<Brand, _>(&rt, rt.alloc(), tokens, file, table);
-    assert!(&rt; came == (19_900, 200));
+    let Came {
+        places,
+        seen,
+        entries,
+    } = begun::<Brand, _>(&rt, rt.alloc(), tokens, file, table);
+    assert!(&rt; are_all_places(&places));
+    assert!(&rt; seen == Ok(3 * EACH));
+    assert!(&rt; entries == 301);
 }

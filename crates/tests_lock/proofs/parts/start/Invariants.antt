@@ -1,4 +1,4 @@
-use Rattle.tests_lock.proofs.parts.tried.Given as goal
+use Rattle.tests_lock.proofs.parts.start.Given as goal
 
 -- the node whose file it is
 abbrev pub ghosts-begun-J-Naming : goal.ghosts-begun-J-Naming

@@ -1,4 +1,4 @@
-use Rattle.tests_lock.proofs.threads.two_threads_write_side_by_side.Given as goal
+use Rattle.tests_lock.proofs.threads.threads_share_a_node.Given as goal
 
 -- the node whose file it is
 abbrev pub ghosts-begun-J-Naming : goal.ghosts-begun-J-Naming
