@@ -1,6 +1,6 @@
 //! When a node is started, and when it is closed.
 
-use crate::parts::{Trial, start, tried};
+use crate::parts::{Trial, counted, start};
 use devices::MemoryDevice;
 use node_lock::{Capacity, Naming, Node, ReadSeat, Receipt, WriteSeat};
 use std::alloc::Global;
@@ -25,8 +25,8 @@ impl Trial for Nothing {
 /// Each trial ends so: it is 54 without one of the seats, and then they all come back.
 #[test]
 fn a_node_is_closed_once_all_its_seats_are_back(rt: HostRuntime) {
-    let left = tried::<Nothing, HostRuntime>(&rt, rt.alloc(), Capacity::new(2, 1));
-    assert!(rt; left.closed.journal().is_empty());
+    let counted = counted::<Nothing, HostRuntime>(&rt, rt.alloc(), Capacity::new(2, 1));
+    assert!(rt; counted == (0, 0));
 }
 
 /// The number of the refusal with this capacity; 0 where the node is started.

@@ -118,7 +118,17 @@ pub(crate) fn tried<T: Trial, R: Wait + Abort>(rt: &R, alloc: Global, capacity: 
     start::<T, R>(rt, alloc, capacity).ok().expect(rt, "a node")
 }
 
-/// The same, or the number of the refusal where the node isn't started.
+/// How many steps the base of what a trial leaves has, and how many entries the journal.
+pub(crate) fn counted<T: Trial, R: Wait + Abort>(
+    rt: &R,
+    alloc: Global,
+    capacity: Capacity,
+) -> (u64, usize) {
+    let left = tried::<T, R>(rt, alloc, capacity);
+    (left.closed.base().steps(), left.closed.journal().len())
+}
+
+/// What a trial leaves, or the number of the refusal where the node isn't started.
 pub(crate) fn start<T: Trial, R: Wait + Abort>(
     rt: &R,
     alloc: Global,

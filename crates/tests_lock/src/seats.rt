@@ -1,6 +1,6 @@
 //! Seats of both kinds, and how the journal is cut.
 
-use crate::parts::{Trial, key, put, shown, tried, value};
+use crate::parts::{Trial, counted, key, put, shown, value};
 use devices::MemoryDevice;
 use node_lock::{Capacity, Naming, Node, ReadSeat, Receipt, WriteSeat};
 use std::alloc::Global;
@@ -35,8 +35,8 @@ impl Trial for EightOfEach {
 
 #[test]
 fn eight_seats_of_each_kind_write_and_are_shown(rt: HostRuntime) {
-    let left = tried::<EightOfEach, HostRuntime>(&rt, rt.alloc(), Capacity::new(8, 8));
-    assert!(rt; left.closed.journal().len() == 8);
+    let counted = counted::<EightOfEach, HostRuntime>(&rt, rt.alloc(), Capacity::new(8, 8));
+    assert!(rt; counted == (0, 8));
 }
 
 /// Three entries are cut, and the next stands at place 3.
@@ -69,8 +69,7 @@ fn a_full_journal_is_cut_and_goes_on(rt: HostRuntime) {
         readers: 0,
         journal: 3,
     };
-    let left = tried::<CutAtThree, HostRuntime>(&rt, rt.alloc(), capacity);
-    assert!(rt; left.closed.base().steps() == 3 && left.closed.journal().len() == 1);
+    assert!(rt; counted::<CutAtThree, HostRuntime>(&rt, rt.alloc(), capacity) == (3, 1));
 }
 
 /// A ninth seat is refused until one is given up.
@@ -98,8 +97,8 @@ impl Trial for NoNinth {
 
 #[test]
 fn a_ninth_seat_is_refused_until_one_is_given_up(rt: HostRuntime) {
-    let left = tried::<NoNinth, HostRuntime>(&rt, rt.alloc(), Capacity::new(8, 0));
-    assert!(rt; left.closed.journal().len() == 2);
+    let counted = counted::<NoNinth, HostRuntime>(&rt, rt.alloc(), Capacity::new(8, 0));
+    assert!(rt; counted == (0, 2));
 }
 
 /// A new node has nothing to cut. After a write of which one reader learnt, that one is shown it, and
@@ -134,6 +133,6 @@ impl Trial for OneLearnt {
 
 #[test]
 fn a_reader_that_learnt_is_shown_the_write(rt: HostRuntime) {
-    let left = tried::<OneLearnt, HostRuntime>(&rt, rt.alloc(), Capacity::new(1, 2));
-    assert!(rt; left.closed.journal().len() == 1);
+    let counted = counted::<OneLearnt, HostRuntime>(&rt, rt.alloc(), Capacity::new(1, 2));
+    assert!(rt; counted == (0, 1));
 }

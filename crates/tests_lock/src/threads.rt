@@ -96,6 +96,7 @@ fn write_and_look<J: Naming + Send + Sync, R: Threads + Wait + Abort + Sync>(
 
 /// What came of both: the places of the receipts of two that wrote side by side, what a reader was
 /// shown at last that looked beside one, and how many entries there are.
+#[derive(Drop)]
 struct Came {
     places: Vec<u64>,
     seen: Result<usize, u16>,
@@ -164,16 +165,18 @@ fn are_all_places(places: &[u64]) -> bool {
     places.len() == 2 * EACH
 }
 
+fn is_as_wanted(came: &Came) -> bool {
+    are_all_places(&came.places) && came.seen == Ok(3 * EACH) && came.entries == 301
+}
+
+/// What came of it on a new node.
+fn shared<R: Threads + Wait + Abort + Sync>(rt: &R, alloc: Global) -> Came {
+    let (file, table) = next_life(rt, alloc, open_first(rt, alloc));
+    let tokens = (Blank::new(9), Beginning::new());
+    begun::<Brand, R>(rt, alloc, tokens, file, table)
+}
+
 #[test]
 fn threads_share_a_node(rt: HostRuntime) {
-    let (file, table) = next_life(&rt, rt.alloc(), open_first(&rt, rt.alloc()));
-    let tokens = (Blank::new(9), Beginning::new());
-    let Came {
-        places,
-        seen,
-        entries,
-    } = begun::<Brand, _>(&rt, rt.alloc(), tokens, file, table);
-    assert!(&rt; are_all_places(&places));
-    assert!(&rt; seen == Ok(3 * EACH));
-    assert!(&rt; entries == 301);
+    assert!(&rt; is_as_wanted(&shared(&rt, rt.alloc())));
 }

@@ -1,4 +1,4 @@
-use Rattle.tests_lock.proofs.threads.threads_share_a_node.Given as goal
+use Rattle.tests_lock.proofs.threads.shared.Given as goal
 
 -- the node whose file it is
 abbrev pub ghosts-begun-J-Naming : goal.ghosts-begun-J-Naming
