@@ -1,8 +1,9 @@
-//! The parts of what lies under a node's lock: a step is tried on a second state, all that is handed
-//! out is made ready, what the event stores goes into the file, and what it changes is shown to
-//! readers. Once these succeeded, keeping the entry can't fail.
+//! The parts of what lies under a node's lock: a step is tried on a second state, all that is
+//! handed out is made ready, what the event stores goes into the file, and what it changes is shown
+//! to readers. Once these succeeded, keeping the entry can't fail.
 //!
-//! Read `trying`, `ready`, `storing`, `showing`; then `seat`, `acknowledgement`, `laws` and `fault`.
+//! Read `trying`, `ready`, `storing`, `showing`; then `seat`, `acknowledgement`, `laws` and
+//! `fault`.
 #![tactic(auto)]
 
 mod acknowledgement;

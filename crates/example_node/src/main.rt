@@ -1,5 +1,6 @@
-//! A node in use: the next life of a node is begun in the file at a path, which is made where nothing
-//! is; a value is written under a key, a reader learns of it and looks, and the node is closed.
+//! A node in use: the next life of a node is begun in the file at a path, which is made where
+//! nothing is; a value is written under a key, a reader learns of it and looks, and the node is
+//! closed.
 //!
 //! `example_node PATH KEY VALUE`, with a key as `a/b/k`. It prints what the reader was shown, and
 //! how many entries the journal had.

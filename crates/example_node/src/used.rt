@@ -14,8 +14,8 @@ use std::io;
 use std::sync::Wait;
 use std::sync::ledger::Blank;
 
-/// Starts the node, writes a value in place of what it holds under the key, and closes it. Says what
-/// a reader is shown that learnt of the write, and how many entries the journal had.
+/// Starts the node, writes a value in place of what it holds under the key, and closes it. Says
+/// what a reader is shown that learnt of the write, and how many entries the journal had.
 pub(crate) fn written<J: Naming, R: Wait>(
     rt: &R,
     alloc: Global,

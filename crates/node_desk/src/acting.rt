@@ -35,9 +35,10 @@ impl<D: Device + Drop, J: Naming, H: Wait + Drop> Desk<D, J, H> {
     /// file, and what it changes shown to readers. It adds one to the seat's count.
     ///
     /// Refused in this order: 34 `Stopped`; what the step refuses; 51 `JournalFull`; 33 `FileFull`;
-    /// 30 `Device`, which stops the node. 99 `Memory` may come at any time, and stops the node where
-    /// a byte went out to the device, or readers couldn't be shown the change. A refused call leaves
-    /// all as before, but that where it stops the node a crash may leave its object in the file.
+    /// 30 `Device`, which stops the node. 99 `Memory` may come at any time, and stops the node
+    /// where a byte went out to the device, or readers couldn't be shown the change. A refused call
+    /// leaves all as before, but that where it stops the node a crash may leave its object in the
+    /// file.
     ///
     /// It waits for readers that are inside a `peek` while it publishes, and for the device.
     pub fn act<R: Wait>(

@@ -1,5 +1,5 @@
-//! What lies under a node's lock: its state, its journal, its file and what readers are shown, moved
-//! together by one call.
+//! What lies under a node's lock: its state, its journal, its file and what readers are shown,
+//! moved together by one call.
 //!
 //! ```
 //! let done = desk.act(rt, &mut seat, NodeEvent::Write { key, value, context: None })?;
@@ -7,7 +7,8 @@
 //! reader.learn(done.revision()); // from here on this reader shows it or what came later
 //! ```
 //!
-//! Read `desk` (`Desk::act`), `seats`, `starting` and `closing`; `desk_parts` has what a call is made of.
+//! Read `desk` (`Desk::act`), `seats`, `starting` and `closing`; `desk_parts` has what a call is
+//! made of.
 #![tactic(auto)]
 
 mod acting;

@@ -19,8 +19,8 @@ use Rattle.desk_parts.specs.Journaled.{IsJournaled}
 use Rattle.desk_parts.specs.Ready.{CanStep}
 use Rattle.node_desk.specs.Desk.{BeganWith, IsReceiptOf}
 
--- from some state that a node comes to which opens with this table in this life, the event makes the
--- step that the receipt tells, at its place
+-- from some state that a node comes to which opens with this table in this life, the event makes
+-- the step that the receipt tells, at its place
 pub record AnswersCall (node incarnation : ℕ) (opened : Table) (event : NodeEvent)
     (a : Acknowledged) : Type 0 where
   pub old : NodeParts
@@ -67,8 +67,8 @@ RefusesCall node incarnation opened event fault = Unit {0}
 
 -- ---- when it is closed
 
--- one list of changes ends with those that the journal made, makes the table out of the opening one,
--- and begins with what each reader was shown and has learnt
+-- one list of changes ends with those that the journal made, makes the table out of the opening
+-- one, and begins with what each reader was shown and has learnt
 pub record EndsList (opened : Table) (c : ClosedNode) (readers : List SeatView) : Type 0 where
   pub list : List Published
   pub end : NodeParts

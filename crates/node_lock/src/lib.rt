@@ -1,17 +1,18 @@
-//! A node that threads share: whoever calls it from any thread gets a step of the proved core, which
-//! is journaled, durable where it writes, and shown to readers that take no lock.
+//! A node that threads share: whoever calls it from any thread gets a step of the proved core,
+//! which is journaled, durable where it writes, and shown to readers that take no lock.
 //!
 //! ```
 //! let tokens = (Blank::new(9), Beginning::new());
-//! let Started { node, mut writers, mut readers } = Node::start(rt, alloc, tokens, file, table, capacity)?;
+//! let started = Node::start(rt, alloc, tokens, file, table, capacity)?;
+//! let Started { node, mut writers, mut readers } = started;
 //! let done = node.put(rt, &mut writers[0], key.copy()?, value, None)?;
 //! readers[0].learn(done.revision());
 //! let shown = readers[0].peek(&key)?; // without a lock: what was put, or what came later
 //! let (closed, device) = node.close(writers, &readers)?;
 //! ```
 //!
-//! Read `node` (`Node`), then `node_desk` for what a call does under the lock, and `node_readers` for
-//! what a reader sees.
+//! Read `node` (`Node`), then `node_desk` for what a call does under the lock, and `node_readers`
+//! for what a reader sees.
 #![tactic(auto)]
 
 mod node;

@@ -334,8 +334,8 @@ impl<D: Device + Drop, J: Naming, H: Wait + Drop> Node<D, J, H> {
     /// file's device. No other thread has it any more. It takes no memory, and waits for readers
     /// that are inside a `peek`.
     ///
-    /// Refused: 54 `SeatsMissing`, and then node and seats come back; 34 `Stopped` has no cause that
-    /// can come.
+    /// Refused: 54 `SeatsMissing`, and then node and seats come back; 34 `Stopped` has no cause
+    /// that can come.
     pub fn close(
         self,
         seats: Vec<WriteSeat<J>>,

@@ -69,8 +69,8 @@ fn write_both<J: Naming + Send + Sync, R: Threads + Wait + Abort + Sync>(
     places
 }
 
-/// One thread writes while one looks: how many values the reader is shown at last, once it learnt of
-/// a call behind these writes.
+/// One thread writes while one looks: how many values the reader is shown at last, once it learnt
+/// of a call behind these writes.
 fn write_and_look<J: Naming + Send + Sync, R: Threads + Wait + Abort + Sync>(
     rt: &R,
     alloc: Global,

@@ -121,8 +121,8 @@ fn look_meanwhile<J: Naming, R: Wait + Abort>(
     seen
 }
 
-/// Writes once, of which the reader learns, and once more while it looks: what it is shown then, and
-/// what at last.
+/// Writes once, of which the reader learns, and once more while it looks: what it is shown then,
+/// and what at last.
 fn looked<J: Naming + Send + Sync, R: Threads + Wait + Abort + Sync>(
     rt: &R,
     alloc: Global,
