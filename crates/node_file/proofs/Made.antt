@@ -5,9 +5,10 @@ use Rattle.std.proofs.lemmas.Nat.{from_be_bytes-to_be_bytes_2}
 use Rattle.node_file.specs.declared.fault.FileFault.{FileFault}
 use Rattle.node_file.specs.Fold.{Contents, contents_from, may_follow, no_contents, with_record}
 use Rattle.node_file.specs.File.{FileState, empty_file, ended, file_state, for_node, front_in, front_of, is_other, magic, old_magic, opened, state_or_none}
+use Rattle.node_file.specs.Refusal.{refusal_of_life, refusal_of_serve}
 use Rattle.node_file.specs.View.{FileView, IsSettled}
 use Rattle.std.specs.Str.{bytes_eq}
-use Rattle.std.proofs.lemmas.Bool.{cases_lt, eqb-true}
+use Rattle.std.proofs.lemmas.Bool.{cases_lt, eq-eqb, eqb-true}
 use Rattle.meta_store.specs.Table.{most_keys}
 use Rattle.meta_store.specs.declared.fault.StoreFault.TheVariants.{StoreFull}
 use Rattle.devices.specs.Device.{IsDurable, HasFailed}
@@ -59,11 +60,19 @@ of_asked node bytes o e = short (nat_lt (length bytes) 11) e
 abbrev pub fresh : ℕ → FileState
 fresh node = record { version = 2; node = node; contents = no_contents }
 
-pub made : (node : ℕ) → node < 16 → opened None (empty_file node) ≡ Ok (fresh node, 10)
+-- an empty file that was made for a node opens for whoever may ask for that one
+made_for : (asked : Option ℕ) (node : ℕ) → node < 16 → is_other asked node ≡ false → opened asked (empty_file node) ≡ Ok (fresh node, 10)
 unfolding opened front_in contents_from
-made node lt =
+made_for asked node lt same =
     let number : from_be_bytes w16 (to_be_bytes w16 node) ≡ node = from_be_bytes-to_be_bytes_2 node (omega (arith, lt)) in
-    rw (number, not_below 15 node (omega (arith, lt)), closed may_follow with_record 2 no_contents 0 [] (omega arith)) refl
+    rw (number, not_below 15 node (omega (arith, lt)), same, closed may_follow with_record 2 no_contents 0 [] (omega arith)) refl
+
+pub made : (node : ℕ) → node < 16 → opened None (empty_file node) ≡ Ok (fresh node, 10)
+made node lt = made_for None node lt refl
+
+-- and is served
+pub serves : (node : ℕ) → node < 16 → refusal_of_serve (Some node) (empty_file node) ≡ None
+serves node lt = ap refusal_of_life (made_for (Some node) node lt (rw (eq-eqb node node refl) refl))
 
 pub made_stands : (node : ℕ) → node < 16 → file_state (empty_file node) ≡ fresh node
 made_stands node lt = ap state_or_none (made node lt)

@@ -1,10 +1,11 @@
 //! Laws of node files. The contract of a function is the law; its body does nothing.
 
-ghost use Rattle.std.specs.Prelude.{◌≡◌, ◌↔◌, ◌+◌, ◌++◌, List, ℕ, None, Some, Ok, length, take, drop};
+ghost use Rattle.std.specs.Prelude.{◌≡◌, ◌↔◌, ◌+◌, ◌<◌, ◌++◌, List, [], ℕ, None, Some, Ok, length, take, drop};
 ghost use Rattle.frame_readers.proofs.Readers.{IsBytes};
-ghost use Rattle.node_file.specs.File.{opened, FileState};
+ghost use Rattle.node_file.specs.File.{empty_file, file_state, new_state, opened, FileState};
 ghost use Rattle.node_file.specs.Lives.{IsTold};
 ghost use Rattle.node_file.specs.Record.{IsRecord, payload, record_bytes, record_in, record_of, Says};
+ghost use Rattle.node_file.specs.Refusal.{refusal_of_serve};
 ghost use Rattle.node_file.specs.declared.record.Record.{Record};
 
 /// A payload of version 2 is read as a record exactly where it is the payload of that record. So
@@ -34,4 +35,11 @@ pub fn a_record_is_read_again()
     ensures { (said : Record) (rest : List ℕ) → IsRecord said
         → record_in 2 (record_bytes (payload said) ++ rest)
         ≡ Some (said, 36 + length (payload said)) }
+{}
+
+/// An empty file, as [`create`](crate::create) makes it for a node, is one that the node can be
+/// served from; it was in no life yet, and holds no key.
+pub fn an_empty_file_is_served()
+    ensures { (node : ℕ) → node < 16 → (refusal_of_serve (Some node) (empty_file node) ≡ None)
+        × (file_state (empty_file node) ≡ new_state node 0 []) }
 {}

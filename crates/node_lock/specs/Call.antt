@@ -13,7 +13,7 @@ use Rattle.node_history.specs.Published.{Published, with_all}
 use Rattle.node_readers.specs.Views.{SeatView}
 use Rattle.desk_parts.specs.declared.fault.LockFault.{LockFault}
 use Rattle.desk_parts.specs.declared.fault.LockFault.TheVariants.{Step, Device, FileFull, JournalFull, NoSeat, SeatsMissing, BadLimit}
-use Rattle.node_desk.specs.Closing.{IsWithin}
+use Rattle.node_desk.specs.Closing.{IsWithin, RefusesClosing}
 use Rattle.desk_parts.specs.Acknowledged.{Acknowledged}
 use Rattle.desk_parts.specs.Journaled.{IsJournaled}
 use Rattle.desk_parts.specs.Ready.{CanStep}
@@ -76,3 +76,10 @@ pub record EndsList (opened : Table) (c : ClosedNode) (readers : List SeatView) 
   pub table : end.table ≡ c.table
   pub makes : with_all opened list ≡ c.table
   pub within : All (IsWithin list) readers
+
+-- of so many seats that were handed in, with these readers, it may be refused so: of some number of
+-- seats that are out, and over some list of what was published
+pub record CanRefuseClosing (given : ℕ) (readers : List SeatView) (fault : LockFault) : Type 0 where
+  pub out : ℕ
+  pub list : List Published
+  pub refuses : RefusesClosing out given list readers fault

@@ -2,11 +2,11 @@
 
 ghost use Rattle.std.specs.Prelude.{◌≡◌, ◌≤◌, ◌⊎◌, ◌+◌, ℕ, None, length, sum_by, IfOk, IfErr, OnOk};
 ghost use Rattle.node_events.specs.declared.event.NodeEvent.TheVariants.{Read, Write, PutOver, Take, Tick, Join, PeerDown, Exchange, Keep, Watch, Changes, Hello, Leave};
-ghost use Rattle.desk_parts.specs.declared.fault.LockFault.TheVariants.{Memory, NoSeat, SeatsMissing, Stopped};
+ghost use Rattle.desk_parts.specs.declared.fault.LockFault.TheVariants.{Memory, NoSeat, Stopped};
 ghost use Rattle.node_desk.specs.Closing.{EndsWithTable};
 ghost use Rattle.node_desk.specs.Desk.{BeganWith};
 ghost use Rattle.node_desk.specs.Starting.{AreNewReaders, AreNewWriters, IsFileOf, RefusesStarting, refusal_of_start};
-ghost use Rattle.node_lock.specs.Call.{AnswersCall, Counts, EndsList, RefusesCall};
+ghost use Rattle.node_lock.specs.Call.{AnswersCall, CanRefuseClosing, Counts, EndsList, RefusesCall};
 
 use desk_parts::{Acknowledgement, LockFault, WriteSeat};
 use devices::Device;
@@ -334,8 +334,8 @@ impl<D: Device + Drop, J: Naming, H: Wait + Drop> Node<D, J, H> {
     /// file's device. No other thread has it any more. It takes no memory, and waits for readers
     /// that are inside a `peek`.
     ///
-    /// Refused: 54 `SeatsMissing`, and then node and seats come back; 34 `Stopped` has no cause
-    /// that can come.
+    /// Refused, and then node and seats come back: 54 `SeatsMissing`; then 34 `Stopped`, where a
+    /// reader saw more than was published, which has no cause that can come.
     pub fn close(
         self,
         seats: Vec<WriteSeat<J>>,
@@ -347,8 +347,8 @@ impl<D: Device + Drop, J: Naming, H: Wait + Drop> Node<D, J, H> {
         ensures counts { IfOk result (λ r. (given : ℕ) × (r.0.base.steps + length r.0.journal
             ≡ given + sum_by (λ s. s) seats.items)) }
         ensures back { IfErr result (λ not. not.seats ≡ seats) }
-        ensures refused { IfErr result (λ not.
-            (not.fault ≡ SeatsMissing) ⊎ (not.fault ≡ Stopped)) }
+        ensures refused { IfErr result
+            (λ not. CanRefuseClosing (length seats.items) readers.now not.fault) }
     {
         let Node { desk } = self;
         match desk.into_inner().close(seats, readers) {
