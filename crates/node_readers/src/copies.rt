@@ -5,16 +5,18 @@ ghost use Rattle.dvvset.specs.Clock.{join, values_of};
 ghost use Rattle.meta_store.specs.Table.{object_at};
 
 use crate::shown::Shown;
+use dvvset::{Entries, join, values};
 use left_right::Absorb;
 use meta_store::Store;
 use meta_types::MetaKey;
 use node_history::{Extent, Naming, Published, Revision};
-use std::alloc::AllocError;
+use std::alloc::{AllocError, Global};
 use std::marker::Model;
 
 /// The table that readers take, and the history up to it.
 #[derive(Drop)]
 pub struct PublishedTable {
+    alloc: Global,
     table: Store,
     extent: Extent,
 }
@@ -32,12 +34,13 @@ impl Model for PublishedTable {
 }
 
 impl PublishedTable {
-    pub(crate) fn new<J: Naming>(table: Store, revision: &Revision<J>) -> Self
+    pub(crate) fn new<J: Naming>(alloc: Global, table: Store, revision: &Revision<J>) -> Self
         ensures book { result.book ≡ J.book }
         ensures list { result.list ≡ revision.now }
         ensures table { result.table ≡ table }
     {
         PublishedTable {
+            alloc,
             table,
             extent: revision.extent().again(),
         }
@@ -51,15 +54,27 @@ impl PublishedTable {
         Revision::of(&self.extent)
     }
 
-    /// The values under the key, and their vector. They are copies.
+    /// The values under the key, and their vector. They are copies. The key is searched for once,
+    /// since a look takes most of its time for that.
     pub(crate) fn look(&self, key: &MetaKey) -> Result<Shown, AllocError>
         ensures values { IfOk result
             (λ it. it.values.items ≡ values_of (object_at self.now.table key.now)) }
         ensures vector { IfOk result (λ it. it.vector ≡ join (object_at self.now.table key.now)) }
     {
-        let (values, vector) = self.table.get(key)?;
-        Ok(Shown { values, vector })
+        let absent = Entries::empty(self.alloc);
+        shown_of(self.alloc, self.table.object(key).unwrap_or(&absent))
     }
+}
+
+/// The values of an object, and its vector. They are copies.
+fn shown_of(alloc: Global, object: &Entries) -> Result<Shown, AllocError>
+    ensures values { IfOk result (λ it. it.values.items ≡ values_of object.now) }
+    ensures vector { IfOk result (λ it. it.vector ≡ join object.now) }
+{
+    Ok(Shown {
+        values: values(alloc, object)?,
+        vector: join(alloc, object)?,
+    })
 }
 
 /// A change, and the history that it ends.

@@ -78,8 +78,8 @@ impl<J: Naming, H: Wait + Drop> Publisher<J, H> {
     {
         // Read for what it tells: what the store holds is a table.
         let _ = table.len();
-        let one = PublishedTable::new(table.copy()?, &revision);
-        let two = PublishedTable::new(table.copy()?, &revision);
+        let one = PublishedTable::new(alloc, table.copy()?, &revision);
+        let two = PublishedTable::new(alloc, table.copy()?, &revision);
         Ok(Publisher {
             writer: Some(Writer::new(alloc, one, two, readers)?),
             none: revision.again(),
