@@ -1,4 +1,6 @@
 -- tables whose objects know all that those before knew
 pub mod Growing
+-- what is found in a table that is spread over buckets
+pub mod Spreading
 -- each step keeps the rule of the copies
 pub mod Moves

@@ -1,15 +1,16 @@
 -- The copies of the table of which readers take one, and what is added to them.
-use Rattle.std.specs.Prelude.{◌≡◌, List}
+use Rattle.std.specs.Prelude.{◌≡◌, List, length}
 use Rattle.logbook.specs.Pages.{Book}
 use Rattle.meta_store.specs.Table.{Table}
-use Rattle.node_history.specs.Published.{Published, with_all, with_published}
+use Rattle.node_history.specs.Published.{Published, with_all}
 use Rattle.node_readers.specs.Growth.{Grows}
+use Rattle.node_readers.specs.Spread.{IsSpreadOf, Spread, bucket_count, with_spread}
 
--- a copy: whose history it has, the changes up to it, and the table
+-- a copy: whose history it has, the changes up to it, and the table, spread over bucket_count
 pub record TableView : Type 0 where
   pub book : Book
   pub list : List Published
-  pub table : Table
+  pub spread : Spread
 
 -- a change, with the history that it ends
 pub record AdditionView : Type 0 where
@@ -22,14 +23,15 @@ abbrev pub taken_in : TableView → AdditionView → TableView
 taken_in copy addition = record {
   book = addition.book;
   list = addition.list;
-  table = with_published copy.table addition.change;
+  spread = with_spread addition.change.key addition.change.object copy.spread;
 }
 
 -- the copy is one of this history, and has the opening table with its changes put in, which only
 -- grows
 pub record IsCopy (book : Book) (opening : Table) (copy : TableView) : Type 0 where
   pub history : copy.book ≡ book
-  pub content : copy.table ≡ with_all opening copy.list
+  pub content : IsSpreadOf (with_all opening copy.list) copy.spread
+  pub whole : length copy.spread ≡ bucket_count
   pub grows : Grows opening copy.list
 
 -- and these are its changes

@@ -12,6 +12,8 @@ pub mod Growth
 pub mod Views
 -- the numbers of refusals
 pub mod Fault
--- ---- not needed to believe the public contracts: the copies that readers take, and their rule
+-- ---- not needed to believe the public contracts: the copies that readers take, how a table is
+-- spread over buckets in them, and their rule
+pub mod Spread
 pub mod Copies
 pub mod Rule

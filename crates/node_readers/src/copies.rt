@@ -1,13 +1,13 @@
 //! The two copies of the table, of which readers take one, and what is added to both.
 
-ghost use Rattle.std.specs.Prelude.{◌≡◌, IfOk};
+ghost use Rattle.std.specs.Prelude.{◌≡◌, length, IfOk};
 ghost use Rattle.dvvset.specs.Clock.{join, values_of};
-ghost use Rattle.meta_store.specs.Table.{object_at};
+ghost use Rattle.node_readers.specs.Spread.{object_in, bucket_count};
 
 use crate::shown::Shown;
+use crate::spread::SpreadTable;
 use dvvset::{Entries, join, values};
 use left_right::Absorb;
-use meta_store::Store;
 use meta_types::MetaKey;
 use node_history::{Extent, Naming, Published, Revision};
 use std::alloc::{AllocError, Global};
@@ -17,7 +17,7 @@ use std::marker::Model;
 #[derive(Drop)]
 pub struct PublishedTable {
     alloc: Global,
-    table: Store,
+    table: SpreadTable,
     extent: Extent,
 }
 
@@ -29,15 +29,16 @@ impl Model for PublishedTable {
     ghost view = { λ p. record {
       book = p.extent.book;
       list = p.extent.list;
-      table = p.table;
+      spread = p.table;
     } };
 }
 
 impl PublishedTable {
-    pub(crate) fn new<J: Naming>(alloc: Global, table: Store, revision: &Revision<J>) -> Self
+    pub(crate) fn new<J: Naming>(alloc: Global, table: SpreadTable, revision: &Revision<J>) -> Self
         ensures book { result.book ≡ J.book }
         ensures list { result.list ≡ revision.now }
-        ensures table { result.table ≡ table }
+        ensures spread { result.spread ≡ table }
+        ensures whole { length result.spread ≡ bucket_count }
     {
         PublishedTable {
             alloc,
@@ -54,12 +55,11 @@ impl PublishedTable {
         Revision::of(&self.extent)
     }
 
-    /// The values under the key, and their vector. They are copies. The key is searched for once,
-    /// since a look takes most of its time for that.
+    /// The values under the key, and their vector. They are copies. The key is searched for once.
     pub(crate) fn look(&self, key: &MetaKey) -> Result<Shown, AllocError>
         ensures values { IfOk result
-            (λ it. it.values.items ≡ values_of (object_at self.now.table key.now)) }
-        ensures vector { IfOk result (λ it. it.vector ≡ join (object_at self.now.table key.now)) }
+            (λ it. it.values.items ≡ values_of (object_in self.now.spread key.now)) }
+        ensures vector { IfOk result (λ it. it.vector ≡ join (object_in self.now.spread key.now)) }
     {
         let absent = Entries::empty(self.alloc);
         shown_of(self.alloc, self.table.object(key).unwrap_or(&absent))
@@ -125,9 +125,6 @@ impl Absorb<Addition> for PublishedTable {
         _other: &PublishedTable,
     ) -> Result<(), AllocError> {
         let change = &addition.change;
-        if !self.table.has_room_for(change.key()) {
-            return Err(AllocError);
-        }
         let (key, object) = (change.key().copy()?, change.object().copy()?);
         self.table.hold(key, object)?;
         self.extent = addition.extent.again();

@@ -12,8 +12,8 @@
 //! let shown = seat.peek(&key)?; // with the change
 //! ```
 //!
-//! Read `seat`, `shown`, `fault`, `publisher`, then `threads` and `laws`; `copies` and `rule`
-//! hold what `left_right` asks for.
+//! Read `seat`, `shown`, `fault`, `publisher`, then `threads` and `laws`; `spread` is the
+//! table that a copy has, and `copies` and `rule` hold what `left_right` asks for.
 #![tactic(auto)]
 
 mod copies;
@@ -23,6 +23,7 @@ mod publisher;
 mod rule;
 mod seat;
 mod shown;
+mod spread;
 mod threads;
 
 pub use fault::PeekFault;

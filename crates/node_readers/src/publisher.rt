@@ -8,6 +8,7 @@ ghost use Rattle.node_readers.specs.Growth.{GrowsBy};
 use crate::copies::{Addition, PublishedTable};
 use crate::rule::{CopiesOf, Known};
 use crate::seat::ReadSeat;
+use crate::spread::SpreadTable;
 use left_right::writer::Writer;
 use meta_store::Store;
 use node_history::{Naming, Published, Revision, Tail};
@@ -78,8 +79,9 @@ impl<J: Naming, H: Wait + Drop> Publisher<J, H> {
     {
         // Read for what it tells: what the store holds is a table.
         let _ = table.len();
-        let one = PublishedTable::new(alloc, table.copy()?, &revision);
-        let two = PublishedTable::new(alloc, table.copy()?, &revision);
+        let spread = SpreadTable::of(alloc, table)?;
+        let one = PublishedTable::new(alloc, spread.copy(alloc)?, &revision);
+        let two = PublishedTable::new(alloc, spread, &revision);
         Ok(Publisher {
             writer: Some(Writer::new(alloc, one, two, readers)?),
             none: revision.again(),
@@ -190,7 +192,8 @@ fn show<J: Naming, R: Wait>(
     requires known { view writer.desk.place ≡ writer.desk.shown.value.list }
     requires book { addition.book ≡ J.book }
     requires next { addition.list ≡ writer.desk.shown.value.list ++ addition.change ∷ [] }
-    requires grows { GrowsBy writer.desk.shown.value.table addition.change }
+    requires grows { GrowsBy
+        (with_all J.opening writer.desk.shown.value.list) addition.change }
     ensures same { OnErr result.1 (result.0.desk.shown.value ≡ writer.desk.shown.value) }
     ensures same_view { OnErr result.1 (view result.0.desk.place ≡ view writer.desk.place) }
     ensures copy { OnOk result.1
