@@ -1,0 +1,16 @@
+use Rattle.std.proofs.Common.{◌≡◌, ◌≤◌, ◌+◌, ◌++◌, length, map, All, vec_capacity}
+use Rattle.cluster_parts.specs.Serving.{life_of_file}
+use Rattle.cluster_parts.specs.Worked.{IsJob}
+use Rattle.cluster.proofs.threads.spawn_all.Given as goal
+
+-- each thread has the life of its job
+abbrev pub invariant-loop-job : goal.invariant-loop-job
+invariant-loop-job g l =
+    let rest = l.job-iterator.rest.items in record {
+      room : length l.handles.items + length rest ≤ vec_capacity l.handles;
+      jobs : All (λ job. IsJob g.D.Device.content l.fn.shared.inboxes.now
+          job.served.file job.served.table job.passes) rest;
+      lives : map (λ h. h.promise) l.handles.items
+          ++ map (λ job. life_of_file job.served.file job.served.table) rest
+          ≡ map (λ job. life_of_file job.served.file job.served.table) l.fn.jobs.items;
+    }

@@ -1,0 +1,2 @@
+-- what a run leaves
+pub mod Run

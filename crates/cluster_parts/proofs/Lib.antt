@@ -1,0 +1,6 @@
+pub mod Places
+pub mod Dealt
+pub mod Made
+pub mod Begun
+pub mod Putting
+pub mod Working

@@ -1,0 +1,31 @@
+-- What is run, and when it is refused at once.
+use Rattle.std.specs.Prelude.{◌≤◌, ℕ, nat_eq, nat_lt, Bool, not, ◌||◌, [], ◌∷◌, Option}
+use Rattle.meta_types.specs.First.{first_that_applies}
+use Rattle.cluster_parts.specs.declared.fault.ClusterFault.{ClusterFault}
+use Rattle.cluster_parts.specs.declared.fault.ClusterFault.TheVariants.{BadLimit, NoSuchNode}
+use Rattle.cluster_parts.specs.declared.plan.ClusterPlan.{ClusterPlan}
+use Rattle.cluster_parts.specs.declared.plan.Limits.{Limits}
+
+-- how many nodes a cluster may have
+abbrev pub IsNodeCount : ℕ → Type 0
+IsNodeCount n = (1 ≤ n) × (n ≤ 16)
+
+-- it isn't among the numbers from the first to the last
+abbrev pub is_outside : ℕ → ℕ → ℕ → Bool
+is_outside first last n = nat_lt n first || nat_lt last n
+
+-- the first that applies, with so many devices: the cluster has no node or more than 16; a limit is
+-- out of range, or the devices are not as many as the nodes
+abbrev pub refusal_of_run : ClusterPlan → Limits → ℕ → Option ClusterFault
+refusal_of_run plan limits devices = first_that_applies (
+    (is_outside 1 16 plan.nodes, NoSuchNode)
+    ∷ (
+      is_outside 1 1024 limits.inbox
+          || (is_outside 1 1048576 limits.journal || not (nat_eq devices plan.nodes)),
+      BadLimit,
+    )
+    ∷ [])
+
+-- the greatest limits
+abbrev pub largest : Limits
+largest = record { inbox = 1024; journal = 1048576 }

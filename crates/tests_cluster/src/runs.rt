@@ -1,0 +1,65 @@
+//! Runs on devices in memory that don't fail, with the greatest limits.
+
+use crate::parts::{Came, are_in_order, plan, told};
+use cluster::{ClusterPlan, NoGate, run_cluster};
+use std::alloc::Global;
+use std::sync::Wait;
+use std::thread::Threads;
+
+fn run<R: Threads + Wait + Sync>(rt: &R, alloc: Global, plan: ClusterPlan) -> Result<Came, u16> {
+    told(alloc, run_cluster(rt, alloc, plan, &NoGate))
+}
+
+/// What comes of a run that has so many calls and loses no frame.
+fn whole(closed: usize, calls: u64) -> Result<Came, u16> {
+    Ok(Came {
+        calls,
+        lost: 0,
+        closed,
+        receipts: calls as usize,
+        kept: calls as usize,
+        code: 0,
+    })
+}
+
+/// Eight turns of each of two nodes, and the join of one.
+#[test]
+fn two_nodes_make_seventeen_calls_in_eight_turns(rt: HostRuntime) {
+    for seed in [0, 1, 7, u64::MAX] {
+        assert!(rt; run(&rt, rt.alloc(), plan(2, 8, seed)) == whole(2, 17));
+    }
+}
+
+/// Each receipt is that of its entry, and the journals are one run of the world.
+#[test]
+fn four_nodes_make_two_hundred_turns(rt: HostRuntime) {
+    assert!(rt; run(&rt, rt.alloc(), plan(4, 200, 3)) == whole(4, 803));
+}
+
+#[test]
+fn one_node_makes_its_turns_by_itself(rt: HostRuntime) {
+    assert!(rt; run(&rt, rt.alloc(), plan(1, 9, 0)) == whole(1, 9));
+    assert!(rt; run(&rt, rt.alloc(), plan(1, 0, 0)) == whole(1, 0));
+}
+
+#[test]
+fn sixteen_nodes_make_no_turn_but_join(rt: HostRuntime) {
+    assert!(rt; run(&rt, rt.alloc(), plan(16, 0, 5)) == whole(16, 15));
+}
+
+#[test]
+fn receipts_come_by_nodes_and_places(rt: HostRuntime) {
+    let run = run_cluster(&rt, rt.alloc(), plan(3, 20, 1), &NoGate);
+    assert!(rt; run.is_ok_and(|run| are_in_order(run.receipts.as_slice())));
+}
+
+// Passes whichever single allocation is refused: what was refused memory is done again.
+#[test]
+fn a_cluster_is_run_again_under_refused_memory(rt: HostRuntime) {
+    let first = run(&rt, rt.alloc(), plan(1, 5, 0));
+    let last = match first {
+        Err(99) => run(&rt, rt.alloc(), plan(1, 5, 0)),
+        other => other,
+    };
+    assert!(rt; last == whole(1, 5));
+}
