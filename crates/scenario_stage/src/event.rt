@@ -16,7 +16,7 @@ use world_core::Event;
 
 /// The event that a command is, if it is one but a delivery, for which the world has to be asked.
 /// Fails only when memory runs out.
-pub(crate) fn event_of(alloc: Global, command: &Command<'_>) -> Result<Option<Event>, AllocError>
+pub fn event_of(alloc: Global, command: &Command<'_>) -> Result<Option<Event>, AllocError>
     requires { fault_in (command_word command.now) ≡ None }
     ensures { IfOk result (λ event. IsEventOf (command_word command.now) event) }
 {

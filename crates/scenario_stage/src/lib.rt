@@ -22,6 +22,7 @@ mod print;
 pub mod stage;
 mod write;
 
+pub use event::event_of;
 pub use fault::StageFault;
 pub use print::{print_count, print_frame_of, print_line};
 pub use stage::Stage;

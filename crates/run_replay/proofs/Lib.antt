@@ -1,0 +1,4 @@
+-- what commands ask for
+pub mod Asking
+-- comparing events
+pub mod Equal

@@ -1,0 +1,2 @@
+-- a text that replays a run
+pub mod Replay

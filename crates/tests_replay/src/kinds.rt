@@ -1,0 +1,186 @@
+//! The command of each kind of event.
+
+use meta_types::{ByteString, FullPrefix, MetaKey, Value};
+use node_events::Reply;
+use run_replay::replay_of;
+use std::alloc::Global;
+use std::process::Abort;
+use world_core::{Accepted, Answer, Event, FrameNumbers};
+
+/// An event that was accepted, whatever it answered: no text says that.
+fn accepted(event: Event) -> Accepted {
+    Accepted {
+        event,
+        answer: Answer {
+            reply: Reply::Done,
+            read: None,
+            sent: FrameNumbers { first: 1, count: 0 },
+        },
+    }
+}
+
+fn prefix(rt: &impl Abort, alloc: Global) -> FullPrefix {
+    let prefix = b"a".to_vec(alloc).expect(rt, "memory");
+    let sub = b"b".to_vec(alloc).expect(rt, "memory");
+    FullPrefix::new(prefix, sub).ok().expect(rt, "a prefix")
+}
+
+/// The key a/b with this own part.
+fn key(rt: &impl Abort, alloc: Global, own: &[u8]) -> MetaKey {
+    let own = own.to_vec(alloc).expect(rt, "memory");
+    MetaKey::new(prefix(rt, alloc), own)
+        .ok()
+        .expect(rt, "a key")
+}
+
+fn value(rt: &impl Abort, alloc: Global, stamp: u64, body: &[u8]) -> Value {
+    let body = body.to_vec(alloc).expect(rt, "memory");
+    Value::new(stamp, Some(body)).ok().expect(rt, "a value")
+}
+
+/// The event of this number that has a key.
+fn event_under(rt: &impl Abort, alloc: Global, number: u64) -> Event {
+    let key = key(rt, alloc, b"k");
+    match number {
+        0 => Event::Put {
+            node: 0,
+            key,
+            value: value(rt, alloc, 0, b"x"),
+            read: None,
+        },
+        1 => Event::Put {
+            node: 1,
+            key,
+            value: value(rt, alloc, 5, b"\x00\xff"),
+            read: Some(1),
+        },
+        2 => Event::Put {
+            node: 0,
+            key,
+            value: Value::new(7, None).ok().expect(rt, "a tombstone"),
+            read: None,
+        },
+        3 => Event::PutOver {
+            node: 1,
+            key,
+            value: value(rt, alloc, 0, b"y"),
+        },
+        _ => Event::Get { node: 0, key },
+    }
+}
+
+/// The event of this number.
+fn event(rt: &impl Abort, alloc: Global, number: u64) -> Event {
+    match number {
+        5 => Event::Deliver {
+            frame: 3,
+            node: 1,
+            word: 9,
+        },
+        6 => Event::Tick { node: 0, word: 0 },
+        7 => Event::Join {
+            node: 1,
+            contact: 0,
+            word: u64::MAX,
+        },
+        8 => Event::PeerDown {
+            node: 0,
+            peer: 1,
+            word: 0,
+        },
+        9 => Event::Exchange { node: 0, peer: 1 },
+        10 => Event::Hello { node: 0, peer: 1 },
+        11 => Event::Leave { node: 1 },
+        12 => Event::Restart { node: 1, image: 0 },
+        13 => Event::Watch {
+            node: 0,
+            prefix: prefix(rt, alloc),
+            capacity: 2,
+        },
+        14 => Event::Changes { node: 0, number: 1 },
+        number => event_under(rt, alloc, number),
+    }
+}
+
+/// The text of 15 events, one of each kind that has a command, and of a write three.
+const TEXT: &[u8] = b"# each kind
+nodes 2
+put 0 a/b/k x
+put 1 a/b/k hex:00ff stamp 5 read 1
+del 0 a/b/k stamp 7
+over 1 a/b/k y
+read 0 a/b/k
+deliver 3 1 word 9
+tick 0
+join 1 0 word 18446744073709551615
+down 0 1
+exchange 0 1
+hello 0 1
+leave 1
+restart 1 0
+watch 0 a/b 2
+changes 0 1
+root 0
+root 1
+";
+
+/// Whether the text that is handed out is this one; without one, that there is none.
+fn is_told(
+    alloc: Global,
+    about: &[u8],
+    nodes: u64,
+    events: &[Accepted],
+    wanted: Option<&[u8]>,
+) -> bool {
+    match replay_of(alloc, about, nodes, events) {
+        Ok(Some(text)) => wanted == Some(text.as_slice()),
+        Ok(None) => wanted.is_none(),
+        Err(_) => false,
+    }
+}
+
+#[test]
+fn each_kind_of_event_has_its_command(rt: HostRuntime) {
+    let mut events = Vec::new(rt.alloc());
+    for number in 0..15 {
+        let one = accepted(event(&rt, rt.alloc(), number));
+        events.push(one).ok().expect(&rt, "memory");
+    }
+    assert!(&rt; is_told(rt.alloc(), b"each kind", 2, events.as_slice(), Some(TEXT)));
+}
+
+/// An event for which there is no text.
+fn untold(rt: &impl Abort, alloc: Global, number: u64) -> Event {
+    match number {
+        0 => Event::Keep {
+            node: 0,
+            key: key(rt, alloc, b"k"),
+        },
+        1 => Event::Get {
+            node: 0,
+            key: key(rt, alloc, b"k k"),
+        },
+        _ => Event::Junk {
+            node: 0,
+            bytes: ByteString::new(b"PT".to_vec(alloc).expect(rt, "memory")),
+        },
+    }
+}
+
+#[test]
+fn what_has_no_command_has_no_text(rt: HostRuntime) {
+    for number in 0..3 {
+        let mut events = Vec::new(rt.alloc());
+        let one = accepted(untold(&rt, rt.alloc(), number));
+        events.push(one).ok().expect(&rt, "memory");
+        assert!(&rt; is_told(rt.alloc(), b"", 1, events.as_slice(), None));
+    }
+}
+
+#[test]
+fn a_text_has_a_line_about_it_and_nodes(rt: HostRuntime) {
+    assert!(&rt; is_told(rt.alloc(), b"", 1, &[], Some(b"# \nnodes 1\nroot 0\n")));
+    assert!(&rt; is_told(rt.alloc(), b"one\nroot 0", 1, &[], None));
+    assert!(&rt; is_told(rt.alloc(), b"", 0, &[], None));
+    assert!(&rt; is_told(rt.alloc(), b"", 17, &[], None));
+}
