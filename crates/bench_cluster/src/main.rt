@@ -4,12 +4,15 @@
 //!   assembles each run with all its receipts. It prints a line for each run that isn't assembled,
 //!   and at last how many were, how many calls and lost frames there were, and how many calls went
 //!   in a second of the runs alone. It ends with an error where one wasn't assembled.
+//! - `files FOLDER NODES TURNS` runs one on files in the folder, which are made where nothing is,
+//!   and prints how many calls went in a second.
 //!
 //! With other arguments, or none, it prints nothing.
 #![tactic(auto)]
 
 ghost use Rattle.std.specs.Prelude.{IfOk};
 
+mod files;
 mod runs;
 
 use std::io;
@@ -46,6 +49,7 @@ fn run<R: Threads + Wait + Sync>(
             number(args[1])?,
             number(args[2])?,
         ),
+        "files" => files::run(rt, handle, args[0], number(args[1])?, number(args[2])?),
         _ => Ok(()),
     }
 }

@@ -29,6 +29,9 @@ impl Model for CallRecord {
     ghost also_owns = { λ _. ftrue };
 }
 
+// It owns nothing.
+unsafe impl Send for CallRecord {}
+
 impl CallRecord {
     pub(crate) fn new() -> CallRecord
         ensures { result.calls ≡ [] }

@@ -9,6 +9,8 @@ mod gates;
 #[cfg(test)]
 mod limits;
 #[cfg(test)]
+mod lives;
+#[cfg(test)]
 mod parts;
 #[cfg(test)]
 mod runs;

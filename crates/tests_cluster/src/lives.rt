@@ -1,0 +1,111 @@
+//! A cluster on files in a folder of its own, in two lives.
+
+ghost use Rattle.std.specs.Prelude.{All};
+ghost use Rattle.devices.specs.Device.{IsDurable};
+
+use crate::parts::{Came, add, plan, told};
+use cluster::{ClusterFault, ClusterPlan, ClusterRun, Limits, NoGate, run_cluster_on};
+use devices::{Device, FileDevice};
+use dvvset::{descends, join};
+use meta_store::Store;
+use node_events::{NodeEvent, Reply};
+use node_lock::{Closed, Receipt};
+use std::alloc::Global;
+use std::fs;
+use std::process::Abort;
+use std::sync::Wait;
+use std::thread::Threads;
+
+const FOLDER: &str = "files_of_a_cluster";
+
+const NODES: u64 = 3;
+
+/// The files of the nodes, opened, or made where nothing is.
+fn devices(files: &HostRuntime, rt: &impl Abort) -> Vec<FileDevice>
+    ensures { All (λ d. IsDurable (⟦<FileDevice as Device>⟧.content d)
+        (⟦<FileDevice as Device>⟧.may_leave d)) result.items }
+{
+    let alloc = files.alloc();
+    let mut devices = Vec::new(alloc);
+    for node in 0..NODES {
+        let path = format!(in alloc; "{FOLDER}/node-{node}").expect(rt, "memory");
+        let device = FileDevice::open_or_create(files, alloc, path.as_str());
+        add(rt, &mut devices, device.ok().expect(rt, "a device"));
+    }
+    devices
+}
+
+/// A run on these files.
+fn run_on<R: Threads + Wait + Sync>(
+    rt: &R,
+    alloc: Global,
+    plan: ClusterPlan,
+    devices: Vec<FileDevice>,
+) -> Result<ClusterRun, ClusterFault>
+    requires { All (λ d. IsDurable (⟦<FileDevice as Device>⟧.content d)
+        (⟦<FileDevice as Device>⟧.may_leave d)) devices.items }
+{
+    run_cluster_on(rt, alloc, plan, Limits::largest(), devices, &NoGate)
+}
+
+/// A life of the cluster.
+fn live<R: Threads + Wait + Abort + Sync>(files: &HostRuntime, rt: &R, turns: u64) -> ClusterRun {
+    let plan = plan(NODES, turns, 6);
+    let devices = devices(files, rt);
+    let run = run_on(rt, files.alloc(), plan, devices);
+    run.ok().expect(rt, "a run")
+}
+
+/// Whether what was acknowledged by the receipt, if it is of a write, is in the table.
+fn has_written(rt: &impl Abort, alloc: Global, table: &Store, receipt: &Receipt) -> bool {
+    match (&receipt.entry.event, &receipt.entry.reply) {
+        (NodeEvent::PutOver { key, .. }, Reply::Wrote { vector }) => match table.object(key) {
+            Some(object) => descends(&join(alloc, object).expect(rt, "memory"), vector),
+            None => false,
+        },
+        _ => true,
+    }
+}
+
+/// Whether each node of the later life began with all that an earlier one acknowledged.
+fn begin_with(rt: &impl Abort, alloc: Global, later: &[Closed], receipts: &[Receipt]) -> bool {
+    for receipt in receipts {
+        let Some(node) = later.get(usize::from(receipt.node.number())) else {
+            return false;
+        };
+        let base = node.base();
+        if base.incarnation() != 2 || !has_written(rt, alloc, base.store(), receipt) {
+            return false;
+        }
+    }
+    true
+}
+
+#[test]
+fn a_second_life_has_what_the_first_acknowledged(rt: HostRuntime) {
+    let _ = fs::remove_dir_all(&rt, FOLDER);
+    assert!(rt; fs::create_dir(&rt, FOLDER).is_ok());
+    let first = live(&rt, &rt, 30);
+    let second = live(&rt, &rt, 10);
+    let alloc = rt.alloc();
+    assert!(rt;
+        begin_with(
+            &rt,
+            alloc,
+            second.closed.as_slice(),
+            first.receipts.as_slice()
+        )
+    );
+    let wanted = Came {
+        calls: 92,
+        lost: 0,
+        closed: 3,
+        receipts: 92,
+        kept: 92,
+        code: 0,
+    };
+    assert!(rt; told(alloc, Ok(first)) == Ok(wanted));
+    // Journals of a second life aren't assembled.
+    assert!(rt; told(alloc, Ok(second)).is_ok_and(|came| came.code == 1 && came.kept == 32));
+    let _ = fs::remove_dir_all(&rt, FOLDER);
+}
