@@ -1,7 +1,10 @@
 //! What the arguments ask for.
 
+use crate::live::LiveArguments;
+use clap::builder::ValueParser;
 use clap::error::ErrorKind;
-use clap::{Arg, ArgAction, Command, Error};
+use clap::{Arg, ArgAction, ArgMatches, Command, Error};
+use cluster::ClusterPlan;
 use std::alloc::{AllocError, Global};
 use std::io;
 use streams::{StreamFault, write_fault};
@@ -23,6 +26,8 @@ pub enum Asked<'a> {
         path: &'a str,
         rewrite: Option<&'a str>,
     },
+    /// A run of threads.
+    Live(LiveArguments<'a>),
 }
 
 /// The exit status of wrong arguments.
@@ -36,7 +41,8 @@ const NO_FILE: &str = "tip: frame reads standard input, as in 'plumctl frame <FI
 const HELP: &str = "Examples:
   plumctl run siblings.scenario
   plumctl frame <frames.hex
-  plumctl file node-0 --rewrite node-0.clean";
+  plumctl file node-0 --rewrite node-0.clean
+  plumctl live 4 200 7 --record tuesday.scenario";
 
 const FRAME_HELP: &str =
     "Each line gives one line: the frame that its digits spell, or the refusal that comes first.
@@ -98,7 +104,25 @@ OUT is removed where it could not be written whole. A file of version 1 becomes 
 Exit status: 0 done, 1 the file is damaged or has too many keys, 2 wrong arguments, 3 reading or
 writing failed, 4 want of memory.";
 
-/// The names of the arguments of `run` and `file`.
+const LIVE_HELP: &str =
+    "Each node has a worker in a thread of its own. All but node 0 join through node 0, and then each
+makes its turns: each fourth writes, the others take a frame that came, or let time go on. What all
+of them did is then put together as one run of the proved core:
+  live nodes 4 turns 200
+  calls 803 lost 0
+  assembled
+Where it is none, or the cluster gives none, `fault` with a number and a name tells why.
+
+With --record, where the run is assembled, FILE is a scenario of it: `plumctl run FILE` makes the
+same calls again, one after the other, and prints each reply and frame that the threads had. With
+--files DIR has the file of each node, node-0 and so on, which `plumctl file` reads. Neither may be
+there before. A node whose device fails makes no more turns, which is told at standard error.
+
+Exit status: 0 assembled (and recorded), 1 it is no run of the core, or has no recording, 2 wrong
+arguments, 3 FILE, DIR or a device failed before the threads started, or writing failed, 4 want of
+memory.";
+
+/// The names of the arguments of `run`, `file` and `live`.
 const FILE: &str = "FILE";
 
 const EXPLAIN: &str = "explain";
@@ -106,6 +130,16 @@ const EXPLAIN: &str = "explain";
 const PATH: &str = "PATH";
 
 const REWRITE: &str = "rewrite";
+
+const NODES: &str = "NODES";
+
+const TURNS: &str = "TURNS";
+
+const SEED: &str = "SEED";
+
+const RECORD: &str = "record";
+
+const FILES: &str = "files";
 
 /// The command `run`.
 fn run_command<'a>(alloc: Global) -> Result<Command<'a>, AllocError> {
@@ -141,6 +175,43 @@ fn file_command<'a>(alloc: Global) -> Result<Command<'a>, AllocError> {
         .arg(rewrite)
 }
 
+/// A number that `live` asks for, in this range.
+fn number<'a>(alloc: Global, name: &'a str, help: &'a str, least: u64, most: u64) -> Arg<'a> {
+    Arg::new(alloc, name)
+        .help(help)
+        .required(true)
+        .value_parser(ValueParser::unsigned(least, most))
+        .action(ArgAction::Set)
+}
+
+/// The command `live`.
+fn live_command<'a>(alloc: Global) -> Result<Command<'a>, AllocError> {
+    let record = Arg::new(alloc, RECORD)
+        .long("record")
+        .value_name("FILE")
+        .help("Write the run down as a scenario, to a new file")
+        .action(ArgAction::Set);
+    let files = Arg::new(alloc, FILES)
+        .long("files")
+        .value_name("DIR")
+        .help("Make a folder, and run the nodes on files there")
+        .action(ArgAction::Set);
+    Command::new(alloc, "live")
+        .about("Run a cluster of threads, and judge what they did")
+        .after_help(LIVE_HELP)
+        .arg(number(alloc, NODES, "How many nodes there are, 1 to 16", 1, 16))?
+        .arg(number(
+            alloc,
+            TURNS,
+            "How many turns each makes, 1 to 100000",
+            1,
+            100_000,
+        ))?
+        .arg(number(alloc, SEED, "What the random words come from", 0, u64::MAX))?
+        .arg(record)?
+        .arg(files)
+}
+
 /// The command line, with its help.
 fn command<'a>(alloc: Global) -> Result<Command<'a>, AllocError> {
     let frame = Command::new(alloc, "frame")
@@ -153,7 +224,8 @@ fn command<'a>(alloc: Global) -> Result<Command<'a>, AllocError> {
         .subcommand_required(true)
         .subcommand(frame)?
         .subcommand(run_command(alloc)?)?
-        .subcommand(file_command(alloc)?)
+        .subcommand(file_command(alloc)?)?
+        .subcommand(live_command(alloc)?)
 }
 
 /// The arguments of the program, its name among them; `None` where one is no text.
@@ -192,6 +264,22 @@ fn path(file: Option<&str>) -> Option<&str> {
     }
 }
 
+/// What the arguments of `live` ask for.
+fn live<'a>(matches: &ArgMatches<'a>) -> Asked<'a> {
+    match (
+        matches.get_one::<u64>(NODES),
+        matches.get_one::<u64>(TURNS),
+        matches.get_one::<u64>(SEED),
+    ) {
+        (Some(nodes), Some(turns), Some(seed)) => Asked::Live(LiveArguments {
+            plan: ClusterPlan { nodes, turns, seed },
+            record: matches.get_str(RECORD),
+            files: matches.get_str(FILES),
+        }),
+        _ => Asked::Nothing(USAGE),
+    }
+}
+
 /// What the arguments ask for.
 pub fn read_arguments<'a>(rt: &HostRuntime, words: &'a [String]) -> Result<Asked<'a>, StreamFault> {
     match command(rt.alloc())?.try_get_matches_from(words) {
@@ -208,6 +296,7 @@ pub fn read_arguments<'a>(rt: &HostRuntime, words: &'a [String]) -> Result<Asked
                 },
                 None => Asked::Nothing(USAGE),
             }),
+            Some(("live", matches)) => Ok(live(&matches)),
             _ => Ok(Asked::Nothing(USAGE)),
         },
         Err(error) if error.kind() == ErrorKind::OutOfMemory => Err(StreamFault::Memory),

@@ -18,7 +18,7 @@ pub fn file<R: Threads + Wait + Sync>(
     path: &str,
     rewrite: Option<&str>,
 ) -> u8 {
-    told(rt, handle, || report(rt, path, rewrite))
+    told(rt, handle, None, || report(rt, path, rewrite))
 }
 
 /// The report of the file at a path, and a clean copy at another, where that is asked for and a

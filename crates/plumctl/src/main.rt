@@ -5,6 +5,7 @@
 mod arguments;
 mod command;
 mod file;
+mod live;
 mod progress;
 
 use arguments::{Asked, USAGE, read_arguments, read_words};
@@ -31,6 +32,7 @@ fn run<R: Threads + Wait + Sync>(rt: &HostRuntime, handle: &R) -> Result<u8, Str
         Asked::Frame => command::frame(rt),
         Asked::Run { file, explain } => command::run(rt, file, explain),
         Asked::File { path, rewrite } => file::file(rt, handle, path, rewrite),
+        Asked::Live(asked) => live::live(rt, handle, asked),
         Asked::Nothing(status) => status,
     })
 }

@@ -21,5 +21,5 @@ mod run;
 mod text;
 
 pub use paths::{copy_to_path, report_path};
-pub use report::{Reported, ShownFile, file_report};
+pub use report::{Reported, ShownFile, file_report, print};
 pub use run::{run_file, run_rewrite};

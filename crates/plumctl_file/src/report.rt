@@ -30,8 +30,8 @@ pub enum Reported<D: Device> {
     Stopped(D, StreamFault),
 }
 
-/// Writes a text and passes it on.
-pub(crate) fn print<W: Sink>(writer: &mut W, text: &[u8]) -> Result<(), StreamFault>
+/// Writes a text and passes it on. Where that fails, a front of it was written.
+pub fn print<W: Sink>(writer: &mut W, text: &[u8]) -> Result<(), StreamFault>
     ensures ok { OnOk result (WritesOut (W.at writer.old) (W.at writer.new) text.now) }
     ensures err { IfErr result (λ fault. WritesFront (W.at writer.old) (W.at writer.new) text.now
         fault) }

@@ -1,0 +1,157 @@
+//! The command `live`, over the streams of the process.
+
+ghost use Rattle.std.specs.Prelude.{◌≢◌, All, IfOk, IfSome};
+ghost use Rattle.devices.specs.Device.{IsDurable};
+ghost use Rattle.run_record.specs.Record.{IsOfARun};
+
+use crate::command::OUTPUT_LEN;
+use crate::progress::{Turns, told};
+use cluster::ClusterPlan;
+use devices::{Device, FileDevice, OpenFault};
+use plumctl_core::tell;
+use plumctl_live::{LiveRun, new_files, run_live, run_live_on, tell_unmade, write_recording};
+use std::fs;
+use std::io::BufWriter;
+use std::sync::Wait;
+use std::thread::Threads;
+use streams::{MayFail, Sink, StreamFault};
+
+/// What `live` is asked for.
+#[derive(Clone, Copy)]
+pub struct LiveArguments<'a> {
+    pub plan: ClusterPlan,
+    /// Where the run is written down as a scenario.
+    pub record: Option<&'a str>,
+    /// The folder of the nodes' files; where there is none, they are in memory.
+    pub files: Option<&'a str>,
+}
+
+/// `live`, told of at a terminal. Returns the exit status.
+pub fn live<R: Threads + Wait + Sync>(
+    rt: &HostRuntime,
+    handle: &R,
+    asked: LiveArguments<'_>,
+) -> u8 {
+    let turns = Turns::new(asked.plan);
+    told(rt, handle, Some(&turns), || run(rt, handle, asked, &turns))
+}
+
+/// Makes the file of the recording and the folder of the nodes first, so that no run is lost for
+/// them, and then runs the threads. Returns the exit status, which is never that of wrong
+/// arguments.
+fn run<R: Threads + Wait + Sync>(
+    rt: &HostRuntime,
+    handle: &R,
+    asked: LiveArguments<'_>,
+    turns: &Turns,
+) -> u8
+    ensures { result ≢ 2 }
+{
+    let mut errors = MayFail(rt.stderr());
+    let Ok(buffered) = BufWriter::with_capacity(rt.alloc(), OUTPUT_LEN, rt.stdout()) else {
+        return tell(&mut errors, StreamFault::Memory);
+    };
+    let mut writer = MayFail(buffered);
+    let target = match target_of(rt, asked) {
+        Ok(target) => target,
+        Err(fault) => return tell_unmade(&mut errors, fault),
+    };
+    let devices = match devices_of(rt, asked) {
+        Ok(devices) => devices,
+        Err(fault) => {
+            remove(rt, asked);
+            return tell_unmade(&mut errors, fault);
+        }
+    };
+    let live = run_on(
+        rt,
+        handle,
+        asked.plan,
+        devices,
+        turns,
+        &mut writer,
+        &mut errors,
+    );
+    match target {
+        Some(target) => record(rt, asked, &live, target, &mut errors),
+        None => live.status,
+    }
+}
+
+/// The file of the recording, where one is asked for.
+fn target_of(rt: &HostRuntime, asked: LiveArguments<'_>) -> Result<Option<FileDevice>, OpenFault> {
+    match asked.record {
+        Some(path) => Ok(Some(FileDevice::create_new(rt, rt.alloc(), path)?)),
+        None => Ok(None),
+    }
+}
+
+/// The files of the nodes, where they are asked for.
+fn devices_of(
+    rt: &HostRuntime,
+    asked: LiveArguments<'_>,
+) -> Result<Option<Vec<FileDevice>>, OpenFault>
+    ensures { IfOk result (λ found. IfSome found (λ devices.
+        All (λ d. IsDurable (⟦<FileDevice as Device>⟧.content d)
+        (⟦<FileDevice as Device>⟧.may_leave d)) devices.items)) }
+{
+    match asked.files {
+        Some(folder) => Ok(Some(new_files(rt, folder, asked.plan.nodes)?)),
+        None => Ok(None),
+    }
+}
+
+/// Runs the threads on these devices, or else in memory, and prints what became of them.
+fn run_on<R: Threads + Wait + Sync, W: Sink, E: Sink>(
+    rt: &HostRuntime,
+    handle: &R,
+    plan: ClusterPlan,
+    devices: Option<Vec<FileDevice>>,
+    turns: &Turns,
+    writer: &mut W,
+    errors: &mut E,
+) -> LiveRun
+    requires { IfSome devices (λ devices.
+        All (λ d. IsDurable (⟦<FileDevice as Device>⟧.content d)
+        (⟦<FileDevice as Device>⟧.may_leave d)) devices.items) }
+    ensures not_usage { result.status ≢ 2 }
+    ensures world { IfOk result.judged (IsOfARun plan.nodes) }
+{
+    match devices {
+        Some(devices) => run_live_on(handle, rt.alloc(), plan, devices, turns, writer, errors),
+        None => run_live(handle, rt.alloc(), plan, turns, writer, errors),
+    }
+}
+
+/// Writes down a run that was told of, if it is one of the world; or else removes the file. Returns
+/// the exit status.
+fn record<E: Sink>(
+    rt: &HostRuntime,
+    asked: LiveArguments<'_>,
+    live: &LiveRun,
+    target: FileDevice,
+    errors: &mut E,
+) -> u8
+    requires not_usage { live.now.status ≢ 2 }
+    requires world { IfOk live.now.judged (IsOfARun asked.plan.nodes) }
+    ensures { result ≢ 2 }
+{
+    let mut target = target;
+    let status = match &live.judged {
+        Ok(world) if live.status == 0 => {
+            write_recording(rt.alloc(), asked.plan, world, &mut target, errors)
+        }
+        _ => live.status,
+    };
+    if status != 0 {
+        remove(rt, asked);
+    }
+    status
+}
+
+/// Removes the file of the recording, where one was asked for.
+fn remove(rt: &HostRuntime, asked: LiveArguments<'_>) {
+    if let Some(path) = asked.record {
+        let _ = fs::remove_file(rt, path);
+    }
+}

@@ -1,0 +1,185 @@
+-- What is printed of a cluster of threads, and the exit status.
+--
+-- The statuses: 0 what the threads did is a run of the world, 1 it isn't, or the cluster gives
+-- none, 3 a device failed before there was one, or a writer, 4 want of memory; of several the
+-- greatest. Wrong arguments, with status 2, start nothing.
+use Rattle.std.specs.Prelude.{◌≡◌, ◌⊎◌, ℕ, max, nat_eq, if◌then◌else◌, List, [], ◌∷◌, ◌++◌, length, map, All, Option, Some, None, Result, Ok, Err, IfOk, IfErr, OnOk, codes, decimal}
+use Rattle.node_journal.specs.Closed.{AreWhole}
+use Rattle.run_record.specs.Fault as records
+use Rattle.run_record.specs.Record.{HoldsJournals, HoldsTables, IsKept, IsOfARun, Refuses, ShowWhatIsKnown}
+use Rattle.world_core.specs.World.{World}
+use Rattle.scenario_stage.specs.Printed.{line}
+use Rattle.cluster_parts.specs.Fault as clusters
+use Rattle.cluster_parts.specs.Plan.{largest, refusal_of_run}
+use Rattle.cluster_parts.specs.Serving.{first_lives, lives_from}
+use Rattle.cluster_parts.specs.declared.plan.ClusterPlan.{ClusterPlan}
+use Rattle.cluster.specs.Run.{CanRun, IsRunOf, RefusesNewRun, RefusesRun}
+use Rattle.cluster.specs.declared.run.ClusterRun.{ClusterRun}
+use Rattle.cluster_parts.specs.declared.fault.ClusterFault.{ClusterFault}
+use Rattle.streams.specs.declared.fault.StreamFault.{StreamFault}
+use Rattle.streams.specs.Moment.{SinkAt}
+use Rattle.plumctl_core.specs.Status.{TellsFault, status_of_fault}
+use Rattle.plumctl_file.specs.Ends.{EndsWithMemory, Outputs, TellsLine}
+use Rattle.plumctl_file.specs.Reported.{WritesFront, WritesOut}
+use Rattle.plumctl_live.specs.declared.counts.Counts.{Counts}
+use Rattle.plumctl_live.specs.declared.judged.LiveFault.{LiveFault}
+use Rattle.plumctl_live.specs.declared.judged.LiveFault.TheVariants.{Cluster, NotWhole, Record}
+use Rattle.plumctl_live.specs.declared.run.LiveRun.{LiveRun}
+
+-- ---- what is run
+
+-- what a run on new devices in memory came to: all nodes are in their first lives
+pub record IsNewRun (plan : ClusterPlan) (run : Result ClusterRun ClusterFault) : Type 0 where
+  pub ran : IfOk run (IsRunOf (first_lives plan.nodes))
+  pub accepted : OnOk run (refusal_of_run plan largest plan.nodes ≡ None)
+  pub refused : IfErr run (RefusesNewRun plan)
+
+-- what a run on these devices came to
+pub record IsRunOn {D : Type 0} (content : D → List ℕ) (failed : D → ℕ) (plan : ClusterPlan)
+    (devices : List D) (run : Result ClusterRun ClusterFault) : Type 0 where
+  pub ran : IfOk run (IsRunOf (lives_from 0 (map content devices)))
+  pub accepted : OnOk run (CanRun content plan largest devices)
+  pub refused : IfErr run (RefusesRun content failed plan largest devices)
+
+-- ---- what is judged
+
+-- the world is the run that the threads made, by all their journals and receipts
+pub record IsJudged (run : ClusterRun) (w : World) : Type 0 where
+  pub whole : AreWhole run.closed.items
+  pub ran : IsOfARun (length run.closed.items) w
+  pub journals : HoldsJournals run.closed.items w
+  pub tables : HoldsTables run.closed.items w
+  pub shows : ShowWhatIsKnown run.closed.items w
+  pub receipts : All (IsKept run.closed.items) run.receipts.items
+
+-- a journal isn't whole; or all are, and they and the receipts are no run, for this cause
+abbrev pub RefusesJudging : ClusterRun → LiveFault → Type 0
+RefusesJudging run NotWhole = AreWhole run.closed.items → ⊥
+RefusesJudging run (Record fault) =
+    AreWhole run.closed.items × Refuses run.closed.items run.receipts.items fault
+RefusesJudging run (Cluster fault) = ⊥
+
+-- what a run came to: it was judged, or there is none
+abbrev pub Judges : Result ClusterRun ClusterFault → Result World LiveFault → Type 0
+Judges (Ok run) (Ok w) = IsJudged run w
+Judges (Ok run) (Err fault) = RefusesJudging run fault
+Judges (Err fault) judged = judged ≡ Err (Cluster fault)
+
+-- ---- numbers and names
+
+abbrev pub code_of : LiveFault → Option ℕ
+code_of (Cluster fault) = Some (clusters.code_of fault)
+code_of (Record fault) = Some (records.code_of fault)
+code_of NotWhole = None
+
+abbrev pub name_of : LiveFault → List ℕ
+name_of (Cluster fault) = clusters.fault_name fault
+name_of (Record fault) = records.fault_name fault
+name_of NotWhole = codes "NotWhole"
+
+-- ---- what is printed
+
+abbrev pub plan_line : ClusterPlan → List ℕ
+plan_line plan = line (codes "live nodes " ++ decimal plan.nodes
+    ++ codes " turns " ++ decimal plan.turns)
+
+abbrev pub counts_in : ClusterRun → Counts
+counts_in run = record {
+  calls = run.calls;
+  lost = run.lost;
+  stopped = length run.stopped.items;
+}
+
+-- where there is a run
+abbrev pub counts_of : Result ClusterRun ClusterFault → Option Counts
+counts_of (Ok run) = Some (counts_in run)
+counts_of (Err fault) = None
+
+-- calls and lost frames
+abbrev pub calls_line : Option Counts → List ℕ
+calls_line None = []
+calls_line (Some counts) = line (codes "calls " ++ decimal counts.calls
+    ++ codes " lost " ++ decimal counts.lost)
+
+abbrev pub fault_line : ℕ → List ℕ → List ℕ
+fault_line code name = line (codes "fault " ++ decimal code ++ codes " " ++ name)
+
+-- 99, and what has no number, is told at standard error alone
+abbrev pub line_of_number : Option ℕ → List ℕ → List ℕ
+line_of_number None name = []
+line_of_number (Some code) name = if nat_eq code 99 then [] else fault_line code name
+
+abbrev pub verdict_line : Result World LiveFault → List ℕ
+verdict_line (Ok w) = line (codes "assembled")
+verdict_line (Err fault) = line_of_number (code_of fault) (name_of fault)
+
+unfoldable pub live_text : ClusterPlan → Option Counts → Result World LiveFault → List ℕ
+live_text plan counts judged = plan_line plan ++ (calls_line counts ++ verdict_line judged)
+
+-- ---- how it ends
+
+abbrev pub status_of_number : Option ℕ → ℕ
+status_of_number None = 1
+status_of_number (Some code) = if nat_eq code 99 then 4 else if nat_eq code 30 then 3 else 1
+
+abbrev pub status_of : Result World LiveFault → ℕ
+status_of (Ok w) = 0
+status_of (Err fault) = status_of_number (code_of fault)
+
+abbrev pub told_of_number : Option ℕ → List ℕ
+told_of_number None = line (codes "error: a journal isn't whole, so that nobody can say")
+told_of_number (Some code) = if nat_eq code 99 then line (codes "error 99 Memory") else []
+
+abbrev pub told_of_fault : LiveFault → List ℕ
+told_of_fault fault = told_of_number (code_of fault)
+
+-- some of so many nodes stopped
+abbrev pub note_of_stopped : Option Counts → List ℕ
+note_of_stopped None = []
+note_of_stopped (Some counts) = if nat_eq counts.stopped 0 then []
+    else line (codes "note: a device failed, and its node made no more turns")
+
+-- what standard error is told of what became of a run
+abbrev pub told_of : Option Counts → Result World LiveFault → List ℕ
+told_of counts (Ok w) = note_of_stopped counts
+told_of counts (Err fault) = told_of_fault fault
+
+-- the text was printed, and told what it doesn't say
+pub record PrintsLive (plan : ClusterPlan) (counts : Option Counts)
+    (judged : Result World LiveFault) (old new : Outputs) (status : ℕ) : Type 0 where
+  pub status_is : status ≡ status_of judged
+  pub prints : WritesOut old.writer new.writer (live_text plan counts judged)
+  pub told : TellsLine old.errors new.errors (told_of counts judged)
+
+-- a fault of the writer is told where nothing else is to be told
+abbrev pub TellsUnless : List ℕ → StreamFault → (old new : SinkAt) → Type 0
+TellsUnless [] fault old new = TellsFault old new fault
+TellsUnless (byte ∷ bytes) fault old new = TellsLine old new (byte ∷ bytes)
+
+abbrev pub TellsStop : Result World LiveFault → StreamFault → (old new : SinkAt) → Type 0
+TellsStop (Ok w) fault old new = TellsFault old new fault
+TellsStop (Err by_run) fault old new = TellsUnless (told_of_fault by_run) fault old new
+
+-- or the writer failed behind a front of it, which was told
+pub record StopsLive (plan : ClusterPlan) (counts : Option Counts)
+    (judged : Result World LiveFault) (old new : Outputs) (status : ℕ) : Type 0 where
+  pub fault : StreamFault
+  pub status_is : status ≡ max (status_of judged) (status_of_fault fault)
+  pub stops : WritesFront old.writer new.writer (live_text plan counts judged) fault
+  pub told : TellsStop judged fault old.errors new.errors
+
+-- what was judged was printed, as far as the writer takes it; or memory was wanting, and nothing
+-- was printed
+abbrev pub EndsLive : ClusterPlan → Option Counts → Result World LiveFault → (old new : Outputs)
+    → ℕ → Type 0
+EndsLive plan counts judged old new status = PrintsLive plan counts judged old new status
+    ⊎ (StopsLive plan counts judged old new status ⊎ EndsWithMemory old new status)
+
+-- a run that came about so was judged, and told of
+pub record IsJudgedAndTold (Came : Result ClusterRun ClusterFault → Type 0) (plan : ClusterPlan)
+    (old new : Outputs) (live : LiveRun) : Type 0 where
+  pub run : Result ClusterRun ClusterFault
+  pub came : Came run
+  pub counts : live.counts ≡ counts_of run
+  pub judges : Judges run live.judged
+  pub ends : EndsLive plan live.counts live.judged old new live.status

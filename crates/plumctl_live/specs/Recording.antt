@@ -1,0 +1,103 @@
+-- A run that was judged, as a scenario that makes it again, and how it is written down.
+use Rattle.std.specs.Prelude.{◌≡◌, ◌⊎◌, ℕ, nat_lt, if◌then◌else◌, List, [], ◌++◌, length, map, Option, Some, None, codes}
+use Rattle.devices.specs.Device.{HasFailed, IsDurable, Overwrites}
+use Rattle.devices.specs.declared.opening.OpenFault.{OpenFault}
+use Rattle.devices.specs.declared.opening.OpenFault.TheVariants as opening
+use Rattle.streams.specs.Line.{input_limit}
+use Rattle.streams.specs.Moment.{SinkAt}
+use Rattle.streams.specs.declared.fault.StreamFault.TheVariants as streams
+use Rattle.world_core.specs.World.{World}
+use Rattle.run_record.specs.Record.{event_of}
+use Rattle.run_replay.specs.Replay.{Replays}
+use Rattle.scenario_text.specs.Commands.{Command}
+use Rattle.scenario_text.specs.Script.{commands_of, scenario_of}
+use Rattle.scenario_stage.specs.Obeying.{Choices, Stage, new_stage}
+use Rattle.scenario_stage.specs.Printed.{line}
+use Rattle.scenario.specs.Output.{IsOutput, ObeyAll}
+use Rattle.scenario.specs.declared.fault.ScenarioFault.{ScenarioFault}
+use Rattle.plumctl_core.specs.Status.{TellsFault}
+use Rattle.plumctl_file.specs.Ends.{TellsLine}
+
+-- ---- the scenario
+
+-- the whole output of the text is what obeying its commands prints, in a world of so many new
+-- nodes, and this is the world that they lead to: with these events, replies and frames
+pub record MakesAgain (choices : Choices) (nodes : ℕ) (w : World) (text output : List ℕ)
+    (ended : Option ScenarioFault) : Type 0 where
+  pub whole : ended ≡ None
+  pub commands : List Command
+  pub scenario : scenario_of (commands_of (length choices) text)
+      ≡ Some (record { nodes = nodes; commands = commands })
+  pub printed : List ℕ
+  pub stage : Stage
+  pub obeyed : ObeyAll choices (new_stage nodes) commands printed stage
+  pub world : stage.world ≡ w
+  pub output_is : output ≡ line (codes "ok") ++ printed
+
+-- the text asks for the events of the world, one after the other, and then for the root of each
+-- node; and a run of it to its end, with two resolvers at hand, makes the same world again
+pub record IsRecording (nodes : ℕ) (w : World) (text : List ℕ) : Type 0 where
+  pub replays : Replays nodes (map event_of w.accepted) text
+  pub makes : (choices : Choices) (output : List ℕ) (ended : Option ScenarioFault)
+      → length choices ≡ 2 → IsOutput choices text output ended
+      → MakesAgain choices nodes w text output ended
+
+-- ---- where it is written
+
+-- the text stands at the front of what the device held, and every crash leaves it there
+pub record IsStored {D : Type 0} (content : D → List ℕ) (may_leave : D → List ℕ → Type 0)
+    (text : List ℕ) (old new : D) : Type 0 where
+  pub written : Overwrites (content old) 0 text (content new)
+  pub durable : IsDurable (content new) (may_leave new)
+
+-- a recording that is longer than what is run is told so
+abbrev pub note_of : ℕ → List ℕ
+note_of len = if nat_lt input_limit len
+    then line (codes "note: FILE is longer than 67108864 bytes, so 'plumctl run' refuses it")
+    else []
+
+pub record WritesRecording {D : Type 0} (content : D → List ℕ) (may_leave : D → List ℕ → Type 0)
+    (nodes : ℕ) (w : World) (old new : D) (errors_old errors_new : SinkAt) (status : ℕ)
+    : Type 0 where
+  pub status_is : status ≡ 0
+  pub text : List ℕ
+  pub recording : IsRecording nodes w text
+  pub stored : IsStored content may_leave text old new
+  pub told : TellsLine errors_old errors_new (note_of (length text))
+
+abbrev pub device_line : List ℕ
+device_line = line (codes "error 30 Device")
+
+abbrev pub device_failed : List ℕ
+device_failed = device_line ++ line (codes "cause: FILE could not be written")
+
+-- the device failed; memory was wanting; or no text reads back as the run
+abbrev pub FailsRecording : {D : Type 0} → (D → ℕ) → (old new : D) → (errors_old errors_new : SinkAt)
+    → ℕ → Type 0
+FailsRecording failed old new errors_old errors_new status =
+    ((status ≡ 3) × (HasFailed (failed old) (failed new)
+    × TellsLine errors_old errors_new device_failed))
+    ⊎ (((status ≡ 4) × TellsFault errors_old errors_new streams.Memory)
+    ⊎ ((status ≡ 1) × TellsLine errors_old errors_new (line (codes "error: the run has no text"))))
+
+abbrev pub EndsRecording : {D : Type 0} → (D → List ℕ) → (D → List ℕ → Type 0) → (D → ℕ)
+    → (nodes : ℕ) → World → (old new : D) → (errors_old errors_new : SinkAt) → ℕ → Type 0
+EndsRecording content may_leave failed nodes w old new errors_old errors_new status =
+    WritesRecording content may_leave nodes w old new errors_old errors_new status
+    ⊎ FailsRecording failed old new errors_old errors_new status
+
+-- ---- where nothing could be made
+
+abbrev pub status_of_unmade : OpenFault → ℕ
+status_of_unmade opening.Memory = 4
+status_of_unmade fault = 3
+
+-- what standard error is told of the path of a recording, or of a folder with the nodes' files
+abbrev pub told_of_unmade : OpenFault → List ℕ
+told_of_unmade opening.Memory = line (codes "error 99 Memory")
+told_of_unmade opening.Missing =
+    device_line ++ line (codes "cause: there is no folder to make FILE or DIR in")
+told_of_unmade opening.Exists =
+    device_line ++ line (codes "cause: FILE or DIR is there already, and nothing is written over")
+told_of_unmade fault =
+    device_line ++ line (codes "cause: FILE or DIR may not be made or locked, or the disk failed")

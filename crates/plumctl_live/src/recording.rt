@@ -1,0 +1,111 @@
+//! A run that was judged, written down as a scenario.
+
+ghost use Rattle.std.specs.Prelude.{◌≡◌, ◌≢◌, IfOk, IfSome, IsErrOf, OnOk};
+ghost use Rattle.devices.specs.Device.{HasFailed};
+ghost use Rattle.devices.specs.declared.device.DeviceFault.TheVariants.{Failed};
+ghost use Rattle.run_record.specs.Record.{IsOfARun};
+ghost use Rattle.plumctl_live.specs.Recording.{EndsRecording, IsRecording, IsStored, note_of};
+
+use cluster::ClusterPlan;
+use devices::{Device, DeviceFault};
+use plumctl_core::tell;
+use printing::print_number;
+use run_replay::replay_of;
+use std::alloc::{AllocError, Global};
+use streams::{MAX_INPUT_LEN, Sink, StreamFault, write_whole};
+use world_core::World;
+
+/// The comment on top of a recording.
+fn about(alloc: Global, plan: ClusterPlan) -> Result<Vec<u8>, AllocError> {
+    let mut text = Vec::new(alloc);
+    text.extend_from_slice(b"what the threads of 'plumctl live ")?;
+    print_number(&mut text, plan.nodes)?;
+    text.push(b' ')?;
+    print_number(&mut text, plan.turns)?;
+    text.push(b' ')?;
+    print_number(&mut text, plan.seed)?;
+    text.extend_from_slice(b"' did, one call after the other; at last the root of each node")?;
+    Ok(text)
+}
+
+/// The run of the world as a scenario, whose comment on top names this plan. A run of it to its end,
+/// with two resolvers at hand as `plumctl run` has them, makes the same events, and comes to the
+/// same world: with the same replies and frames.
+///
+/// None where no text reads back as this run. Each event that the workers of a cluster make has a
+/// command: a join, a write over what is there, a delivery, a tick. No contract says so.
+///
+/// It takes memory for the text, and for each event once more.
+pub fn recording_of(
+    alloc: Global,
+    plan: ClusterPlan,
+    world: &World,
+) -> Result<Option<Vec<u8>>, AllocError>
+    requires { IsOfARun plan.nodes world.now }
+    ensures { IfOk result (λ found. IfSome found (λ text.
+        IsRecording plan.nodes world.now text.items)) }
+{
+    let about = about(alloc, plan)?;
+    replay_of(alloc, about.as_slice(), plan.nodes, world.accepted())
+}
+
+/// Writes the text at the front of the device, so that every crash leaves it there.
+fn store<T: Device>(target: &mut T, text: &[u8]) -> Result<(), DeviceFault>
+    ensures stored { OnOk result (IsStored T.content T.may_leave text.now target.old target.new) }
+    ensures cause { IsErrOf result Failed → HasFailed (T.failed target.old) (T.failed target.new) }
+{
+    target.seal();
+    target.write_at(0, text)?;
+    target.sync()
+}
+
+/// What standard error is told of a recording of so many bytes.
+fn note_of(len: usize) -> &'static str
+    ensures { result.now ≡ note_of len }
+{
+    if len > MAX_INPUT_LEN {
+        "note: FILE is longer than 67108864 bytes, so 'plumctl run' refuses it\n"
+    } else {
+        ""
+    }
+}
+
+/// Writes the run down at the front of a device, which is to be empty, and returns the exit status:
+/// 0 where every crash leaves the recording there, 1 where the run has none, 3 where the device
+/// failed, 4 where memory was refused. All but the first is told at `errors`, and after them the
+/// device may hold anything; of a recording that is too long to be run a note is.
+pub fn write_recording<T: Device, E: Sink>(
+    alloc: Global,
+    plan: ClusterPlan,
+    world: &World,
+    target: &mut T,
+    errors: &mut E,
+) -> u8
+    requires { IsOfARun plan.nodes world.now }
+    ensures not_usage { result ≢ 2 }
+    ensures ends { EndsRecording T.content T.may_leave T.failed plan.nodes world.now target.old
+        target.new (E.at errors.old) (E.at errors.new) result }
+{
+    let text = match recording_of(alloc, plan, world) {
+        Ok(Some(text)) => text,
+        Ok(None) => {
+            let _ = write_whole(errors, b"error: the run has no text\n");
+            return 1;
+        }
+        Err(_) => return tell(errors, StreamFault::Memory),
+    };
+    match store(target, text.as_slice()) {
+        Ok(()) => {
+            let _ = write_whole(errors, note_of(text.len()).as_bytes());
+            0
+        }
+        Err(DeviceFault::Memory) => tell(errors, StreamFault::Memory),
+        Err(DeviceFault::Failed) => {
+            let _ = write_whole(
+                errors,
+                b"error 30 Device\ncause: FILE could not be written\n",
+            );
+            3
+        }
+    }
+}

@@ -1,0 +1,212 @@
+//! The command `live`.
+
+ghost use Rattle.std.specs.Prelude.{◌≡◌, ◌≢◌, All, IfOk, length};
+ghost use Rattle.devices.specs.Device.{IsDurable};
+ghost use Rattle.run_record.specs.Record.{IsOfARun};
+ghost use Rattle.plumctl_live.specs.Live.{EndsLive, IsJudgedAndTold, IsNewRun, IsRunOn, Judges, TellsStop, counts_of, status_of, told_of, told_of_fault};
+
+use crate::counts::Counts;
+use crate::judged::{LiveFault, judge};
+use crate::text::text_of;
+use cluster::{ClusterFault, ClusterPlan, ClusterRun, Gate, Limits, run_cluster, run_cluster_on};
+use devices::Device;
+use plumctl_core::{status_of_fault, tell};
+use plumctl_file::print;
+use std::alloc::Global;
+use std::sync::Wait;
+use std::thread::Threads;
+use streams::{Sink, StreamFault, write_whole};
+use world_core::World;
+
+/// What became of a run of a cluster.
+#[derive(Drop)]
+pub struct LiveRun {
+    /// The exit status: 0 where it is a run of the world; 1 where it isn't, or there is none; 3
+    /// where a device failed before there was one, or the writer failed; 4 where memory was
+    /// refused. Of several the greatest.
+    pub status: u8,
+    /// What is counted of it, where there is a run.
+    pub counts: Option<Counts>,
+    /// The run of the world that it is, or why there is none.
+    pub judged: Result<World, LiveFault>,
+}
+
+/// What standard error is told of a journal that isn't whole.
+const NOT_WHOLE: &str = "error: a journal isn't whole, so that nobody can say\n";
+
+/// What it is told of nodes that stopped.
+const STOPPED: &str = "note: a device failed, and its node made no more turns\n";
+
+fn status_of(judged: &Result<World, LiveFault>) -> u8
+    ensures { result ≡ status_of judged.now }
+{
+    match judged {
+        Ok(_) => 0,
+        Err(fault) => match fault.code() {
+            Some(99) => 4,
+            Some(30) => 3,
+            _ => 1,
+        },
+    }
+}
+
+/// What standard error is told of a fault of a run.
+fn told_of_fault(fault: &LiveFault) -> &'static str
+    ensures { result.now ≡ told_of_fault fault.now }
+{
+    match fault.code() {
+        Some(99) => "error 99 Memory\n",
+        Some(_) => "",
+        None => NOT_WHOLE,
+    }
+}
+
+/// What standard error is told of what became of a run.
+fn told_of(counts: Option<Counts>, judged: &Result<World, LiveFault>) -> &'static str
+    ensures { result.now ≡ told_of counts judged.now }
+{
+    match judged {
+        Ok(_) => match counts {
+            Some(Counts { stopped: 1.., .. }) => STOPPED,
+            _ => "",
+        },
+        Err(fault) => told_of_fault(fault),
+    }
+}
+
+/// Tells at standard error that the writer failed, but where a fault of the run has to be told, that
+/// one.
+fn tell_stop<E: Sink>(judged: &Result<World, LiveFault>, fault: StreamFault, errors: &mut E)
+    ensures { TellsStop judged.now fault (E.at errors.old) (E.at errors.new) }
+{
+    let told = match judged {
+        Ok(_) => "",
+        Err(fault) => told_of_fault(fault),
+    };
+    if told.is_empty() {
+        let _ = tell(errors, fault);
+    } else {
+        let _ = write_whole(errors, told.as_bytes());
+    }
+}
+
+/// Prints what became of a run of this plan, and returns the exit status.
+fn report<W: Sink, E: Sink>(
+    alloc: Global,
+    plan: ClusterPlan,
+    counts: Option<Counts>,
+    judged: &Result<World, LiveFault>,
+    writer: &mut W,
+    errors: &mut E,
+) -> u8
+    ensures not_usage { result ≢ 2 }
+    ensures ends { EndsLive plan counts judged.now
+        (record { writer = W.at writer.old; errors = E.at errors.old })
+        (record { writer = W.at writer.new; errors = E.at errors.new }) result }
+{
+    let Ok(text) = text_of(alloc, plan, counts, judged) else {
+        return tell(errors, StreamFault::Memory);
+    };
+    match print(writer, text.as_slice()) {
+        Ok(()) => {
+            let _ = write_whole(errors, told_of(counts, judged).as_bytes());
+            status_of(judged)
+        }
+        Err(fault) => {
+            tell_stop(judged, fault, errors);
+            status_of(judged).max(status_of_fault(fault))
+        }
+    }
+}
+
+/// Judges what became of a run, and counts it.
+fn judge_run(
+    alloc: Global,
+    run: Result<ClusterRun, ClusterFault>,
+) -> (Option<Counts>, Result<World, LiveFault>)
+    ensures counts { result.0 ≡ counts_of run }
+    ensures judges { Judges run result.1 }
+{
+    match run {
+        Ok(run) => (Some(Counts::of(&run)), judge(alloc, &run)),
+        Err(fault) => (None, Err(LiveFault::Cluster(fault))),
+    }
+}
+
+/// Judges what became of a run of this plan, and prints it: a line of nodes and turns; where there
+/// is a run, one of calls and lost frames; and then `assembled`, or `fault` with the number and the
+/// name of the refusal.
+///
+/// Standard error is told of want of memory, of a journal that isn't whole, and, where the run is
+/// one of the world, that a node stopped; and if nothing of that, of a fault of the writer. It
+/// takes memory for the world.
+pub fn tell_run<W: Sink, E: Sink>(
+    alloc: Global,
+    plan: ClusterPlan,
+    run: Result<ClusterRun, ClusterFault>,
+    writer: &mut W,
+    errors: &mut E,
+) -> LiveRun
+    requires { IfOk run (λ run. length run.closed.items ≡ plan.nodes) }
+    ensures not_usage { result.status ≢ 2 }
+    ensures live { IsJudgedAndTold (λ it. it ≡ run) plan
+        (record { writer = W.at writer.old; errors = E.at errors.old })
+        (record { writer = W.at writer.new; errors = E.at errors.new }) result }
+    ensures world { IfOk result.judged (IsOfARun plan.nodes) }
+{
+    let (counts, judged) = judge_run(alloc, run);
+    let status = report(alloc, plan, counts, &judged, writer, errors);
+    LiveRun {
+        status,
+        counts,
+        judged,
+    }
+}
+
+/// Runs a cluster on new devices in memory, and tells what became of it as [`tell_run`] does.
+pub fn run_live<R: Threads + Wait + Sync, G: Gate + Sync, W: Sink, E: Sink>(
+    rt: &R,
+    alloc: Global,
+    plan: ClusterPlan,
+    gate: &G,
+    writer: &mut W,
+    errors: &mut E,
+) -> LiveRun
+    ensures not_usage { result.status ≢ 2 }
+    ensures live { IsJudgedAndTold (IsNewRun plan) plan
+        (record { writer = W.at writer.old; errors = E.at errors.old })
+        (record { writer = W.at writer.new; errors = E.at errors.new }) result }
+    ensures world { IfOk result.judged (IsOfARun plan.nodes) }
+{
+    let run = run_cluster(rt, alloc, plan, gate);
+    tell_run(alloc, plan, run, writer, errors)
+}
+
+/// Runs a cluster on these devices, that of node 0 first, with the greatest limits, and tells what
+/// became of it as [`tell_run`] does. A device that isn't new is in a later life, whose run isn't
+/// judged.
+pub fn run_live_on<
+    D: Device + Drop + Send,
+    R: Threads + Wait + Sync,
+    G: Gate + Sync,
+    W: Sink,
+    E: Sink,
+>(
+    rt: &R,
+    alloc: Global,
+    plan: ClusterPlan,
+    devices: Vec<D>,
+    gate: &G,
+    writer: &mut W,
+    errors: &mut E,
+) -> LiveRun
+    requires { All (λ d. IsDurable (D.content d) (D.may_leave d)) devices.items }
+    ensures not_usage { result.status ≢ 2 }
+    ensures live { IsJudgedAndTold (IsRunOn D.content D.failed plan devices.items) plan
+        (record { writer = W.at writer.old; errors = E.at errors.old })
+        (record { writer = W.at writer.new; errors = E.at errors.new }) result }
+    ensures world { IfOk result.judged (IsOfARun plan.nodes) }
+{
+    let run = run_cluster_on(rt, alloc, plan, Limits::largest(), devices, gate);
+    tell_run(alloc, plan, run, writer, errors)
+}

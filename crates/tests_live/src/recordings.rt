@@ -1,0 +1,157 @@
+//! Runs of threads, written down, and made again by one.
+
+ghost use Rattle.std.specs.Prelude.{IfOk};
+ghost use Rattle.run_record.specs.Record.{IsOfARun};
+
+use cluster::{ClusterPlan, NoGate};
+use devices::{FailsAfter, MemoryDevice};
+use plumctl_live::{LiveFault, recording_of, run_live, write_recording};
+use scenario::run_over;
+use std::alloc::Global;
+use std::process::Abort;
+use std::sync::Wait;
+use std::thread::Threads;
+use world_core::World;
+
+/// A run in memory.
+fn live<R: Threads + Wait + Sync>(
+    rt: &R,
+    alloc: Global,
+    plan: ClusterPlan,
+) -> Result<World, LiveFault>
+    ensures { IfOk result (IsOfARun plan.nodes) }
+{
+    let mut writer = Vec::new(alloc);
+    let mut errors = Vec::new(alloc);
+    run_live(rt, alloc, plan, &NoGate, &mut writer, &mut errors).judged
+}
+
+/// What running the recording of a run prints.
+fn output(rt: &impl Abort, alloc: Global, plan: ClusterPlan, world: &World) -> Vec<u8>
+    requires { IsOfARun plan.nodes world.now }
+{
+    let text = recording_of(alloc, plan, world).expect(rt, "memory");
+    let text = text.expect(rt, "a text");
+    let mut output = Vec::new(alloc);
+    let done = run_over(alloc, &mut text.as_slice(), &mut output, &[]);
+    done.ok().expect(rt, "a scenario");
+    output
+}
+
+/// How many lines a text has.
+fn lines(text: &[u8]) -> u64 {
+    let mut count = 0u64;
+    for byte in text {
+        if *byte == b'\n' {
+            count = count.saturating_add(1);
+        }
+    }
+    count
+}
+
+/// Whether running the recording of a run prints a line of `nodes`, one of each event, one of each
+/// frame, and one of the root of each node.
+fn is_made_again<R: Threads + Wait + Abort + Sync>(
+    rt: &R,
+    alloc: Global,
+    plan: ClusterPlan,
+) -> bool {
+    let world = live(rt, alloc, plan).ok().expect(rt, "a run of the world");
+    let output = output(rt, alloc, plan, &world);
+    let events = world.accepted().len() as u64;
+    let all = events.saturating_add(world.frame_count());
+    lines(output.as_slice()) == all.saturating_add(plan.nodes).saturating_add(1)
+}
+
+#[test]
+fn runs_are_made_again(rt: HostRuntime) {
+    for seed in 0..8 {
+        let plan = ClusterPlan {
+            nodes: 4,
+            turns: 60,
+            seed,
+        };
+        assert!(&rt; is_made_again(&rt, rt.alloc(), plan));
+    }
+}
+
+/// The recording of one node with the seed 1. The words follow from what `Pcg64` is, and were
+/// computed by another program.
+const OF_SEED_1: &[u8] = b"\
+# what the threads of 'plumctl live 1 5 1' did, one call after the other; at last the root of each node
+nodes 1
+tick 0 word 15492934433077865799
+tick 0 word 319104231195455319
+tick 0 word 2101115697694094752
+over 0 live/all/k4 4
+tick 0 word 18133442382907303891
+root 0
+";
+
+/// The same with the seed 7.
+const OF_SEED_7: &[u8] = b"\
+# what the threads of 'plumctl live 1 5 7' did, one call after the other; at last the root of each node
+nodes 1
+tick 0 word 9351779398707215
+tick 0 word 4267278794321568333
+tick 0 word 16631418469999051220
+over 0 live/all/k4 4
+tick 0 word 15403274284619518961
+root 0
+";
+
+/// Whether five turns of one node have this recording.
+fn is_recorded<R: Threads + Wait + Abort + Sync>(
+    rt: &R,
+    alloc: Global,
+    seed: u64,
+    wanted: &[u8],
+) -> bool {
+    let plan = ClusterPlan {
+        nodes: 1,
+        turns: 5,
+        seed,
+    };
+    let world = live(rt, alloc, plan).ok().expect(rt, "a run of the world");
+    let text = recording_of(alloc, plan, &world).expect(rt, "memory");
+    text.expect(rt, "a text").as_slice() == wanted
+}
+
+/// What one node does is fixed by the seed.
+#[test]
+fn one_node_has_one_recording(rt: HostRuntime) {
+    assert!(&rt; is_recorded(&rt, rt.alloc(), 1, OF_SEED_1));
+    assert!(&rt; is_recorded(&rt, rt.alloc(), 7, OF_SEED_7));
+}
+
+/// Whether a recording is written to a device that fails after so many calls with this status, and
+/// this is told.
+fn is_written<R: Threads + Wait + Abort + Sync>(
+    rt: &R,
+    alloc: Global,
+    passed: u64,
+    status: u8,
+    told: &[u8],
+) -> bool {
+    let plan = ClusterPlan {
+        nodes: 2,
+        turns: 8,
+        seed: 3,
+    };
+    let world = live(rt, alloc, plan).ok().expect(rt, "a run of the world");
+    let text = recording_of(alloc, plan, &world).expect(rt, "memory");
+    let device = MemoryDevice::new(alloc, Vec::new(alloc)).expect(rt, "memory");
+    let mut target = FailsAfter::new(device, passed);
+    let mut errors = Vec::new(alloc);
+    let ended = write_recording(alloc, plan, &world, &mut target, &mut errors);
+    let is_there = text.expect(rt, "a text").as_slice() == target.inner().content();
+    ended == status && errors.as_slice() == told && (is_there || status != 0)
+}
+
+#[test]
+fn recordings_are_written(rt: HostRuntime) {
+    let failed = b"error 30 Device\ncause: FILE could not be written\n";
+    assert!(&rt; is_written(&rt, rt.alloc(), 0, 3, failed));
+    assert!(&rt; is_written(&rt, rt.alloc(), 1, 3, failed));
+    assert!(&rt; is_written(&rt, rt.alloc(), 2, 0, b""));
+}

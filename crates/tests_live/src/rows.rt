@@ -1,0 +1,85 @@
+//! What is printed and told, and the exit status.
+
+use cluster::{ClusterFault, ClusterPlan, NoGate};
+use node_file::FileFault;
+use plumctl_live::{run_live, tell_run};
+use std::alloc::Global;
+use std::process::Abort;
+use std::sync::Wait;
+use std::thread::Threads;
+use streams::MayFail;
+
+fn plan(nodes: u64, turns: u64, seed: u64) -> ClusterPlan {
+    ClusterPlan { nodes, turns, seed }
+}
+
+/// Whether a run prints and tells this, with this status.
+fn is_run<R: Threads + Wait + Sync>(
+    rt: &R,
+    alloc: Global,
+    plan: ClusterPlan,
+    printed: &[u8],
+    status: u8,
+) -> bool {
+    let mut writer = Vec::new(alloc);
+    let mut errors = Vec::new(alloc);
+    let live = run_live(rt, alloc, plan, &NoGate, &mut writer, &mut errors);
+    live.status == status && writer.as_slice() == printed && errors.is_empty()
+}
+
+#[test]
+fn runs_are_told(rt: HostRuntime) {
+    let alloc = rt.alloc();
+    let two = b"live nodes 2 turns 8\ncalls 17 lost 0\nassembled\n";
+    assert!(&rt; is_run(&rt, alloc, plan(2, 8, 1), two, 0));
+    let one = b"live nodes 1 turns 1\ncalls 1 lost 0\nassembled\n";
+    assert!(&rt; is_run(&rt, alloc, plan(1, 1, 0), one, 0));
+    let none = b"live nodes 0 turns 1\nfault 44 NoSuchNode\n";
+    assert!(&rt; is_run(&rt, alloc, plan(0, 1, 0), none, 1));
+    let many = b"live nodes 17 turns 1\nfault 44 NoSuchNode\n";
+    assert!(&rt; is_run(&rt, alloc, plan(17, 1, 0), many, 1));
+}
+
+/// Whether a fault of a cluster prints and tells this, with this status.
+fn is_told(alloc: Global, fault: ClusterFault, printed: &[u8], told: &[u8], status: u8) -> bool {
+    let mut writer = Vec::new(alloc);
+    let mut errors = Vec::new(alloc);
+    let live = tell_run(alloc, plan(3, 4, 5), Err(fault), &mut writer, &mut errors);
+    live.status == status && writer.as_slice() == printed && errors.as_slice() == told
+}
+
+/// A writer that takes nothing more.
+#[test]
+fn a_writer_that_fails_is_told(rt: HostRuntime) {
+    let alloc = rt.alloc();
+    let mut room = [0u8; 10];
+    let mut errors = Vec::new(alloc);
+    let mut writer = MayFail(room.as_mut_slice());
+    let live = run_live(&rt, alloc, plan(1, 1, 0), &NoGate, &mut writer, &mut errors);
+    let line = b"error: the output could not be written\n";
+    assert!(&rt; live.status == 3 && live.judged.is_ok() && errors.as_slice() == line.as_slice());
+    assert!(&rt; room.as_slice() == b"live nodes".as_slice());
+}
+
+#[test]
+fn faults_are_told(rt: HostRuntime) {
+    let alloc = rt.alloc();
+    let thread = b"live nodes 3 turns 4\nfault 56 NoThread\n";
+    assert!(&rt; is_told(alloc, ClusterFault::NoThread, thread, b"", 1));
+    let device = b"live nodes 3 turns 4\nfault 30 Device\n";
+    let failed = ClusterFault::File(FileFault::Device);
+    assert!(&rt; is_told(alloc, failed, device, b"", 3));
+    let spent = b"live nodes 3 turns 4\nfault 35 IncarnationSpent\n";
+    let last = ClusterFault::File(FileFault::IncarnationSpent);
+    assert!(&rt; is_told(alloc, last, spent, b"", 1));
+    let memory = b"error 99 Memory\n";
+    assert!(&rt;
+        is_told(
+            alloc,
+            ClusterFault::Memory,
+            b"live nodes 3 turns 4\n",
+            memory,
+            4
+        )
+    );
+}
