@@ -191,6 +191,11 @@ pub ok_more : {T E : Type 0} (P Q : T → Type 0) (r : Result T E) → ((x : T) 
 ok_more P Q (Ok x) more is = more x is
 ok_more P Q (Err e) more is = tt
 
+-- what follows on Ok from what holds there
+pub then_on_ok : {A E P Q : Type 0} (result : Result A E) → (P → Q) → OnOk result P → OnOk result Q
+then_on_ok (Ok done) more holds = more holds
+then_on_ok (Err fault) more holds = tt
+
 pub err_more : {T E : Type 0} (P Q : E → Type 0) (r : Result T E) → ((e : E) → P e → Q e)
     → IfErr r P → IfErr r Q
 err_more P Q (Ok x) more is = tt

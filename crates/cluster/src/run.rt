@@ -58,21 +58,34 @@ impl ClusterRun {
         ensures { (all : List Work) → IsPutTogether all self.old
             → OnOk result (IsPutTogether (all ++ worked ∷ []) self.new) }
     {
+        let journal = worked.closed.journal().len() as u64;
+        self.calls = self.calls.saturating_add(journal);
+        self.lost = self.lost.saturating_add(worked.lost);
+        let stopped = add_if(&mut self.stopped, worked.node, worked.is_stopped);
         let Worked {
-            node,
             closed,
             receipts,
-            lost,
-            is_stopped,
+            ..
         } = worked;
-        let mut receipts = receipts;
-        add_if(&mut self.stopped, node, is_stopped)?;
-        self.receipts.append(&mut receipts)?;
-        self.calls = self.calls.saturating_add(closed.journal().len() as u64);
-        self.lost = self.lost.saturating_add(lost);
-        self.closed.push(closed)?;
-        Ok(())
+        add_both(&mut self.closed, &mut self.receipts, closed, receipts)?;
+        stopped
     }
+}
+
+/// Adds one, and more of others. (What they are is hidden, so that their drops cost no proof.)
+fn add_both<C: Drop, R: Drop>(
+    all: &mut Vec<C>,
+    others: &mut Vec<R>,
+    one: C,
+    more: Vec<R>,
+) -> Result<(), AllocError>
+    ensures one { OnOk result (all.new.items ≡ all.old.items ++ one ∷ []) }
+    ensures more { OnOk result (others.new.items ≡ others.old.items ++ more.items) }
+{
+    let mut more = more;
+    others.append(&mut more)?;
+    all.push(one)?;
+    Ok(())
 }
 
 /// Adds the node where it is stopped.
