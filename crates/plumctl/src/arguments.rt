@@ -105,9 +105,9 @@ Exit status: 0 done, 1 the file is damaged or has too many keys, 2 wrong argumen
 writing failed, 4 want of memory.";
 
 const LIVE_HELP: &str =
-    "Each node has a worker in a thread of its own. All but node 0 join through node 0, and then each
-makes its turns: each fourth writes, the others take a frame that came, or let time go on. What all
-of them did is then put together as one run of the proved core:
+    "Each node has a worker in a thread of its own. All but node 0 join through node 0, and then
+each makes its turns: each fourth writes, the others take a frame that came, or let time go on.
+What all of them did is then put together as one run of the proved core:
   live nodes 4 turns 200
   calls 803 lost 0
   assembled

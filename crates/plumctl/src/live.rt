@@ -117,10 +117,14 @@ fn run_on<R: Threads + Wait + Sync, W: Sink, E: Sink>(
     ensures not_usage { result.status ≢ 2 }
     ensures world { IfOk result.judged (IsOfARun plan.nodes) }
 {
-    match devices {
+    let live = match devices {
         Some(devices) => run_live_on(handle, rt.alloc(), plan, devices, turns, writer, errors),
         None => run_live(handle, rt.alloc(), plan, turns, writer, errors),
+    };
+    if let Some(counts) = live.counts {
+        turns.count(counts);
     }
+    live
 }
 
 /// Writes down a run that was told of, if it is one of the world; or else removes the file. Returns

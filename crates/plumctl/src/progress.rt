@@ -2,17 +2,21 @@
 
 use cluster::{ClusterPlan, Gate};
 use meta_types::NodeId;
+use plumctl_live::Counts;
 use std::io::IsTerminal;
 use std::sync::Wait;
 use std::sync::atomic::{AtomicBool, AtomicU64, Ordering};
 use std::thread::{self, Parker, Threads};
 use std::time::{Duration, Instant};
 
-/// How many turns the nodes of a cluster have made, of how many.
+/// How many turns the nodes of a cluster have made, of how many; and, once its run is over, what is
+/// counted of it.
 #[derive(Drop)]
 pub struct Turns {
     made: AtomicU64,
     all: u64,
+    calls: AtomicU64,
+    lost: AtomicU64,
 }
 
 impl Turns {
@@ -21,7 +25,20 @@ impl Turns {
         Turns {
             made: AtomicU64::new(0),
             all: plan.nodes.saturating_mul(plan.turns),
+            calls: AtomicU64::new(0),
+            lost: AtomicU64::new(0),
         }
+    }
+
+    /// Notes what is counted of the run.
+    pub fn count(&self, counts: Counts) {
+        self.calls.store(counts.calls, Ordering::Relaxed);
+        self.lost.store(counts.lost, Ordering::Relaxed);
+    }
+
+    /// Whether all turns were made.
+    fn are_made(&self) -> bool {
+        self.made.load(Ordering::Relaxed) >= self.all
     }
 }
 
@@ -34,8 +51,8 @@ impl Gate for Turns {
 }
 
 /// Does the work. Where standard error is a terminal, it is told there that it is at work, once
-/// that is more than a second, and again after 2, 4, 8 seconds and so on; and of a cluster how many
-/// turns were made.
+/// that is more than a second, and again after 2, 4, 8 seconds and so on, and of a cluster how many
+/// turns were made; and, if that was told, at last how many calls it made in a second.
 pub fn told<R: Threads + Wait + Sync, T: Send, F: FnOnce() -> T + Send>(
     rt: &HostRuntime,
     handle: &R,
@@ -62,7 +79,8 @@ pub fn told<R: Threads + Wait + Sync, T: Send, F: FnOnce() -> T + Send>(
     result
 }
 
-/// Tells how many seconds it has been, until the work is over.
+/// Tells how many seconds it has been, until the work is over; then, if that was told, of a cluster
+/// how many calls it made in a second, by the time in which its turns were made.
 fn tell<R: Wait>(
     rt: &HostRuntime,
     handle: &R,
@@ -74,12 +92,20 @@ fn tell<R: Wait>(
         return;
     };
     let mut next = 1;
+    let mut made = None;
     for _ in handle.forever() {
         parker.park_timeout(handle, Duration::from_millis(100));
+        let time = start.elapsed(rt).unwrap_or(Duration::ZERO);
+        if made.is_none() && turns.is_some_and(Turns::are_made) {
+            made = Some(time);
+        }
         if over.load(Ordering::SeqCst) {
+            if let (Some(turns), Some(made), 2..) = (turns, made, next) {
+                tell_last(rt, turns, made);
+            }
             return;
         }
-        let seconds = start.elapsed(rt).map_or(0, |time| time.as_secs());
+        let seconds = time.as_secs();
         if seconds >= next {
             tell_once(rt, seconds, turns);
             next = seconds.saturating_mul(2);
@@ -87,13 +113,24 @@ fn tell<R: Wait>(
     }
 }
 
+/// Tells what is counted of a run whose turns took this time, and how many calls it made in a
+/// second.
+fn tell_last(rt: &HostRuntime, turns: &Turns, time: Duration) {
+    let calls = turns.calls.load(Ordering::Relaxed);
+    let lost = turns.lost.load(Ordering::Relaxed);
+    let milliseconds = u64::try_from(time.as_millis()).unwrap_or(u64::MAX);
+    let rate = calls.saturating_mul(1000) / milliseconds.max(1);
+    let _ = eprintln!(rt; "{calls} calls, {lost} frames lost, {rate} calls a second");
+}
+
 /// Tells it once: of a cluster how many turns were made, each of which is a call, and how many in a
 /// second; once all were made, that they are judged.
 fn tell_once(rt: &HostRuntime, seconds: u64, turns: Option<&Turns>) {
     let _ = match turns {
-        Some(Turns { made, all }) => {
-            let made = made.load(Ordering::Relaxed);
-            if made < *all {
+        Some(turns) => {
+            let all = turns.all;
+            let made = turns.made.load(Ordering::Relaxed);
+            if made < all {
                 let rate = made / seconds.max(1);
                 eprintln!(rt; "at work: {seconds} s, {made} of {all} turns, {rate} a second")
             } else {

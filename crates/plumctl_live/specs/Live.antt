@@ -72,10 +72,10 @@ code_of (Cluster fault) = Some (clusters.code_of fault)
 code_of (Record fault) = Some (records.code_of fault)
 code_of NotWhole = None
 
-abbrev pub name_of : LiveFault → List ℕ
-name_of (Cluster fault) = clusters.fault_name fault
-name_of (Record fault) = records.fault_name fault
-name_of NotWhole = codes "NotWhole"
+abbrev pub fault_name : LiveFault → List ℕ
+fault_name (Cluster fault) = clusters.fault_name fault
+fault_name (Record fault) = records.fault_name fault
+fault_name NotWhole = codes "NotWhole"
 
 -- ---- what is printed
 
@@ -111,7 +111,7 @@ line_of_number (Some code) name = if nat_eq code 99 then [] else fault_line code
 
 abbrev pub verdict_line : Result World LiveFault → List ℕ
 verdict_line (Ok w) = line (codes "assembled")
-verdict_line (Err fault) = line_of_number (code_of fault) (name_of fault)
+verdict_line (Err fault) = line_of_number (code_of fault) (fault_name fault)
 
 unfoldable pub live_text : ClusterPlan → Option Counts → Result World LiveFault → List ℕ
 live_text plan counts judged = plan_line plan ++ (calls_line counts ++ verdict_line judged)
@@ -122,9 +122,10 @@ abbrev pub status_of_number : Option ℕ → ℕ
 status_of_number None = 1
 status_of_number (Some code) = if nat_eq code 99 then 4 else if nat_eq code 30 then 3 else 1
 
-abbrev pub status_of : Result World LiveFault → ℕ
-status_of (Ok w) = 0
-status_of (Err fault) = status_of_number (code_of fault)
+-- the exit status of what was judged
+abbrev pub status_of_verdict : Result World LiveFault → ℕ
+status_of_verdict (Ok w) = 0
+status_of_verdict (Err fault) = status_of_number (code_of fault)
 
 abbrev pub told_of_number : Option ℕ → List ℕ
 told_of_number None = line (codes "error: a journal isn't whole, so that nobody can say")
@@ -147,7 +148,7 @@ told_of counts (Err fault) = told_of_fault fault
 -- the text was printed, and told what it doesn't say
 pub record PrintsLive (plan : ClusterPlan) (counts : Option Counts)
     (judged : Result World LiveFault) (old new : Outputs) (status : ℕ) : Type 0 where
-  pub status_is : status ≡ status_of judged
+  pub status_is : status ≡ status_of_verdict judged
   pub prints : WritesOut old.writer new.writer (live_text plan counts judged)
   pub told : TellsLine old.errors new.errors (told_of counts judged)
 
@@ -164,7 +165,7 @@ TellsStop (Err by_run) fault old new = TellsUnless (told_of_fault by_run) fault 
 pub record StopsLive (plan : ClusterPlan) (counts : Option Counts)
     (judged : Result World LiveFault) (old new : Outputs) (status : ℕ) : Type 0 where
   pub fault : StreamFault
-  pub status_is : status ≡ max (status_of judged) (status_of_fault fault)
+  pub status_is : status ≡ max (status_of_verdict judged) (status_of_fault fault)
   pub stops : WritesFront old.writer new.writer (live_text plan counts judged) fault
   pub told : TellsStop judged fault old.errors new.errors
 

@@ -72,8 +72,8 @@ abbrev pub device_failed : List ℕ
 device_failed = device_line ++ line (codes "cause: FILE could not be written")
 
 -- the device failed; memory was wanting; or no text reads back as the run
-abbrev pub FailsRecording : {D : Type 0} → (D → ℕ) → (old new : D) → (errors_old errors_new : SinkAt)
-    → ℕ → Type 0
+abbrev pub FailsRecording : {D : Type 0} → (D → ℕ) → (old new : D)
+    → (errors_old errors_new : SinkAt) → ℕ → Type 0
 FailsRecording failed old new errors_old errors_new status =
     ((status ≡ 3) × (HasFailed (failed old) (failed new)
     × TellsLine errors_old errors_new device_failed))

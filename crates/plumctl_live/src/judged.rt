@@ -1,7 +1,7 @@
 //! What became of a cluster of threads.
 
 ghost use Rattle.std.specs.Prelude.{◌≡◌, IfOk, IfErr};
-ghost use Rattle.plumctl_live.specs.Live.{IsJudged, RefusesJudging, code_of, name_of};
+ghost use Rattle.plumctl_live.specs.Live.{IsJudged, RefusesJudging, code_of, fault_name};
 
 use cluster::{ClusterFault, ClusterRun};
 use node_journal::are_whole;
@@ -35,7 +35,7 @@ impl LiveFault {
 
     /// The name of the refusal, as programs print it.
     pub fn name(&self) -> &'static str
-        ensures { result.now ≡ name_of self.now }
+        ensures { result.now ≡ fault_name self.now }
     {
         match self {
             LiveFault::Cluster(fault) => fault.name(),

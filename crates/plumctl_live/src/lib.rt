@@ -11,8 +11,8 @@
 //! }
 //! ```
 //!
-//! Read `judged` (`judge`), `counts`, `text` and `run` (`run_live`, `run_live_on`), then `recording`
-//! (`recording_of`, `write_recording`); `folder` makes files for the nodes.
+//! Read `judged` (`judge`), `counts`, `text` and `run` (`run_live`, `run_live_on`), then
+//! `recording` (`recording_of`, `write_recording`); `folder` makes files for the nodes.
 #![tactic(auto)]
 
 mod counts;

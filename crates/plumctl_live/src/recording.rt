@@ -24,13 +24,13 @@ fn about(alloc: Global, plan: ClusterPlan) -> Result<Vec<u8>, AllocError> {
     print_number(&mut text, plan.turns)?;
     text.push(b' ')?;
     print_number(&mut text, plan.seed)?;
-    text.extend_from_slice(b"' did, one call after the other; at last the root of each node")?;
+    text.extend_from_slice(b"' did, call by call; at last the root of each node")?;
     Ok(text)
 }
 
-/// The run of the world as a scenario, whose comment on top names this plan. A run of it to its end,
-/// with two resolvers at hand as `plumctl run` has them, makes the same events, and comes to the
-/// same world: with the same replies and frames.
+/// The run of the world as a scenario, whose comment on top names this plan. A run of it to its
+/// end, with two resolvers at hand as `plumctl run` has them, makes the same events, and comes to
+/// the same world: with the same replies and frames.
 ///
 /// None where no text reads back as this run. Each event that the workers of a cluster make has a
 /// command: a join, a write over what is there, a delivery, a tick. No contract says so.

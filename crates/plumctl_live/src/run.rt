@@ -3,7 +3,7 @@
 ghost use Rattle.std.specs.Prelude.{◌≡◌, ◌≢◌, All, IfOk, length};
 ghost use Rattle.devices.specs.Device.{IsDurable};
 ghost use Rattle.run_record.specs.Record.{IsOfARun};
-ghost use Rattle.plumctl_live.specs.Live.{EndsLive, IsJudgedAndTold, IsNewRun, IsRunOn, Judges, TellsStop, counts_of, status_of, told_of, told_of_fault};
+ghost use Rattle.plumctl_live.specs.Live.{EndsLive, IsJudgedAndTold, IsNewRun, IsRunOn, Judges, TellsStop, counts_of, status_of_verdict, told_of, told_of_fault};
 
 use crate::counts::Counts;
 use crate::judged::{LiveFault, judge};
@@ -37,8 +37,9 @@ const NOT_WHOLE: &str = "error: a journal isn't whole, so that nobody can say\n"
 /// What it is told of nodes that stopped.
 const STOPPED: &str = "note: a device failed, and its node made no more turns\n";
 
-fn status_of(judged: &Result<World, LiveFault>) -> u8
-    ensures { result ≡ status_of judged.now }
+/// The exit status of what was judged.
+fn status_of_verdict(judged: &Result<World, LiveFault>) -> u8
+    ensures { result ≡ status_of_verdict judged.now }
 {
     match judged {
         Ok(_) => 0,
@@ -74,8 +75,8 @@ fn told_of(counts: Option<Counts>, judged: &Result<World, LiveFault>) -> &'stati
     }
 }
 
-/// Tells at standard error that the writer failed, but where a fault of the run has to be told, that
-/// one.
+/// Tells at standard error that the writer failed, but where a fault of the run has to be told,
+/// that one.
 fn tell_stop<E: Sink>(judged: &Result<World, LiveFault>, fault: StreamFault, errors: &mut E)
     ensures { TellsStop judged.now fault (E.at errors.old) (E.at errors.new) }
 {
@@ -110,11 +111,11 @@ fn report<W: Sink, E: Sink>(
     match print(writer, text.as_slice()) {
         Ok(()) => {
             let _ = write_whole(errors, told_of(counts, judged).as_bytes());
-            status_of(judged)
+            status_of_verdict(judged)
         }
         Err(fault) => {
             tell_stop(judged, fault, errors);
-            status_of(judged).max(status_of_fault(fault))
+            status_of_verdict(judged).max(status_of_fault(fault))
         }
     }
 }

@@ -78,7 +78,7 @@ fn runs_are_made_again(rt: HostRuntime) {
 /// The recording of one node with the seed 1. The words follow from what `Pcg64` is, and were
 /// computed by another program.
 const OF_SEED_1: &[u8] = b"\
-# what the threads of 'plumctl live 1 5 1' did, one call after the other; at last the root of each node
+# what the threads of 'plumctl live 1 5 1' did, call by call; at last the root of each node
 nodes 1
 tick 0 word 15492934433077865799
 tick 0 word 319104231195455319
@@ -90,7 +90,7 @@ root 0
 
 /// The same with the seed 7.
 const OF_SEED_7: &[u8] = b"\
-# what the threads of 'plumctl live 1 5 7' did, one call after the other; at last the root of each node
+# what the threads of 'plumctl live 1 5 7' did, call by call; at last the root of each node
 nodes 1
 tick 0 word 9351779398707215
 tick 0 word 4267278794321568333
