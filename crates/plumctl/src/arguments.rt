@@ -14,7 +14,10 @@ use streams::{StreamFault, write_fault};
 pub enum Asked<'a> {
     /// Nothing more, and this exit status: help or a usage fault was printed.
     Nothing(u8),
-    Frame,
+    /// What lines of digits spell, of the file of this path, or of standard input.
+    Frame {
+        file: Option<&'a str>,
+    },
     /// A scenario, of the file of this path, or of standard input.
     Run {
         file: Option<&'a str>,
@@ -35,12 +38,9 @@ pub const USAGE: u8 = 2;
 
 const VERSION: &str = "0.1.0";
 
-/// What a wrong argument of `frame` is told besides.
-const NO_FILE: &str = "tip: frame reads standard input, as in 'plumctl frame <FILE'";
-
 const HELP: &str = "Examples:
   plumctl run siblings.scenario
-  plumctl frame <frames.hex
+  plumctl frame frames.hex
   plumctl file node-0 --rewrite node-0.clean
   plumctl live 4 200 7 --record tuesday.scenario";
 
@@ -122,7 +122,7 @@ Exit status: 0 assembled (and recorded), 1 it is no run of the core, or has no r
 arguments, 3 FILE, DIR or a device failed before the threads started, or writing failed, 4 want of
 memory.";
 
-/// The names of the arguments of `run`, `file` and `live`.
+/// The names of the arguments.
 const FILE: &str = "FILE";
 
 const EXPLAIN: &str = "explain";
@@ -140,6 +140,17 @@ const SEED: &str = "SEED";
 const RECORD: &str = "record";
 
 const FILES: &str = "files";
+
+/// The command `frame`.
+fn frame_command<'a>(alloc: Global) -> Result<Command<'a>, AllocError> {
+    let file = Arg::new(alloc, FILE)
+        .help("The lines; standard input if there is none, or for -")
+        .action(ArgAction::Set);
+    Command::new(alloc, "frame")
+        .about("Print the frames that lines of hexadecimal digits spell")
+        .after_help(FRAME_HELP)
+        .arg(file)
+}
 
 /// The command `run`.
 fn run_command<'a>(alloc: Global) -> Result<Command<'a>, AllocError> {
@@ -214,15 +225,12 @@ fn live_command<'a>(alloc: Global) -> Result<Command<'a>, AllocError> {
 
 /// The command line, with its help.
 fn command<'a>(alloc: Global) -> Result<Command<'a>, AllocError> {
-    let frame = Command::new(alloc, "frame")
-        .about("Print the frames that lines of hexadecimal digits at standard input spell")
-        .after_help(FRAME_HELP);
     Command::new(alloc, "plumctl")
         .about("The commands of Zomtagi, a cluster metadata store")
         .version(VERSION)
         .after_help(HELP)
         .subcommand_required(true)
-        .subcommand(frame)?
+        .subcommand(frame_command(alloc)?)?
         .subcommand(run_command(alloc)?)?
         .subcommand(file_command(alloc)?)?
         .subcommand(live_command(alloc)?)
@@ -248,12 +256,6 @@ fn print(rt: &HostRuntime, error: &Error) -> Result<u8, StreamFault> {
             fault => Err(fault),
         },
     }
-}
-
-/// Whether an argument follows `frame`, which takes none.
-fn is_of_frame(words: &[String], error: &Error) -> bool {
-    error.kind() == ErrorKind::UnknownArgument
-        && words.get(1).is_some_and(|word| word.as_str() == "frame")
 }
 
 /// The path of a file that isn't `-`, which stands for standard input.
@@ -284,7 +286,9 @@ fn live<'a>(matches: &ArgMatches<'a>) -> Asked<'a> {
 pub fn read_arguments<'a>(rt: &HostRuntime, words: &'a [String]) -> Result<Asked<'a>, StreamFault> {
     match command(rt.alloc())?.try_get_matches_from(words) {
         Ok(matches) => match matches.subcommand() {
-            Some(("frame", _)) => Ok(Asked::Frame),
+            Some(("frame", matches)) => Ok(Asked::Frame {
+                file: path(matches.get_str(FILE)),
+            }),
             Some(("run", matches)) => Ok(Asked::Run {
                 file: path(matches.get_str(FILE)),
                 explain: matches.get_flag(EXPLAIN),
@@ -300,12 +304,6 @@ pub fn read_arguments<'a>(rt: &HostRuntime, words: &'a [String]) -> Result<Asked
             _ => Ok(Asked::Nothing(USAGE)),
         },
         Err(error) if error.kind() == ErrorKind::OutOfMemory => Err(StreamFault::Memory),
-        Err(error) => {
-            let status = print(rt, &error)?;
-            if is_of_frame(words, &error) {
-                let _ = eprintln!(rt; "{NO_FILE}");
-            }
-            Ok(Asked::Nothing(status))
-        }
+        Err(error) => Ok(Asked::Nothing(print(rt, &error)?)),
     }
 }

@@ -11,17 +11,29 @@ use streams::{MayFail, Source, StreamFault};
 /// The most bytes of one write.
 pub const OUTPUT_LEN: usize = 65_536;
 
-/// `frame`, from standard input to standard output. Returns the exit status, which is never that of
-/// wrong arguments.
-pub fn frame(rt: &HostRuntime) -> u8
+/// `frame`, of the file of this path, or of standard input, to standard output. Returns the exit
+/// status, which is never that of wrong arguments: a file that can't be opened can't be read.
+pub fn frame(rt: &HostRuntime, file: Option<&str>) -> u8
+    ensures { result ≢ 2 }
+{
+    let Some(path) = file else {
+        return frame_from(rt, &mut MayFail(rt.stdin()));
+    };
+    match fs::open(rt, path) {
+        Ok(file) => frame_from(rt, &mut MayFail(file)),
+        Err(error) => tell(&mut MayFail(rt.stderr()), fault_of_opening(error.kind())),
+    }
+}
+
+/// Prints the frames of a reader, to standard output.
+fn frame_from<R: Source>(rt: &HostRuntime, reader: &mut R) -> u8
     ensures { result ≢ 2 }
 {
     let mut errors = MayFail(rt.stderr());
     let Ok(buffered) = BufWriter::with_capacity(rt.alloc(), OUTPUT_LEN, rt.stdout()) else {
         return tell(&mut errors, StreamFault::Memory);
     };
-    let mut reader = MayFail(rt.stdin());
-    run_frame(rt.alloc(), &mut reader, &mut MayFail(buffered), &mut errors)
+    run_frame(rt.alloc(), reader, &mut MayFail(buffered), &mut errors)
 }
 
 /// `run`, of the file of this path, or of standard input, to standard output; explained, if that is

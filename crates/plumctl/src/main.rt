@@ -29,7 +29,7 @@ fn run<R: Threads + Wait + Sync>(rt: &HostRuntime, handle: &R) -> Result<u8, Str
         return Ok(USAGE);
     };
     Ok(match read_arguments(rt, words.as_slice())? {
-        Asked::Frame => command::frame(rt),
+        Asked::Frame { file } => command::frame(rt, file),
         Asked::Run { file, explain } => command::run(rt, file, explain),
         Asked::File { path, rewrite } => file::file(rt, handle, path, rewrite),
         Asked::Live(asked) => live::live(rt, handle, asked),
