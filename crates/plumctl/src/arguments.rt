@@ -38,11 +38,18 @@ pub const USAGE: u8 = 2;
 
 const VERSION: &str = "0.1.0";
 
-const HELP: &str = "Examples:
+const HELP: &str = "'plumctl help COMMAND' tells more of a command.";
+
+const LONG_HELP: &str = "Examples:
   plumctl run siblings.scenario
   plumctl frame frames.hex
   plumctl file node-0 --rewrite node-0.clean
-  plumctl live 4 200 7 --record tuesday.scenario";
+  plumctl live 4 200 7 --record tuesday.scenario
+
+'plumctl help COMMAND' tells more of a command, and -h less.
+
+Exit status: 0 done, 1 what was read or run is refused, 2 wrong arguments, 3 reading or writing
+failed, 4 want of memory.";
 
 const FRAME_HELP: &str =
     "Each line gives one line: the frame that its digits spell, or the refusal that comes first.
@@ -69,10 +76,22 @@ const RUN_HELP: &str =
   watch N PREFIX CAP                    changes N W         list N PREFIX
   root N             images N           views N             settle
   junk N HEX
-KEY is as a/b/k and PREFIX as a/b, of letters, digits, . _ and -; VALUE is of the same, or hex: and
-digits; CAP is 1 to 1024. A carriage return is no part of a command. An empty line is skipped, and
-so is one that begins with #. Each command prints a line, and a line for each frame that it sent.
-Where a line is no command, error 70 BadLine and its number is all that is printed.
+where words in brackets may be left out, and
+  N, C, P  are nodes, from 0: who does it; through whom it joins; the other one
+  KEY      is a key, as a/b/k, of letters, digits, . _ and -
+  PREFIX   is what a key begins with, as a/b
+  VALUE    is of the characters of a key, or hex: and hexadecimal digits
+  HEX      is an even number of hexadecimal digits, two at least
+  CAP      is how many changes a watch notes, 1 to 1024
+  F, R, W  are the numbers of a frame, a read and a watch, from 1
+  I        is the number of an image, from 0, which is empty
+  word W   is a random number for what a node chooses by chance, 0 if left out
+  stamp S  is a number that is kept beside the value, 0 if left out
+
+A space separates words, and nothing else does: a line with a tab or a carriage return is no
+command. An empty line is skipped, and so is one that begins with #. Each command prints a line,
+and a line for each frame that it sent. Where a line is no command, error 70 BadLine and its number
+is all that is printed.
 
 Example:
   printf 'nodes 1\\nput 0 a/b/k x\\nshow 0 a/b/k\\n' | plumctl run
@@ -148,7 +167,7 @@ fn frame_command<'a>(alloc: Global) -> Result<Command<'a>, AllocError> {
         .action(ArgAction::Set);
     Command::new(alloc, "frame")
         .about("Print the frames that lines of hexadecimal digits spell")
-        .after_help(FRAME_HELP)
+        .after_long_help(FRAME_HELP)
         .arg(file)
 }
 
@@ -163,7 +182,7 @@ fn run_command<'a>(alloc: Global) -> Result<Command<'a>, AllocError> {
         .action(ArgAction::SetTrue);
     Command::new(alloc, "run")
         .about("Run a scenario over the nodes of a new cluster")
-        .after_help(RUN_HELP)
+        .after_long_help(RUN_HELP)
         .arg(file)?
         .arg(explain)
 }
@@ -181,7 +200,7 @@ fn file_command<'a>(alloc: Global) -> Result<Command<'a>, AllocError> {
         .action(ArgAction::Set);
     Command::new(alloc, "file")
         .about("Print what the file of a node holds, or where it is damaged")
-        .after_help(FILE_HELP)
+        .after_long_help(FILE_HELP)
         .arg(path)?
         .arg(rewrite)
 }
@@ -209,7 +228,7 @@ fn live_command<'a>(alloc: Global) -> Result<Command<'a>, AllocError> {
         .action(ArgAction::Set);
     Command::new(alloc, "live")
         .about("Run a cluster of threads, and judge what they did")
-        .after_help(LIVE_HELP)
+        .after_long_help(LIVE_HELP)
         .arg(number(alloc, NODES, "How many nodes there are, 1 to 16", 1, 16))?
         .arg(number(
             alloc,
@@ -229,6 +248,7 @@ fn command<'a>(alloc: Global) -> Result<Command<'a>, AllocError> {
         .about("The commands of Zomtagi, a cluster metadata store")
         .version(VERSION)
         .after_help(HELP)
+        .after_long_help(LONG_HELP)
         .subcommand_required(true)
         .subcommand(frame_command(alloc)?)?
         .subcommand(run_command(alloc)?)?
