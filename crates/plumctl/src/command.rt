@@ -2,14 +2,26 @@
 
 ghost use Rattle.std.specs.Prelude.{◌≢◌};
 
-use plumctl_core::{explain_scenario, run_frame, run_scenario, tell};
+use plumctl_core::{explain_scenario, run_frame, run_scenario, tell, tell_unopened};
 use resolvers::{Largest, Lww, Resolver};
-use std::fs;
+use std::fs::{self, File};
 use std::io::{BufWriter, ErrorKind};
 use streams::{MayFail, Source, StreamFault};
 
 /// The most bytes of one write.
 pub const OUTPUT_LEN: usize = 65_536;
+
+/// Opens the file at a path, to be read. A folder, of which no read would succeed, isn't opened.
+fn open(rt: &HostRuntime, path: &str) -> Result<File, ErrorKind> {
+    let file = match fs::open(rt, path) {
+        Ok(file) => file,
+        Err(error) => return Err(error.kind()),
+    };
+    match file.metadata() {
+        Ok(found) if found.is_dir() => Err(ErrorKind::IsADirectory),
+        _ => Ok(file),
+    }
+}
 
 /// `frame`, of the file of this path, or of standard input, to standard output. Returns the exit
 /// status, which is never that of wrong arguments: a file that can't be opened can't be read.
@@ -19,9 +31,9 @@ pub fn frame(rt: &HostRuntime, file: Option<&str>) -> u8
     let Some(path) = file else {
         return frame_from(rt, &mut MayFail(rt.stdin()));
     };
-    match fs::open(rt, path) {
+    match open(rt, path) {
         Ok(file) => frame_from(rt, &mut MayFail(file)),
-        Err(error) => tell(&mut MayFail(rt.stderr()), fault_of_opening(error.kind())),
+        Err(kind) => tell_unopened(rt.alloc(), &mut MayFail(rt.stderr()), path, kind),
     }
 }
 
@@ -45,17 +57,9 @@ pub fn run(rt: &HostRuntime, file: Option<&str>, explain: bool) -> u8
     let Some(path) = file else {
         return run_from(rt, &mut MayFail(rt.stdin()), explain);
     };
-    match fs::open(rt, path) {
+    match open(rt, path) {
         Ok(file) => run_from(rt, &mut MayFail(file), explain),
-        Err(error) => tell(&mut MayFail(rt.stderr()), fault_of_opening(error.kind())),
-    }
-}
-
-/// Why a file can't be opened: want of memory, or that it can't be read.
-fn fault_of_opening(kind: ErrorKind) -> StreamFault {
-    match kind {
-        ErrorKind::OutOfMemory => StreamFault::Memory,
-        _ => StreamFault::Read,
+        Err(kind) => tell_unopened(rt.alloc(), &mut MayFail(rt.stderr()), path, kind),
     }
 }
 

@@ -10,6 +10,8 @@ pub mod Output
 pub mod Run
 -- the exit status of a program, and what it tells at standard error
 pub mod Status
+-- what is told of a file that can't be opened
+pub mod Opening
 -- what a scenario prints, and how its run ends
 pub use Rattle.scenario.specs.Output as ScenarioOutput
 pub use Rattle.scenario.specs.Run as ScenarioRun

@@ -7,15 +7,18 @@
 //! let status = explain_scenario(alloc, &mut reader, &mut writer, &mut errors, &[lww, largest]);
 //! ```
 //!
-//! Read `status` (`run_frame`), `frame` (`frame_lines`), `line`, `scenario_run`, then `laws`.
+//! Read `status` (`run_frame`), `frame` (`frame_lines`), `line`, `scenario_run`, `opening`
+//! (`tell_unopened`), then `laws`.
 #![tactic(auto)]
 
 mod frame;
 pub mod laws;
 mod line;
+mod opening;
 mod scenario_run;
 mod status;
 
 pub use frame::{Ended, frame_lines};
+pub use opening::tell_unopened;
 pub use scenario_run::{explain_scenario, run_scenario};
 pub use status::{run_frame, status_of_fault, tell};

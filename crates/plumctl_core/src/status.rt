@@ -32,7 +32,7 @@ pub fn status_of_fault(fault: StreamFault) -> u8
 
 /// The line that tells a fault, with its line feed. Nothing tells a broken pipe: who closed it
 /// knows.
-fn line_of_fault(fault: StreamFault) -> &'static str
+pub(crate) fn line_of_fault(fault: StreamFault) -> &'static str
     ensures { result.now ≡ line_of_fault fault }
 {
     match fault {

@@ -1,9 +1,9 @@
 //! Runs of the command `run`, explained or not: exit statuses, what is written, and what standard
-//! error is told.
+//! error is told; and what it is told of a file that can't be opened.
 
 use crate::devices::{Device, End, Feed};
 use crate::scenario_runs::{largest, lww};
-use plumctl_core::{explain_scenario, run_scenario};
+use plumctl_core::{explain_scenario, run_scenario, tell_unopened};
 use std::alloc::Global;
 use std::io::ErrorKind;
 use std::process::Abort;
@@ -84,4 +84,11 @@ fn each_run_ends_with_its_status_and_tells_its_fault(rt: HostRuntime) {
         assert!(rt; is_run(&rt, rt.alloc(), run, false));
         assert!(rt; is_run(&rt, rt.alloc(), run, true));
     }
+}
+
+#[test]
+fn a_file_that_is_not_there_is_told_with_its_name(rt: HostRuntime) {
+    let mut errors = MayFail(Device::new(b"error 7 Read\ncause: /no?where ~: not found\n"));
+    let status = tell_unopened(rt.alloc(), &mut errors, "/no\nwhere ~", ErrorKind::NotFound);
+    assert!(rt; (status == 3) & errors.0.is_right & errors.0.wanted.is_empty());
 }

@@ -1,0 +1,41 @@
+-- What is told of a file that can't be opened: what is told of input that can't be read, and then
+-- the name of the file and the cause.
+use Rattle.std.specs.Prelude.{◌≡◌, ◌≢◌, ◌⊎◌, ◌&&◌, ℕ, nat_le, if◌then◌else◌, List, [], ◌∷◌, ◌++◌, map, codes}
+use Rattle.std.specs.Io.KnownBytes.{Appends}
+use Rattle.std.specs.declared.io.ErrorKind.{ErrorKind}
+use Rattle.std.specs.declared.io.ErrorKind.TheVariants as kinds
+use Rattle.streams.specs.declared.fault.StreamFault.TheVariants.{Read, Memory}
+use Rattle.streams.specs.Moment.{SinkAt}
+use Rattle.plumctl_core.specs.Status.{TellsFault, TellsFront, line_of_fault, status_of_fault}
+
+-- a byte of a name as it is told: one that can't be printed is `?`
+abbrev pub told_byte : ℕ → ℕ
+told_byte b = if nat_le 32 b && nat_le b 126 then b else 63
+
+-- the cause, by the kind of the error
+abbrev pub cause_of_kind : ErrorKind → List ℕ
+cause_of_kind kinds.NotFound = codes "not found"
+cause_of_kind kinds.NotADirectory = codes "not found, since a part of its path is no folder"
+cause_of_kind kinds.PermissionDenied = codes "may not be read"
+cause_of_kind kinds.IsADirectory = codes "is a folder"
+cause_of_kind kinds.FilesystemLoop = codes "is a link that leads in a circle"
+cause_of_kind kinds.InvalidFilename = codes "the name is too long"
+cause_of_kind kind = codes "could not be opened"
+
+-- the two lines that are told
+abbrev pub unopened_text : List ℕ → ErrorKind → List ℕ
+unopened_text name kind = line_of_fault Read ++ (codes "cause: " ++ (map told_byte name
+    ++ (codes ": " ++ (cause_of_kind kind ++ 10 ∷ []))))
+
+-- a text was told at standard error, as far as that takes it
+abbrev pub TellsText : (errors_old errors_new : SinkAt) → List ℕ → Type 0
+TellsText errors_old errors_new text =
+    Appends errors_old.contents errors_new.contents text ⊎ TellsFront errors_old errors_new text
+
+-- how a command ends whose file of this name can't be opened: the two lines were told, but of an
+-- error of memory want of memory; which may be wanting for the lines, too
+abbrev pub EndsAtOpening : List ℕ → ErrorKind → (errors_old errors_new : SinkAt) → ℕ → Type 0
+EndsAtOpening name kind errors_old errors_new status =
+    ((kind ≢ kinds.OutOfMemory) × (status ≡ status_of_fault Read)
+    × TellsText errors_old errors_new (unopened_text name kind))
+    ⊎ ((status ≡ status_of_fault Memory) × TellsFault errors_old errors_new Memory)

@@ -1,0 +1,85 @@
+//! What is told of a file that can't be opened.
+
+ghost use Rattle.std.specs.Prelude.{◌≡◌, ◌≢◌, ◌++◌, IfOk, OnOk, map};
+ghost use Rattle.plumctl_core.specs.Opening.{EndsAtOpening, TellsText, cause_of_kind, told_byte, unopened_text};
+
+use crate::status::{line_of_fault, status_of_fault, tell};
+use std::alloc::{AllocError, Global};
+use std::io::ErrorKind;
+use streams::{Sink, StreamFault, write_whole};
+
+/// A byte of a name as it is told: one that can't be printed is `?`.
+fn told_byte(byte: u8) -> u8
+    ensures { result ≡ told_byte byte }
+{
+    match byte {
+        b' '..=b'~' => byte,
+        _ => b'?',
+    }
+}
+
+/// The cause, by the kind of the error.
+fn cause_of_kind(kind: ErrorKind) -> &'static str
+    ensures { result.now ≡ cause_of_kind kind }
+{
+    match kind {
+        ErrorKind::NotFound => "not found",
+        ErrorKind::NotADirectory => "not found, since a part of its path is no folder",
+        ErrorKind::PermissionDenied => "may not be read",
+        ErrorKind::IsADirectory => "is a folder",
+        ErrorKind::FilesystemLoop => "is a link that leads in a circle",
+        ErrorKind::InvalidFilename => "the name is too long",
+        _ => "could not be opened",
+    }
+}
+
+/// Adds a name as it is told.
+fn add_name(text: &mut Vec<u8>, name: &str) -> Result<(), AllocError>
+    ensures { OnOk result (text.new.items ≡ text.old.items ++ map told_byte name.now) }
+{
+    for byte in name.as_bytes() {
+        text.push(told_byte(*byte))?;
+    }
+    Ok(())
+}
+
+/// The two lines that are told: that of input that can't be read, and the name with the cause.
+fn unopened_text(alloc: Global, name: &str, kind: ErrorKind) -> Result<Vec<u8>, AllocError>
+    ensures { IfOk result (λ text. text.items ≡ unopened_text name.now kind) }
+{
+    let mut text = Vec::new(alloc);
+    text.extend_from_slice(line_of_fault(StreamFault::Read).as_bytes())?;
+    text.extend_from_slice(b"cause: ")?;
+    add_name(&mut text, name)?;
+    text.extend_from_slice(b": ")?;
+    text.extend_from_slice(cause_of_kind(kind).as_bytes())?;
+    text.push(b'\n')?;
+    Ok(text)
+}
+
+/// Tells a text at standard error, as far as that takes it.
+fn tell_text<E: Sink>(errors: &mut E, text: &[u8])
+    ensures { TellsText (E.at errors.old) (E.at errors.new) text.now }
+{
+    let _ = write_whole(errors, text);
+}
+
+/// Tells at standard error that the file of this name can't be opened, by the kind of the error,
+/// and returns the exit status: `error 7 Read`, then a line with the name and the cause, and 3; or
+/// `error 99 Memory`, and 4, where memory was wanting, here too. A byte of the name other than
+/// printable is told as `?`. The status is never 2, which tells wrong arguments.
+pub fn tell_unopened<E: Sink>(alloc: Global, errors: &mut E, name: &str, kind: ErrorKind) -> u8
+    ensures run { result ≢ 2 }
+    ensures ends { EndsAtOpening name.now kind (E.at errors.old) (E.at errors.new) result }
+{
+    if matches!(kind, ErrorKind::OutOfMemory) {
+        return tell(errors, StreamFault::Memory);
+    }
+    match unopened_text(alloc, name, kind) {
+        Ok(text) => {
+            tell_text(errors, text.as_slice());
+            status_of_fault(StreamFault::Read)
+        }
+        Err(_) => tell(errors, StreamFault::Memory),
+    }
+}
