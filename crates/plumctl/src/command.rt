@@ -2,11 +2,14 @@
 
 ghost use Rattle.std.specs.Prelude.{◌≢◌};
 
+use crate::progress::told;
 use plumctl_core::{explain_scenario, run_frame, run_scenario, tell, tell_unopened};
 use resolvers::{Largest, Lww, Resolver};
 use std::fs::{self, File};
-use std::io::{BufWriter, ErrorKind};
-use streams::{MayFail, Source, StreamFault};
+use std::io::{BufWriter, ErrorKind, IsTerminal};
+use std::sync::Wait;
+use std::thread::Threads;
+use streams::{MayFail, Sink, Source, StreamFault};
 
 /// The most bytes of one write.
 pub const OUTPUT_LEN: usize = 65_536;
@@ -48,10 +51,24 @@ fn frame_from<R: Source>(rt: &HostRuntime, reader: &mut R) -> u8
     run_frame(rt.alloc(), reader, &mut MayFail(buffered), &mut errors)
 }
 
-/// `run`, of the file of this path, or of standard input, to standard output; explained, if that is
-/// asked for. Returns the exit status, which is never that of wrong arguments: a file that can't be
-/// opened can't be read.
-pub fn run(rt: &HostRuntime, file: Option<&str>, explain: bool) -> u8
+/// `run`, told of at a terminal where it takes its time, but not where the scenario is typed.
+/// Returns the exit status.
+pub fn run<R: Threads + Wait + Sync>(
+    rt: &HostRuntime,
+    handle: &R,
+    file: Option<&str>,
+    explain: bool,
+) -> u8 {
+    if file.is_none() && rt.stdin().is_terminal() {
+        return run_input(rt, file, explain);
+    }
+    told(rt, handle, None, || run_input(rt, file, explain))
+}
+
+/// Runs the scenario of the file of this path, or of standard input, to standard output; explained,
+/// if that is asked for. Returns the exit status, which is never that of wrong arguments: a file
+/// that can't be opened can't be read.
+fn run_input(rt: &HostRuntime, file: Option<&str>, explain: bool) -> u8
     ensures { result ≢ 2 }
 {
     let Some(path) = file else {
@@ -63,15 +80,26 @@ pub fn run(rt: &HostRuntime, file: Option<&str>, explain: bool) -> u8
     }
 }
 
-/// Runs the scenario of a reader, to standard output. The resolvers stand in the order of their
-/// words: `lww` and `largest`.
+/// Runs the scenario of a reader, to standard output: at a terminal what each command prints is
+/// shown at once, elsewhere it is written in large pieces.
 fn run_from<R: Source>(rt: &HostRuntime, reader: &mut R, explain: bool) -> u8
     ensures { result ≢ 2 }
 {
+    if rt.stdout().is_terminal() {
+        return run_to(rt, reader, &mut MayFail(rt.stdout()), explain);
+    }
+    match BufWriter::with_capacity(rt.alloc(), OUTPUT_LEN, rt.stdout()) {
+        Ok(buffered) => run_to(rt, reader, &mut MayFail(buffered), explain),
+        Err(_) => tell(&mut MayFail(rt.stderr()), StreamFault::Memory),
+    }
+}
+
+/// Runs the scenario of a reader, to a writer. The resolvers stand in the order of their words:
+/// `lww` and `largest`.
+fn run_to<R: Source, W: Sink>(rt: &HostRuntime, reader: &mut R, writer: &mut W, explain: bool) -> u8
+    ensures { result ≢ 2 }
+{
     let mut errors = MayFail(rt.stderr());
-    let Ok(buffered) = BufWriter::with_capacity(rt.alloc(), OUTPUT_LEN, rt.stdout()) else {
-        return tell(&mut errors, StreamFault::Memory);
-    };
     let Ok(lww) = Box::new(rt.alloc(), Lww) else {
         return tell(&mut errors, StreamFault::Memory);
     };
@@ -79,10 +107,9 @@ fn run_from<R: Source>(rt: &HostRuntime, reader: &mut R, explain: bool) -> u8
         return tell(&mut errors, StreamFault::Memory);
     };
     let resolvers: [Box<dyn Resolver>; 2] = [lww, largest];
-    let mut writer = MayFail(buffered);
     if explain {
-        explain_scenario(rt.alloc(), reader, &mut writer, &mut errors, &resolvers)
+        explain_scenario(rt.alloc(), reader, writer, &mut errors, &resolvers)
     } else {
-        run_scenario(rt.alloc(), reader, &mut writer, &mut errors, &resolvers)
+        run_scenario(rt.alloc(), reader, writer, &mut errors, &resolvers)
     }
 }
