@@ -1,16 +1,13 @@
 -- What is told of a file that can't be opened: what is told of input that can't be read, and then
 -- the name of the file and the cause.
-use Rattle.std.specs.Prelude.{◌≡◌, ◌≢◌, ◌⊎◌, ◌&&◌, ℕ, nat_le, if◌then◌else◌, List, [], ◌∷◌, ◌++◌, map, codes}
+use Rattle.std.specs.Prelude.{◌≡◌, ◌≢◌, ◌⊎◌, ℕ, List, [], ◌∷◌, ◌++◌, map, codes}
 use Rattle.std.specs.Io.KnownBytes.{Appends}
 use Rattle.std.specs.declared.io.ErrorKind.{ErrorKind}
 use Rattle.std.specs.declared.io.ErrorKind.TheVariants as kinds
 use Rattle.streams.specs.declared.fault.StreamFault.TheVariants.{Read, Memory}
 use Rattle.streams.specs.Moment.{SinkAt}
+use Rattle.scenario_hint.specs.Hint.{shown_byte}
 use Rattle.plumctl_core.specs.Status.{TellsFault, TellsFront, line_of_fault, status_of_fault}
-
--- a byte of a name as it is told: one that can't be printed is `?`
-abbrev pub told_byte : ℕ → ℕ
-told_byte b = if nat_le 32 b && nat_le b 126 then b else 63
 
 -- the cause, by the kind of the error
 abbrev pub cause_of_kind : ErrorKind → List ℕ
@@ -24,7 +21,7 @@ cause_of_kind kind = codes "could not be opened"
 
 -- the two lines that are told
 abbrev pub unopened_text : List ℕ → ErrorKind → List ℕ
-unopened_text name kind = line_of_fault Read ++ (codes "cause: " ++ (map told_byte name
+unopened_text name kind = line_of_fault Read ++ (codes "cause: " ++ (map shown_byte name
     ++ (codes ": " ++ (cause_of_kind kind ++ 10 ∷ []))))
 
 -- a text was told at standard error, as far as that takes it

@@ -1,12 +1,16 @@
--- How a run of a scenario ends for who started the program. What is printed of a bad line, and at
--- the limit of a settling, stands in the output; so standard error is told of other faults only.
-use Rattle.std.specs.Prelude.{◌≡◌, ◌⊎◌, ℕ}
+-- How a run of a scenario ends for who started the program. The output has the number of a bad
+-- line, and that a settling passes its limit; standard error is told of other faults, and of a bad
+-- line what it is and what it wants.
+use Rattle.std.specs.Prelude.{◌≡◌, ◌⊎◌, ℕ, List, None}
 use Rattle.std.specs.Io.KnownBytes.{Keeps}
 use Rattle.streams.specs.Moment.{SinkAt, SourceAt}
-use Rattle.scenario.specs.Obeying.{Choices}
-use Rattle.scenario.specs.Run.{EndsEarly, PrintsAll}
+use Rattle.streams.specs.declared.fault.StreamFault.{StreamFault}
+use Rattle.scenario.specs.Output.{Manner}
+use Rattle.scenario.specs.Run.{EndsText, Prints, ReadsAll, ReadsPart}
 use Rattle.scenario.specs.declared.fault.ScenarioFault.{ScenarioFault}
 use Rattle.scenario.specs.declared.fault.ScenarioFault.TheVariants.{BadLine, Limit, Stream}
+use Rattle.scenario_hint.specs.Hint.{IsTold}
+use Rattle.plumctl_core.specs.Opening.{TellsText}
 use Rattle.plumctl_core.specs.Status.{TellsFault, status_of_fault}
 
 abbrev pub status_of_scenario : ScenarioFault → ℕ
@@ -14,32 +18,61 @@ status_of_scenario (BadLine line) = 1
 status_of_scenario Limit = 1
 status_of_scenario (Stream fault) = status_of_fault fault
 
--- what standard error is told of a fault
-abbrev pub TellsScenario : (errors_old errors_new : SinkAt) → ScenarioFault → Type 0
-TellsScenario errors_old errors_new (BadLine line) = Keeps errors_old.contents errors_new.contents
-TellsScenario errors_old errors_new Limit = Keeps errors_old.contents errors_new.contents
-TellsScenario errors_old errors_new (Stream fault) = TellsFault errors_old errors_new fault
+-- what the line of this number is and wants was told, as far as standard error takes it; or memory
+-- was wanting for that
+abbrev pub TellsBadLine : (errors_old errors_new : SinkAt) → List ℕ → ℕ → Type 0
+TellsBadLine errors_old errors_new text number =
+    Keeps errors_old.contents errors_new.contents
+    ⊎ ((told : List ℕ) × IsTold text number told × TellsText errors_old errors_new told)
 
--- a scenario was run to its end, and standard error was told nothing
-pub record FinishesScenario (choices : Choices) (reader_old reader_new : SourceAt)
+-- what standard error is told of a fault of the run of this text
+abbrev pub TellsScenario : (errors_old errors_new : SinkAt) → List ℕ → ScenarioFault → Type 0
+TellsScenario errors_old errors_new text (BadLine line) =
+    TellsBadLine errors_old errors_new text line
+TellsScenario errors_old errors_new text Limit = Keeps errors_old.contents errors_new.contents
+TellsScenario errors_old errors_new text (Stream fault) = TellsFault errors_old errors_new fault
+
+-- a text was run to its end, and standard error was told nothing
+pub record FinishesText (manner : Manner) (text : List ℕ)
     (writer_old writer_new errors_old errors_new : SinkAt) (status : ℕ) : Type 0 where
   pub status_is : status ≡ 0
   pub kept : Keeps errors_old.contents errors_new.contents
-  pub prints : PrintsAll choices reader_old reader_new writer_old writer_new
+  pub prints : Prints manner text writer_old writer_new None
 
 -- or it ended early by a fault, of which standard error was told
-pub record StopsScenario (choices : Choices) (reader_old reader_new : SourceAt)
+pub record StopsText (manner : Manner) (text : List ℕ)
     (writer_old writer_new errors_old errors_new : SinkAt) (status : ℕ) : Type 0 where
   pub fault : ScenarioFault
   pub status_is : status ≡ status_of_scenario fault
-  pub told : TellsScenario errors_old errors_new fault
-  pub ends : EndsEarly choices reader_old reader_new writer_old writer_new fault
+  pub told : TellsScenario errors_old errors_new text fault
+  pub ends : EndsText manner text writer_old writer_new fault
 
--- how a run of a scenario ends
-abbrev pub EndsScenario : Choices → (reader_old reader_new : SourceAt)
+-- how the run of a text ends
+abbrev pub EndsAndTells : Manner → List ℕ
     → (writer_old writer_new errors_old errors_new : SinkAt) → (status : ℕ) → Type 0
-EndsScenario choices reader_old reader_new writer_old writer_new errors_old errors_new status =
-    FinishesScenario choices reader_old reader_new writer_old writer_new errors_old errors_new
-    status
-    ⊎ StopsScenario choices reader_old reader_new writer_old writer_new errors_old errors_new
-    status
+EndsAndTells manner text writer_old writer_new errors_old errors_new status =
+    FinishesText manner text writer_old writer_new errors_old errors_new status
+    ⊎ StopsText manner text writer_old writer_new errors_old errors_new status
+
+-- the whole input was read, and its run ended so
+pub record EndsInput (manner : Manner) (reader_old reader_new : SourceAt)
+    (writer_old writer_new errors_old errors_new : SinkAt) (status : ℕ) : Type 0 where
+  pub text : List ℕ
+  pub reads : ReadsAll reader_old reader_new text
+  pub ends : EndsAndTells manner text writer_old writer_new errors_old errors_new status
+
+-- or the reading was stopped, which was told, and nothing was written
+pub record StopsInput (reader_old reader_new : SourceAt)
+    (writer_old writer_new errors_old errors_new : SinkAt) (status : ℕ) : Type 0 where
+  pub fault : StreamFault
+  pub status_is : status ≡ status_of_fault fault
+  pub told : TellsFault errors_old errors_new fault
+  pub stops : ReadsPart reader_old reader_new fault
+  pub kept : Keeps writer_old.contents writer_new.contents
+
+-- how a run of a scenario ends, in this manner
+abbrev pub EndsScenario : Manner → (reader_old reader_new : SourceAt)
+    → (writer_old writer_new errors_old errors_new : SinkAt) → (status : ℕ) → Type 0
+EndsScenario manner reader_old reader_new writer_old writer_new errors_old errors_new status =
+    EndsInput manner reader_old reader_new writer_old writer_new errors_old errors_new status
+    ⊎ StopsInput reader_old reader_new writer_old writer_new errors_old errors_new status

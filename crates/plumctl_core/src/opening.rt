@@ -1,22 +1,13 @@
 //! What is told of a file that can't be opened.
 
-ghost use Rattle.std.specs.Prelude.{◌≡◌, ◌≢◌, ◌++◌, IfOk, OnOk, map};
-ghost use Rattle.plumctl_core.specs.Opening.{EndsAtOpening, TellsText, cause_of_kind, told_byte, unopened_text};
+ghost use Rattle.std.specs.Prelude.{◌≡◌, ◌≢◌, IfOk};
+ghost use Rattle.plumctl_core.specs.Opening.{EndsAtOpening, TellsText, cause_of_kind, unopened_text};
 
 use crate::status::{line_of_fault, status_of_fault, tell};
+use scenario_hint::add_printable;
 use std::alloc::{AllocError, Global};
 use std::io::ErrorKind;
 use streams::{Sink, StreamFault, write_whole};
-
-/// A byte of a name as it is told: one that can't be printed is `?`.
-fn told_byte(byte: u8) -> u8
-    ensures { result ≡ told_byte byte }
-{
-    match byte {
-        b' '..=b'~' => byte,
-        _ => b'?',
-    }
-}
 
 /// The cause, by the kind of the error.
 fn cause_of_kind(kind: ErrorKind) -> &'static str
@@ -33,16 +24,6 @@ fn cause_of_kind(kind: ErrorKind) -> &'static str
     }
 }
 
-/// Adds a name as it is told.
-fn add_name(text: &mut Vec<u8>, name: &str) -> Result<(), AllocError>
-    ensures { OnOk result (text.new.items ≡ text.old.items ++ map told_byte name.now) }
-{
-    for byte in name.as_bytes() {
-        text.push(told_byte(*byte))?;
-    }
-    Ok(())
-}
-
 /// The two lines that are told: that of input that can't be read, and the name with the cause.
 fn unopened_text(alloc: Global, name: &str, kind: ErrorKind) -> Result<Vec<u8>, AllocError>
     ensures { IfOk result (λ text. text.items ≡ unopened_text name.now kind) }
@@ -50,7 +31,7 @@ fn unopened_text(alloc: Global, name: &str, kind: ErrorKind) -> Result<Vec<u8>, 
     let mut text = Vec::new(alloc);
     text.extend_from_slice(line_of_fault(StreamFault::Read).as_bytes())?;
     text.extend_from_slice(b"cause: ")?;
-    add_name(&mut text, name)?;
+    add_printable(&mut text, name.as_bytes())?;
     text.extend_from_slice(b": ")?;
     text.extend_from_slice(cause_of_kind(kind).as_bytes())?;
     text.push(b'\n')?;
@@ -58,7 +39,7 @@ fn unopened_text(alloc: Global, name: &str, kind: ErrorKind) -> Result<Vec<u8>, 
 }
 
 /// Tells a text at standard error, as far as that takes it.
-fn tell_text<E: Sink>(errors: &mut E, text: &[u8])
+pub(crate) fn tell_text<E: Sink>(errors: &mut E, text: &[u8])
     ensures { TellsText (E.at errors.old) (E.at errors.new) text.now }
 {
     let _ = write_whole(errors, text);

@@ -1,36 +1,75 @@
 //! The command `run`.
 
-ghost use Rattle.std.specs.Prelude.{◌≡◌, ◌≢◌, ◌⊎◌, OnOk, IfErr, map};
+ghost use Rattle.std.specs.Prelude.{◌≡◌, ◌≢◌, OnOk, IfErr, map};
 ghost use Rattle.std.specs.Io.KnownBytes.{Keeps};
-ghost use Rattle.scenario.specs.declared.fault.ScenarioFault.{ScenarioFault as Fault};
-ghost use Rattle.plumctl_core.specs.Scenario.{EndsScenario, TellsScenario, status_of_scenario};
+ghost use Rattle.scenario.specs.Output.{manner_of, plain};
+ghost use Rattle.scenario_explain.specs.Told.{explained};
+ghost use Rattle.plumctl_core.specs.Scenario.{EndsScenario, EndsAndTells, TellsBadLine, TellsScenario, status_of_scenario};
 
+use crate::opening::tell_text;
 use crate::status::tell;
 use resolvers::Resolver;
-use scenario::{ScenarioFault, run_over};
-use scenario_explain::explain_over;
+use scenario::{Plain, Runner, ScenarioFault, read_text, run_text};
+use scenario_explain::Explainer;
+use scenario_hint::told_of_line;
 use std::alloc::Global;
 use streams::{Sink, Source};
 
-/// Tells a fault of reading, writing or memory at `errors`, and returns the exit status.
-fn end_status<E: Sink>(errors: &mut E, ended: Result<(), ScenarioFault>) -> u8
+/// Tells what is wrong with a line.
+fn tell_line<E: Sink>(alloc: Global, errors: &mut E, text: &[u8], line: u64)
+    ensures { TellsBadLine (E.at errors.old) (E.at errors.new) text.now line }
+{
+    if let Ok(told) = told_of_line(alloc, text, line) {
+        tell_text(errors, told.as_slice());
+    }
+}
+
+/// Tells how the run of a text ended at `errors`, and returns the exit status.
+fn end_status<E: Sink>(
+    alloc: Global,
+    errors: &mut E,
+    text: &[u8],
+    ended: Result<(), ScenarioFault>,
+) -> u8
     ensures run { result ≢ 2 }
     ensures done { OnOk ended ((result ≡ 0)
         × Keeps (E.at errors.old).contents (E.at errors.new).contents) }
     ensures fault { IfErr ended (λ fault. (result ≡ status_of_scenario fault)
-        × TellsScenario (E.at errors.old) (E.at errors.new) fault) }
+        × TellsScenario (E.at errors.old) (E.at errors.new) text.now fault) }
 {
     match ended {
         Ok(()) => 0,
         Err(ScenarioFault::Stream(fault)) => tell(errors, fault),
-        Err(ScenarioFault::BadLine { .. } | ScenarioFault::Limit) => 1,
+        Err(ScenarioFault::BadLine { line }) => {
+            tell_line(alloc, errors, text, line);
+            1
+        }
+        Err(ScenarioFault::Limit) => 1,
     }
 }
 
+/// Runs a text in the manner of the runner, tells how that ended, and returns the exit status.
+fn run_as<P: Runner, W: Sink, E: Sink>(
+    alloc: Global,
+    runner: &mut P,
+    text: &[u8],
+    writer: &mut W,
+    errors: &mut E,
+    resolvers: &[Box<dyn Resolver>],
+) -> u8
+    ensures run { result ≢ 2 }
+    ensures ends { EndsAndTells
+        (manner_of P.opens P.does (map (λ r. choice r) resolvers.now)) text.now
+        (W.at writer.old) (W.at writer.new) (E.at errors.old) (E.at errors.new) result }
+{
+    let ended = run_text(alloc, runner, text, writer, resolvers);
+    end_status(alloc, errors, text, ended)
+}
+
 /// Runs a scenario as `run_over` does, tells a fault of reading, writing or memory at `errors`, and
-/// returns the exit status: 0 where it was run to its end, 1 where a line breaks a rule, a settling
-/// would go on past its limit or the input is too long, 3 where reading or writing failed, 4 where
-/// memory was refused.
+/// of the first bad line what it is and what it wants, and returns the exit status: 0 where it was
+/// run to its end, 1 where a line breaks a rule, a settling would go on past its limit or the input
+/// is too long, 3 where reading or writing failed, 4 where memory was refused.
 pub fn run_scenario<R: Source, W: Sink, E: Sink>(
     alloc: Global,
     reader: &mut R,
@@ -39,16 +78,25 @@ pub fn run_scenario<R: Source, W: Sink, E: Sink>(
     resolvers: &[Box<dyn Resolver>],
 ) -> u8
     ensures run { result ≢ 2 }
-    ensures ends { EndsScenario (map (λ r. choice r) resolvers.now)
+    ensures ends { EndsScenario (plain (map (λ r. choice r) resolvers.now))
         (R.at reader.old) (R.at reader.new) (W.at writer.old) (W.at writer.new)
         (E.at errors.old) (E.at errors.new) result }
 {
-    let ended = run_over(alloc, reader, writer, resolvers);
-    end_status(errors, ended)
+    match read_text(alloc, reader) {
+        Ok(text) => run_as(
+            alloc,
+            &mut Plain,
+            text.as_slice(),
+            writer,
+            errors,
+            resolvers,
+        ),
+        Err(fault) => tell(errors, fault),
+    }
 }
 
 /// Runs a scenario and explains it as `explain_over` does, and tells and returns as `run_scenario`
-/// how that ended. Nothing is stated of what it reads and writes, and so of which fault it is.
+/// how that ended.
 pub fn explain_scenario<R: Source, W: Sink, E: Sink>(
     alloc: Global,
     reader: &mut R,
@@ -57,10 +105,22 @@ pub fn explain_scenario<R: Source, W: Sink, E: Sink>(
     resolvers: &[Box<dyn Resolver>],
 ) -> u8
     ensures run { result ≢ 2 }
-    ensures ends { ((result ≡ 0) × Keeps (E.at errors.old).contents (E.at errors.new).contents)
-        ⊎ ((fault : Fault) × (result ≡ status_of_scenario fault)
-        × TellsScenario (E.at errors.old) (E.at errors.new) fault) }
+    ensures ends { EndsScenario (explained (map (λ r. choice r) resolvers.now))
+        (R.at reader.old) (R.at reader.new) (W.at writer.old) (W.at writer.new)
+        (E.at errors.old) (E.at errors.new) result }
 {
-    let ended = explain_over(alloc, reader, writer, resolvers);
-    end_status(errors, ended)
+    match read_text(alloc, reader) {
+        Ok(text) => {
+            let mut explainer = Explainer::new(alloc, text.as_slice());
+            run_as(
+                alloc,
+                &mut explainer,
+                text.as_slice(),
+                writer,
+                errors,
+                resolvers,
+            )
+        }
+        Err(fault) => tell(errors, fault),
+    }
 }

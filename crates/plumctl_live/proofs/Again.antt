@@ -1,5 +1,5 @@
 -- Whoever runs a recording makes the same world again.
-use Rattle.std.proofs.Common.{◌≡◌, ℕ, List, [], ◌∷◌, length, map, Option, Some, None, Result, Ok, Err, IfOk, IfSome, inl, inr, refl, sym, subst}
+use Rattle.std.proofs.Common.{◌≡◌, ℕ, List, [], ◌∷◌, ◌++◌, ap, ◌∙◌, length, map, Option, Some, None, Result, Ok, Err, IfOk, IfSome, inl, inr, refl, sym, subst}
 use Rattle.world_core.specs.declared.answer.Accepted.{Accepted}
 use Rattle.world_core.specs.declared.event.Event.{Event}
 use Rattle.world_core.specs.Outcome.{Outcomes}
@@ -9,7 +9,7 @@ use Rattle.scenario_text.specs.Commands.{Command, Keep, Resolve, Root, Settle}
 use Rattle.scenario_text.specs.Script.{Scenario, commands_of, first_bad, scenario_of}
 use Rattle.scenario_stage.specs.Meaning.{event_of, report_of}
 use Rattle.scenario_stage.specs.Obeying.{Acts, ActsOrLooks, ActsUnless, Choices, Happens, Obeys, PassesLimit, Stage, new_stage}
-use Rattle.scenario.specs.Output.{IsOutput, ObeyAll, Plays, PlaysOrNothing, PlaysUnless, Runs}
+use Rattle.scenario.specs.Output.{IsOutput, ObeyAll, Plays, PlaysOrNothing, PlaysUnless, Runs, plain}
 use Rattle.scenario.specs.declared.fault.ScenarioFault.{ScenarioFault}
 use Rattle.run_record.specs.Record as records
 use Rattle.run_record.specs.Record.{IsOfARun, outcome_of}
@@ -18,11 +18,11 @@ use Rattle.plumctl_live.specs.Recording.{IsRecording, MakesAgain}
 
 -- ---- looking at roots
 
-looks_on : (choices : Choices) (old : Stage) (nodes : List ℕ) (text : List ℕ) (ended : Option ScenarioFault) → Runs choices old (map Root nodes) text ended → (ended ≡ None) × ObeyAll choices old (map Root nodes) text old
+looks_on : (choices : Choices) (old : Stage) (nodes : List ℕ) (text : List ℕ) (ended : Option ScenarioFault) → Runs (plain choices) old (map Root nodes) text ended → (ended ≡ None) × ObeyAll (plain choices) old (map Root nodes) text old
 looks_on choices old [] text ended runs = (runs.1, (runs.0, refl))
 looks_on choices old (node ∷ nodes) text ended (inl (limit, text_is, ended_is)) = absurd limit
 looks_on choices old (node ∷ nodes) text ended (inr (first, rest, between, obeys, others, text_is)) =
-    let later = looks_on choices old nodes rest ended (subst (λ (s : Stage). Runs choices s (map Root nodes) rest ended) obeys.1 others) in
+    let later = looks_on choices old nodes rest ended (subst (λ (s : Stage). Runs (plain choices) s (map Root nodes) rest ended) obeys.1 others) in
     (later.0, (first, rest, old, subst (λ (s : Stage). Obeys choices old (Root node) first s) obeys.1 obeys, later.1, text_is))
 
 -- ---- a command that is an event
@@ -47,17 +47,17 @@ happens choices old new event command text asks obeys =
 record ComesTo (choices : Choices) (old : Stage) (commands : List Command) (text : List ℕ) (ended : Option ScenarioFault) (w : World) : Type 0 where
   whole : ended ≡ None
   stage : Stage
-  obeyed : ObeyAll choices old commands text stage
+  obeyed : ObeyAll (plain choices) old commands text stage
   world : stage.world ≡ w
 
 comes_to : (choices : Choices) (nodes : ℕ) (old : Stage) (w : World) (accepted : List Accepted) (commands : List Command) (text : List ℕ) (ended : Option ScenarioFault) → AskFor commands (map records.event_of accepted) (roots_of nodes)
-    → Outcomes old.world (map records.event_of accepted) (map outcome_of accepted) w → Runs choices old commands text ended → ComesTo choices old commands text ended w
+    → Outcomes old.world (map records.event_of accepted) (map outcome_of accepted) w → Runs (plain choices) old commands text ended → ComesTo choices old commands text ended w
 comes_to choices nodes old w [] commands text ended asks same runs =
-    let looks = looks_on choices old _ text ended (subst (λ (cs : List Command). Runs choices old cs text ended) (sym asks) runs) in
+    let looks = looks_on choices old _ text ended (subst (λ (cs : List Command). Runs (plain choices) old cs text ended) (sym asks) runs) in
     record {
       whole = looks.0;
       stage = old;
-      obeyed = subst (λ (cs : List Command). ObeyAll choices old cs text old) asks looks.1;
+      obeyed = subst (λ (cs : List Command). ObeyAll (plain choices) old cs text old) asks looks.1;
       world = sym same;
     }
 comes_to choices nodes old w (a ∷ accepted) [] text ended asks passes runs = absurd asks
@@ -75,16 +75,16 @@ comes_to choices nodes old w (a ∷ accepted) (command ∷ commands) text ended 
 
 -- ---- the text
 
-plays : (choices : Choices) (nodes : ℕ) (events : List Event) (text output : List ℕ) (ended : Option ScenarioFault) → (r : Replays nodes events text) → length choices ≡ 2 → IsOutput choices text output ended
-    → Plays choices (record { nodes = nodes; commands = r.commands }) output ended
+plays : (choices : Choices) (nodes : ℕ) (events : List Event) (text output : List ℕ) (ended : Option ScenarioFault) → (r : Replays nodes events text) → length choices ≡ 2 → IsOutput (plain choices) text output ended
+    → Plays (plain choices) (record { nodes = nodes; commands = r.commands }) output ended
 plays choices nodes events text output ended r two is =
     let none : first_bad (length choices) text ≡ None = subst (λ n. first_bad n text ≡ None) (sym two) r.is_whole in
     let some : scenario_of (commands_of (length choices) text) ≡ Some (record { nodes = nodes; commands = r.commands }) =
     subst (λ n. scenario_of (commands_of n text) ≡ Some (record { nodes = nodes; commands = r.commands })) (sym two) r.is_scenario in
-    subst (λ (s : Option Scenario). PlaysOrNothing choices s output ended) some (subst (λ (bad : Option ℕ). PlaysUnless bad choices text output ended) none is)
+    subst (λ (s : Option Scenario). PlaysOrNothing (plain choices) s output ended) some (subst (λ (bad : Option ℕ). PlaysUnless bad (plain choices) text output ended) none is)
 
 makes_again : (nodes : ℕ) (w : World) (text : List ℕ) → Replays nodes (map records.event_of w.accepted) text → IsOfARun nodes w → (choices : Choices) (output : List ℕ) (ended : Option ScenarioFault)
-    → length choices ≡ 2 → IsOutput choices text output ended → MakesAgain choices nodes w text output ended
+    → length choices ≡ 2 → IsOutput (plain choices) text output ended → MakesAgain choices nodes w text output ended
 makes_again nodes w text r ran choices output ended two is =
     let played = plays choices nodes (map records.event_of w.accepted) text output ended r two is in
     let comes = comes_to choices nodes (new_stage nodes) w w.accepted r.commands played.rest ended r.asks ran played.runs in
@@ -96,7 +96,7 @@ makes_again nodes w text r ran choices output ended two is =
       stage = comes.stage;
       obeyed = comes.obeyed;
       world = comes.world;
-      output_is = played.output_is;
+      output_is = played.output_is ∙ ap (λ (xs : List ℕ). xs ++ played.rest) played.opens;
     }
 
 -- a text that replays the world is a recording of it

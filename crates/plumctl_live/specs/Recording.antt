@@ -13,7 +13,7 @@ use Rattle.scenario_text.specs.Commands.{Command}
 use Rattle.scenario_text.specs.Script.{commands_of, scenario_of}
 use Rattle.scenario_stage.specs.Obeying.{Choices, Stage, new_stage}
 use Rattle.scenario_stage.specs.Printed.{line}
-use Rattle.scenario.specs.Output.{IsOutput, ObeyAll}
+use Rattle.scenario.specs.Output.{IsOutput, ObeyAll, plain}
 use Rattle.scenario.specs.declared.fault.ScenarioFault.{ScenarioFault}
 use Rattle.plumctl_core.specs.Status.{TellsFault}
 use Rattle.plumctl_file.specs.Ends.{TellsLine}
@@ -30,7 +30,7 @@ pub record MakesAgain (choices : Choices) (nodes : ℕ) (w : World) (text output
       ≡ Some (record { nodes = nodes; commands = commands })
   pub printed : List ℕ
   pub stage : Stage
-  pub obeyed : ObeyAll choices (new_stage nodes) commands printed stage
+  pub obeyed : ObeyAll (plain choices) (new_stage nodes) commands printed stage
   pub world : stage.world ≡ w
   pub output_is : output ≡ line (codes "ok") ++ printed
 
@@ -39,7 +39,7 @@ pub record MakesAgain (choices : Choices) (nodes : ℕ) (w : World) (text output
 pub record IsRecording (nodes : ℕ) (w : World) (text : List ℕ) : Type 0 where
   pub replays : Replays nodes (map event_of w.accepted) text
   pub makes : (choices : Choices) (output : List ℕ) (ended : Option ScenarioFault)
-      → length choices ≡ 2 → IsOutput choices text output ended
+      → length choices ≡ 2 → IsOutput (plain choices) text output ended
       → MakesAgain choices nodes w text output ended
 
 -- ---- where it is written

@@ -1,5 +1,5 @@
 -- How a run over a reader and a writer ends.
-use Rattle.std.specs.Prelude.{◌≡◌, ◌<◌, ◌≤◌, ◌⊎◌, ℕ, Bool, MatchBool, List, [], ◌∷◌, ◌++◌, length, Option, Some, None, codes}
+use Rattle.std.specs.Prelude.{◌≡◌, ◌<◌, ◌≤◌, ◌⊎◌, ℕ, Bool, MatchBool, List, [], ◌∷◌, ◌++◌, length, Option, Some, None, Result, Ok, Err}
 use Rattle.std.specs.Io.KnownBytes.{Appends, Consumes, IsAtEnd, Keeps}
 use Rattle.streams.specs.declared.fault.StreamFault.{StreamFault}
 use Rattle.streams.specs.Fault.{FailsNoMore, IsReadFault, IsWriteFault}
@@ -9,36 +9,37 @@ use Rattle.streams.specs.Written.{AppendsFront}
 use Rattle.scenario.specs.declared.fault.ScenarioFault.{ScenarioFault}
 use Rattle.scenario.specs.declared.fault.ScenarioFault.TheVariants.{BadLine, Limit, Stream}
 use Rattle.scenario_text.specs.Commands.{Command}
-use Rattle.scenario_stage.specs.Obeying.{Choices, Obeys, PassesLimit, Stage, new_stage}
-use Rattle.scenario.specs.Output.{BeginsNext, IsFrontOfOutput, IsFrontOfPlay, IsOutput, ObeyAll, RunsFront}
-use Rattle.scenario_stage.specs.Printed.{line}
+use Rattle.scenario_stage.specs.Obeying.{PassesLimit, Stage, new_stage}
+use Rattle.scenario.specs.Output.{BeginsNext, PlaysCommand, IsFrontOfOutput, IsFrontOfPlay, IsOutput, Manner, ObeyAll, RunsFront}
+use Rattle.scenario_stage.specs.declared.fault.StageFault.{StageFault}
+use Rattle.scenario_stage.specs.declared.fault.StageFault.TheVariants as stages
 use Rattle.scenario_text.specs.Script.{Scenario, commands_of, first_bad, scenario_of}
 
 -- ---- of a text
 
 -- the output was written and passed on, by a writer that has not failed anew
-pub record Prints (choices : Choices) (text : List ℕ) (writer_old writer_new : SinkAt)
+pub record Prints (manner : Manner) (text : List ℕ) (writer_old writer_new : SinkAt)
     (ended : Option ScenarioFault) : Type 0 where
   pub output : List ℕ
-  pub output_is : IsOutput choices text output ended
+  pub output_is : IsOutput manner text output ended
   pub appended : Appends writer_old.contents writer_new.contents output
   pub passed : writer_new.passed_on
   pub sound : FailsNoMore writer_old.failed writer_new.failed
 
 -- a front of it was written, and the fault has its cause
-pub record StopsPrinting (choices : Choices) (text : List ℕ) (writer_old writer_new : SinkAt)
+pub record StopsPrinting (manner : Manner) (text : List ℕ) (writer_old writer_new : SinkAt)
     (fault : StreamFault) : Type 0 where
   pub output : List ℕ
-  pub front : IsFrontOfOutput choices text output
+  pub front : IsFrontOfOutput manner text output
   pub appended : Appends writer_old.contents writer_new.contents output
   pub cause : IsWriteFault writer_old.failed writer_new.failed fault
 
 -- how the run of a text ends: with a bad line or at the limit it was whole
-abbrev pub EndsText : Choices → List ℕ → (writer_old writer_new : SinkAt) → ScenarioFault → Type 0
-EndsText choices text writer_old writer_new (Stream fault) =
-    StopsPrinting choices text writer_old writer_new fault
-EndsText choices text writer_old writer_new fault =
-    Prints choices text writer_old writer_new (Some fault)
+abbrev pub EndsText : Manner → List ℕ → (writer_old writer_new : SinkAt) → ScenarioFault → Type 0
+EndsText manner text writer_old writer_new (Stream fault) =
+    StopsPrinting manner text writer_old writer_new fault
+EndsText manner text writer_old writer_new fault =
+    Prints manner text writer_old writer_new (Some fault)
 
 -- ---- of a reader
 
@@ -64,11 +65,11 @@ pub record ReadsPart (reader_old reader_new : SourceAt) (fault : StreamFault) : 
   pub cause : StopsAfter reader_old.failed reader_new.failed (length bytes) fault
 
 -- the input was read, and its run ended so
-pub record EndsRun (choices : Choices) (reader_old reader_new : SourceAt)
+pub record EndsRun (manner : Manner) (reader_old reader_new : SourceAt)
     (writer_old writer_new : SinkAt) (fault : ScenarioFault) : Type 0 where
   pub text : List ℕ
   pub reads : ReadsAll reader_old reader_new text
-  pub ends : EndsText choices text writer_old writer_new fault
+  pub ends : EndsText manner text writer_old writer_new fault
 
 -- or the reading was stopped, and then nothing was written
 pub record EndsReading (reader_old reader_new : SourceAt) (writer_old writer_new : SinkAt)
@@ -79,18 +80,18 @@ pub record EndsReading (reader_old reader_new : SourceAt) (writer_old writer_new
   pub kept : Keeps writer_old.contents writer_new.contents
 
 -- how a run ends before its last command, or without its last write
-abbrev pub EndsEarly : Choices → (reader_old reader_new : SourceAt)
+abbrev pub EndsEarly : Manner → (reader_old reader_new : SourceAt)
     → (writer_old writer_new : SinkAt) → ScenarioFault → Type 0
-EndsEarly choices reader_old reader_new writer_old writer_new fault =
-    EndsRun choices reader_old reader_new writer_old writer_new fault
+EndsEarly manner reader_old reader_new writer_old writer_new fault =
+    EndsRun manner reader_old reader_new writer_old writer_new fault
     ⊎ EndsReading reader_old reader_new writer_old writer_new fault
 
 -- the whole input was read, and its output was written and passed on
-pub record PrintsAll (choices : Choices) (reader_old reader_new : SourceAt)
+pub record PrintsAll (manner : Manner) (reader_old reader_new : SourceAt)
     (writer_old writer_new : SinkAt) : Type 0 where
   pub text : List ℕ
   pub reads : ReadsAll reader_old reader_new text
-  pub prints : Prints choices text writer_old writer_new None
+  pub prints : Prints manner text writer_old writer_new None
 
 -- ---- of the line of a fault
 
@@ -106,7 +107,39 @@ pub record WritesEnd (text : List ℕ) (writer_old writer_new : SinkAt) : Type 0
   pub passed : writer_new.passed_on
   pub sound : FailsNoMore writer_old.failed writer_new.failed
 
+-- ---- what a runner does
+
+-- what is printed of `nodes` was added
+pub record Opens (opens : List ℕ → Type 0) (text_old text_new : List ℕ) : Type 0 where
+  pub opened : List ℕ
+  pub is : opens opened
+  pub added : text_new ≡ text_old ++ opened
+
+-- a command was obeyed, and what is printed of it was added; or it passes the limit, or memory was
+-- wanting, and then nothing is said of text and stage
+abbrev pub DoesOrEnds : PlaysCommand → Stage → Command → (text_old text_new : List ℕ) → Stage
+    → Result Unit StageFault → Type 0
+DoesOrEnds does old command text_old text_new new (Ok done) = (added : List ℕ)
+    × does old command added new × (text_new ≡ text_old ++ added)
+DoesOrEnds does old command text_old text_new new (Err stages.Limit) = PassesLimit old command
+DoesOrEnds does old command text_old text_new new (Err stages.Memory) = Unit {0}
+
 -- ---- what private functions cite
+
+-- what is printed of `nodes` was written
+pub record WritesOpening (opens : List ℕ → Type 0) (writer_old writer_new : SinkAt) : Type 0 where
+  pub opened : List ℕ
+  pub is : opens opened
+  pub appended : Appends writer_old.contents writer_new.contents opened
+
+-- or a front of it, or nothing
+pub record EndsOpening (opens : List ℕ → Type 0) (writer_old writer_new : SinkAt)
+    (fault : StreamFault) : Type 0 where
+  pub front : List ℕ
+  pub begins : (front ≡ [])
+      ⊎ ((opened : List ℕ) × (more : List ℕ) × opens opened × (opened ≡ front ++ more))
+  pub appended : Appends writer_old.contents writer_new.contents front
+  pub cause : IsWriteFault writer_old.failed writer_new.failed fault
 
 -- one read gave some bytes, which were added within the limit, or the reader is at its end
 pub record AddsPiece (reader_old reader_new : SourceAt) (text_old text_new : List ℕ)
@@ -125,41 +158,41 @@ pub record StopsPiece (reader_old reader_new : SourceAt) (text_old : List ℕ)
   pub cause : StopsAfter reader_old.failed reader_new.failed (length (text_old ++ bytes)) fault
 
 -- a command was obeyed, and what it prints was written
-pub record WritesCommand (choices : Choices) (old : Stage) (command : Command)
+pub record WritesCommand (manner : Manner) (old : Stage) (command : Command)
     (writer_old writer_new : SinkAt) (new : Stage) : Type 0 where
   pub added : List ℕ
-  pub obeys : Obeys choices old command added new
+  pub obeys : manner.does old command added new
   pub appended : Appends writer_old.contents writer_new.contents added
 
 -- nothing of it was written, or a front
-pub record StopsCommand (choices : Choices) (old : Stage)
+pub record StopsCommand (manner : Manner) (old : Stage)
     (command : Command) (writer_old writer_new : SinkAt) (fault : StreamFault)
     : Type 0 where
   pub begun : List ℕ
-  pub begins : BeginsNext choices old (command ∷ []) begun
+  pub begins : BeginsNext manner old (command ∷ []) begun
   pub appended : Appends writer_old.contents writer_new.contents begun
   pub cause : IsWriteFault writer_old.failed writer_new.failed fault
 
 -- how one command ends a run
-abbrev pub EndsCommand : Choices → Stage → Command
+abbrev pub EndsCommand : Manner → Stage → Command
     → (writer_old writer_new : SinkAt) → ScenarioFault → Type 0
-EndsCommand choices old command writer_old writer_new (BadLine number) = ⊥
-EndsCommand choices old command writer_old writer_new Limit =
+EndsCommand manner old command writer_old writer_new (BadLine number) = ⊥
+EndsCommand manner old command writer_old writer_new Limit =
     PassesLimit old command × Appends writer_old.contents writer_new.contents []
     × FailsNoMore writer_old.failed writer_new.failed
-EndsCommand choices old command writer_old writer_new (Stream fault) =
-    StopsCommand choices old command writer_old writer_new fault
+EndsCommand manner old command writer_old writer_new (Stream fault) =
+    StopsCommand manner old command writer_old writer_new fault
 
 -- commands were all obeyed, and what they print was written
-pub record WritesAll (choices : Choices) (old : Stage) (commands : List Command)
+pub record WritesAll (manner : Manner) (old : Stage) (commands : List Command)
     (writer_old writer_new : SinkAt) : Type 0 where
   pub text : List ℕ
   pub new : Stage
-  pub obeyed : ObeyAll choices old commands text new
+  pub obeyed : ObeyAll manner old commands text new
   pub appended : Appends writer_old.contents writer_new.contents text
 
 -- they were obeyed up to a settling that passes its limit, of which nothing was written yet
-pub record WritesToLimit (choices : Choices) (old : Stage) (commands : List Command)
+pub record WritesToLimit (manner : Manner) (old : Stage) (commands : List Command)
     (writer_old writer_new : SinkAt) : Type 0 where
   pub done : List Command
   pub last : Command
@@ -167,91 +200,95 @@ pub record WritesToLimit (choices : Choices) (old : Stage) (commands : List Comm
   pub commands_are : commands ≡ done ++ last ∷ left
   pub text : List ℕ
   pub stage : Stage
-  pub obeyed : ObeyAll choices old done text stage
+  pub obeyed : ObeyAll manner old done text stage
   pub limit : PassesLimit stage last
   pub appended : Appends writer_old.contents writer_new.contents text
 
 -- a front of what they print was written
-pub record StopsCommands (choices : Choices) (old : Stage)
+pub record StopsCommands (manner : Manner) (old : Stage)
     (commands : List Command) (writer_old writer_new : SinkAt) (fault : StreamFault)
     : Type 0 where
   pub text : List ℕ
-  pub front : RunsFront choices old commands text
+  pub front : RunsFront manner old commands text
   pub appended : Appends writer_old.contents writer_new.contents text
   pub cause : IsWriteFault writer_old.failed writer_new.failed fault
 
 -- how a run of commands ends before the last
-abbrev pub EndsCommands : Choices → Stage → List Command
+abbrev pub EndsCommands : Manner → Stage → List Command
     → (writer_old writer_new : SinkAt) → ScenarioFault → Type 0
-EndsCommands choices old commands writer_old writer_new (BadLine number) = ⊥
-EndsCommands choices old commands writer_old writer_new Limit =
-    WritesToLimit choices old commands writer_old writer_new
+EndsCommands manner old commands writer_old writer_new (BadLine number) = ⊥
+EndsCommands manner old commands writer_old writer_new Limit =
+    WritesToLimit manner old commands writer_old writer_new
     × FailsNoMore writer_old.failed writer_new.failed
-EndsCommands choices old commands writer_old writer_new (Stream fault) =
-    StopsCommands choices old commands writer_old writer_new fault
+EndsCommands manner old commands writer_old writer_new (Stream fault) =
+    StopsCommands manner old commands writer_old writer_new fault
 
 -- the commands of a scenario were all obeyed, and what they print was written
-pub record PlaysAll (choices : Choices) (scenario : Scenario)
+pub record PlaysAll (manner : Manner) (scenario : Scenario)
     (writer_old writer_new : SinkAt) : Type 0 where
+  pub opened : List ℕ
+  pub opens : manner.opens opened
   pub text : List ℕ
   pub stage : Stage
-  pub obeyed : ObeyAll choices (new_stage scenario.nodes) scenario.commands text stage
-  pub appended : Appends writer_old.contents writer_new.contents (line (codes "ok") ++ text)
+  pub obeyed : ObeyAll manner (new_stage scenario.nodes) scenario.commands text stage
+  pub appended : Appends writer_old.contents writer_new.contents (opened ++ text)
 
 -- they were obeyed up to a settling that passes its limit, of which nothing was written yet
-pub record PlaysToLimit (choices : Choices) (scenario : Scenario)
+pub record PlaysToLimit (manner : Manner) (scenario : Scenario)
     (writer_old writer_new : SinkAt) : Type 0 where
   pub done : List Command
   pub last : Command
   pub left : List Command
   pub commands_are : scenario.commands ≡ done ++ last ∷ left
+  pub opened : List ℕ
+  pub opens : manner.opens opened
   pub text : List ℕ
   pub stage : Stage
-  pub obeyed : ObeyAll choices (new_stage scenario.nodes) done text stage
+  pub obeyed : ObeyAll manner (new_stage scenario.nodes) done text stage
   pub limit : PassesLimit stage last
-  pub appended : Appends writer_old.contents writer_new.contents (line (codes "ok") ++ text)
+  pub appended : Appends writer_old.contents writer_new.contents (opened ++ text)
 
 -- a front of what they print was written
-pub record StopsPlaying (choices : Choices) (scenario : Scenario)
+pub record StopsPlaying (manner : Manner) (scenario : Scenario)
     (writer_old writer_new : SinkAt) (fault : StreamFault) : Type 0 where
   pub text : List ℕ
-  pub front : IsFrontOfPlay choices scenario text
+  pub front : IsFrontOfPlay manner scenario text
   pub appended : Appends writer_old.contents writer_new.contents text
   pub cause : IsWriteFault writer_old.failed writer_new.failed fault
 
 -- how playing a scenario ends before its last command
-abbrev pub EndsPlay : Choices → Scenario → (writer_old writer_new : SinkAt) → ScenarioFault → Type 0
-EndsPlay choices scenario writer_old writer_new (BadLine number) = ⊥
-EndsPlay choices scenario writer_old writer_new Limit =
-    PlaysToLimit choices scenario writer_old writer_new
+abbrev pub EndsPlay : Manner → Scenario → (writer_old writer_new : SinkAt) → ScenarioFault → Type 0
+EndsPlay manner scenario writer_old writer_new (BadLine number) = ⊥
+EndsPlay manner scenario writer_old writer_new Limit =
+    PlaysToLimit manner scenario writer_old writer_new
     × FailsNoMore writer_old.failed writer_new.failed
-EndsPlay choices scenario writer_old writer_new (Stream fault) =
-    StopsPlaying choices scenario writer_old writer_new fault
+EndsPlay manner scenario writer_old writer_new (Stream fault) =
+    StopsPlaying manner scenario writer_old writer_new fault
 
 -- the output for a text was written
-pub record WritesOutput (choices : Choices) (text : List ℕ)
+pub record WritesOutput (manner : Manner) (text : List ℕ)
     (writer_old writer_new : SinkAt) : Type 0 where
   pub output : List ℕ
-  pub output_is : IsOutput choices text output None
-  pub front : IsFrontOfOutput choices text output
+  pub output_is : IsOutput manner text output None
+  pub front : IsFrontOfOutput manner text output
   pub appended : Appends writer_old.contents writer_new.contents output
 
 -- the scenario of a text was played up to a settling that passes its limit
-pub record StopsAtLimit (choices : Choices) (text : List ℕ)
+pub record StopsAtLimit (manner : Manner) (text : List ℕ)
     (writer_old writer_new : SinkAt) : Type 0 where
   pub scenario : Scenario
-  pub none_bad : first_bad (length choices) text ≡ None
-  pub scenario_is : scenario_of (commands_of (length choices) text) ≡ Some scenario
-  pub plays : PlaysToLimit choices scenario writer_old writer_new
+  pub none_bad : first_bad manner.resolvers text ≡ None
+  pub scenario_is : scenario_of (commands_of manner.resolvers text) ≡ Some scenario
+  pub plays : PlaysToLimit manner scenario writer_old writer_new
 
 -- how the run of a text ends before its line of a fault is written
-abbrev pub EndsBefore : Choices → List ℕ → (writer_old writer_new : SinkAt) → ScenarioFault → Type 0
-EndsBefore choices text writer_old writer_new (BadLine number) =
-    (first_bad (length choices) text ≡ Some number)
+abbrev pub EndsBefore : Manner → List ℕ → (writer_old writer_new : SinkAt) → ScenarioFault → Type 0
+EndsBefore manner text writer_old writer_new (BadLine number) =
+    (first_bad manner.resolvers text ≡ Some number)
     × Appends writer_old.contents writer_new.contents []
     × FailsNoMore writer_old.failed writer_new.failed
-EndsBefore choices text writer_old writer_new Limit =
-    StopsAtLimit choices text writer_old writer_new
+EndsBefore manner text writer_old writer_new Limit =
+    StopsAtLimit manner text writer_old writer_new
     × FailsNoMore writer_old.failed writer_new.failed
-EndsBefore choices text writer_old writer_new (Stream fault) =
-    StopsPrinting choices text writer_old writer_new fault
+EndsBefore manner text writer_old writer_new (Stream fault) =
+    StopsPrinting manner text writer_old writer_new fault

@@ -3,7 +3,7 @@
 
 ghost use Rattle.std.specs.Prelude.{◌≡◌, ◌↔◌, ◌++◌, ℕ, List, Option, IsTrue};
 ghost use Rattle.scenario_stage.specs.Obeying.{Choices};
-ghost use Rattle.scenario.specs.Output.{IsFrontOfOutput, IsOutput};
+ghost use Rattle.scenario.specs.Output.{IsFrontOfOutput, IsOutput, plain};
 ghost use Rattle.scenario.specs.declared.fault.ScenarioFault.{ScenarioFault as Fault};
 
 use crate::fault::ScenarioFault;
@@ -11,7 +11,7 @@ use crate::fault::ScenarioFault;
 /// A text has one output at most, and one way to end, by what the resolvers choose.
 pub fn one_output_for_a_text()
     ensures { (choices : Choices) (text one other : List ℕ) (ended ending : Option Fault)
-        → IsOutput choices text one ended → IsOutput choices text other ending
+        → IsOutput (plain choices) text one ended → IsOutput (plain choices) text other ending
         → (one ≡ other) × (ended ≡ ending) }
 {}
 
@@ -19,7 +19,7 @@ pub fn one_output_for_a_text()
 /// memory ended the run.
 pub fn the_output_begins_with_its_front()
     ensures { (choices : Choices) (text front output : List ℕ) (ended : Option Fault)
-        → IsFrontOfOutput choices text front → IsOutput choices text output ended
+        → IsFrontOfOutput (plain choices) text front → IsOutput (plain choices) text output ended
         → (more : List ℕ) × (output ≡ front ++ more) }
 {}
 

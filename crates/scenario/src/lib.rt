@@ -13,15 +13,18 @@
 //! ```
 //!
 //! The language itself is the crate `scenario_text`, and what a command does and prints the crate
-//! `scenario_stage`. Read `run` with `input`, then `fault` and `laws`.
+//! `scenario_stage`. Read `run` with `input`, then `runner` (in what manner a scenario is run),
+//! `fault` and `laws`.
 #![tactic(auto)]
 
 pub mod fault;
 mod input;
 pub mod laws;
 mod run;
+pub mod runner;
 
 pub use fault::ScenarioFault;
 pub use input::read_text;
-pub use run::{end_run, run_over};
+pub use run::{run_over, run_text};
+pub use runner::{Plain, Runner};
 pub use scenario_text::{BadLine, Script, parse};

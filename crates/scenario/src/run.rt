@@ -1,109 +1,125 @@
 //! A scenario, run over a reader and a writer.
 
-ghost use Rattle.std.specs.Prelude.{◌≡◌, ◌⊎◌, ◌++◌, OnOk, IfErr, None, codes, map};
-ghost use Rattle.std.specs.Io.KnownBytes.{Appends};
+ghost use Rattle.std.specs.Prelude.{◌≡◌, ◌⊎◌, ◌++◌, OnOk, IfErr, None, map};
 ghost use Rattle.streams.specs.declared.fault.StreamFault.{StreamFault as ByStream};
 ghost use Rattle.streams.specs.Fault.{FailsNoMore};
 ghost use Rattle.scenario.specs.Ending.{end_line};
-ghost use Rattle.scenario_stage.specs.Printed.{line};
-ghost use Rattle.scenario.specs.Run.{EndsBefore, EndsCommand, EndsCommands, EndsLine, EndsEarly, EndsPlay, EndsText, PlaysAll, Prints, PrintsAll, WritesAll, WritesCommand, WritesEnd, WritesOutput};
+ghost use Rattle.scenario.specs.Output.{manner_of, plain};
+ghost use Rattle.scenario.specs.Run.{EndsBefore, EndsCommand, EndsCommands, EndsEarly, EndsLine, EndsOpening, EndsPlay, EndsText, PlaysAll, Prints, PrintsAll, WritesAll, WritesCommand, WritesEnd, WritesOpening, WritesOutput};
 ghost use Rattle.scenario.specs.declared.fault.ScenarioFault.TheVariants.{Stream};
 ghost use Rattle.scenario_text.specs.Coded.{command_word};
 
 use crate::fault::ScenarioFault;
 use crate::input::read_text;
+use crate::runner::{Plain, Runner};
 use resolvers::Resolver;
 use scenario_stage::{Stage, print_count, print_line};
 use scenario_text::{Command, Script, parse};
 use std::alloc::{AllocError, Global};
 use streams::{Sink, Source, StreamFault, flush, write_whole};
 
-/// Does what a command says, and writes what that prints. `text` is where that is put first.
-fn play_command<W: Sink>(
+/// Does what a command says, and writes what is printed of it. `text` is where that is put first.
+fn play_command<P: Runner, W: Sink>(
+    runner: &mut P,
     stage: &mut Stage,
     command: &Command<'_>,
     resolvers: &[Box<dyn Resolver>],
     text: &mut Vec<u8>,
     writer: &mut W,
 ) -> Result<(), ScenarioFault>
-    ensures ok { OnOk result (WritesCommand (map (λ r. choice r) resolvers.now) stage.old
+    ensures ok { OnOk result (WritesCommand
+        (manner_of P.opens P.does (map (λ r. choice r) resolvers.now)) stage.old
         (command_word command.now) (W.at writer.old) (W.at writer.new) stage.new) }
-    ensures err { IfErr result (EndsCommand (map (λ r. choice r) resolvers.now) stage.old
+    ensures err { IfErr result (EndsCommand
+        (manner_of P.opens P.does (map (λ r. choice r) resolvers.now)) stage.old
         (command_word command.now) (W.at writer.old) (W.at writer.new)) }
     ensures sound { OnOk result (FailsNoMore (W.at writer.old).failed (W.at writer.new).failed) }
 {
     text.clear();
-    stage.obey(command, resolvers, text)?;
+    runner.obey(stage, command, resolvers, text)?;
     write_whole(writer, text.as_slice())?;
     Ok(())
 }
 
-/// Does what the commands of a script say, and writes what each prints.
-fn play_commands<W: Sink>(
+/// Does what the commands of a script say, and writes what is printed of each.
+fn play_commands<P: Runner, W: Sink>(
     alloc: Global,
+    runner: &mut P,
     stage: &mut Stage,
     script: &mut Script<'_>,
     resolvers: &[Box<dyn Resolver>],
     writer: &mut W,
 ) -> Result<(), ScenarioFault>
-    ensures ok { OnOk result (WritesAll (map (λ r. choice r) resolvers.now) stage.old
+    ensures ok { OnOk result (WritesAll
+        (manner_of P.opens P.does (map (λ r. choice r) resolvers.now)) stage.old
         script.old.commands (W.at writer.old) (W.at writer.new)) }
-    ensures err { IfErr result (EndsCommands (map (λ r. choice r) resolvers.now) stage.old
+    ensures err { IfErr result (EndsCommands
+        (manner_of P.opens P.does (map (λ r. choice r) resolvers.now)) stage.old
         script.old.commands (W.at writer.old) (W.at writer.new)) }
     ensures sound { OnOk result (FailsNoMore (W.at writer.old).failed (W.at writer.new).failed) }
 {
     let mut text = Vec::new(alloc);
     while let Some(command) = script.next() {
-        play_command(stage, &command, resolvers, &mut text, writer)?;
+        play_command(runner, stage, &command, resolvers, &mut text, writer)?;
     }
     Ok(())
 }
 
-/// Writes that the nodes are there.
-fn write_ok<W: Sink>(alloc: Global, writer: &mut W) -> Result<(), StreamFault>
-    ensures ok { OnOk result (Appends (W.at writer.old).contents (W.at writer.new).contents
-        (line (codes "ok"))) }
-    ensures err { IfErr result (EndsLine (line (codes "ok")) (W.at writer.old) (W.at writer.new)) }
+/// Writes what is printed of `nodes`.
+fn write_opening<P: Runner, W: Sink>(
+    alloc: Global,
+    runner: &mut P,
+    stage: &Stage,
+    writer: &mut W,
+) -> Result<(), StreamFault>
+    ensures ok { OnOk result (WritesOpening P.opens (W.at writer.old) (W.at writer.new)) }
+    ensures err { IfErr result (EndsOpening P.opens (W.at writer.old) (W.at writer.new)) }
     ensures sound { OnOk result (FailsNoMore (W.at writer.old).failed (W.at writer.new).failed) }
 {
     let mut text = Vec::new(alloc);
-    print_line(&mut text, "ok")?;
+    runner.open(stage, &mut text)?;
     write_whole(writer, text.as_slice())
 }
 
-/// Runs a script over a new world, and writes what it prints.
-fn play<W: Sink>(
+/// Runs a script over a new world, and writes what is printed of it.
+fn play<P: Runner, W: Sink>(
     alloc: Global,
+    runner: &mut P,
     script: &mut Script<'_>,
     resolvers: &[Box<dyn Resolver>],
     writer: &mut W,
 ) -> Result<(), ScenarioFault>
-    ensures ok { OnOk result (PlaysAll (map (λ r. choice r) resolvers.now) script.old
+    ensures ok { OnOk result (PlaysAll
+        (manner_of P.opens P.does (map (λ r. choice r) resolvers.now)) script.old
         (W.at writer.old) (W.at writer.new)) }
-    ensures err { IfErr result (EndsPlay (map (λ r. choice r) resolvers.now) script.old
+    ensures err { IfErr result (EndsPlay
+        (manner_of P.opens P.does (map (λ r. choice r) resolvers.now)) script.old
         (W.at writer.old) (W.at writer.new)) }
     ensures sound { OnOk result (FailsNoMore (W.at writer.old).failed (W.at writer.new).failed) }
 {
     let mut stage = Stage::new(alloc, script.nodes())?;
-    write_ok(alloc, writer)?;
-    play_commands(alloc, &mut stage, script, resolvers, writer)
+    write_opening(alloc, runner, &stage, writer)?;
+    play_commands(alloc, runner, &mut stage, script, resolvers, writer)
 }
 
-/// Runs a text, and writes what it prints, but for the line of a fault that ends it.
-fn play_text<W: Sink>(
+/// Runs a text, and writes what is printed of it, but for the line of a fault that ends it.
+fn play_text<P: Runner, W: Sink>(
     alloc: Global,
+    runner: &mut P,
     text: &[u8],
     resolvers: &[Box<dyn Resolver>],
     writer: &mut W,
 ) -> Result<(), ScenarioFault>
-    ensures ok { OnOk result (WritesOutput (map (λ r. choice r) resolvers.now) text.now
+    ensures ok { OnOk result (WritesOutput
+        (manner_of P.opens P.does (map (λ r. choice r) resolvers.now)) text.now
         (W.at writer.old) (W.at writer.new)) }
-    ensures err { IfErr result (EndsBefore (map (λ r. choice r) resolvers.now) text.now
+    ensures err { IfErr result (EndsBefore
+        (manner_of P.opens P.does (map (λ r. choice r) resolvers.now)) text.now
         (W.at writer.old) (W.at writer.new)) }
     ensures sound { OnOk result (FailsNoMore (W.at writer.old).failed (W.at writer.new).failed) }
 {
     match parse(text, resolvers.len())? {
-        Some(mut script) => play(alloc, &mut script, resolvers, writer),
+        Some(mut script) => play(alloc, runner, &mut script, resolvers, writer),
         None => Ok(()),
     }
 }
@@ -136,7 +152,7 @@ fn write_end<W: Sink>(
 
 /// Writes the line of the fault that ends a scenario, if it has one, and passes on what was
 /// written. Answers that fault, or the one that the writing meets.
-pub fn end_run<W: Sink>(alloc: Global, writer: &mut W, fault: ScenarioFault) -> ScenarioFault
+fn end_run<W: Sink>(alloc: Global, writer: &mut W, fault: ScenarioFault) -> ScenarioFault
     ensures { ((result ≡ fault) × WritesEnd (end_line fault) (W.at writer.old) (W.at writer.new))
         ⊎ ((by_stream : ByStream) × (result ≡ Stream by_stream)
         × EndsLine (end_line fault) (W.at writer.old) (W.at writer.new) by_stream) }
@@ -147,19 +163,24 @@ pub fn end_run<W: Sink>(alloc: Global, writer: &mut W, fault: ScenarioFault) -> 
     }
 }
 
-/// Runs a text, as `run_over` does. A writer that failed is left as it is.
-fn run_text<W: Sink>(
+/// Runs a text in the manner of the runner, and writes what is printed of it. Ends with 70
+/// `BadLine` and 71 `Limit` as [`run_over`] does, and writes their lines; and with `Write`,
+/// `BrokenPipe` or 99 `Memory`, and then a front of the output was written.
+pub fn run_text<P: Runner, W: Sink>(
     alloc: Global,
+    runner: &mut P,
     text: &[u8],
     writer: &mut W,
     resolvers: &[Box<dyn Resolver>],
 ) -> Result<(), ScenarioFault>
-    ensures ok { OnOk result (Prints (map (λ r. choice r) resolvers.now) text.now
+    ensures ok { OnOk result (Prints
+        (manner_of P.opens P.does (map (λ r. choice r) resolvers.now)) text.now
         (W.at writer.old) (W.at writer.new) None) }
-    ensures err { IfErr result (EndsText (map (λ r. choice r) resolvers.now) text.now
+    ensures err { IfErr result (EndsText
+        (manner_of P.opens P.does (map (λ r. choice r) resolvers.now)) text.now
         (W.at writer.old) (W.at writer.new)) }
 {
-    match play_text(alloc, text, resolvers, writer) {
+    match play_text(alloc, runner, text, resolvers, writer) {
         Ok(()) => Ok(flush(writer)?),
         Err(fault) => match fault {
             ScenarioFault::Stream(_) => Err(fault),
@@ -182,11 +203,11 @@ pub fn run_over<R: Source, W: Sink>(
     writer: &mut W,
     resolvers: &[Box<dyn Resolver>],
 ) -> Result<(), ScenarioFault>
-    ensures ok { OnOk result (PrintsAll (map (λ r. choice r) resolvers.now)
+    ensures ok { OnOk result (PrintsAll (plain (map (λ r. choice r) resolvers.now))
         (R.at reader.old) (R.at reader.new) (W.at writer.old) (W.at writer.new)) }
-    ensures err { IfErr result (EndsEarly (map (λ r. choice r) resolvers.now)
+    ensures err { IfErr result (EndsEarly (plain (map (λ r. choice r) resolvers.now))
         (R.at reader.old) (R.at reader.new) (W.at writer.old) (W.at writer.new)) }
 {
     let text = read_text(alloc, reader)?;
-    run_text(alloc, text.as_slice(), writer, resolvers)
+    run_text(alloc, &mut Plain, text.as_slice(), writer, resolvers)
 }

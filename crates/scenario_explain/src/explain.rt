@@ -1,68 +1,114 @@
 //! A scenario, run and explained over a reader and a writer.
 
+ghost use Rattle.std.specs.Prelude.{OnOk, IfErr, map};
+ghost use Rattle.scenario.specs.Run.{EndsEarly, PrintsAll};
+ghost use Rattle.scenario_explain.specs.Told.{AddsTold, Explains, OpensExplained, explained};
+
+use crate::line::add_told;
 use crate::told::Told;
+use printing::print_number;
 use resolvers::Resolver;
-use scenario::{ScenarioFault, end_run, parse, read_text};
-use scenario_stage::{Stage, print_line};
-use scenario_text::Script;
-use std::alloc::Global;
-use streams::{Sink, Source, flush, write_whole};
+use scenario::{Runner, ScenarioFault, read_text, run_text};
+use scenario_hint::{add_shown, is_skipped};
+use scenario_stage::{Stage, StageFault, print_line};
+use scenario_text::{Command, Lines};
+use std::alloc::{AllocError, Global};
+use streams::{Sink, Source};
 
-/// Does what the commands of a script say, and writes what each prints and what it changed.
-fn explain_commands<W: Sink>(
+/// Who runs a scenario and tells, besides the results of each command, its line, and what came of
+/// it.
+#[derive(Drop)]
+pub struct Explainer<'a> {
     alloc: Global,
-    stage: &mut Stage,
-    script: &mut Script<'_>,
-    resolvers: &[Box<dyn Resolver>],
-    writer: &mut W,
-) -> Result<(), ScenarioFault> {
-    let mut told = Told::new(alloc, stage.world(), script.nodes())?;
-    let mut text = Vec::new(alloc);
-    print_line(&mut text, "ok")?;
-    write_whole(writer, text.as_slice())?;
-    while let Some(command) = script.next() {
-        text.clear();
-        stage.obey(&command, resolvers, &mut text)?;
-        told.add_news(stage, &mut text)?;
-        write_whole(writer, text.as_slice())?;
-    }
-    Ok(())
+    lines: Lines<'a>,
+    /// How many lines of the text were passed.
+    number: u64,
+    told: Told,
 }
 
-/// Runs a text and explains it, but for the line of a fault that ends it.
-fn explain_text<W: Sink>(
-    alloc: Global,
-    text: &[u8],
-    resolvers: &[Box<dyn Resolver>],
-    writer: &mut W,
-) -> Result<(), ScenarioFault> {
-    match parse(text, resolvers.len())? {
-        Some(mut script) => {
-            let mut stage = Stage::new(alloc, script.nodes())?;
-            explain_commands(alloc, &mut stage, &mut script, resolvers, writer)
+impl<'a> Explainer<'a> {
+    /// Explains the scenario that this text is, from its first command on.
+    pub fn new(alloc: Global, text: &'a [u8]) -> Self {
+        Explainer {
+            alloc,
+            lines: Lines::of(text),
+            number: 0,
+            told: Told::new(alloc),
         }
-        None => Ok(()),
+    }
+
+    /// Tells the line of the next command, and its number.
+    #[tactic(auto, using(crate::proofs::Adding::adds_none, crate::proofs::Adding::adds_then))]
+    fn add_line(&mut self, text: &mut Vec<u8>) -> Result<(), AllocError>
+        ensures { OnOk result (AddsTold text.old.items text.new.items) }
+    {
+        let Some(line) = next_line(&mut self.lines, &mut self.number) else {
+            return Ok(());
+        };
+        let mut told = Vec::new(self.alloc);
+        print_number(&mut told, self.number)?;
+        told.extend_from_slice(b": ")?;
+        add_shown(&mut told, line)?;
+        add_told(text, told.as_slice())
     }
 }
 
-/// Runs a text as `run_over` does, and writes the same lines. After those of each command stand,
-/// indented by two spaces, a line for each frame that is on its way, which is one that was never
-/// given to its addressee, in the order of their numbers; and a line for each key under which a
-/// node shows other siblings or another context than before, `ctx - values -` where a restart has
-/// taken them away. It ends as `run_over` does, and for the same faults. It takes memory besides
-/// for a copy of what each node holds. No contract states any of this.
+/// The next line that isn't skipped. Each line that is passed is counted.
+fn next_line<'a>(lines: &mut Lines<'a>, number: &mut u64) -> Option<&'a [u8]> {
+    while let Some(line) = lines.next() {
+        *number = number.saturating_add(1);
+        if !is_skipped(line) {
+            return Some(line);
+        }
+    }
+    None
+}
+
+impl<'a> Runner for Explainer<'a> {
+    ghost opens = { OpensExplained };
+
+    ghost does = { Explains };
+
+    fn open(&mut self, stage: &Stage, text: &mut Vec<u8>) -> Result<(), AllocError> {
+        self.add_line(text)?;
+        self.told.open(stage.world())?;
+        print_line(text, "ok")
+    }
+
+    fn obey(
+        &mut self,
+        stage: &mut Stage,
+        command: &Command<'_>,
+        resolvers: &[Box<dyn Resolver>],
+        text: &mut Vec<u8>,
+    ) -> Result<(), StageFault> {
+        self.add_line(text)?;
+        stage.obey(command, resolvers, text)?;
+        self.told.add_news(stage, command, text)?;
+        Ok(())
+    }
+}
+
+/// Runs a text as `run_over` does, and writes the same lines. Before those of each command stands,
+/// indented by two spaces, the number and the text of its line; after them a line with the numbers
+/// of the first sixteen frames that are on their way, which are those that were never given to
+/// their addressees, and how many more there are; and a line for each key under which a node shows
+/// other siblings or another context than before, `ctx - values -` where a restart has taken them
+/// away. Which of these are told is stated by no contract. Where two tables have the same root they are
+/// taken to show the same. It ends as `run_over` does, and for the same faults. It takes memory
+/// besides for a copy of what each node holds.
 pub fn explain_over<R: Source, W: Sink>(
     alloc: Global,
     reader: &mut R,
     writer: &mut W,
     resolvers: &[Box<dyn Resolver>],
-) -> Result<(), ScenarioFault> {
+) -> Result<(), ScenarioFault>
+    ensures ok { OnOk result (PrintsAll (explained (map (λ r. choice r) resolvers.now))
+        (R.at reader.old) (R.at reader.new) (W.at writer.old) (W.at writer.new)) }
+    ensures err { IfErr result (EndsEarly (explained (map (λ r. choice r) resolvers.now))
+        (R.at reader.old) (R.at reader.new) (W.at writer.old) (W.at writer.new)) }
+{
     let text = read_text(alloc, reader)?;
-    match explain_text(alloc, text.as_slice(), resolvers, writer) {
-        Ok(()) => Ok(flush(writer)?),
-        Err(fault) => match fault {
-            ScenarioFault::Stream(_) => Err(fault),
-            _ => Err(end_run(alloc, writer, fault)),
-        },
-    }
+    let mut explainer = Explainer::new(alloc, text.as_slice());
+    run_text(alloc, &mut explainer, text.as_slice(), writer, resolvers)
 }

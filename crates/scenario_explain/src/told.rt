@@ -1,155 +1,251 @@
 //! What was told of a world, so that only what is new is told next.
 
+ghost use Rattle.std.specs.Prelude.{OnOk};
+ghost use Rattle.scenario_explain.specs.Told.{AddsTold};
+
+use crate::line::add_told;
+use crate::waiting::Waiting;
 use frame_fields::Digest;
 use meta_store::Store;
-use meta_types::MetaKey;
+use meta_types::{FullPrefix, MetaKey};
 use node_core::NodeState;
 use printing::{print_key, print_number, print_object};
-use scenario_stage::{Stage, keys_of, print_frame_of};
+use scenario_stage::{Stage, keys_of};
+use scenario_text::{Command, KeyWord};
 use std::alloc::{AllocError, Global};
 use world_core::World;
+
+/// The most nodes of a world.
+const MOST_NODES: u64 = 16;
 
 /// What a node was said to show.
 #[derive(Drop)]
 struct Shown {
     store: Store,
+    /// The root of its table when all of that was looked at last.
     root: Digest,
 }
 
-/// What was told: what each node shows, and how many frames at the front had all been given.
+/// What was told: what each node shows, and which frames are on their way.
 #[derive(Drop)]
 pub(crate) struct Told {
     alloc: Global,
     nodes: Vec<Shown>,
-    given: u64,
+    waiting: Waiting,
+}
+
+/// What a command may have changed in the tables of nodes.
+enum Changes<'a> {
+    Nothing,
+    /// This node's object under this key.
+    Key(u64, KeyWord<'a>),
+    Tables,
+}
+
+/// What a command may change in the tables of nodes.
+fn changes_of<'a>(command: &Command<'a>) -> Changes<'a> {
+    match command {
+        Command::Put { node, key, .. }
+        | Command::Del { node, key, .. }
+        | Command::Over { node, key, .. }
+        | Command::Resolve { node, key, .. } => Changes::Key(*node, *key),
+        Command::Deliver { .. } | Command::Settle | Command::Restart { .. } => Changes::Tables,
+        _ => Changes::Nothing,
+    }
+}
+
+/// The key that stands in a command, if none of its parts is too long.
+fn key_of(alloc: Global, key: KeyWord<'_>) -> Result<Option<MetaKey>, AllocError> {
+    let prefix = key.prefix.prefix.to_vec(alloc)?;
+    let sub = key.prefix.sub.to_vec(alloc)?;
+    let own = key.key.to_vec(alloc)?;
+    Ok(match FullPrefix::new(prefix, sub) {
+        Ok(prefix) => MetaKey::new(prefix, own).ok(),
+        Err(_) => None,
+    })
 }
 
 impl Told {
-    /// Of so many new nodes of a world nothing has to be told.
-    pub(crate) fn new(alloc: Global, world: &World, nodes: u64) -> Result<Self, AllocError> {
-        let mut shown = Vec::new(alloc);
-        for number in 0..nodes {
+    /// Nothing, of no node.
+    pub(crate) fn new(alloc: Global) -> Self {
+        Told {
+            alloc,
+            nodes: Vec::new(alloc),
+            waiting: Waiting::new(alloc),
+        }
+    }
+
+    /// The nodes of a new world are there. Of them nothing has to be told.
+    pub(crate) fn open(&mut self, world: &World) -> Result<(), AllocError> {
+        for number in 0..MOST_NODES {
             if let Some(state) = world.state(number) {
-                let root = state.tree().root();
-                shown.push(Shown {
-                    store: Store::new(alloc),
-                    root,
+                self.nodes.push(Shown {
+                    store: Store::new(self.alloc),
+                    root: state.tree().root(),
                 })?;
             }
         }
-        Ok(Told {
-            alloc,
-            nodes: shown,
-            given: 0,
-        })
+        Ok(())
     }
 
-    /// Adds a line for each frame that is on its way, in the order of their numbers, and one for
-    /// each key under which a node shows something else than was told last.
-    pub(crate) fn add_news(&mut self, stage: &Stage, text: &mut Vec<u8>) -> Result<(), AllocError> {
-        self.add_frames(stage, text)?;
+    /// Adds a line of the frames that are on their way after this command, and one for each key
+    /// under which a node shows something else than was told last.
+    #[tactic(auto, using(crate::proofs::Adding::adds_none, crate::proofs::Adding::adds_then))]
+    pub(crate) fn add_news(
+        &mut self,
+        stage: &Stage,
+        command: &Command<'_>,
+        text: &mut Vec<u8>,
+    ) -> Result<(), AllocError>
+        ensures { OnOk result (AddsTold text.old.items text.new.items) }
+    {
+        self.waiting.note(stage, command)?;
+        self.waiting.add_frames(text)?;
+        match changes_of(command) {
+            Changes::Nothing => Ok(()),
+            Changes::Key(node, key) => self.add_key(stage.world(), node, key, text),
+            Changes::Tables => self.add_tables(stage.world(), text),
+        }
+    }
+
+    /// Adds a line where the node shows something else under the key than was told last.
+    #[tactic(auto, using(crate::proofs::Adding::adds_none, crate::proofs::Adding::adds_then))]
+    fn add_key(
+        &mut self,
+        world: &World,
+        node: u64,
+        key: KeyWord<'_>,
+        text: &mut Vec<u8>,
+    ) -> Result<(), AllocError>
+        ensures { OnOk result (AddsTold text.old.items text.new.items) }
+    {
+        let (Some(state), Some(shown)) = (world.state(node), self.nodes.get_mut(node as usize))
+        else {
+            return Ok(());
+        };
+        match key_of(self.alloc, key)? {
+            Some(key) => shown.add_change(self.alloc, node, key, state.store(), text),
+            None => Ok(()),
+        }
+    }
+
+    /// Adds a line for each key under which a node shows something else than was told last.
+    #[tactic(auto, using(crate::proofs::Adding::adds_none, crate::proofs::Adding::adds_then))]
+    fn add_tables(&mut self, world: &World, text: &mut Vec<u8>) -> Result<(), AllocError>
+        ensures { OnOk result (AddsTold text.old.items text.new.items) }
+    {
         let alloc = self.alloc;
         for (number, shown) in self.nodes.iter_mut().enumerate() {
-            let number = number as u64;
-            if let Some(state) = stage.world().state(number) {
-                shown.add_news(alloc, number, state, text)?;
+            if let Some(state) = world.state(number as u64) {
+                shown.add_table(alloc, number as u64, state, text)?;
             }
         }
         Ok(())
-    }
-
-    fn add_frames(&mut self, stage: &Stage, text: &mut Vec<u8>) -> Result<(), AllocError> {
-        let count = stage.world().frame_count();
-        self.pass_given(stage, count);
-        for place in self.given..count {
-            if !stage.was_given(place + 1) {
-                text.extend_from_slice(b"  on its way: ")?;
-                print_frame_of(self.alloc, text, stage.world(), place + 1)?;
-            }
-        }
-        Ok(())
-    }
-
-    /// Frames at the front that were given meanwhile need not be looked at again.
-    fn pass_given(&mut self, stage: &Stage, count: u64) {
-        for place in self.given..count {
-            if !stage.was_given(place + 1) {
-                return;
-            }
-            self.given = place + 1;
-        }
     }
 }
 
 impl Shown {
-    fn add_news(
+    /// Adds a line for each key of a node's table of which something else was told last.
+    #[tactic(auto, using(crate::proofs::Adding::adds_none, crate::proofs::Adding::adds_then))]
+    fn add_table(
         &mut self,
         alloc: Global,
         node: u64,
         state: &NodeState,
         text: &mut Vec<u8>,
-    ) -> Result<(), AllocError> {
+    ) -> Result<(), AllocError>
+        ensures { OnOk result (AddsTold text.old.items text.new.items) }
+    {
         let root = state.tree().root();
         if root == self.root {
             return Ok(());
         }
-        add_changed(alloc, node, &self.store, state.store(), text)?;
-        add_lost(alloc, node, &self.store, state.store(), text)?;
-        self.store = state.store().copy()?;
         self.root = root;
+        let before = keys_of(alloc, &self.store)?;
+        self.add_changes(
+            alloc,
+            node,
+            keys_of(alloc, state.store())?,
+            state.store(),
+            text,
+        )?;
+        // (what a restart has taken away)
+        self.add_changes(alloc, node, before, state.store(), text)
+    }
+
+    /// Adds a line for each of the keys of which something else was told last.
+    #[tactic(auto, using(crate::proofs::Adding::adds_none, crate::proofs::Adding::adds_then))]
+    fn add_changes(
+        &mut self,
+        alloc: Global,
+        node: u64,
+        keys: Vec<MetaKey>,
+        store: &Store,
+        text: &mut Vec<u8>,
+    ) -> Result<(), AllocError>
+        ensures { OnOk result (AddsTold text.old.items text.new.items) }
+    {
+        for key in keys {
+            self.add_change(alloc, node, key, store, text)?;
+        }
         Ok(())
+    }
+
+    /// Adds a line where what was told of the key isn't what the store holds.
+    #[tactic(auto, using(crate::proofs::Adding::adds_none, crate::proofs::Adding::adds_then))]
+    fn add_change(
+        &mut self,
+        alloc: Global,
+        node: u64,
+        key: MetaKey,
+        store: &Store,
+        text: &mut Vec<u8>,
+    ) -> Result<(), AllocError>
+        ensures { OnOk result (AddsTold text.old.items text.new.items) }
+    {
+        if self.store.object(&key) == store.object(&key) {
+            return Ok(());
+        }
+        add_shown(alloc, node, &key, store, text)?;
+        self.hold(key, store)
+    }
+
+    /// What the store holds under the key was told.
+    fn hold(&mut self, key: MetaKey, store: &Store) -> Result<(), AllocError> {
+        match store.object(&key) {
+            Some(object) if self.store.has_room_for(&key) => {
+                let object = object.copy()?;
+                self.store.hold(key, object)
+            }
+            Some(_) => Ok(()),
+            None => {
+                self.store.forget(&key);
+                Ok(())
+            }
+        }
     }
 }
 
-/// Adds what the node shows now under a key.
+/// Adds a line of what the node shows now under a key.
+#[tactic(auto, using(crate::proofs::Adding::adds_none, crate::proofs::Adding::adds_then))]
 fn add_shown(
+    alloc: Global,
     node: u64,
     key: &MetaKey,
     store: &Store,
     text: &mut Vec<u8>,
-) -> Result<(), AllocError> {
-    text.extend_from_slice(b"  node ")?;
-    print_number(text, node)?;
-    text.extend_from_slice(b" shows ")?;
-    print_key(text, key)?;
+) -> Result<(), AllocError>
+    ensures { OnOk result (AddsTold text.old.items text.new.items) }
+{
+    let mut line = Vec::new(alloc);
+    line.extend_from_slice(b"node ")?;
+    print_number(&mut line, node)?;
+    line.extend_from_slice(b" shows ")?;
+    print_key(&mut line, key)?;
+    line.push(b' ')?;
     match store.object(key) {
-        Some(object) => {
-            text.extend_from_slice(b" ")?;
-            print_object(text, object)?;
-        }
-        None => text.extend_from_slice(b" ctx - values -")?,
+        Some(object) => print_object(&mut line, object)?,
+        None => line.extend_from_slice(b"ctx - values -")?,
     }
-    text.extend_from_slice(b"\n")
-}
-
-/// Adds a line for each key whose object isn't what was told.
-fn add_changed(
-    alloc: Global,
-    node: u64,
-    told: &Store,
-    store: &Store,
-    text: &mut Vec<u8>,
-) -> Result<(), AllocError> {
-    for key in keys_of(alloc, store)? {
-        if told.object(&key) != store.object(&key) {
-            add_shown(node, &key, store, text)?;
-        }
-    }
-    Ok(())
-}
-
-/// Adds a line for each key that a restart has taken away.
-fn add_lost(
-    alloc: Global,
-    node: u64,
-    told: &Store,
-    store: &Store,
-    text: &mut Vec<u8>,
-) -> Result<(), AllocError> {
-    for key in keys_of(alloc, told)? {
-        if store.object(&key).is_none() {
-            add_shown(node, &key, store, text)?;
-        }
-    }
-    Ok(())
+    add_told(text, line.as_slice())
 }

@@ -29,5 +29,8 @@ mod words;
 pub use bytes::BytesWord;
 pub use command::Command;
 pub use fault::BadLine;
+pub use line::Lines;
 pub use name::{KeyWord, PrefixWord};
 pub use script::{Script, parse};
+pub use verb::{VERBS, Verb, verb_of, word_of};
+pub use words::Words;

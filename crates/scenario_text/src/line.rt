@@ -39,7 +39,7 @@ impl<'a> Line<'a> {
 
 /// The lines of a text that were not read yet. A last line feed starts none.
 #[derive(Drop)]
-pub(crate) struct Lines<'a> {
+pub struct Lines<'a> {
     left: &'a [u8],
 }
 
@@ -54,7 +54,7 @@ impl<'a> Model for Lines<'a> {
 
 impl<'a> Lines<'a> {
     /// The lines of a text.
-    pub(crate) fn of(text: &'a [u8]) -> Self
+    pub fn of(text: &'a [u8]) -> Self
         ensures { result ≡ lines_of text.now }
     {
         Lines { left: text }
@@ -68,7 +68,7 @@ impl<'a> Lines<'a> {
     }
 
     /// The next line, without its line feed.
-    pub(crate) fn next(&mut self) -> Option<&'a [u8]>
+    pub fn next(&mut self) -> Option<&'a [u8]>
         ensures { TakesNextLine self.old result self.new }
     {
         if self.left.is_empty() {

@@ -3,7 +3,7 @@ ghost use Rattle.scenario_text.specs.Coded.{IsVerbOf, verb_word};
 
 /// The first word of a command.
 #[derive(Clone, Copy)]
-pub(crate) enum Verb {
+pub enum Verb {
     Nodes,
     Put,
     Del,
@@ -30,8 +30,8 @@ pub(crate) enum Verb {
     Settle,
 }
 
-/// Each verb, once.
-const VERBS: [Verb; 24] = [
+/// Each verb, once, in the order of the table.
+pub const VERBS: [Verb; 24] = [
     Verb::Nodes,
     Verb::Put,
     Verb::Del,
@@ -59,7 +59,7 @@ const VERBS: [Verb; 24] = [
 ];
 
 /// The word of a verb.
-fn word_of(verb: Verb) -> &'static [u8]
+pub fn word_of(verb: Verb) -> &'static [u8]
     ensures { result.now ≡ verb_word verb }
 {
     match verb {
@@ -91,7 +91,7 @@ fn word_of(verb: Verb) -> &'static [u8]
 }
 
 /// The verb that a word is.
-pub(crate) fn verb_of(word: &[u8]) -> Option<Verb>
+pub fn verb_of(word: &[u8]) -> Option<Verb>
     ensures { IsVerbOf word.now result }
 {
     for verb in VERBS {

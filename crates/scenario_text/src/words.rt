@@ -15,7 +15,7 @@ use std::marker::Model;
 
 /// The words of a line that were not read yet.
 #[derive(Drop)]
-pub(crate) struct Words<'a> {
+pub struct Words<'a> {
     left: &'a [u8],
 }
 
@@ -56,14 +56,14 @@ fn split_word(line: &[u8]) -> Option<(&[u8], &[u8])>
 
 impl<'a> Words<'a> {
     /// The words of a line.
-    pub(crate) fn of(line: &'a [u8]) -> Self
+    pub fn of(line: &'a [u8]) -> Self
         ensures { result ≡ words_of line.now }
     {
         Words { left: line }
     }
 
     /// The next word, which stays.
-    pub(crate) fn peek(&self) -> Option<&'a [u8]>
+    pub fn peek(&self) -> Option<&'a [u8]>
         ensures { option_copied result ≡ slice_get self.now 0 }
     {
         let (word, _) = split_word(self.left)?;

@@ -10,32 +10,107 @@ use std::process::Abort;
 use streams::MayFail;
 
 /// A run: its text, and how the reader goes on after it; for how many bytes the writer has room;
-/// the exit status, what is written, and what standard error is told.
+/// the exit status, what is written, what an explained run writes, and what standard error is told.
 struct Run {
     text: &'static [u8],
     end: End,
     room: usize,
     status: u8,
     output: &'static [u8],
+    explained: &'static [u8],
     told: &'static [u8],
 }
 
-static RUNS: [Run; 4] = [
+static RUNS: [Run; 12] = [
     Run {
         text: b"nodes 1\n",
         end: End::Over,
-        room: 100,
+        room: 200,
         status: 0,
         output: b"ok\n",
+        explained: b"  1: nodes 1\nok\n",
+        told: b"",
+    },
+    Run {
+        text: b"\n# two nodes\n nodes 2\njoin 1 0\n",
+        end: End::Over,
+        room: 200,
+        status: 0,
+        output: b"ok\nok\nframe 1 JOIN 1 0\n",
+        explained: b"  3:  nodes 2\nok\n  4: join 1 0\nok\nframe 1 JOIN 1 0\n  on their way: 1\n",
         told: b"",
     },
     Run {
         text: b"nonsense\n",
         end: End::Over,
-        room: 100,
+        room: 200,
         status: 1,
         output: b"error 70 BadLine 1\n",
-        told: b"",
+        explained: b"error 70 BadLine 1\n",
+        told: b"line 1: nonsense\nthe first command is nodes COUNT; COUNT is 1 to 16\n",
+    },
+    Run {
+        text: b"nodes 1\nput 0 a/b x\n",
+        end: End::Over,
+        room: 200,
+        status: 1,
+        output: b"error 70 BadLine 2\n",
+        explained: b"error 70 BadLine 2\n",
+        told: b"line 2: put 0 a/b x\nwanted: put N KEY VALUE [stamp S] [read R]; KEY is as a/b/k\n",
+    },
+    Run {
+        text: b"nodes 1\nget 0 a/b/k\n",
+        end: End::Over,
+        room: 200,
+        status: 1,
+        output: b"error 70 BadLine 2\n",
+        explained: b"error 70 BadLine 2\n",
+        told: b"line 2: get 0 a/b/k\nno such command\n",
+    },
+    Run {
+        text: b"nodes 1\n\tputs 0\tx\xC3\nputs 0 x\n",
+        end: End::Over,
+        room: 200,
+        status: 1,
+        output: b"error 70 BadLine 2\n",
+        explained: b"error 70 BadLine 2\n",
+        told: b"line 2: ?puts 0?x?\nno such command\n",
+    },
+    Run {
+        text: b"nodes 1\nputs 0 x\n",
+        end: End::Over,
+        room: 200,
+        status: 1,
+        output: b"error 70 BadLine 2\n",
+        explained: b"error 70 BadLine 2\n",
+        told: b"line 2: puts 0 x\nno such command; did you mean put?\n",
+    },
+    Run {
+        text: b"nodes 1\nroot 0\r\n",
+        end: End::Over,
+        room: 200,
+        status: 1,
+        output: b"error 70 BadLine 2\n",
+        explained: b"error 70 BadLine 2\n",
+        told: b"line 2: root 0?\nthe line ends with a carriage return: end lines with a line feed alone\n",
+    },
+    Run {
+        text: b"\xEF\xBB\xBFnodes 1\n",
+        end: End::Over,
+        room: 200,
+        status: 1,
+        output: b"error 70 BadLine 1\n",
+        explained: b"error 70 BadLine 1\n",
+        told: b"line 1: ???nodes 1\nthe text begins with a byte order mark: save it without one\n",
+    },
+    Run {
+        text: b"nodes 1\nroot 0\nnodes 1\n",
+        end: End::Over,
+        room: 200,
+        status: 1,
+        output: b"error 70 BadLine 3\n",
+        explained: b"error 70 BadLine 3\n",
+        told: b"line 3: nodes 1\nwanted: nodes COUNT, once, as the first command; COUNT is 1 to 16\n",
     },
     Run {
         text: b"nodes 1\n",
@@ -43,6 +118,7 @@ static RUNS: [Run; 4] = [
         room: 100,
         status: 3,
         output: b"",
+        explained: b"",
         told: b"error 7 Read\n",
     },
     Run {
@@ -51,6 +127,7 @@ static RUNS: [Run; 4] = [
         room: 0,
         status: 3,
         output: b"",
+        explained: b"",
         told: b"error: the output could not be written\n",
     },
 ];
@@ -62,9 +139,10 @@ fn is_run(rt: &impl Abort, alloc: Global, run: &Run, explain: bool) -> bool {
         end: run.end,
         ..Feed::new(run.text)
     });
+    let output = if explain { run.explained } else { run.output };
     let mut writer = MayFail(Device {
         room: run.room,
-        ..Device::new(run.output)
+        ..Device::new(output)
     });
     let mut errors = MayFail(Device::new(run.told));
     let status = if explain {

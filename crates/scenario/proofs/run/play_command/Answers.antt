@@ -17,7 +17,7 @@ returns-in_err-write_whole-clause-err g c =
 pub returns-in_err-obey-clause-err : goal.returns-in_err-obey-clause-err
 returns-in_err-obey-clause-err g c =
     let p = err_from_is_err_and c.from_residual.result c.from_residual.ensures.1 in
-    rw (p.1, p.2) (ends_unwritten _ c.args.stage.now c.obey.new.self _ c.clear.new.self.items c.obey.new.text.items _ _ c.in_err-obey.ensures)
+    rw (p.1, p.2) (ends_unwritten _ c.args.stage.now c.obey.new.stage _ c.clear.new.self.items c.obey.new.text.items _ _ c.in_err-obey.ensures)
 
 pub returns-clause-ok : goal.returns-clause-ok
 returns-clause-ok g c =

@@ -1,0 +1,26 @@
+//! Lines that are told.
+
+ghost use Rattle.std.specs.Prelude.{◌≡◌, ◌++◌, OnOk};
+ghost use Rattle.scenario_explain.specs.Told.{AddsTold, told_line};
+
+use scenario_hint::add_printable;
+use std::alloc::AllocError;
+
+/// Adds a line, behind two spaces.
+#[tactic(auto, unfolding(crate::specs::Told::told_line))]
+fn add_line(text: &mut Vec<u8>, line: &[u8]) -> Result<(), AllocError>
+    ensures { OnOk result (text.new.items ≡ text.old.items ++ told_line line.now) }
+{
+    text.extend_from_slice(b"  ")?;
+    add_printable(text, line)?;
+    text.push(b'\n')?;
+    Ok(())
+}
+
+/// Adds a line that is told: what can be printed of the bytes, behind two spaces.
+pub(crate) fn add_told(text: &mut Vec<u8>, line: &[u8]) -> Result<(), AllocError>
+    ensures { OnOk result (AddsTold text.old.items text.new.items) }
+{
+    add_line(text, line)?;
+    Ok(())
+}

@@ -1,0 +1,2 @@
+-- words that are near, and verbs one after the other
+pub mod Words

@@ -1,0 +1,158 @@
+-- What is told of the first line of a text that breaks a rule, beside its number: the line as it
+-- stands, and what it wants. It is told at standard error; the output of a run has the number
+-- alone. The texts are this project's own.
+use Rattle.std.specs.Prelude.{◌≡◌, ◌≢◌, ◌-◌, ℕ, zero, suc, ◌==◌, nat_le, Bool, true, false, not, ◌||◌, ◌&&◌, if◌then◌else◌, MatchBool, List, [], ◌∷◌, ◌++◌, length, take, map, slice_get, Option, Some, None, bytes_eq, codes, decimal}
+use Rattle.streams.specs.Line.{lines_of}
+use Rattle.scenario_text.specs.declared.verb.Verb.{Verb}
+use Rattle.scenario_text.specs.declared.verb.Verb.TheVariants as verbs
+use Rattle.scenario_text.specs.Coded.{verb_word}
+use Rattle.scenario_text.specs.Script.{starts_comment}
+use Rattle.scenario_text.specs.Word.{Word, words_of}
+use Rattle.scenario_hint.specs.declared.hint.Hint.{Hint}
+use Rattle.scenario_hint.specs.declared.hint.Hint.TheVariants.{ByteOrderMark, CarriageReturn, NodesFirst, Form, Unknown}
+
+-- ---- the line
+
+abbrev is_skipped_of : List Word → Bool
+is_skipped_of [] = true
+is_skipped_of (first ∷ words) = starts_comment first
+
+-- an empty line, or a comment
+abbrev pub is_skipped : List ℕ → Bool
+is_skipped line = is_skipped_of (words_of line)
+
+-- a line of a text, and whether a command stands before it
+pub record Found : Type 0 where
+  pub begun : Bool
+  pub line : List ℕ
+
+-- behind so many lines, and whether a command stood before these
+abbrev pub found_behind : ℕ → Bool → List (List ℕ) → Found
+found_behind count begun [] = record { begun = begun; line = [] }
+found_behind zero begun (line ∷ lines) = record { begun = begun; line = line }
+found_behind (suc count) begun (line ∷ lines) =
+    found_behind count (begun || not (is_skipped line)) lines
+
+-- lines are counted from 1
+abbrev pub found_at : ℕ → List ℕ → Found
+found_at number text = found_behind (number - 1) false (lines_of text)
+
+-- space to `~` as they are, all else as `?`
+abbrev pub shown_byte : ℕ → ℕ
+shown_byte b = if nat_le 32 b && nat_le b 126 then b else 63
+
+abbrev pub most_shown : ℕ
+most_shown = 80
+
+-- the line as it stands; of a long one its front, and two dots
+unfoldable pub shown_line : List ℕ → List ℕ
+shown_line line =
+    if nat_le (length line) most_shown
+    then map shown_byte line
+    else map shown_byte (take most_shown line) ++ codes ".."
+
+-- ---- what it wants
+
+-- a command, with the words behind it
+abbrev pub form_of : Verb → List ℕ
+form_of verbs.Nodes = codes "nodes COUNT, once, as the first command; COUNT is 1 to 16"
+form_of verbs.Put = codes "put N KEY VALUE [stamp S] [read R]; KEY is as a/b/k"
+form_of verbs.Del = codes "del N KEY [stamp S] [read R]; KEY is as a/b/k"
+form_of verbs.Over = codes "over N KEY VALUE [stamp S]; KEY is as a/b/k"
+form_of verbs.Read = codes "read N KEY; KEY is as a/b/k"
+form_of verbs.Show = codes "show N KEY; KEY is as a/b/k"
+form_of verbs.Resolve = codes "resolve N KEY lww|largest; KEY is as a/b/k"
+form_of verbs.Deliver = codes "deliver F [N] [word W]"
+form_of verbs.Junk = codes "junk N HEX; HEX is two digits for each byte"
+form_of verbs.Tick = codes "tick N [word W]"
+form_of verbs.Join = codes "join N C [word W]"
+form_of verbs.Down = codes "down N P [word W]"
+form_of verbs.Exchange = codes "exchange N P"
+form_of verbs.Hello = codes "hello N P"
+form_of verbs.Leave = codes "leave N"
+form_of verbs.Restart = codes "restart N I"
+form_of verbs.Keep = codes "keep N"
+form_of verbs.Watch = codes "watch N PREFIX CAP; PREFIX is as a/b"
+form_of verbs.Changes = codes "changes N W"
+form_of verbs.List = codes "list N PREFIX; PREFIX is as a/b"
+form_of verbs.Root = codes "root N"
+form_of verbs.Images = codes "images N"
+form_of verbs.Views = codes "views N"
+form_of verbs.Settle = codes "settle"
+
+-- the same words but for one byte, which is another one, missing or too many
+unfoldable pub is_near : Word → Word → Bool
+is_near [] other = nat_le (length other) 1
+is_near (a ∷ word) [] = nat_le (length (a ∷ word)) 1
+is_near (a ∷ word) (b ∷ other) =
+    if a == b
+    then is_near word other
+    else (bytes_eq word other || (bytes_eq word (b ∷ other) || bytes_eq (a ∷ word) other))
+
+-- the first of these verbs that is near
+unfoldable pub near_of : Word → List Verb → Option Verb
+near_of word [] = None
+near_of word (verb ∷ others) =
+    if is_near word (verb_word verb) then Some verb else near_of word others
+
+abbrev pub all_verbs : List Verb
+all_verbs = verbs.Nodes ∷ verbs.Put ∷ verbs.Del ∷ verbs.Over ∷ verbs.Read ∷ verbs.Show
+    ∷ verbs.Resolve ∷ verbs.Deliver ∷ verbs.Junk ∷ verbs.Tick ∷ verbs.Join ∷ verbs.Down
+    ∷ verbs.Exchange ∷ verbs.Hello ∷ verbs.Leave ∷ verbs.Restart ∷ verbs.Keep ∷ verbs.Watch
+    ∷ verbs.Changes ∷ verbs.List ∷ verbs.Root ∷ verbs.Images ∷ verbs.Views ∷ verbs.Settle ∷ []
+
+-- by its first word: a verb, whose form it hasn't; or none, and then the verb that is near
+abbrev IsHintOfWord : Word → Hint → Type 0
+IsHintOfWord word (Form verb) = word ≡ verb_word verb
+IsHintOfWord word (Unknown near) =
+    ((verb : Verb) → word ≢ verb_word verb) × (near ≡ near_of word all_verbs)
+IsHintOfWord word hint = ⊥
+
+abbrev pub IsHintOfWords : List Word → Hint → Type 0
+IsHintOfWords [] hint = hint ≡ Unknown None
+IsHintOfWords (first ∷ words) hint = IsHintOfWord first hint
+
+-- some editors put these bytes in front of a text
+abbrev pub starts_marked : List ℕ → Bool
+starts_marked (a ∷ b ∷ c ∷ bytes) = (a == 239) && ((b == 187) && (c == 191))
+starts_marked bytes = false
+
+abbrev is_return : Option ℕ → Bool
+is_return None = false
+is_return (Some b) = b == 13
+
+-- the last byte of the line is a carriage return
+abbrev pub ends_returned : List ℕ → Bool
+ends_returned line = is_return (slice_get line (length line - 1))
+
+-- the first of these that is so of a line that breaks a rule
+abbrev pub IsHint : Found → Hint → Type 0
+IsHint found hint =
+    MatchBool (starts_marked found.line) (hint ≡ ByteOrderMark)
+    (MatchBool (ends_returned found.line) (hint ≡ CarriageReturn)
+    (MatchBool found.begun (IsHintOfWords (words_of found.line) hint) (hint ≡ NodesFirst)))
+
+-- ---- the text
+
+abbrev near_text : Option Verb → List ℕ
+near_text None = codes "no such command"
+near_text (Some verb) = codes "no such command"
+    ++ (codes "; did you mean " ++ (verb_word verb ++ codes "?"))
+
+abbrev pub hint_text : Hint → List ℕ
+hint_text ByteOrderMark = codes "the text begins with a byte order mark: save it without one"
+hint_text CarriageReturn =
+    codes "the line ends with a carriage return: end lines with a line feed alone"
+hint_text NodesFirst = codes "the first command is nodes COUNT; COUNT is 1 to 16"
+hint_text (Form verb) = codes "wanted: " ++ form_of verb
+hint_text (Unknown near) = near_text near
+
+-- two lines: the one at fault, and what it wants
+unfoldable pub hint_lines : ℕ → List ℕ → Hint → List ℕ
+hint_lines number line hint = codes "line " ++ decimal number ++ codes ": " ++ shown_line line
+    ++ 10 ∷ (hint_text hint ++ 10 ∷ [])
+
+-- what is told of the line of this number, which breaks a rule
+abbrev pub IsTold : List ℕ → ℕ → List ℕ → Type 0
+IsTold text number told = (hint : Hint) × IsHint (found_at number text) hint
+    × (told ≡ hint_lines number (found_at number text).line hint)

@@ -1,0 +1,2 @@
+-- what is told of a line that breaks a rule
+pub mod Hint

@@ -1,0 +1,69 @@
+//! What is wrong with a line.
+
+ghost use Rattle.std.specs.Prelude.{◌≡◌, ◌↔◌, IsTrue};
+ghost use Rattle.scenario_hint.specs.Hint.{Found, IsHint, IsHintOfWords, ends_returned, starts_marked};
+ghost use Rattle.scenario_text.specs.Word.{words_of};
+
+use crate::near::near_verb;
+use scenario_text::{Verb, Words, verb_of};
+
+/// What is wrong with a line that breaks a rule.
+#[derive(Clone, Copy)]
+pub enum Hint {
+    /// Bytes stand in front of it that some editors put at the front of a text.
+    ByteOrderMark,
+    /// Its last byte is a carriage return, which is no part of a command.
+    CarriageReturn,
+    /// No command stands before it, and it doesn't say how many nodes there are.
+    NodesFirst,
+    /// It begins with this verb, and hasn't its form.
+    Form(Verb),
+    /// It begins with no verb. This one is near.
+    Unknown(Option<Verb>),
+}
+
+/// Whether bytes begin with a byte order mark.
+fn starts_marked(line: &[u8]) -> bool
+    ensures { result ≡ starts_marked line.now }
+{
+    matches!(line, [239, 187, 191, ..])
+}
+
+/// Whether the last byte is a carriage return.
+fn ends_returned(line: &[u8]) -> bool
+    ensures { result ≡ ends_returned line.now }
+{
+    match line.last() {
+        Some(byte) => *byte == b'\r',
+        None => false,
+    }
+}
+
+/// What is wrong with a line by its words.
+fn hint_of_words(line: &[u8]) -> Hint
+    ensures { IsHintOfWords (words_of line.now) result }
+{
+    let words = Words::of(line);
+    let Some(word) = words.peek() else {
+        return Hint::Unknown(None);
+    };
+    match verb_of(word) {
+        Some(verb) => Hint::Form(verb),
+        None => Hint::Unknown(near_verb(word)),
+    }
+}
+
+/// What is wrong with a line that breaks a rule, and before which a command stands or not.
+pub(crate) fn hint_of(begun: bool, line: &[u8]) -> Hint
+    ensures { IsHint (record { begun = begun; line = line.now }) result }
+{
+    if starts_marked(line) {
+        Hint::ByteOrderMark
+    } else if ends_returned(line) {
+        Hint::CarriageReturn
+    } else if begun {
+        hint_of_words(line)
+    } else {
+        Hint::NodesFirst
+    }
+}

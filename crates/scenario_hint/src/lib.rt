@@ -1,0 +1,24 @@
+//! What is told of a line of a scenario that breaks a rule, beside its number: the line as it
+//! stands, and what it wants.
+//!
+//! ```
+//! let text = b"nodes 1\nput 0 a/b x\n";
+//! let told = told_of_line(alloc, text, 2)?;
+//! // line 2: put 0 a/b x
+//! // wanted: put N KEY VALUE [stamp S] [read R]; KEY is as a/b/k
+//! ```
+//!
+//! Read `hint` (what is wrong with a line), `near`, `form`, then `told` with `found` and `shown`.
+#![tactic(auto)]
+
+mod form;
+mod found;
+pub mod hint;
+mod near;
+mod shown;
+mod told;
+
+pub use found::is_skipped;
+pub use hint::Hint;
+pub use shown::{add_printable, add_shown};
+pub use told::told_of_line;

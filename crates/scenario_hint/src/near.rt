@@ -1,0 +1,36 @@
+//! Words that are near each other.
+
+ghost use Rattle.std.specs.Prelude.{◌≡◌};
+ghost use Rattle.scenario_hint.specs.Hint.{all_verbs, is_near, near_of};
+
+use scenario_text::{VERBS, Verb, word_of};
+
+/// Whether words are the same but for one byte, which is another one, missing or too many.
+fn is_near(word: &[u8], other: &[u8]) -> bool
+    ensures { result ≡ is_near word.now other.now }
+{
+    let (mut left, mut right) = (word, other);
+    while let (Some((a, left_rest)), Some((b, right_rest))) = (
+        left.split_first(),
+        right.split_first(),
+    ) {
+        if a != b {
+            return (left_rest == right_rest) | ((left_rest == right) | (left == right_rest));
+        }
+        left = left_rest;
+        right = right_rest;
+    }
+    (left.len() <= 1) & (right.len() <= 1)
+}
+
+/// The first verb that is near a word, in the order of the table.
+pub(crate) fn near_verb(word: &[u8]) -> Option<Verb>
+    ensures { result ≡ near_of word.now all_verbs }
+{
+    for verb in VERBS {
+        if is_near(word, word_of(verb)) {
+            return Some(verb);
+        }
+    }
+    None
+}

@@ -1,0 +1,78 @@
+//! What is told of a line.
+
+ghost use Rattle.std.specs.Prelude.{◌≡◌, ◌++◌, OnOk, IfOk, Some};
+ghost use Rattle.scenario_hint.specs.Hint.{IsTold, hint_lines, hint_text};
+ghost use Rattle.scenario_hint.specs.declared.hint.Hint.TheVariants.{Unknown};
+
+use crate::form::form_of;
+use crate::found::found_behind;
+use crate::hint::{Hint, hint_of};
+use crate::shown::add_shown;
+use printing::print_number;
+use scenario_text::{Verb, word_of};
+use std::alloc::{AllocError, Global};
+
+/// Adds that there is no such command, and which one is near.
+fn add_near(out: &mut Vec<u8>, verb: Verb) -> Result<(), AllocError>
+    ensures { OnOk result (out.new.items ≡ out.old.items ++ hint_text (Unknown (Some verb))) }
+{
+    out.extend_from_slice(b"no such command")?;
+    out.extend_from_slice(b"; did you mean ")?;
+    out.extend_from_slice(word_of(verb))?;
+    out.extend_from_slice(b"?")?;
+    Ok(())
+}
+
+/// Adds what is wrong with a line.
+fn add_hint(out: &mut Vec<u8>, hint: Hint) -> Result<(), AllocError>
+    ensures { OnOk result (out.new.items ≡ out.old.items ++ hint_text hint) }
+{
+    match hint {
+        Hint::ByteOrderMark => out.extend_from_slice(
+            b"the text begins with a byte order mark: save it without one",
+        ),
+        Hint::CarriageReturn => out.extend_from_slice(
+            b"the line ends with a carriage return: end lines with a line feed alone",
+        ),
+        Hint::NodesFirst => out.extend_from_slice(
+            b"the first command is nodes COUNT; COUNT is 1 to 16",
+        ),
+        Hint::Form(verb) => {
+            out.extend_from_slice(b"wanted: ")?;
+            out.extend_from_slice(form_of(verb).as_bytes())
+        }
+        Hint::Unknown(Some(verb)) => add_near(out, verb),
+        Hint::Unknown(None) => out.extend_from_slice(b"no such command"),
+    }
+}
+
+/// Adds two lines: the one at fault, and what it wants.
+#[tactic(auto, unfolding(crate::specs::Hint::hint_lines))]
+fn add_lines(out: &mut Vec<u8>, number: u64, line: &[u8], hint: Hint) -> Result<(), AllocError>
+    ensures { OnOk result (out.new.items ≡ out.old.items ++ hint_lines number line.now hint) }
+{
+    out.extend_from_slice(b"line ")?;
+    print_number(out, number)?;
+    out.extend_from_slice(b": ")?;
+    add_shown(out, line)?;
+    out.push(b'\n')?;
+    add_hint(out, hint)?;
+    out.push(b'\n')?;
+    Ok(())
+}
+
+/// What is told of the line of this number, counted from 1, which breaks a rule: the line as it
+/// stands, and what it wants, each with a line feed. Fails only when memory runs out.
+pub fn told_of_line(alloc: Global, text: &[u8], number: u64) -> Result<Vec<u8>, AllocError>
+    ensures { IfOk result (λ told. IsTold text.now number told.items) }
+{
+    let found = found_behind(text, number.saturating_sub(1));
+    let mut told = Vec::new(alloc);
+    add_lines(
+        &mut told,
+        number,
+        found.line,
+        hint_of(found.begun, found.line),
+    )?;
+    Ok(told)
+}
