@@ -12,25 +12,40 @@ mod used;
 use begun::{begin, refused};
 use meta_types::{FullPrefix, MetaKey, Value};
 use node_lock::Beginning;
+use node_parts::both;
 use std::alloc::Global;
 use std::io;
 use std::marker::Brand;
+use std::sync::Wait;
 use std::sync::ledger::Blank;
+use used::written;
 
 fn main(rt: HostRuntime) -> io::Result<()> {
-    let mut args = std::env::args(&rt)?;
-    let _program = args.next();
-    match (args.next(), args.next(), args.next()) {
-        (Some(path), Some(key), Some(value)) => {
-            let key = key_of(rt.alloc(), &key)?;
-            let value = Value::new(0, Some(value.as_bytes().to_vec(rt.alloc())?)).map_err(refused)?;
-            let (file, table) = begin(&rt, &path)?;
-            let tokens = (Blank::new(9), Beginning::new());
-            let said = used::written::<Brand, _>(&rt, rt.alloc(), tokens, file, table, key, value)?;
-            println!(&rt; "{said}")
-        }
+    let words: Vec<String> = std::env::args(&rt)?.collect(rt.alloc())?;
+    match words.as_slice() {
+        [_program, path, key, value] => run(&rt, &rt, path, key, value),
         _ => eprintln!(&rt; "example_node PATH KEY VALUE"),
     }
+}
+
+/// Writes the value in the next life of the node at the path. The handle is the runtime once more,
+/// as what may wait.
+fn run<R: Wait>(
+    rt: &HostRuntime,
+    handle: &R,
+    path: &str,
+    key: &str,
+    value: &str,
+) -> io::Result<()> {
+    let (key, value) = both(key_of(rt.alloc(), key), value_of(rt.alloc(), value))?;
+    let (file, table) = begin(rt, path)?;
+    let tokens = (Blank::new(9), Beginning::new());
+    let said = written::<Brand, _>(handle, rt.alloc(), tokens, file, table, key, value)?;
+    println!(rt; "{said}")
+}
+
+fn value_of(alloc: Global, text: &str) -> io::Result<Value> {
+    Value::new(0, Some(text.as_bytes().to_vec(alloc)?)).map_err(refused)
 }
 
 /// The key that is written as `a/b/k`.
@@ -38,11 +53,15 @@ fn key_of(alloc: Global, text: &str) -> io::Result<MetaKey> {
     let mut parts = text.split('/');
     match (parts.next(), parts.next(), parts.next(), parts.next()) {
         (Some(prefix), Some(sub), Some(own), None) => {
-            let prefix = prefix.as_bytes().to_vec(alloc)?;
-            let sub = sub.as_bytes().to_vec(alloc)?;
-            let full = FullPrefix::new(prefix, sub).map_err(refused)?;
-            MetaKey::new(full, own.as_bytes().to_vec(alloc)?).map_err(refused)
+            let full = both(bytes_of(alloc, prefix), bytes_of(alloc, sub))?;
+            let full = FullPrefix::new(full.0, full.1).map_err(refused);
+            let (full, own) = both(full, bytes_of(alloc, own))?;
+            MetaKey::new(full, own).map_err(refused)
         }
         _ => Err(refused(())),
     }
+}
+
+fn bytes_of(alloc: Global, text: &str) -> io::Result<Vec<u8>> {
+    Ok(text.as_bytes().to_vec(alloc)?)
 }

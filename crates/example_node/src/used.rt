@@ -9,6 +9,7 @@ use meta_store::Store;
 use meta_types::{MetaKey, Value};
 use node_file::NodeFile;
 use node_lock::{Beginning, Capacity, Naming, Node, NotStarted, ReadSeat, Started, WriteSeat};
+use node_parts::both;
 use std::alloc::Global;
 use std::io;
 use std::sync::Wait;
@@ -71,10 +72,8 @@ fn used<J: Naming, R: Wait>(
         value,
     );
     let entries = close(node, writers, readers);
-    match (shown, entries) {
-        (Ok(shown), Ok(entries)) => Ok(format!(in alloc; "{shown}; {entries} in the journal")?),
-        _ => Err(refused(())),
-    }
+    let (shown, entries) = both(shown, entries)?;
+    Ok(format!(in alloc; "{shown}; {entries} in the journal")?)
 }
 
 /// Writes the value, and says what the reader is shown that learnt of it.
@@ -87,24 +86,32 @@ fn write<J: Naming, R: Wait>(
     key: MetaKey,
     value: Value,
 ) -> io::Result<String> {
-    let again = key.copy();
-    let done = node.put_over(rt, writer, key, value).map_err(refused)?;
+    let again = key.copy().map_err(refused);
+    let done = node.put_over(rt, writer, key, value).map_err(refused);
+    let (again, done) = both(again, done)?;
     reader.learn(done.revision());
-    said(alloc, reader, &again?)
+    drop(done);
+    let said = said(alloc, reader, &again);
+    drop(again);
+    said
 }
 
 /// What a reader is shown under the key, without waiting.
 fn said<J: Naming>(alloc: Global, reader: &mut ReadSeat<J>, key: &MetaKey) -> io::Result<String> {
     let shown = reader.peek(key).map_err(refused)?;
-    match shown.values.first() {
-        Some(value) => match value.body() {
-            Some(body) => Ok(format!(in alloc;
-                "shown {}",
-                std::str::from_utf8(body).unwrap_or("bytes")
-            )?),
-            None => Ok(format!(in alloc; "shown a tombstone")?),
-        },
-        None => Ok(format!(in alloc; "shown nothing")?),
+    let said = format!(in alloc; "shown {}", text_of(shown.values.first()));
+    drop(shown);
+    Ok(said?)
+}
+
+/// The value, as it is printed.
+fn text_of(value: Option<&Value>) -> &str {
+    let Some(value) = value else {
+        return "nothing";
+    };
+    match value.body() {
+        Some(body) => std::str::from_utf8(body).unwrap_or("bytes"),
+        None => "a tombstone",
     }
 }
 

@@ -1,4 +1,4 @@
-use Rattle.example_node.proofs.main.Given as goal
+use Rattle.example_node.proofs.run.Given as goal
 
 -- the node whose file it is
 abbrev pub ghosts-written-J-Naming : goal.ghosts-written-J-Naming
