@@ -1,4 +1,4 @@
-//! Stands beside `crates/bench_lock` in plain Rust, and prints lines `name value unit` under the same names. Nothing is
+//! Stands beside `crates/bench lock` in plain Rust, and prints lines `name value unit` under the same names. Nothing is
 //! proved.
 //!
 //! - `peek arc-swap`: readers and a writer share a fixed set of keys with a swap for each, by the crate `arc-swap`: the
@@ -111,7 +111,7 @@ impl Shared for BTreeMap<Vec<u8>, ArcSwap<Object>> {
     }
 }
 
-/// What chooses places that look random, the same in each run, as `crates/bench_lock` does.
+/// What chooses places that look random, the same in each run, as `crates/bench` does.
 struct Dice(u64);
 
 impl Dice {

@@ -1,4 +1,4 @@
-//! Does with the queue of `crossbeam` what `crates/bench_threads` does with an inbox, and prints lines
+//! Does with the queue of `crossbeam` what `crates/bench threads` does with an inbox, and prints lines
 //! `name value unit` under the same names. No pass is asked for, and nothing is proved.
 
 use crossbeam_queue::ArrayQueue;
@@ -76,7 +76,7 @@ fn take_each(queue: &Queue) -> usize {
 }
 
 /// The nanoseconds of a sample of five threads, with their start and their end: the one that takes is
-/// new, and one that puts isn't, as in `crates/bench_threads`.
+/// new, and one that puts isn't, as in `crates/bench`.
 fn four_to_one() -> u128 {
     let queue = &Queue::new(ROOM);
     let start = Instant::now();

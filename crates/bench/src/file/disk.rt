@@ -1,0 +1,223 @@
+//! How fast appends are and how fast a file opens.
+
+use crate::begun::{begin_at, begin_in_memory, read};
+use crate::file::bare::append_bare;
+use crate::file::kept::Kept;
+use crate::rows::{actor, key, value};
+use crate::samples::{median, print, rate, refused};
+use devices::{Device, FileDevice, MemoryDevice};
+use meta_store::Store;
+use node_parts::both;
+use std::alloc::Global;
+use std::fs::{self, File, OpenOptions};
+use std::io::{self, Write};
+use std::time::Instant;
+
+/// How many keys the file has that is opened.
+const KEYS: u32 = 8_192;
+
+/// How many rounds there are of appends and then of bare writes, and how many each has.
+const ROUNDS: u32 = 8;
+
+const IN_ROUND: u32 = 40;
+
+/// How often a file is opened, of which the middle time counts.
+const OPENINGS: usize = 11;
+
+pub(crate) fn measure(rt: &HostRuntime, folder: &str) -> io::Result<()> {
+    let objects = filled(rt.alloc(), KEYS)?;
+    measure_memory(rt, &objects)?;
+    measure_appends(rt, folder, &objects)?;
+    measure_opening(rt, folder, &objects)
+}
+
+/// A store of so many keys, each with a value.
+fn filled(alloc: Global, count: u32) -> io::Result<Store> {
+    let mut store = Store::new(alloc);
+    for number in 0..count {
+        put_one(alloc, &mut store, number)?;
+    }
+    Ok(store)
+}
+
+fn put_one(alloc: Global, store: &mut Store, number: u32) -> io::Result<()> {
+    let actor = actor(0)?;
+    let (key, value) = both(key(alloc, number), value(alloc))?;
+    drop(store.put(actor, key, value, None).map_err(refused)?);
+    Ok(())
+}
+
+/// Prints how often in a second the middle one of the samples is.
+fn print_rate(rt: &HostRuntime, name: &str, samples: &mut [u128]) -> io::Result<()> {
+    print(rt, name, rate(1, median(samples)), "ops/s")
+}
+
+/// A new file in memory.
+fn new_in_memory(alloc: Global) -> io::Result<Kept<MemoryDevice>> {
+    let (file, table) = begin_in_memory(alloc)?;
+    Ok(Kept::of(file, table))
+}
+
+/// Appends the object of the key of this number. Answers how many nanoseconds it took.
+fn append_one<D: Device + Drop>(
+    rt: &HostRuntime,
+    kept: &mut Kept<D>,
+    objects: &Store,
+    number: u32,
+) -> io::Result<u128> {
+    let at = key(rt.alloc(), number % KEYS)?;
+    match objects.object(&at) {
+        Some(object) => kept.append(rt, &at, object),
+        None => Ok(0),
+    }
+}
+
+/// The nanoseconds of the appends of a round. Answers how many bytes one of them has.
+fn appends<D: Device + Drop>(
+    rt: &HostRuntime,
+    kept: &mut Kept<D>,
+    objects: &Store,
+    round: u32,
+    samples: &mut Vec<u128>,
+) -> io::Result<usize> {
+    let (first, before) = (round.saturating_mul(IN_ROUND), kept.len());
+    for number in 0..IN_ROUND {
+        samples.push(append_one(rt, kept, objects, first.saturating_add(number))?)?;
+    }
+    Ok(kept.len().saturating_sub(before) / IN_ROUND as usize)
+}
+
+fn measure_memory(rt: &HostRuntime, objects: &Store) -> io::Result<()> {
+    let mut samples = Vec::new(rt.alloc());
+    append_in_memory(rt, objects, &mut samples)?;
+    print_rate(rt, "append_memory", samples.as_mut_slice())
+}
+
+fn append_in_memory(rt: &HostRuntime, objects: &Store, samples: &mut Vec<u128>) -> io::Result<()> {
+    let mut kept = new_in_memory(rt.alloc())?;
+    let done = append_rounds(rt, &mut kept, objects, samples);
+    drop(kept);
+    done
+}
+
+fn append_rounds(
+    rt: &HostRuntime,
+    kept: &mut Kept<MemoryDevice>,
+    objects: &Store,
+    samples: &mut Vec<u128>,
+) -> io::Result<()> {
+    for round in 0..200u32 {
+        appends(rt, kept, objects, round, samples)?;
+    }
+    Ok(())
+}
+
+/// The nanoseconds of so many bare writes of this size. Answers where the next one goes.
+fn bare_writes(
+    rt: &HostRuntime,
+    file: &File,
+    gate: u64,
+    size: usize,
+    samples: &mut Vec<u128>,
+) -> io::Result<u64> {
+    let bytes = vec![in rt.alloc(); 7u8; size]?;
+    let mut gate = gate;
+    for _ in 0..IN_ROUND {
+        samples.push(time_of_bare(rt, file, gate, &bytes)?)?;
+        gate = gate.saturating_add(bytes.len() as u64);
+    }
+    Ok(gate)
+}
+
+fn time_of_bare(rt: &HostRuntime, file: &File, gate: u64, bytes: &[u8]) -> io::Result<u128> {
+    let start = Instant::now(rt)?;
+    append_bare(file, gate, bytes)?;
+    Ok(start.elapsed(rt)?.as_nanos())
+}
+
+/// Appends and bare writes of the same size, in turn, so that the disk is the same for both.
+fn in_turn(
+    rt: &HostRuntime,
+    kept: &mut Kept<FileDevice>,
+    objects: &Store,
+    bare: &File,
+) -> io::Result<()> {
+    let (mut appended, mut written) = (Vec::new(rt.alloc()), Vec::new(rt.alloc()));
+    let mut gate = kept.len() as u64;
+    for round in 0..ROUNDS {
+        let size = appends(rt, kept, objects, round, &mut appended)?;
+        gate = bare_writes(rt, bare, gate, size, &mut written)?;
+    }
+    print_rate(rt, "append_fdatasync", appended.as_mut_slice())?;
+    print_rate(rt, "append_fdatasync_limit", written.as_mut_slice())
+}
+
+fn measure_appends(rt: &HostRuntime, folder: &str, objects: &Store) -> io::Result<()> {
+    let path = format!(in rt.alloc(); "{folder}/bench-append.tmp")?;
+    let bare_path = format!(in rt.alloc(); "{folder}/bench-bare.tmp")?;
+    let mut options = OpenOptions::new();
+    let bare = options
+        .write(true)
+        .create_new(true)
+        .open(rt, bare_path.as_str())?;
+    append_at(rt, path.as_str(), objects, &bare)?;
+    fs::remove_file(rt, path.as_str())?;
+    fs::remove_file(rt, bare_path.as_str())
+}
+
+/// Appends to a new file at the path, and bare writes to the other one.
+fn append_at(rt: &HostRuntime, path: &str, objects: &Store, bare: &File) -> io::Result<()> {
+    let (file, table) = begin_at(rt, path)?;
+    let mut kept = Kept::of(file, table);
+    let done = in_turn(rt, &mut kept, objects, bare);
+    drop(kept);
+    done
+}
+
+/// A file with all objects, as appends leave it.
+fn write_file(rt: &HostRuntime, path: &str, objects: &Store) -> io::Result<()> {
+    let mut kept = new_in_memory(rt.alloc())?;
+    let done = write_kept(rt, path, &mut kept, objects);
+    drop(kept);
+    done
+}
+
+fn write_kept(
+    rt: &HostRuntime,
+    path: &str,
+    kept: &mut Kept<MemoryDevice>,
+    objects: &Store,
+) -> io::Result<()> {
+    for number in 0..KEYS {
+        append_one(rt, kept, objects, number)?;
+    }
+    let mut file = File::create(rt, path)?;
+    file.write_all(kept.content())
+}
+
+/// The nanoseconds of opening the path as a file that is only read.
+fn time_of_opening(rt: &HostRuntime, path: &str) -> io::Result<u128> {
+    let start = Instant::now(rt)?;
+    let (table, _life) = read(rt, path)?;
+    let nanos = start.elapsed(rt)?.as_nanos();
+    if table.len() == KEYS as usize {
+        Ok(nanos)
+    } else {
+        Ok(0)
+    }
+}
+
+fn measure_opening(rt: &HostRuntime, folder: &str, objects: &Store) -> io::Result<()> {
+    let path = format!(in rt.alloc(); "{folder}/bench-open.tmp")?;
+    measure_opening_at(rt, path.as_str(), objects)
+}
+
+fn measure_opening_at(rt: &HostRuntime, path: &str, objects: &Store) -> io::Result<()> {
+    write_file(rt, path, objects)?;
+    let mut samples = [0u128; OPENINGS];
+    for sample in samples.iter_mut() {
+        *sample = time_of_opening(rt, path)?;
+    }
+    print(rt, "open_8192_records", median(&mut samples) / 1_000, "us")?;
+    fs::remove_file(rt, path)
+}

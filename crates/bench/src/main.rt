@@ -1,0 +1,50 @@
+//! Measures nodes and what they are made of, and lets threads storm one. The first argument is the
+//! part, and the others are the part's own.
+//!
+//! Each part has a module and a folder: `lock`, `cluster` (in `clusters`), `node`, `file`,
+//! `threads` and `storm`. What more than one of them has stands beside them.
+#![tactic(auto)]
+
+mod begun;
+mod clusters;
+mod file;
+mod lock;
+mod node;
+mod rows;
+mod samples;
+mod started;
+mod storm;
+mod subject;
+mod threads;
+
+use std::io;
+use std::rt::Clock;
+use std::sync::Wait;
+use std::thread::Threads;
+
+fn main(rt: HostRuntime) -> io::Result<()> {
+    let words: Vec<String> = std::env::args(&rt)?.collect(rt.alloc())?;
+    match words.as_slice() {
+        [_program, part, others @ ..] => run(&rt, &rt, part.as_str(), others),
+        _ => Ok(()),
+    }
+}
+
+/// Does what the part is asked for. The handle is the runtime once more, as what may start threads
+/// and wait.
+fn run<R: Threads + Wait + Clock + Print + Sync>(
+    rt: &HostRuntime,
+    handle: &R,
+    part: &str,
+    words: &[String],
+) -> io::Result<()> {
+    match part {
+        "lock" => lock::run(rt, handle, words),
+        "cluster" => clusters::run(rt, handle, words),
+        "node" => node::run(rt, words),
+        "file" => file::run(rt, words),
+        "threads" => threads::run(rt, handle, words),
+        "storm" => storm::run(rt, handle, words),
+        _ => Ok(()),
+    }
+}

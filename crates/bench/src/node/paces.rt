@@ -1,0 +1,132 @@
+//! How often a call is made in a second, and how long an exchange takes.
+
+use crate::node::sides::{Sent, Sides};
+use crate::node::table::{Table, Work};
+use crate::samples::median;
+use std::io;
+use std::time::Instant;
+
+/// The least nanoseconds of a sample.
+const LEAST: u128 = 25_000_000;
+
+/// How many samples there are, of which the middle one counts.
+const SAMPLES: usize = 11;
+
+/// How often an exchange is run, of which the middle time counts.
+const EXCHANGES: usize = 9;
+
+/// How many nanoseconds so many calls take.
+fn taken(rt: &HostRuntime, table: &mut Table, work: Work, calls: u32) -> io::Result<u128> {
+    let start = Instant::now(rt)?;
+    for _call in 0..calls {
+        table.work(work)?;
+    }
+    Ok(start.elapsed(rt)?.as_nanos())
+}
+
+/// So many calls take a sample's least time.
+fn calls_of(rt: &HostRuntime, table: &mut Table, work: Work) -> io::Result<u32> {
+    let mut calls = 1_u32;
+    for _doubling in 0..31 {
+        if taken(rt, table, work, calls)? >= LEAST {
+            return Ok(calls);
+        }
+        calls = calls.saturating_mul(2);
+    }
+    Ok(calls)
+}
+
+/// How many nanoseconds so many calls took: the median of the samples.
+#[derive(Clone, Copy)]
+pub(crate) struct Pace {
+    calls: u32,
+    nanos: u128,
+}
+
+pub(crate) fn median_pace(rt: &HostRuntime, table: &mut Table, work: Work) -> io::Result<Pace> {
+    let calls = calls_of(rt, table, work)?;
+    let mut samples = [0u128; SAMPLES];
+    for sample in samples.iter_mut() {
+        *sample = taken(rt, table, work, calls)?;
+    }
+    let nanos = median(&mut samples);
+    Ok(Pace { calls, nanos })
+}
+
+impl Pace {
+    /// How often in a second it is done, where each call does it so many times.
+    fn rate(self, times: u32) -> u128 {
+        u128::from(self.calls) * u128::from(times) * 1_000_000_000 / self.nanos.max(1)
+    }
+
+    /// Hundredths of a millisecond that a call takes.
+    fn hundredths(self) -> u128 {
+        self.nanos / (u128::from(self.calls.max(1)) * 10_000)
+    }
+}
+
+impl Work {
+    /// The baseline's name for it.
+    fn name(self) -> &'static str {
+        match self {
+            Work::PutWithTree => "put_over_tree",
+            Work::Put => "put_over_no_tree",
+            Work::Look => "look",
+            Work::Fill => "fill_tree",
+            Work::WholeRoot => "whole_root",
+        }
+    }
+}
+
+/// Prints the line of a measure: writes or reads in a second, or the milliseconds of a root.
+pub(crate) fn print_pace(
+    rt: &HostRuntime,
+    work: Work,
+    count: u32,
+    prefixes: u32,
+    pace: Pace,
+) -> io::Result<()> {
+    let name = work.name();
+    let times = match work {
+        Work::Fill => count,
+        Work::WholeRoot => return print_time(rt, name, count, prefixes, pace),
+        Work::PutWithTree | Work::Put | Work::Look => 1,
+    };
+    let rate = pace.rate(times);
+    println!(rt; "{name}_{count}_keys_{prefixes}_prefix {rate} ops/s")
+}
+
+fn print_time(
+    rt: &HostRuntime,
+    name: &str,
+    count: u32,
+    prefixes: u32,
+    pace: Pace,
+) -> io::Result<()> {
+    let hundredths = pace.hundredths();
+    let (whole, rest) = (hundredths / 100, hundredths % 100);
+    println!(rt; "{name}_{count}_keys_{prefixes}_prefix {whole}.{rest:02} ms")
+}
+
+/// How many nanoseconds an exchange takes: the median of the runs.
+pub(crate) fn median_time(rt: &HostRuntime, sides: &Sides) -> io::Result<u128> {
+    let mut times = [0u128; EXCHANGES];
+    for time in times.iter_mut() {
+        *time = sides.taken(rt)?;
+    }
+    Ok(median(&mut times))
+}
+
+/// Prints the lines of an exchange: its milliseconds, and what it sends.
+pub(crate) fn print_exchange(
+    rt: &HostRuntime,
+    changes: u32,
+    nanos: u128,
+    sent: Sent,
+) -> io::Result<()> {
+    let (whole, rest) = (nanos / 1_000_000, nanos % 1_000_000 / 100);
+    let (frames, bytes) = (sent.frames, sent.bytes);
+    println!(rt; "reconcile_8192_diff_{changes}_time {whole}.{rest:04} ms")?;
+    println!(rt; "reconcile_8192_diff_{changes}_frames {frames} frames")?;
+    println!(rt; "reconcile_8192_diff_{changes}_bytes {bytes} bytes")
+}

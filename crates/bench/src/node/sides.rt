@@ -1,0 +1,256 @@
+//! Two stores that differ, how long their exchange takes and what it sends.
+//!
+//! A list of messages is handed on by value, so that no function holds two where a call may fail.
+
+use crate::node::table::{filled, put_over};
+use crate::rows::{Rows, actor, node};
+use crate::samples::refused;
+use exchange::{answer, reconcile, start};
+use hash_tree::Held;
+use meta_frame::{Frame, Message, encode, is_lawful};
+use meta_store::Store;
+use meta_types::NodeId;
+use node_parts::both;
+use std::alloc::{AllocError, Global};
+use std::io;
+use std::time::Instant;
+
+/// How many keys both stores hold, under one full prefix.
+const KEYS: u32 = 8_192;
+
+/// Two stores of the same keys, some of which were written once more.
+#[derive(Drop)]
+pub(crate) struct Sides {
+    alloc: Global,
+    here: Store,
+    there: Store,
+}
+
+/// How many frames were sent, and their bytes with their headers.
+#[derive(Clone, Copy)]
+pub(crate) struct Sent {
+    pub(crate) frames: u64,
+    pub(crate) bytes: u64,
+}
+
+/// Writes under so many of the keys, which lie evenly: in turn here, there, and on both sides.
+fn write_some(store: &mut Store, side: u16, rows: &Rows, changes: u32) -> io::Result<()> {
+    let actor = actor(1_u16.saturating_add(side))?;
+    for turn in 0..changes {
+        let place = u64::from(turn) * u64::from(KEYS) / u64::from(changes.max(1));
+        if let Some(key) = rows.keys().get(place as usize) {
+            if turn % 3 == 2 || turn % 3 == u32::from(side) {
+                put_over(store, actor, key, rows.value())?;
+            }
+        }
+    }
+    Ok(())
+}
+
+impl Sides {
+    /// Two stores that differ under so many keys.
+    pub(crate) fn differing(alloc: Global, changes: u32) -> io::Result<Self> {
+        let rows = Rows::in_turn(alloc, KEYS, 1)?;
+        let sides = Sides::of(alloc, &rows, changes);
+        drop(rows);
+        sides
+    }
+
+    fn of(alloc: Global, rows: &Rows, changes: u32) -> io::Result<Self> {
+        let (here, tree) = filled(alloc, actor(0)?, rows)?;
+        drop(tree);
+        let mut sides = Sides {
+            alloc,
+            there: here.copy()?,
+            here,
+        };
+        sides.write(rows, changes)?;
+        Ok(sides)
+    }
+
+    fn write(&mut self, rows: &Rows, changes: u32) -> io::Result<()> {
+        write_some(&mut self.here, 0, rows, changes)?;
+        write_some(&mut self.there, 1, rows, changes)
+    }
+
+    /// Copies of both stores, each with its tree.
+    fn held(&self) -> io::Result<(Held, Held)> {
+        both(held(self.alloc, &self.here), held(self.alloc, &self.there))
+    }
+
+    /// How many nanoseconds an exchange of copies takes.
+    pub(crate) fn taken(&self, rt: &HostRuntime) -> io::Result<u128> {
+        let (mut here, mut there) = self.held()?;
+        let nanos = time_of_exchange(rt, &mut here, &mut there);
+        drop(here);
+        drop(there);
+        nanos
+    }
+
+    /// What an exchange of copies sends.
+    pub(crate) fn sent(&self) -> io::Result<Sent> {
+        let (mut here, mut there) = self.held()?;
+        let sent = exchanged(self.alloc, &mut here, &mut there);
+        drop(here);
+        drop(there);
+        sent
+    }
+}
+
+/// A copy of the store with its tree.
+fn held(alloc: Global, store: &Store) -> io::Result<Held> {
+    Ok(Held::new(alloc, store.copy()?)?)
+}
+
+fn time_of_exchange(rt: &HostRuntime, here: &mut Held, there: &mut Held) -> io::Result<u128> {
+    let start = Instant::now(rt)?;
+    reconcile(rt.alloc(), here, there).map_err(refused)?;
+    Ok(start.elapsed(rt)?.as_nanos())
+}
+
+impl Sent {
+    /// One frame more, of so many bytes.
+    fn and_frame(self, len: u64) -> Self {
+        Sent {
+            frames: self.frames.saturating_add(1),
+            bytes: self.bytes.saturating_add(len),
+        }
+    }
+}
+
+/// What an exchange sends that here begins: seven rounds, each of which answers the one before.
+fn exchanged(alloc: Global, here: &mut Held, there: &mut Held) -> io::Result<Sent> {
+    let mut sent = Sent {
+        frames: 0,
+        bytes: 0,
+    };
+    let root = begun(alloc, here)?;
+    let prefixes = round(alloc, there, &mut sent, root)?;
+    let inner = round(alloc, here, &mut sent, prefixes)?;
+    let leaves = round(alloc, there, &mut sent, inner)?;
+    let buckets = round(alloc, here, &mut sent, leaves)?;
+    let offered = round(alloc, there, &mut sent, buckets)?;
+    let wanted = round(alloc, here, &mut sent, offered)?;
+    last_round(alloc, there, &mut sent, wanted)?;
+    Ok(sent)
+}
+
+/// What begins an exchange.
+fn begun(alloc: Global, held: &Held) -> io::Result<Vec<Message>> {
+    let mut messages = Vec::new(alloc);
+    messages.push(start(held))?;
+    Ok(messages)
+}
+
+/// Takes a round of messages, and answers it. It is dropped.
+fn round(
+    alloc: Global,
+    held: &mut Held,
+    sent: &mut Sent,
+    messages: Vec<Message>,
+) -> io::Result<Vec<Message>> {
+    take_and_answer(alloc, held, sent, messages.as_slice())
+}
+
+/// Takes the last round of messages, to which there is no answer.
+fn last_round(
+    alloc: Global,
+    held: &mut Held,
+    sent: &mut Sent,
+    messages: Vec<Message>,
+) -> io::Result<()> {
+    take_all(alloc, held, sent, messages.as_slice())
+}
+
+/// Takes messages and answers them. A want of a key comes after its object, so it makes no
+/// difference that all are taken before the first is answered.
+fn take_and_answer(
+    alloc: Global,
+    held: &mut Held,
+    sent: &mut Sent,
+    messages: &[Message],
+) -> io::Result<Vec<Message>> {
+    take_all(alloc, held, sent, messages)?;
+    answers(alloc, held, messages)
+}
+
+/// Takes messages in turn, as `take` does.
+fn take_all(
+    alloc: Global,
+    held: &mut Held,
+    sent: &mut Sent,
+    messages: &[Message],
+) -> io::Result<()> {
+    for message in messages {
+        take(alloc, held, sent, message)?;
+    }
+    Ok(())
+}
+
+/// Counts a message as a frame, and merges the object that it brings, if it brings one.
+fn take(alloc: Global, held: &mut Held, sent: &mut Sent, message: &Message) -> io::Result<()> {
+    let len = frame_len(alloc, message)?;
+    *sent = sent.and_frame(len);
+    merge(held, message)
+}
+
+/// Merges the object that a message brings, if it brings one.
+fn merge(held: &mut Held, message: &Message) -> io::Result<()> {
+    if let Message::XObject { key, object } = message {
+        let merged = held.store().preview_merge(key, object).map_err(refused)?;
+        if let Some(merged) = merged {
+            held.hold(key, merged)?;
+        }
+    }
+    Ok(())
+}
+
+/// What messages are answered from what is held.
+fn answers(alloc: Global, held: &Held, messages: &[Message]) -> io::Result<Vec<Message>> {
+    let mut answers = Vec::new(alloc);
+    for message in messages {
+        add_answers(alloc, &mut answers, held, message)?;
+    }
+    Ok(answers)
+}
+
+/// Appends what a message is answered.
+fn add_answers(
+    alloc: Global,
+    answers: &mut Vec<Message>,
+    held: &Held,
+    message: &Message,
+) -> io::Result<()> {
+    let mut own = answer(alloc, held, message)?;
+    answers.append(&mut own)?;
+    Ok(())
+}
+
+/// How many bytes a message has as a frame from one node to another.
+fn frame_len(alloc: Global, message: &Message) -> io::Result<u64> {
+    let frame = framed(node(0)?, node(1)?, message)?;
+    let len = encoded_len(alloc, &frame);
+    drop(frame);
+    len
+}
+
+/// The frame number 1 that brings a copy of the message.
+fn framed(from: NodeId, to: NodeId, message: &Message) -> Result<Frame, AllocError> {
+    Ok(Frame {
+        from,
+        to,
+        number: 1,
+        message: message.copy()?,
+    })
+}
+
+/// How many bytes a frame has, its header with them. A frame that breaks a limit is refused.
+fn encoded_len(alloc: Global, frame: &Frame) -> io::Result<u64> {
+    if !is_lawful(frame) {
+        return Err(io::Error::from(io::ErrorKind::Other));
+    }
+    let bytes = encode(alloc, frame).map_err(refused)?;
+    let len = bytes.len() as u64;
+    drop(bytes);
+    Ok(len)
+}

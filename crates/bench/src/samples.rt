@@ -1,0 +1,24 @@
+//! What is made of samples, and how it is printed.
+
+use std::io;
+
+/// The error that stands for any refusal: a bench has no use for its name.
+pub(crate) fn refused<E: Drop>(_refusal: E) -> io::Error {
+    io::Error::from(io::ErrorKind::Other)
+}
+
+/// The middle one of the samples, which are sorted.
+pub(crate) fn median(samples: &mut [u128]) -> u128 {
+    samples.sort_unstable();
+    samples.get(samples.len() / 2).copied().unwrap_or(1)
+}
+
+/// How often in a second, of what came so often in so many nanoseconds.
+pub(crate) fn rate(count: u64, nanos: u128) -> u128 {
+    u128::from(count) * 1_000_000_000 / nanos.max(1)
+}
+
+/// Prints a line `name value unit`.
+pub(crate) fn print<R: Print>(rt: &R, name: &str, value: u128, unit: &str) -> io::Result<()> {
+    println!(rt; "{name} {value} {unit}")
+}
