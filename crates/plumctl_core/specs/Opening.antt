@@ -16,7 +16,7 @@ cause_of_kind kinds.NotADirectory = codes "not found, since a part of its path i
 cause_of_kind kinds.PermissionDenied = codes "may not be read"
 cause_of_kind kinds.IsADirectory = codes "is a folder"
 cause_of_kind kinds.FilesystemLoop = codes "is a link that leads in a circle"
-cause_of_kind kinds.InvalidFilename = codes "the name is too long"
+cause_of_kind kinds.InvalidFilename = codes "the name is too long, or none of a file"
 cause_of_kind kind = codes "could not be opened"
 
 -- the two lines that are told
@@ -29,8 +29,8 @@ abbrev pub TellsText : (errors_old errors_new : SinkAt) → List ℕ → Type 0
 TellsText errors_old errors_new text =
     Appends errors_old.contents errors_new.contents text ⊎ TellsFront errors_old errors_new text
 
--- how a command ends whose file of this name can't be opened: the two lines were told, but of an
--- error of memory want of memory; which may be wanting for the lines, too
+-- how a command ends whose file of this name can't be opened: the two lines were told, with 3; or
+-- want of memory, with 4, for an error of memory, or where there is none for the lines
 abbrev pub EndsAtOpening : List ℕ → ErrorKind → (errors_old errors_new : SinkAt) → ℕ → Type 0
 EndsAtOpening name kind errors_old errors_new status =
     ((kind ≢ kinds.OutOfMemory) × (status ≡ status_of_fault Read)

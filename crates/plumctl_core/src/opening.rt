@@ -19,7 +19,7 @@ fn cause_of_kind(kind: ErrorKind) -> &'static str
         ErrorKind::PermissionDenied => "may not be read",
         ErrorKind::IsADirectory => "is a folder",
         ErrorKind::FilesystemLoop => "is a link that leads in a circle",
-        ErrorKind::InvalidFilename => "the name is too long",
+        ErrorKind::InvalidFilename => "the name is too long, or none of a file",
         _ => "could not be opened",
     }
 }

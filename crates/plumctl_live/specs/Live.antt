@@ -1,8 +1,8 @@
 -- What is printed of a cluster of threads, and the exit status.
 --
--- The statuses: 0 what the threads did is a run of the world, 1 it isn't, or the cluster gives
--- none, 3 a device failed before there was one, or a writer, 4 want of memory; of several the
--- greatest. Wrong arguments, with status 2, start nothing.
+-- The statuses: 0 what the threads did is a run of the world, 1 it isn't, or that can't be said, or
+-- the cluster gives no run, 3 a device failed before the run, or the writer failed, 4 want of
+-- memory; of several the greatest. Wrong arguments, with status 2, start nothing.
 use Rattle.std.specs.Prelude.{◌≡◌, ◌⊎◌, ℕ, max, nat_eq, if◌then◌else◌, List, [], ◌∷◌, ◌++◌, length, map, All, Option, Some, None, Result, Ok, Err, IfOk, IfErr, OnOk, codes, decimal}
 use Rattle.node_journal.specs.Closed.{AreWhole}
 use Rattle.run_record.specs.Fault as records
@@ -128,13 +128,14 @@ status_of_verdict (Ok w) = 0
 status_of_verdict (Err fault) = status_of_number (code_of fault)
 
 abbrev pub told_of_number : Option ℕ → List ℕ
-told_of_number None = line (codes "error: a journal isn't whole, so that nobody can say")
+told_of_number None =
+    line (codes "error: a journal isn't whole, so nobody can say whether this is a run")
 told_of_number (Some code) = if nat_eq code 99 then line (codes "error 99 Memory") else []
 
 abbrev pub told_of_fault : LiveFault → List ℕ
 told_of_fault fault = told_of_number (code_of fault)
 
--- some of so many nodes stopped
+-- where nodes stopped
 abbrev pub note_of_stopped : Option Counts → List ℕ
 note_of_stopped None = []
 note_of_stopped (Some counts) = if nat_eq counts.stopped 0 then []
@@ -152,7 +153,7 @@ pub record PrintsLive (plan : ClusterPlan) (counts : Option Counts)
   pub prints : WritesOut old.writer new.writer (live_text plan counts judged)
   pub told : TellsLine old.errors new.errors (told_of counts judged)
 
--- a fault of the writer is told where nothing else is to be told
+-- a fault of the writer is told where no fault of the run is to be told; the note isn't told then
 abbrev pub TellsUnless : List ℕ → StreamFault → (old new : SinkAt) → Type 0
 TellsUnless [] fault old new = TellsFault old new fault
 TellsUnless (byte ∷ bytes) fault old new = TellsLine old new (byte ∷ bytes)

@@ -32,7 +32,7 @@ pub struct LiveRun {
 }
 
 /// What standard error is told of a journal that isn't whole.
-const NOT_WHOLE: &str = "error: a journal isn't whole, so that nobody can say\n";
+const NOT_WHOLE: &str = "error: a journal isn't whole, so nobody can say whether this is a run\n";
 
 /// What it is told of nodes that stopped.
 const STOPPED: &str = "note: a device failed, and its node made no more turns\n";

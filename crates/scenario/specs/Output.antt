@@ -116,7 +116,8 @@ IsFrontOfPlay manner scenario front = (front ≡ [])
     × (front ≡ opened ++ rest))
 
 -- what was printed of a text: a front of the line of its first bad line, or of its scenario; or
--- nothing. The output begins with it (`laws::the_output_begins_with_its_front`).
+-- nothing. With results alone the output begins with it
+-- (`laws::the_output_begins_with_its_front`).
 abbrev pub IsFrontOfOutput : Manner → List ℕ → List ℕ → Type 0
 IsFrontOfOutput manner text front = (front ≡ [])
     ⊎ ((number : ℕ) × (more : List ℕ)

@@ -32,7 +32,7 @@ pub record Explains (choices : Choices) (old : Stage) (command : Command) (text 
   pub after_told : AreTold after
   pub text_is : text ≡ before ++ (results ++ after)
 
--- the same of `nodes`
+-- of `nodes`: what is told before its `ok`
 pub record OpensExplained (text : List ℕ) : Type 0 where
   pub before : List ℕ
   pub before_told : AreTold before

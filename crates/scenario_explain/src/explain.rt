@@ -94,9 +94,9 @@ impl<'a> Runner for Explainer<'a> {
 /// of the first sixteen frames that are on their way, which are those that were never given to
 /// their addressees, and how many more there are; and a line for each key under which a node shows
 /// other siblings or another context than before, `ctx - values -` where a restart has taken them
-/// away. Which of these are told is stated by no contract. Where two tables have the same root they are
-/// taken to show the same. It ends as `run_over` does, and for the same faults. It takes memory
-/// besides for a copy of what each node holds.
+/// away. Which of these are told is stated by no contract. Where two tables have the same root they
+/// are taken to show the same. Where it comes to its end, or to 70 or 71, so does `run_over`. It
+/// takes memory besides for a copy of what each node holds.
 pub fn explain_over<R: Source, W: Sink>(
     alloc: Global,
     reader: &mut R,

@@ -56,9 +56,10 @@ shown_line line =
 -- a command, with the words behind it
 abbrev pub form_of : Verb → List ℕ
 form_of verbs.Nodes = codes "nodes COUNT, once, as the first command; COUNT is 1 to 16"
-form_of verbs.Put = codes "put N KEY VALUE [stamp S] [read R]; KEY is as a/b/k"
+form_of verbs.Put =
+    codes "put N KEY VALUE [stamp S] [read R]; KEY is as a/b/k, VALUE as red-1 or hex:ff"
 form_of verbs.Del = codes "del N KEY [stamp S] [read R]; KEY is as a/b/k"
-form_of verbs.Over = codes "over N KEY VALUE [stamp S]; KEY is as a/b/k"
+form_of verbs.Over = codes "over N KEY VALUE [stamp S]; KEY is as a/b/k, VALUE as red-1 or hex:ff"
 form_of verbs.Read = codes "read N KEY; KEY is as a/b/k"
 form_of verbs.Show = codes "show N KEY; KEY is as a/b/k"
 form_of verbs.Resolve = codes "resolve N KEY lww|largest; KEY is as a/b/k"
@@ -80,7 +81,7 @@ form_of verbs.Images = codes "images N"
 form_of verbs.Views = codes "views N"
 form_of verbs.Settle = codes "settle"
 
--- the same words but for one byte, which is another one, missing or too many
+-- the same word, or the same but for one byte, which is another one, missing or too many
 unfoldable pub is_near : Word → Word → Bool
 is_near [] other = nat_le (length other) 1
 is_near (a ∷ word) [] = nat_le (length (a ∷ word)) 1
@@ -101,7 +102,8 @@ all_verbs = verbs.Nodes ∷ verbs.Put ∷ verbs.Del ∷ verbs.Over ∷ verbs.Rea
     ∷ verbs.Exchange ∷ verbs.Hello ∷ verbs.Leave ∷ verbs.Restart ∷ verbs.Keep ∷ verbs.Watch
     ∷ verbs.Changes ∷ verbs.List ∷ verbs.Root ∷ verbs.Images ∷ verbs.Views ∷ verbs.Settle ∷ []
 
--- by its first word: a verb, whose form it hasn't; or none, and then the verb that is near
+-- by its first word: a verb, whose form the line hasn't, or it names a resolver that isn't at hand;
+-- or none, and then the verb that is near
 abbrev IsHintOfWord : Word → Hint → Type 0
 IsHintOfWord word (Form verb) = word ≡ verb_word verb
 IsHintOfWord word (Unknown near) =
@@ -140,7 +142,7 @@ near_text (Some verb) = codes "no such command"
     ++ (codes "; did you mean " ++ (verb_word verb ++ codes "?"))
 
 abbrev pub hint_text : Hint → List ℕ
-hint_text ByteOrderMark = codes "the text begins with a byte order mark: save it without one"
+hint_text ByteOrderMark = codes "the line begins with a byte order mark: save the text without one"
 hint_text CarriageReturn =
     codes "the line ends with a carriage return: end lines with a line feed alone"
 hint_text NodesFirst = codes "the first command is nodes COUNT; COUNT is 1 to 16"

@@ -11,9 +11,10 @@ pub(crate) fn form_of(verb: Verb) -> &'static str
 {
     match verb {
         Verb::Nodes => "nodes COUNT, once, as the first command; COUNT is 1 to 16",
-        Verb::Put => "put N KEY VALUE [stamp S] [read R]; KEY is as a/b/k",
+        Verb::Put =>
+            "put N KEY VALUE [stamp S] [read R]; KEY is as a/b/k, VALUE as red-1 or hex:ff",
         Verb::Del => "del N KEY [stamp S] [read R]; KEY is as a/b/k",
-        Verb::Over => "over N KEY VALUE [stamp S]; KEY is as a/b/k",
+        Verb::Over => "over N KEY VALUE [stamp S]; KEY is as a/b/k, VALUE as red-1 or hex:ff",
         Verb::Read => "read N KEY; KEY is as a/b/k",
         Verb::Show => "show N KEY; KEY is as a/b/k",
         Verb::Resolve => "resolve N KEY lww|largest; KEY is as a/b/k",

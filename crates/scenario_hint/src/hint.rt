@@ -10,13 +10,13 @@ use scenario_text::{Verb, Words, verb_of};
 /// What is wrong with a line that breaks a rule.
 #[derive(Clone, Copy)]
 pub enum Hint {
-    /// Bytes stand in front of it that some editors put at the front of a text.
+    /// It begins with bytes that some editors put at the front of a text.
     ByteOrderMark,
     /// Its last byte is a carriage return, which is no part of a command.
     CarriageReturn,
     /// No command stands before it, and it doesn't say how many nodes there are.
     NodesFirst,
-    /// It begins with this verb, and hasn't its form.
+    /// It begins with this verb, and hasn't its form, or names a resolver that isn't at hand.
     Form(Verb),
     /// It begins with no verb. This one is near.
     Unknown(Option<Verb>),

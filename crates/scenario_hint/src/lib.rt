@@ -5,7 +5,7 @@
 //! let text = b"nodes 1\nput 0 a/b x\n";
 //! let told = told_of_line(alloc, text, 2)?;
 //! // line 2: put 0 a/b x
-//! // wanted: put N KEY VALUE [stamp S] [read R]; KEY is as a/b/k
+//! // wanted: put N KEY VALUE [stamp S] [read R]; KEY is as a/b/k, VALUE as red-1 or hex:ff
 //! ```
 //!
 //! Read `hint` (what is wrong with a line), `near`, `form`, then `told` with `found` and `shown`.

@@ -29,7 +29,7 @@ fn add_hint(out: &mut Vec<u8>, hint: Hint) -> Result<(), AllocError>
 {
     match hint {
         Hint::ByteOrderMark => out.extend_from_slice(
-            b"the text begins with a byte order mark: save it without one",
+            b"the line begins with a byte order mark: save the text without one",
         ),
         Hint::CarriageReturn => out.extend_from_slice(
             b"the line ends with a carriage return: end lines with a line feed alone",

@@ -56,7 +56,7 @@ static RUNS: [Run; 12] = [
         status: 1,
         output: b"error 70 BadLine 2\n",
         explained: b"error 70 BadLine 2\n",
-        told: b"line 2: put 0 a/b x\nwanted: put N KEY VALUE [stamp S] [read R]; KEY is as a/b/k\n",
+        told: b"line 2: put 0 a/b x\nwanted: put N KEY VALUE [stamp S] [read R]; KEY is as a/b/k, VALUE as red-1 or hex:ff\n",
     },
     Run {
         text: b"nodes 1\nget 0 a/b/k\n",
@@ -101,7 +101,7 @@ static RUNS: [Run; 12] = [
         status: 1,
         output: b"error 70 BadLine 1\n",
         explained: b"error 70 BadLine 1\n",
-        told: b"line 1: ???nodes 1\nthe text begins with a byte order mark: save it without one\n",
+        told: b"line 1: ???nodes 1\nthe line begins with a byte order mark: save the text without one\n",
     },
     Run {
         text: b"nodes 1\nroot 0\nnodes 1\n",
