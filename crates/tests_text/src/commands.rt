@@ -56,7 +56,8 @@ static RUNS: [Run; 12] = [
         status: 1,
         output: b"error 70 BadLine 2\n",
         explained: b"error 70 BadLine 2\n",
-        told: b"line 2: put 0 a/b x\nwanted: put N KEY VALUE [stamp S] [read R]; KEY is as a/b/k, VALUE as red-1 or hex:ff\n",
+        told: b"line 2: put 0 a/b x\n\
+wanted: put N KEY VALUE [stamp S] [read R]; KEY is as a/b/k, VALUE as red-1 or hex:ff\n",
     },
     Run {
         text: b"nodes 1\nget 0 a/b/k\n",
@@ -92,7 +93,8 @@ static RUNS: [Run; 12] = [
         status: 1,
         output: b"error 70 BadLine 2\n",
         explained: b"error 70 BadLine 2\n",
-        told: b"line 2: root 0?\nthe line ends with a carriage return: end lines with a line feed alone\n",
+        told: b"line 2: root 0?\n\
+the line ends with a carriage return: end lines with a line feed alone\n",
     },
     Run {
         text: b"\xEF\xBB\xBFnodes 1\n",
@@ -101,7 +103,8 @@ static RUNS: [Run; 12] = [
         status: 1,
         output: b"error 70 BadLine 1\n",
         explained: b"error 70 BadLine 1\n",
-        told: b"line 1: ???nodes 1\nthe line begins with a byte order mark: save the text without one\n",
+        told: b"line 1: ???nodes 1\n\
+the line begins with a byte order mark: save the text without one\n",
     },
     Run {
         text: b"nodes 1\nroot 0\nnodes 1\n",
@@ -110,7 +113,8 @@ static RUNS: [Run; 12] = [
         status: 1,
         output: b"error 70 BadLine 3\n",
         explained: b"error 70 BadLine 3\n",
-        told: b"line 3: nodes 1\nwanted: nodes COUNT, once, as the first command; COUNT is 1 to 16\n",
+        told: b"line 3: nodes 1\n\
+wanted: nodes COUNT, once, as the first command; COUNT is 1 to 16\n",
     },
     Run {
         text: b"nodes 1\n",
