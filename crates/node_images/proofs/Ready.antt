@@ -1,6 +1,7 @@
 -- What is made ready before a step is what the step leaves and replies.
-use Rattle.std.proofs.Common.{◌≡◌, Bool, true, false, cond, List, Some, Result, Ok, Err, IfOk, IfErr, refl, sym, ap, subst, ◌∙◌}
+use Rattle.std.proofs.Common.{◌≡◌, ℕ, Bool, true, false, cond, List, [], ◌∷◌, length, take, Option, Some, None, Result, Ok, Err, IfOk, IfErr, refl, sym, ap, subst, ◌∙◌}
 use Rattle.std.proofs.lemmas.Result.{IfOk-at_ok}
+use Rattle.std.proofs.Math.Seq.{take-append_seam, take-length}
 use Rattle.meta_types.specs.Failing.{FailsBy}
 use Rattle.node_events.specs.declared.fault.StepFault.{StepFault}
 use Rattle.node_events.specs.declared.fault.StepFault.TheVariants.{Memory}
@@ -24,7 +25,9 @@ use Rattle.node_core.specs.Rows.{Input, IsInput, Local, Received, is_fresh}
 use Rattle.node_core.specs.Step.{CanComeOf, IsNodeStep, IsStepOf, refusal_of, reply_of, reply_of_message}
 use Rattle.node_images.specs.Ahead.{IsAhead, IsPlain, IsReady, change_left, object_written, reply_ahead}
 use Rattle.node_images.specs.declared.ahead.Ahead.{Ahead}
+use Rattle.node_images.specs.Images.{Image}
 use Rattle.node_images.specs.Keeping.{change_at}
+use Rattle.node_images.specs.Node.{ImagedNode, images_with, standing_with}
 use Rattle.node_images.proofs.Noding.{change_at-put}
 
 -- ---- the change
@@ -75,21 +78,34 @@ pub ready : (old : NodeParts) (event : NodeEvent) (new : NodeParts) (s : Stepped
     → IsReady (reply_ahead event old) s.reply
 ready old event new s is = ready_by old event new s is.input is.is_input is.step
 
--- ---- what went through `both`
+-- ---- what was prepared
 
--- what was made ready for an event, and its step, when both came through
-pub made : (old : NodeParts) (event : NodeEvent) (new : NodeParts)
-    {passed : Result NodeEvent StepFault} {prepared kept : Result Ahead StepFault} {stepped : Result Stepped StepFault}
-    {same : NodeEvent} {before after : Ahead} {s : Stepped}
-    → passed ≡ Ok same → prepared ≡ Ok before → kept ≡ Ok after → stepped ≡ Ok s
-    → IfOk passed (λ e. event ≡ e) → IfOk kept (λ a. before ≡ a)
-    → IfOk prepared (IsAhead old event) → IfOk stepped (IsNodeStep old same new)
-    → IsAhead old event after × IsNodeStep old event new s
-made old event new {same = same} {before = before} {s = s} passed came kept went event_is ahead_is ahead step =
-    let is : event ≡ same = IfOk-at_ok (λ e. event ≡ e) passed event_is in (
-      subst (IsAhead old event) (IfOk-at_ok (λ a. before ≡ a) kept ahead_is) (IfOk-at_ok (IsAhead old event) came ahead),
-      subst (λ e. IsNodeStep old e new s) (sym is) (IfOk-at_ok (IsNodeStep old same new) went step),
-    )
+-- what was made ready for an event, with the image that it leaves
+pub record Prepared (old : ImagedNode) (event : NodeEvent) (images : List Image) (ahead : Ahead) (standing : ℕ) : Type 0 where
+  pub ready : IsAhead old.state event ahead
+  pub made : images ≡ images_with ahead.change old.standing old.images
+  pub stands : standing ≡ standing_with ahead.change old.standing old.images
+
+pub prepared : (old : ImagedNode) (event : NodeEvent) (images : List Image) {r : Result (Ahead × ℕ) StepFault} (ahead : Ahead) (standing : ℕ) → r ≡ Ok (ahead, standing)
+    → IfOk r (λ x. IsAhead old.state event x.0) → IfOk r (λ x. images ≡ images_with x.0.change old.standing old.images) → IfOk r (λ x. x.1 ≡ standing_with x.0.change old.standing old.images)
+    → Prepared old event images ahead standing
+prepared old event images ahead standing came ready made stands = record {
+  ready = IfOk-at_ok (λ x. IsAhead old.state event x.0) came ready;
+  made = IfOk-at_ok (λ x. images ≡ images_with x.0.change old.standing old.images) came made;
+  stands = IfOk-at_ok (λ x. x.1 ≡ standing_with x.0.change old.standing old.images) came stands;
+}
+
+abbrev IfOk-equal : NodeEvent → Result NodeEvent StepFault → Type 0
+IfOk-equal event r = IfOk r (λ e. event ≡ e)
+
+-- the same event, that went through `both`
+pub same_event : (event same : NodeEvent) {r : Result NodeEvent StepFault} → r ≡ Ok event → r ≡ Ok same → event ≡ same
+same_event event same first is = IfOk-at_ok (λ e. event ≡ e) is (subst (IfOk-equal event) (sym first) refl)
+
+-- images without what was added
+pub taken_back : (images : List Image) (change : Option (Option (Key × List Entry))) (standing : ℕ) → take (length images) (images_with change standing images) ≡ images
+taken_back images None standing = take-length images
+taken_back images (Some change) standing = take-append_seam images ((record { base = standing; change = change }) ∷ [])
 
 -- ---- refusals
 

@@ -1,24 +1,13 @@
 -- The images of one node as they are kept: a list, oldest first, each with the number of the image
 -- that it changes and what it changes there. Image 0 is the empty one and stands in no list. The
 -- rule is our own.
-use Rattle.std.specs.Prelude.{◌≡◌, ℕ, ◌+◌, ◌<◌, ◌≤◌, List, [], ◌∷◌, length, get_or, Option, Some, None, if◌then◌else◌}
+use Rattle.std.specs.Prelude.{◌≡◌, ℕ, ◌+◌, ◌<◌, ◌≤◌, List, [], ◌∷◌, length, get_or, Option, Some, None}
 use Rattle.meta_types.specs.Name.{Key}
 use Rattle.dvvset.specs.Object.{Entry}
 use Rattle.past_model.specs.Sets.{set_at}
-use Rattle.meta_types.specs.Equal.{key_eq}
-use Rattle.meta_store.specs.Table.{Table, IsHeld, IsTable, object_at}
+use Rattle.meta_store.specs.Table.{Table, IsTable, object_at}
+pub use Rattle.image_list.specs.Image.{Image, IsChange, instead}
 use Rattle.past_objects.specs.Objects.{Holding, holds_nothing, with_held}
-
--- the image that is changed, and the object that stands under a key instead; none where nothing is
--- changed
-pub record Image : Type 0 where
-  pub base : ℕ
-  pub change : Option (Key × List Entry)
-
--- the object of a change may be held
-abbrev pub IsChange : Option (Key × List Entry) → Type 0
-IsChange None = Unit {0}
-IsChange (Some change) = IsHeld change.1
 
 -- the change that an object under a key makes, if there is one
 abbrev pub change_of : Key → Option (List Entry) → Option (Key × List Entry)
@@ -29,11 +18,6 @@ change_of key (Some object) = Some (key, object)
 abbrev pub changed : Holding → Option (Key × List Entry) → Holding
 changed there None = there
 changed there (Some change) = with_held there change.0 change.1
-
--- what stands under the key instead, where the change is of that key
-abbrev pub instead : Option (Key × List Entry) → Key → Option (List Entry)
-instead None k = None
-instead (Some change) k = if key_eq k change.0 then Some change.1 else None
 
 -- what the images have, by number: the next one has what its base has, but for its change
 abbrev pub holdings_from : (ℕ → Holding) → ℕ → List Image → ℕ → Holding

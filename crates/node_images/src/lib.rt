@@ -7,5 +7,4 @@ pub mod image;
 pub mod node;
 mod restore;
 
-pub use image::Image;
 pub use node::{ImagedNode, ImagedStep};

@@ -1,18 +1,18 @@
 ghost use Rattle.std.specs.Prelude.{◌≡◌, ◌<◌, ◌≤◌, length, vec_len, vec_capacity, IfOk, IfErr, IfSome, OnOk, OnErr};
 ghost use Rattle.meta_store.specs.Table.{IsTable};
 ghost use Rattle.node_core.specs.Step.{CanComeOf};
-ghost use Rattle.node_images.specs.Ahead.{IsAhead};
+ghost use Rattle.node_images.specs.Ahead.{IsAhead, IsReady};
 ghost use Rattle.node_images.specs.Images.{IsChange};
 ghost use Rattle.node_images.specs.Keeping.{IsRestorable, most_incarnation};
 ghost use Rattle.node_images.specs.Node.{IsImagedStep, IsRestarted, images_with, keeping, new_node, standing_with};
 
 use crate::ahead::{Ahead, copy_of};
-use crate::image::Image;
 use crate::restore::restore;
 use dvvset::Entries;
+use image_list::Images;
 use meta_store::Context;
 use meta_types::{MetaKey, NodeId};
-use node_core::NodeState;
+use node_core::{NodeState, Stepped};
 use node_events::{NodeEvent, Outbox, Reply, StepFault};
 use node_parts::both;
 use std::alloc::{AllocError, Global};
@@ -34,7 +34,7 @@ pub struct ImagedStep {
 #[derive(Drop)]
 pub struct ImagedNode {
     state: NodeState,
-    images: Vec<Image>,
+    images: Images,
     standing: usize,
 }
 
@@ -44,9 +44,9 @@ impl Model for ImagedNode {
 
     ghost Value = { Parts };
 
-    ghost view = { λ n. with_images n.state n.images.items n.standing };
+    ghost view = { λ n. with_images n.state n.images n.standing };
 
-    ghost invariant = { λ n. IsRestorable (keeping (with_images n.state n.images.items
+    ghost invariant = { λ n. IsRestorable (keeping (with_images n.state n.images
         n.standing)) };
 }
 
@@ -58,7 +58,7 @@ impl ImagedNode {
     {
         Ok(ImagedNode {
             state: NodeState::new(alloc, number, 1)?,
-            images: Vec::new(alloc),
+            images: Images::new(alloc),
             standing: 0,
         })
     }
@@ -70,11 +70,11 @@ impl ImagedNode {
     }
 
     /// The images, but for image 0, which is empty.
-    pub fn images(&self) -> &[Image]
+    pub fn images(&self) -> &Images
         ensures value { result.now ≡ self.now.images }
         ensures restorable { IsRestorable (keeping self.now) }
     {
-        self.images.as_slice()
+        &self.images
     }
 
     /// The step of an event, as the node itself makes it, with its refusals; a write and a keeping
@@ -86,21 +86,23 @@ impl ImagedNode {
         ensures refused { IfErr result (CanComeOf self.old.state event) }
         ensures same { OnErr result (self.new ≡ self.old) }
     {
+        let count = self.images.len();
         // What is owned goes through `both`, so that the step owns nothing where it fails.
-        let ahead = prepare(&mut self.images, &self.state, &event);
-        let (event, ahead) = both(Ok(event), ahead)?;
-        let stepped = self.state.step(event);
-        let (ahead, stepped) = both(Ok(ahead), stepped)?;
-        // Read for what it tells: what is held now is a table.
-        let _few = self.state.store().len();
-        let copy = copy_of(&stepped.reply, ahead.reply);
-        self.standing = leave(&mut self.images, self.standing, ahead.change);
-        Ok(ImagedStep {
-            reply: stepped.reply,
-            copy,
-            context: ahead.context,
-            outbox: stepped.outbox,
-        })
+        let ready = prepare(&mut self.images, self.standing, &self.state, &event);
+        let (event, (ahead, standing)) = both(Ok(event), ready)?;
+        match self.state.step(event) {
+            Ok(stepped) => {
+                // Read for what it tells: what is held now is a table.
+                let _few = self.state.store().len();
+                self.standing = standing;
+                Ok(given(ahead, stepped))
+            }
+            Err(fault) => {
+                drop(ahead);
+                self.images.truncate(count);
+                Err(fault)
+            }
+        }
     }
 
     /// Begins the next life from the image of that number, with a store that holds what the image
@@ -111,8 +113,8 @@ impl ImagedNode {
         ensures restarted { OnOk result (IsRestarted self.old number self.new) }
         ensures same { OnErr result (self.new ≡ self.old) }
     {
-        let alloc = *self.images.allocator();
-        let store = restore(alloc, self.images.as_slice(), number)?;
+        let alloc = self.images.alloc();
+        let store = restore(alloc, &self.images, number)?;
         // Read for what it tells: this is a table.
         let _few = store.len();
         let life = self.state.incarnation() + 1;
@@ -123,39 +125,68 @@ impl ImagedNode {
     }
 }
 
-/// Makes ready what the step of an event leaves beside the node's state, and room for an image.
+/// What a step gives, by what was made ready before it.
+fn given(ahead: Ahead, stepped: Stepped) -> ImagedStep
+    requires { IsReady ahead.reply stepped.reply }
+    ensures { result ≡ record {
+      reply = stepped.reply;
+      copy = stepped.reply;
+      context = ahead.context;
+      outbox = stepped.outbox;
+    } }
+{
+    let copy = copy_of(&stepped.reply, ahead.reply);
+    ImagedStep {
+        reply: stepped.reply,
+        copy,
+        context: ahead.context,
+        outbox: stepped.outbox,
+    }
+}
+
+/// Makes ready what the step of an event leaves beside the node's state, and adds the image, if
+/// there is one: it changes the standing one. Answers which one stands then, too.
 fn prepare(
-    images: &mut Vec<Image>,
+    images: &mut Images,
+    standing: usize,
     state: &NodeState,
     event: &NodeEvent,
-) -> Result<Ahead, StepFault>
-    ensures ready { IfOk result (IsAhead state.now event.now) }
-    ensures held { IfOk result (λ ahead. IfSome ahead.change IsChange) }
+) -> Result<(Ahead, usize), StepFault>
+    ensures ready { IfOk result (λ ready. IsAhead state.now event.now ready.0) }
     ensures refused { IfErr result (CanComeOf state.now event.now) }
-    ensures room { OnOk result (vec_len images.new < vec_capacity images.new) }
-    ensures same { images.new.items ≡ images.old.items }
+    ensures images { IfOk result
+        (λ ready. images.new ≡ images_with ready.0.change standing images.old) }
+    ensures standing { IfOk result
+        (λ ready. ready.1 ≡ standing_with ready.0.change standing images.old) }
+    ensures same { OnErr result (images.new ≡ images.old) }
 {
-    images.reserve(1)?;
-    Ahead::of(*images.allocator(), state, event)
+    let ahead = Ahead::of(images.alloc(), state, event)?;
+    match add(images, standing, &ahead.change) {
+        Ok(standing) => Ok((ahead, standing)),
+        Err(_) => {
+            drop(ahead);
+            Err(StepFault::Memory)
+        }
+    }
 }
 
 /// Adds an image, if a change is left: it changes the standing one. Answers which one stands then.
-/// There is room for it.
-fn leave(
-    images: &mut Vec<Image>,
+fn add(
+    images: &mut Images,
     standing: usize,
-    change: Option<Option<(MetaKey, Entries)>>,
-) -> usize
-    requires room { vec_len images.old < vec_capacity images.old }
-    requires held { IfSome change IsChange }
-    ensures images { images.new.items ≡ images_with change standing images.old.items }
-    ensures standing { result ≡ standing_with change standing images.old.items }
+    change: &Option<Option<(MetaKey, Entries)>>,
+) -> Result<usize, AllocError>
+    requires { IfSome change.now IsChange }
+    ensures images { OnOk result (images.new ≡ images_with change.now standing images.old) }
+    ensures standing { IfOk result
+        (λ number. number ≡ standing_with change.now standing images.old) }
+    ensures same { OnErr result (images.new ≡ images.old) }
 {
     match change {
         Some(change) => {
-            images.push_reserved(Image::new(standing, change));
-            images.len()
+            images.push(standing, change.as_ref())?;
+            Ok(images.len())
         }
-        None => standing,
+        None => Ok(standing),
     }
 }

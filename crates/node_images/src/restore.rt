@@ -6,7 +6,7 @@ ghost use Rattle.meta_store.specs.Table.{IsTable, object_at};
 ghost use Rattle.node_images.specs.Restore.{HasRoomFor, filled};
 ghost use Rattle.node_images.specs.Images.{ChangeEarlier, IsChange, IsTabled, holdings};
 
-use crate::image::Image;
+use image_list::{Image, Images};
 use meta_store::Store;
 use std::alloc::{AllocError, Global};
 
@@ -16,9 +16,9 @@ fn fill(store: &mut Store, image: &Image) -> Result<(), AllocError>
     ensures value { OnOk result (store.new ≡ filled store.old image.now.change) }
     ensures is_table { OnOk result (IsTable store.new) }
 {
-    if let Some((key, object)) = image.change() {
-        if store.object(key).is_none() {
-            store.hold(key.copy()?, object.copy()?)?;
+    if let Some(change) = image.change() {
+        if store.object(change.key()).is_none() {
+            store.hold(change.key().copy()?, change.object()?)?;
         }
     }
     let _ = store.len();
@@ -26,7 +26,7 @@ fn fill(store: &mut Store, image: &Image) -> Result<(), AllocError>
 }
 
 /// A store that holds what the image of that number has. Fails only when memory runs out.
-pub(crate) fn restore(alloc: Global, images: &[Image], number: usize) -> Result<Store, AllocError>
+pub(crate) fn restore(alloc: Global, images: &Images, number: usize) -> Result<Store, AllocError>
     requires number { number ≤ length images.now }
     requires earlier { ChangeEarlier images.now }
     requires tabled { IsTabled (holdings images.now number) }
@@ -37,8 +37,8 @@ pub(crate) fn restore(alloc: Global, images: &[Image], number: usize) -> Result<
     let mut at = number;
     let _ = store.len();
     while at > 0 {
-        let image = &images[at - 1];
-        fill(&mut store, image)?;
+        let image = images.at(at - 1);
+        fill(&mut store, &image)?;
         at = image.base();
     }
     Ok(store)

@@ -23,6 +23,8 @@ mod frames;
 #[cfg(test)]
 mod full;
 #[cfg(test)]
+mod images;
+#[cfg(test)]
 mod lives;
 #[cfg(test)]
 mod overlay;

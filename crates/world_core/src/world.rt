@@ -23,10 +23,11 @@ ghost use Rattle.world_core.specs.declared.fault.WorldFault.TheVariants.{Memory,
 use crate::answer::{Accepted, FrameNumbers};
 use crate::chronicle::Chronicle;
 use crate::fault::WorldFault;
+use image_list::Images;
 use meta_types::node::MAX_NODES;
 use meta_types::{ByteString, NodeId};
 use node_core::NodeState;
-use node_images::{Image, ImagedNode};
+use node_images::ImagedNode;
 use std::alloc::{AllocError, Global};
 use std::marker::Model;
 
@@ -125,7 +126,7 @@ impl World {
     /// The images of the node, but for image 0, which is empty; `None` for a node that the world
     /// doesn't have, and only then. What one has under a key is read by
     /// `node_images::image::object_in`, and is the object of the writes that the history has there.
-    pub fn images(&self, node: u64) -> Option<&[Image]>
+    pub fn images(&self, node: u64) -> Option<&Images>
         ensures node { IsNone result ↔ (length self.now.nodes ≤ node) }
         ensures lends { IfSome result (λ images. images.now ≡ (node_at self.now node).images) }
         ensures number { IfSome result (λ images. OfAllTold self.now

@@ -1,18 +1,17 @@
 use Rattle.std.proofs.Common.{◌≡◌, Some, None, sym, ap, ◌∙◌, arith}
-use Rattle.std.specs.Option.{option_copied}
 use Rattle.node_images.specs.Images.{holdings}
 use Rattle.node_images.proofs.Chains.{down, none}
 use Rattle.node_images.proofs.image.object_in.Goals as goal
 
 pub returns-in-Some : goal.returns-in-Some
 returns-in-Some c =
-    (down c.args.images.now c.loop-at.at c.args.number c.index-images-at.result c.args.key.now (Some c.in-Some.object.now)
-    c.loop-at-test.true c.loop-at.invariant.0 c.requires.earlier c.index-images-at.is (sym (ap option_copied c.in-Some.is) ∙ c.instead.ensures.value) c.loop-at.invariant.1).1
+    (down c.args.images.now c.loop-at.at c.args.number c.at-image.result c.args.key.now (Some c.in-Some.object)
+    c.loop-at-test.true c.loop-at.invariant.0 c.requires.earlier c.at-image.ensures (sym c.in-Some.is ∙ c.in_ok-object.ensures) c.loop-at.invariant.1).1
 
 pub loop-at-preserved : goal.loop-at-preserved
 loop-at-preserved c =
-    let d = down c.args.images.now c.loop-at.at c.args.number c.index-images-at.result c.args.key.now None
-    c.loop-at-test.true c.loop-at.invariant.0 c.requires.earlier c.index-images-at.is (sym (ap option_copied c.in_default.is) ∙ c.instead.ensures.value) c.loop-at.invariant.1 in
+    let d = down c.args.images.now c.loop-at.at c.args.number c.at-image.result c.args.key.now None
+    c.loop-at-test.true c.loop-at.invariant.0 c.requires.earlier c.at-image.ensures (sym c.in_default.is ∙ c.in_ok-object.ensures) c.loop-at.invariant.1 in
     (omega (arith, d.0, c.base-at.ensures, c.loop-at.invariant.0), ap (λ b. holdings c.args.images.now b c.args.key.now) c.base-at.ensures ∙ d.1)
 
 pub returns : goal.returns

@@ -25,7 +25,7 @@ returns-clause-restarted c =
     let low : c.args.number ≤ length old.images = search rules in
     let same : (key : Key) → object_at c.in_ok-store.store key ≡ holdings old.images c.args.number key = search rules in
     let is_table : IsTable c.in_ok-store.store = search rules in
-    subst (λ n. IsRestarted n c.args.number (with_images c.replace.new.dest c.self.inside.images.items c.args.number)) c.self.view_is
+    subst (λ n. IsRestarted n c.args.number (with_images c.replace.new.dest c.self.inside.images c.args.number)) c.self.view_is
     (record {
       begins = record { there = low; table = c.in_ok-store.store; is_table = is_table; restored = same; begins = is };
       images = refl;

@@ -1,0 +1,18 @@
+use Rattle.std.proofs.Common.{[], ◌∷◌, ◌++◌, take, sym, ap, subst, ◌∙◌}
+use Rattle.std.proofs.lemmas.List.{take_more}
+use Rattle.image_list.specs.Logs.{Keeps}
+use Rattle.image_list.proofs.Growing.{grow_on}
+use Rattle.image_list.proofs.Placing.{one_more}
+use Rattle.image_list.proofs.images.keep_all.Goals as goal
+
+pub returns-in_err-keep-clause-grow : goal.returns-in_err-keep-clause-grow
+returns-in_err-keep-clause-grow c = grow_on c.args.logs.now c.loop-entry.logs c.keep.new.self c.loop-entry.invariant.grow c.keep.ensures.grow
+
+pub returns-in_err-push-clause-grow : goal.returns-in_err-push-clause-grow
+returns-in_err-push-clause-grow c = grow_on c.args.logs.now c.loop-entry.logs c.keep.new.self c.loop-entry.invariant.grow c.keep.ensures.grow
+
+pub loop-entry-preserved : goal.loop-entry-preserved
+loop-entry-preserved c =
+    one_more c.args.logs.now c.loop-entry.logs c.keep.new.self c.loop-entry.kept.items c.push.new.self.items c.args.entries.now c.loop-entry.entry-index c.entry-item.result c.in_ok-keep.field-0
+    c.loop-entry.invariant (subst (Keeps c.loop-entry.logs c.keep.new.self c.entry-item.result) c.in_ok-keep.was c.keep.ensures) c.in_ok-push.ensures.items
+    (take_more c.args.entries.now c.loop-entry.entry-index c.entry-item.result c.loop-entry-test.true ∙ ap (λ e. take c.loop-entry.entry-index c.args.entries.now ++ e ∷ []) (sym c.entry-item.is))

@@ -1,0 +1,265 @@
+//! The images of one node, as a list: each is an earlier one with one object in place of what
+//! stands there under its key.
+
+ghost use Rattle.std.specs.Prelude.{◌≡◌, ◌∷◌, ◌++◌, [], length, get_or, ◌<◌, ◌^◌, All, IfOk, OnOk, OnErr, IfSome, take};
+ghost use Rattle.std.specs.Option.{option_copied, option_map};
+ghost use Rattle.meta_store.specs.Table.{IsHeld};
+ghost use Rattle.image_list.specs.Image.{IsChange};
+ghost use Rattle.image_list.specs.Logs.{GrowTo, IsKeptChange, IsInLogs, whole_change, whole_object};
+
+use crate::kept::{Kept, KeptChange};
+use crate::logs::{LoggedEntry, Logs};
+use dvvset::{Entries, Entry};
+use meta_types::{Actor, MetaKey};
+use std::alloc::{AllocError, Global};
+use std::collections::BTreeMap;
+use std::marker::Model;
+
+/// The images of one node, but for image 0, which is empty. They are numbered from 1 in the order
+/// in which they were made.
+///
+/// A value that several of them show is kept once, as far as each shows values of a writer that an
+/// earlier image of the key showed or that came right after them. So images take memory in
+/// proportion to their number, the number of writers under their keys, and the values.
+#[derive(Debug, Drop)]
+pub struct Images {
+    kept: Vec<Kept>,
+    logs: Logs,
+    /// Of each key the place of its last image, where logs are looked for that go on.
+    latest: BTreeMap<MetaKey, usize>,
+}
+
+impl Model for Images {
+    ghost use Rattle.std.specs.Prelude.{List, map, All};
+    ghost use Rattle.image_list.specs.Image.{Image as Parts};
+    ghost use Rattle.image_list.specs.Logs.{IsImageKept, whole_image};
+
+    ghost Value = { List Parts };
+
+    ghost view = { λ i. map (whole_image i.logs) i.kept.items };
+
+    ghost invariant = { λ i. All (IsImageKept i.logs) i.kept.items };
+}
+
+/// One image, as it is lent: what is there instead of what the image of the number `base` has.
+#[derive(Drop)]
+pub struct Image<'a> {
+    kept: &'a Kept,
+    logs: &'a Logs,
+}
+
+impl<'a> Model for Image<'a> {
+    ghost use Rattle.image_list.specs.Image.{Image as Parts};
+    ghost use Rattle.image_list.specs.Logs.{IsImageKept, whole_image};
+
+    ghost Value = { Parts };
+
+    ghost view = { λ i. whole_image i.logs.now i.kept.now };
+
+    ghost invariant = { λ i. IsImageKept i.logs.now i.kept.now };
+}
+
+/// What an image changes, as it is lent: a key, and the object that stands there.
+#[derive(Drop)]
+pub struct Change<'a> {
+    kept: &'a KeptChange,
+    logs: &'a Logs,
+}
+
+impl<'a> Model for Change<'a> {
+    ghost use Rattle.std.specs.Prelude.{List};
+    ghost use Rattle.meta_types.specs.Name.{Key};
+    ghost use Rattle.dvvset.specs.Object.{Entry as EntryParts};
+    ghost use Rattle.image_list.specs.Logs.{IsKeptChange, whole_change};
+
+    ghost Value = { Key × List EntryParts };
+
+    ghost view = { λ c. whole_change c.logs.now c.kept.now };
+
+    ghost invariant = { λ c. IsKeptChange c.logs.now c.kept.now };
+}
+
+impl<'a> Image<'a> {
+    ghost use Rattle.std.specs.Prelude.{◌≡◌};
+    ghost use Rattle.image_list.specs.Image.{IsChange};
+
+    /// The number of the image that this one changes.
+    pub fn base(&self) -> usize
+        ensures { result ≡ self.now.base }
+    {
+        self.kept.base
+    }
+
+    /// What it changes; `None` where it changes nothing.
+    pub fn change(&self) -> Option<Change<'a>>
+        ensures value { result ≡ self.now.change }
+        ensures held { IsChange self.now.change }
+    {
+        match &self.kept.change {
+            None => None,
+            Some(kept) => Some(Change {
+                kept,
+                logs: self.logs,
+            }),
+        }
+    }
+}
+
+impl<'a> Change<'a> {
+    ghost use Rattle.std.specs.Prelude.{◌≡◌, IfOk};
+    ghost use Rattle.meta_store.specs.Table.{IsHeld};
+
+    /// The key under which something else stands.
+    pub fn key(&self) -> &'a MetaKey
+        ensures value { result.now ≡ self.now.0 }
+        ensures held { IsHeld self.now.1 }
+    {
+        &self.kept.key
+    }
+
+    /// What stands there: a copy. Fails only when memory runs out.
+    pub fn object(&self) -> Result<Entries, AllocError>
+        ensures value { IfOk result (λ object. object ≡ self.now.1) }
+    {
+        self.logs.object(self.kept.entries.as_slice())
+    }
+}
+
+impl Images {
+    /// No images. It takes no memory; what is kept will be taken from the allocator.
+    pub fn new(alloc: Global) -> Self
+        ensures { result ≡ [] }
+    {
+        Images {
+            kept: Vec::new(alloc),
+            logs: Logs::new(alloc),
+            latest: BTreeMap::new(alloc),
+        }
+    }
+
+    pub fn alloc(&self) -> Global {
+        *self.kept.allocator()
+    }
+
+    /// How many there are, but for image 0.
+    pub fn len(&self) -> usize
+        ensures value { result ≡ length self.now }
+        ensures few { result < 2 ^ 63 }
+    {
+        self.kept.len()
+    }
+
+    /// The image of the number `at + 1`.
+    pub fn at(&self, at: usize) -> Image<'_>
+        requires { at < length self.now }
+        ensures { result ≡ get_or self.now at result }
+    {
+        Image {
+            kept: &self.kept[at],
+            logs: &self.logs,
+        }
+    }
+
+    /// Adds an image that changes the one of the number `base`: what there is to copy of the object
+    /// is copied. Fails only when memory runs out, and then nothing changes.
+    pub fn push(
+        &mut self,
+        base: usize,
+        change: Option<&(MetaKey, Entries)>,
+    ) -> Result<(), AllocError>
+        requires { IsChange (option_copied change) }
+        ensures value { OnOk result (self.new ≡ self.old
+            ++ (record { base = base; change = option_copied change.entry }) ∷ []) }
+        ensures same { OnErr result (self.new ≡ self.old) }
+    {
+        let kept = self.kept.as_slice();
+        let change = keep(kept, &mut self.logs, &mut self.latest, change)?;
+        self.kept.push(Kept { base, change })?;
+        Ok(())
+    }
+
+    /// Keeps the first `len` images alone, all where there are no more. It takes no memory.
+    pub fn truncate(&mut self, len: usize)
+        ensures { self.new ≡ take len self.old }
+    {
+        self.kept.truncate(len);
+    }
+}
+
+/// Keeps a change, if there is one. `latest` has the place of the last image of each key among
+/// these, whose logs may go on; it is noted there that the next one is of this key. Where memory
+/// runs out, logs may have grown.
+fn keep(
+    kept: &[Kept],
+    logs: &mut Logs,
+    latest: &mut BTreeMap<MetaKey, usize>,
+    change: Option<&(MetaKey, Entries)>,
+) -> Result<Option<KeptChange>, AllocError>
+    requires { IsChange (option_copied change) }
+    ensures grow { GrowTo logs.old logs.new }
+    ensures kept { IfOk result (λ kept. IfSome kept (IsKeptChange logs.new)) }
+    ensures value { IfOk result
+        (λ kept. option_map (whole_change logs.new) kept ≡ option_copied change.entry) }
+{
+    match change {
+        None => Ok(None),
+        Some(change) => Ok(Some(keep_change(kept, logs, latest, change)?)),
+    }
+}
+
+/// Keeps a change.
+fn keep_change(
+    kept: &[Kept],
+    logs: &mut Logs,
+    latest: &mut BTreeMap<MetaKey, usize>,
+    change: &(MetaKey, Entries),
+) -> Result<KeptChange, AllocError>
+    requires { IsHeld change.now.1 }
+    ensures grow { GrowTo logs.old logs.new }
+    ensures change { IfOk result (IsKeptChange logs.new) }
+    ensures value { IfOk result (λ kept. whole_change logs.new kept ≡ change.now) }
+{
+    let older = entries_at(kept, latest.insert(change.0.copy()?, kept.len())?);
+    let entries = keep_all(logs, change.1.entries(), older)?;
+    Ok(KeptChange {
+        key: change.0.copy()?,
+        entries,
+    })
+}
+
+/// The entries of what the image at the place changes.
+fn entries_at(kept: &[Kept], place: Option<usize>) -> &[LoggedEntry] {
+    match place {
+        Some(place) if place < kept.len() => match &kept[place].change {
+            Some(change) => change.entries.as_slice(),
+            None => &[],
+        },
+        _ => &[],
+    }
+}
+
+/// Keeps the entries of an object. Where memory runs out, logs may have grown.
+fn keep_all(
+    logs: &mut Logs,
+    entries: &[Entry],
+    older: &[LoggedEntry],
+) -> Result<Vec<LoggedEntry>, AllocError>
+    ensures grow { GrowTo logs.old logs.new }
+    ensures within { IfOk result (λ kept. All (IsInLogs logs.new) kept.items) }
+    ensures value { IfOk result (λ kept. whole_object logs.new kept.items ≡ entries.now) }
+{
+    let mut kept = Vec::with_capacity(logs.alloc(), entries.len())?;
+    for entry in entries {
+        let likely = log_of(older, entry.id());
+        kept.push(logs.keep(entry, likely)?)?;
+    }
+    Ok(kept)
+}
+
+/// The log of the writer's values, if one of these entries has any.
+fn log_of(entries: &[LoggedEntry], id: Actor) -> Option<usize> {
+    match entries.binary_search_by_key(&id, |entry| entry.id) {
+        Ok(at) => Some(entries[at].log),
+        Err(_) => None,
+    }
+}
