@@ -1,8 +1,8 @@
 //! Each call's event stands in its entry, and its receipt is that of the entry.
 
-use crate::parts::{Left, Trial, key, tried, value};
+use crate::parts::{Left, Trial, key, prefix, tried, value};
 use devices::MemoryDevice;
-use meta_types::{ByteString, FullPrefix, NodeId};
+use meta_types::{ByteString, NodeId};
 use node_events::NodeEvent;
 use node_lock::{
     Acknowledgement, Capacity, Closed, LockFault, Naming, Node, ReadSeat, Receipt, WriteSeat,
@@ -15,17 +15,11 @@ fn node_id(rt: &impl Abort, number: u16) -> NodeId {
     NodeId::new(number).expect(rt, "a node")
 }
 
-fn prefix(rt: &impl Abort, alloc: Global) -> FullPrefix {
-    let a = b"a".to_vec(alloc).expect(rt, "memory");
-    let b = b"b".to_vec(alloc).expect(rt, "memory");
-    FullPrefix::new(a, b).expect(rt, "a prefix")
-}
-
 /// The calls that are tried, in their order.
-const CALLS: usize = 12;
+pub(crate) const CALLS: usize = 12;
 
 /// Makes the call of this number.
-fn call<J: Naming, R: Wait + Abort>(
+pub(crate) fn call<J: Naming, R: Wait + Abort>(
     rt: &R,
     alloc: Global,
     node: &Node<MemoryDevice, J, &R>,

@@ -9,6 +9,8 @@ mod closing;
 #[cfg(test)]
 mod parts;
 #[cfg(test)]
+mod refused_memory;
+#[cfg(test)]
 mod seats;
 #[cfg(test)]
 mod stops;

@@ -1,6 +1,6 @@
 //! A node that is started for a trial.
 
-ghost use Rattle.std.specs.Prelude.{◌≡◌, ◌≤◌};
+ghost use Rattle.std.specs.Prelude.{◌≡◌, ◌≤◌, IfSome};
 ghost use Rattle.devices.specs.Device.{IsDurable};
 ghost use Rattle.node_desk.specs.Starting.{IsFileOf};
 
@@ -69,21 +69,29 @@ pub(crate) fn shown<J: Naming>(
     }
 }
 
+/// A copy of these bytes. It is asked for once more where memory was refused.
+pub(crate) fn bytes(rt: &impl Abort, alloc: Global, bytes: &[u8]) -> Vec<u8> {
+    match bytes.to_vec(alloc) {
+        Ok(copy) => copy,
+        Err(_) => bytes.to_vec(alloc).expect(rt, "memory once more"),
+    }
+}
+
+/// The full prefix a/b.
+pub(crate) fn prefix(rt: &impl Abort, alloc: Global) -> FullPrefix {
+    let a = bytes(rt, alloc, b"a");
+    FullPrefix::new(a, bytes(rt, alloc, b"b")).expect(rt, "a prefix")
+}
+
 /// The key a/b/k and a digit.
 pub(crate) fn key(rt: &impl Abort, alloc: Global, digit: u8) -> MetaKey {
-    let a = b"a".to_vec(alloc).expect(rt, "memory");
-    let b = b"b".to_vec(alloc).expect(rt, "memory");
-    let prefix = FullPrefix::new(a, b).expect(rt, "a prefix");
-    let mut own = b"k".to_vec(alloc).expect(rt, "memory");
-    own.push(digit).ok().expect(rt, "memory");
-    MetaKey::new(prefix, own).expect(rt, "a key")
+    let prefix = prefix(rt, alloc);
+    MetaKey::new(prefix, bytes(rt, alloc, &[b'k', digit])).expect(rt, "a key")
 }
 
 /// A value of one letter.
 pub(crate) fn value(rt: &impl Abort, alloc: Global, letter: u8) -> Value {
-    let mut body = Vec::new(alloc);
-    body.push(letter).ok().expect(rt, "memory");
-    Value::new(0, Some(body)).expect(rt, "a value")
+    Value::new(0, Some(bytes(rt, alloc, &[letter]))).expect(rt, "a value")
 }
 
 /// A device in memory with an empty file of node 0, synced.
@@ -113,6 +121,18 @@ pub(crate) fn next_life<D: Device + Drop>(
     }
 }
 
+/// A new file of node 0 in memory, in its first life, with its table; `None` where memory was
+/// refused.
+fn first_life(alloc: Global) -> Option<(NodeFile<MemoryDevice>, Store)>
+    ensures { IfSome result (λ r. IsFileOf (⟦<MemoryDevice as Device>⟧.content)
+        r.0.node r.0.life r.1 r.0) }
+{
+    let device = MemoryDevice::new(alloc, Vec::new(alloc)).ok()?;
+    let made = create(device, NodeId::new(0).ok()?).ok()?;
+    let (file, table, _life) = serve(alloc, made.into_device(), None).ok()?;
+    Some((file, table))
+}
+
 /// What a trial leaves on a new node with these seats.
 pub(crate) fn tried<T: Trial, R: Wait + Abort>(rt: &R, alloc: Global, capacity: Capacity) -> Left {
     start::<T, R>(rt, alloc, capacity).ok().expect(rt, "a node")
@@ -134,7 +154,10 @@ pub(crate) fn start<T: Trial, R: Wait + Abort>(
     alloc: Global,
     capacity: Capacity,
 ) -> Result<Left, u16> {
-    let (file, table) = next_life(rt, alloc, open_first(rt, alloc));
+    let (file, table) = match first_life(alloc) {
+        Some(first) => first,
+        None => first_life(alloc).expect(rt, "memory once more"),
+    };
     let tokens = (Blank::new(9), Beginning::new());
     begun::<Brand, T, R>(rt, alloc, tokens, file, table, capacity)
 }

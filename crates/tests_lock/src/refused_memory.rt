@@ -1,0 +1,101 @@
+//! A node of whose calls one is refused memory: it answers 99 and leaves all as it was, so that it
+//! is accepted when it is made once more; or the node is stopped, where its device was amid a
+//! write.
+
+use crate::calls::{CALLS, call};
+use crate::parts::{Left, Trial, key, start};
+use devices::MemoryDevice;
+use node_lock::{
+    Acknowledgement, Capacity, Entry, LockFault, Naming, Node, ReadSeat, Receipt, WriteSeat,
+};
+use std::alloc::Global;
+use std::process::Abort;
+use std::sync::Wait;
+
+/// A list with room for a receipt of each call. It is asked for once more where memory was refused.
+fn room(rt: &impl Abort, alloc: Global) -> Vec<Receipt> {
+    match Vec::with_capacity(alloc, CALLS) {
+        Ok(list) => list,
+        Err(_) => Vec::with_capacity(alloc, CALLS).expect(rt, "memory once more"),
+    }
+}
+
+/// Makes the call of this number, and once more where it was refused memory.
+fn call_again<J: Naming, R: Wait + Abort>(
+    rt: &R,
+    alloc: Global,
+    node: &Node<MemoryDevice, J, &R>,
+    seat: &mut WriteSeat<J>,
+    number: usize,
+) -> Result<Acknowledgement<J>, LockFault> {
+    match call(rt, alloc, node, seat, number) {
+        Err(LockFault::Memory) => call(rt, alloc, node, seat, number),
+        done => done,
+    }
+}
+
+/// How many values a reader is shown, which looks once more where it was refused memory.
+fn shown<J: Naming>(rt: &impl Abort, alloc: Global, reader: &mut ReadSeat<J>) -> Option<usize> {
+    let key = key(rt, alloc, b'1');
+    let shown = reader.peek(&key).or(reader.peek(&key));
+    Some(shown.ok()?.values.len())
+}
+
+/// Each call is made; once the node is stopped, each answers 34. At last a reader looks.
+struct Again;
+
+impl Trial for Again {
+    fn run<J: Naming, R: Wait + Abort>(
+        rt: &R,
+        alloc: Global,
+        node: &Node<MemoryDevice, J, &R>,
+        writers: &mut Vec<WriteSeat<J>>,
+        readers: &mut Vec<ReadSeat<J>>,
+    ) -> Vec<Receipt> {
+        let mut receipts = room(rt, alloc);
+        let mut seat = writers.pop().expect(rt, "a seat");
+        for number in 0..CALLS {
+            match call_again(rt, alloc, node, &mut seat, number) {
+                Ok(done) => receipts.push(done.into_receipt()).ok().expect(rt, "room"),
+                Err(fault) => assert!(rt; fault.code() == 34),
+            }
+        }
+        writers.push(seat).ok().expect(rt, "room");
+        for reader in readers.iter_mut() {
+            let most = receipts.len().min(1);
+            assert!(rt; shown(rt, alloc, reader).is_some_and(|values| values >= most));
+        }
+        receipts
+    }
+}
+
+/// What the calls leave on a new node, which is started once more where memory was refused.
+fn left<R: Wait + Abort>(rt: &R, alloc: Global) -> Left {
+    match start::<Again, R>(rt, alloc, Capacity::new(1, 1)) {
+        Err(99) => start::<Again, R>(rt, alloc, Capacity::new(1, 1))
+            .ok()
+            .expect(rt, "a node"),
+        left => left.ok().expect(rt, "a node"),
+    }
+}
+
+/// Whether the shorter one is the front of the other.
+fn is_front(one: &[Entry], other: &[Entry]) -> bool {
+    let mut is_front = true;
+    for (here, there) in one.iter().zip(other) {
+        is_front = is_front & (here == there);
+    }
+    is_front
+}
+
+// Passes whichever single allocation is refused. Of two nodes of which the same is asked one is
+// refused no memory. The other has the same entries, with the same replies and frames, or a front
+// of them where it was stopped; and a receipt of each.
+#[test]
+fn calls_are_made_again_under_refused_memory(rt: HostRuntime) {
+    let one = left(&rt, rt.alloc());
+    let other = left(&rt, rt.alloc());
+    let (here, there) = (one.closed.journal(), other.closed.journal());
+    assert!(rt; is_front(here, there) && here.len().max(there.len()) == CALLS);
+    assert!(rt; one.receipts.len() == here.len() && other.receipts.len() == there.len());
+}
