@@ -1,6 +1,6 @@
 //! A cluster on files in a folder of its own, in two lives.
 
-ghost use Rattle.std.specs.Prelude.{All};
+ghost use Rattle.std.specs.Prelude.{All, IfSome};
 ghost use Rattle.devices.specs.Device.{IsDurable};
 
 use crate::parts::{Came, add, plan, told};
@@ -60,7 +60,10 @@ fn live<R: Threads + Wait + Abort + Sync>(files: &HostRuntime, rt: &R, turns: u6
 fn has_written(rt: &impl Abort, alloc: Global, table: &Store, receipt: &Receipt) -> bool {
     match (&receipt.entry.event, &receipt.entry.reply) {
         (NodeEvent::PutOver { key, .. }, Reply::Wrote { vector }) => match table.object(key) {
-            Some(object) => descends(&join(alloc, object).expect(rt, "memory"), vector),
+            Some(object) => {
+                let known = join(alloc, object).or(join(alloc, object));
+                descends(&known.expect(rt, "memory once more"), vector)
+            }
             None => false,
         },
         _ => true,
@@ -108,4 +111,65 @@ fn a_second_life_has_what_the_first_acknowledged(rt: HostRuntime) {
     // Journals of a second life aren't assembled.
     assert!(rt; told(alloc, Ok(second)).is_ok_and(|came| came.code == 1 && came.kept == 32));
     let _ = fs::remove_dir_all(&rt, FOLDER);
+}
+
+const REFUSED: &str = "files_of_a_refused_cluster";
+
+const REFUSED_FILE: &str = "files_of_a_refused_cluster/node-0";
+
+/// The file of one node, opened or made; `None` where memory was refused.
+fn one_device(files: &HostRuntime) -> Option<Vec<FileDevice>>
+    ensures { IfSome result (λ devices. All (λ d. IsDurable (⟦<FileDevice as Device>⟧.content d)
+        (⟦<FileDevice as Device>⟧.may_leave d)) devices.items) }
+{
+    let alloc = files.alloc();
+    let mut devices = Vec::with_capacity(alloc, 1).ok()?;
+    let device = FileDevice::open_or_create(files, alloc, REFUSED_FILE).ok()?;
+    devices.push(device).ok()?;
+    Some(devices)
+}
+
+/// Five turns of one node on its file, or the number of the refusal.
+fn turns_of_one<R: Threads + Wait + Sync>(files: &HostRuntime, rt: &R) -> Result<ClusterRun, u16> {
+    let Some(devices) = one_device(files) else {
+        return Err(99);
+    };
+    match run_on(rt, files.alloc(), plan(1, 5, 0), devices) {
+        Ok(run) => Ok(run),
+        Err(fault) => Err(fault.code()),
+    }
+}
+
+/// The same, once more where memory was refused, or with it a thread.
+fn turns_again<R: Threads + Wait + Abort + Sync>(files: &HostRuntime, rt: &R) -> ClusterRun {
+    let run = match turns_of_one(files, rt) {
+        Err(56 | 99) => turns_of_one(files, rt),
+        run => run,
+    };
+    run.ok().expect(rt, "a run")
+}
+
+/// Whether the node began with all that the receipts acknowledge.
+fn has_all(rt: &impl Abort, alloc: Global, later: &ClusterRun, receipts: &[Receipt]) -> bool {
+    let Some(node) = later.closed.as_slice().first() else {
+        return false;
+    };
+    let table = node.base().store();
+    receipts
+        .iter()
+        .all(|receipt| has_written(rt, alloc, table, receipt))
+}
+
+// Passes whichever single allocation is refused: the file that a refused run leaves is run on
+// again, and has all that was acknowledged before.
+#[test]
+fn a_cluster_lives_on_its_files_under_refused_memory(rt: HostRuntime) {
+    let _ = fs::remove_dir_all(&rt, REFUSED);
+    let made = fs::create_dir(&rt, REFUSED).or(fs::create_dir(&rt, REFUSED));
+    assert!(rt; made.is_ok());
+    let first = turns_again(&rt, &rt);
+    let second = turns_again(&rt, &rt);
+    assert!(rt; first.receipts.len() == 5 && second.receipts.len() == 5);
+    assert!(rt; has_all(&rt, rt.alloc(), &second, first.receipts.as_slice()));
+    let _ = fs::remove_dir_all(&rt, REFUSED);
 }

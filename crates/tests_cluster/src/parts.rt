@@ -83,7 +83,7 @@ pub(crate) fn told(alloc: Global, run: Result<ClusterRun, ClusterFault>) -> Resu
             closed: run.closed.len(),
             receipts: run.receipts.len(),
             kept: kept(&run),
-            code: code_of_assembly(alloc, &run),
+            code: code_in_the_end(alloc, &run),
         }),
         Err(fault) => Err(fault.code()),
     }
@@ -97,6 +97,14 @@ fn code_of_assembly(alloc: Global, run: &ClusterRun) -> u16 {
     match assemble(alloc, run.closed.as_slice(), run.receipts.as_slice()) {
         Ok(_world) => 0,
         Err(fault) => fault.code(),
+    }
+}
+
+/// The same, asked for once more where memory was refused: journals and receipts are as they were.
+fn code_in_the_end(alloc: Global, run: &ClusterRun) -> u16 {
+    match code_of_assembly(alloc, run) {
+        99 => code_of_assembly(alloc, run),
+        code => code,
     }
 }
 

@@ -53,13 +53,26 @@ fn receipts_come_by_nodes_and_places(rt: HostRuntime) {
     assert!(rt; run.is_ok_and(|run| are_in_order(run.receipts.as_slice())));
 }
 
-// Passes whichever single allocation is refused: what was refused memory is done again.
+/// What comes of a run, which is made once more where memory was refused, or with it a thread.
+fn run_again<R: Threads + Wait + Sync>(
+    rt: &R,
+    alloc: Global,
+    plan: ClusterPlan,
+) -> Result<Came, u16> {
+    match run(rt, alloc, plan) {
+        Err(56 | 99) => run(rt, alloc, plan),
+        other => other,
+    }
+}
+
+// Both pass whichever single allocation is refused: what was refused memory is done again, be it a
+// run or what is put together of it.
 #[test]
 fn a_cluster_is_run_again_under_refused_memory(rt: HostRuntime) {
-    let first = run(&rt, rt.alloc(), plan(1, 5, 0));
-    let last = match first {
-        Err(99) => run(&rt, rt.alloc(), plan(1, 5, 0)),
-        other => other,
-    };
-    assert!(rt; last == whole(1, 5));
+    assert!(rt; run_again(&rt, rt.alloc(), plan(1, 5, 0)) == whole(1, 5));
+}
+
+#[test]
+fn a_run_of_two_nodes_is_assembled_again_under_refused_memory(rt: HostRuntime) {
+    assert!(rt; run_again(&rt, rt.alloc(), plan(2, 8, 1)) == whole(2, 17));
 }
