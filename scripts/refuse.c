@@ -1,5 +1,5 @@
 // A library to be loaded before a program: it refuses the allocation of the number REFUSE, counted from 1, and
-// writes a byte to the file descriptor 3, if that is open, when it does so.
+// writes a byte to the file descriptor 3, if that is open, when it does so. With REFUSE_ON it refuses each later one too.
 #define _GNU_SOURCE
 #include <dlfcn.h>
 #include <errno.h>
@@ -7,13 +7,15 @@
 #include <unistd.h>
 
 static long turn = -1, count = 0;
+static int goes_on;
 
 static int refused(void) {
     if (turn < 0) {
         const char *number = getenv("REFUSE");
         turn = number ? atol(number) : 0;
+        goes_on = getenv("REFUSE_ON") != NULL;
     }
-    if (++count != turn) return 0;
+    if (++count != turn) return goes_on && turn > 0 && count > turn;
     if (write(3, "x", 1) < 0) errno = 0;
     return 1;
 }
