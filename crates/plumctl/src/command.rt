@@ -3,8 +3,7 @@
 ghost use Rattle.std.specs.Prelude.{◌≢◌};
 
 use crate::progress::told;
-use plumctl_core::{explain_scenario, run_frame, run_scenario, tell, tell_unopened};
-use resolvers::{Largest, Lww, Resolver};
+use plumctl_core::{run_frame, run_scenario, tell, tell_unopened};
 use std::fs::{self, File};
 use std::io::{BufWriter, ErrorKind, IsTerminal};
 use std::sync::Wait;
@@ -94,22 +93,10 @@ fn run_from<R: Source>(rt: &HostRuntime, reader: &mut R, explain: bool) -> u8
     }
 }
 
-/// Runs the scenario of a reader, to a writer. The resolvers stand in the order of their words:
-/// `lww` and `largest`.
+/// Runs the scenario of a reader, to a writer.
 fn run_to<R: Source, W: Sink>(rt: &HostRuntime, reader: &mut R, writer: &mut W, explain: bool) -> u8
     ensures { result ≢ 2 }
 {
     let mut errors = MayFail(rt.stderr());
-    let Ok(lww) = Box::new(rt.alloc(), Lww) else {
-        return tell(&mut errors, StreamFault::Memory);
-    };
-    let Ok(largest) = Box::new(rt.alloc(), Largest) else {
-        return tell(&mut errors, StreamFault::Memory);
-    };
-    let resolvers: [Box<dyn Resolver>; 2] = [lww, largest];
-    if explain {
-        explain_scenario(rt.alloc(), reader, writer, &mut errors, &resolvers)
-    } else {
-        run_scenario(rt.alloc(), reader, writer, &mut errors, &resolvers)
-    }
+    run_scenario(rt.alloc(), reader, writer, &mut errors, explain)
 }

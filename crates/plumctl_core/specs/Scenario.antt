@@ -1,17 +1,39 @@
 -- How a run of a scenario ends for who started the program. The output has the number of a bad
 -- line, and that a settling passes its limit; standard error is told of other faults, and of a bad
 -- line what it is and what it wants.
-use Rattle.std.specs.Prelude.{◌≡◌, ◌⊎◌, ℕ, List, None}
+use Rattle.std.specs.Prelude.{◌≡◌, ◌⊎◌, ℕ, Bool, true, false, List, [], ◌∷◌, length, slice_get, Some, None}
 use Rattle.std.specs.Io.KnownBytes.{Keeps}
 use Rattle.streams.specs.Moment.{SinkAt, SourceAt}
 use Rattle.streams.specs.declared.fault.StreamFault.{StreamFault}
-use Rattle.scenario.specs.Output.{Manner}
+use Rattle.meta_types.specs.Value.{ValueParts}
+use Rattle.resolvers.specs.Greatest.{by_body, by_stamp, first_greatest}
+use Rattle.scenario_text.specs.Word.{Word}
+use Rattle.scenario_text.specs.Commands.{resolver}
+use Rattle.scenario_stage.specs.Obeying.{Choices}
+use Rattle.scenario.specs.Output.{Manner, plain}
 use Rattle.scenario.specs.Run.{EndsText, Prints, ReadsAll, ReadsPart}
 use Rattle.scenario.specs.declared.fault.ScenarioFault.{ScenarioFault}
 use Rattle.scenario.specs.declared.fault.ScenarioFault.TheVariants.{BadLine, Limit, Stream}
+use Rattle.scenario_explain.specs.Told.{explained}
 use Rattle.scenario_hint.specs.Hint.{IsTold}
 use Rattle.plumctl_core.specs.Opening.{TellsText}
 use Rattle.plumctl_core.specs.Status.{TellsFault, status_of_fault}
+
+-- what is chosen by the words that a command may name, `lww` and `largest`: the last write by its
+-- stamp, and the largest body
+abbrev pub named_choices : Choices
+named_choices = first_greatest by_stamp ∷ first_greatest by_body ∷ []
+
+-- the word names this choice: it stands at the number that the language gives to the word
+abbrev pub NamesChoice : Word → (List ValueParts → ℕ) → Type 0
+NamesChoice word choice = (place : ℕ)
+    × (resolver (length named_choices) (word ∷ []) ≡ Some (place, []))
+    × (slice_get named_choices place ≡ Some choice)
+
+-- explained, or with the results alone
+abbrev pub manner_by : (explain : Bool) → Choices → Manner
+manner_by true choices = explained choices
+manner_by false choices = plain choices
 
 abbrev pub status_of_scenario : ScenarioFault → ℕ
 status_of_scenario (BadLine line) = 1

@@ -1,8 +1,10 @@
 //! Laws of what is printed, and of how that ends. The contract of a function is the law; its body
 //! does nothing, or compares.
 
-ghost use Rattle.std.specs.Prelude.{◌≡◌, ◌↔◌, ℕ, List, IsTrue};
+ghost use Rattle.std.specs.Prelude.{◌≡◌, ◌↔◌, ℕ, List, IsTrue, codes};
+ghost use Rattle.resolvers.specs.Greatest.{by_body, by_stamp, first_greatest};
 ghost use Rattle.plumctl_core.specs.Output.{IsFrameOutput};
+ghost use Rattle.plumctl_core.specs.Scenario.{NamesChoice};
 
 use crate::frame::Ended;
 
@@ -19,3 +21,10 @@ pub fn equal_ends_are_the_same(one: Ended, other: Ended) -> bool
 {
     one == other
 }
+
+/// Each word that a command may name for a resolver names the choice that it says: `lww` the last
+/// write, `largest` the largest body.
+pub fn each_word_names_its_choice()
+    ensures lww { NamesChoice (codes "lww") (first_greatest by_stamp) }
+    ensures largest { NamesChoice (codes "largest") (first_greatest by_body) }
+{}

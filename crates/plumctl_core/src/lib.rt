@@ -3,8 +3,7 @@
 //!
 //! ```
 //! let status = run_frame(alloc, &mut reader, &mut writer, &mut errors);
-//! let status = run_scenario(alloc, &mut reader, &mut writer, &mut errors, &[lww, largest]);
-//! let status = explain_scenario(alloc, &mut reader, &mut writer, &mut errors, &[lww, largest]);
+//! let status = run_scenario(alloc, &mut reader, &mut writer, &mut errors, explain);
 //! ```
 //!
 //! Read `status` (`run_frame`), `frame` (`frame_lines`), `line`, `scenario_run`, `opening`
@@ -20,5 +19,5 @@ mod status;
 
 pub use frame::{Ended, frame_lines};
 pub use opening::tell_unopened;
-pub use scenario_run::{explain_scenario, run_scenario};
+pub use scenario_run::run_scenario;
 pub use status::{run_frame, status_of_fault, tell};

@@ -4,16 +4,16 @@ ghost use Rattle.std.specs.Prelude.{◌≡◌, ◌≢◌, OnOk, IfErr, map};
 ghost use Rattle.std.specs.Io.KnownBytes.{Keeps};
 ghost use Rattle.scenario.specs.Output.{manner_of, plain};
 ghost use Rattle.scenario_explain.specs.Told.{explained};
-ghost use Rattle.plumctl_core.specs.Scenario.{EndsScenario, EndsAndTells, TellsBadLine, TellsScenario, status_of_scenario};
+ghost use Rattle.plumctl_core.specs.Scenario.{EndsScenario, EndsAndTells, TellsBadLine, TellsScenario, manner_by, named_choices, status_of_scenario};
 
 use crate::opening::tell_text;
 use crate::status::tell;
-use resolvers::Resolver;
+use resolvers::{Largest, Lww, Resolver};
 use scenario::{Plain, Runner, ScenarioFault, read_text, run_text};
 use scenario_explain::Explainer;
 use scenario_hint::told_of_line;
 use std::alloc::Global;
-use streams::{Sink, Source};
+use streams::{Sink, Source, StreamFault};
 
 /// Tells what is wrong with a line.
 fn tell_line<E: Sink>(alloc: Global, errors: &mut E, text: &[u8], line: u64)
@@ -66,11 +66,9 @@ fn run_as<P: Runner, W: Sink, E: Sink>(
     end_status(alloc, errors, text, ended)
 }
 
-/// Runs a scenario as `run_over` does, tells a fault of reading, writing or memory at `errors`, and
-/// of the first bad line what it is and what it wants, and returns the exit status: 0 where it was
-/// run to its end, 1 where a line breaks a rule, a settling would go on past its limit or the input
-/// is too long, 3 where reading or writing failed, 4 where memory was refused.
-pub fn run_scenario<R: Source, W: Sink, E: Sink>(
+/// Runs a scenario of a reader by these resolvers, the results alone, tells how that ended, and
+/// returns the exit status.
+fn run_plain<R: Source, W: Sink, E: Sink>(
     alloc: Global,
     reader: &mut R,
     writer: &mut W,
@@ -95,9 +93,8 @@ pub fn run_scenario<R: Source, W: Sink, E: Sink>(
     }
 }
 
-/// Runs a scenario and explains it as `explain_over` does, and tells and returns as `run_scenario`
-/// how that ended.
-pub fn explain_scenario<R: Source, W: Sink, E: Sink>(
+/// The same, explained.
+fn run_explained<R: Source, W: Sink, E: Sink>(
     alloc: Global,
     reader: &mut R,
     writer: &mut W,
@@ -123,4 +120,53 @@ pub fn explain_scenario<R: Source, W: Sink, E: Sink>(
         }
         Err(fault) => tell(errors, fault),
     }
+}
+
+/// The same by the resolvers that `lww` and `largest` name, explained or with the results alone.
+fn run_by<R: Source, W: Sink, E: Sink>(
+    alloc: Global,
+    reader: &mut R,
+    writer: &mut W,
+    errors: &mut E,
+    resolvers: &[Box<dyn Resolver>],
+    explain: bool,
+) -> u8
+    requires { map (λ r. choice r) resolvers.now ≡ named_choices }
+    ensures run { result ≢ 2 }
+    ensures ends { EndsScenario (manner_by explain named_choices)
+        (R.at reader.old) (R.at reader.new) (W.at writer.old) (W.at writer.new)
+        (E.at errors.old) (E.at errors.new) result }
+{
+    if explain {
+        run_explained(alloc, reader, writer, errors, resolvers)
+    } else {
+        run_plain(alloc, reader, writer, errors, resolvers)
+    }
+}
+
+/// Runs a scenario as `run_over` does, or explains it as `explain_over` does, with the resolvers
+/// that the words `lww` and `largest` name. Tells a fault of reading, writing or memory at
+/// `errors`, and of the first bad line what it is and what it wants, and returns the exit status: 0
+/// where it was run to its end, 1 where a line breaks a rule, a settling would go on past its limit
+/// or the input is too long, 3 where reading or writing failed, 4 where memory was refused.
+pub fn run_scenario<R: Source, W: Sink, E: Sink>(
+    alloc: Global,
+    reader: &mut R,
+    writer: &mut W,
+    errors: &mut E,
+    explain: bool,
+) -> u8
+    ensures run { result ≢ 2 }
+    ensures ends { EndsScenario (manner_by explain named_choices)
+        (R.at reader.old) (R.at reader.new) (W.at writer.old) (W.at writer.new)
+        (E.at errors.old) (E.at errors.new) result }
+{
+    let Ok(lww) = Box::new(alloc, Lww) else {
+        return tell(errors, StreamFault::Memory);
+    };
+    let Ok(largest) = Box::new(alloc, Largest) else {
+        return tell(errors, StreamFault::Memory);
+    };
+    let resolvers: [Box<dyn Resolver>; 2] = [lww, largest];
+    run_by(alloc, reader, writer, errors, &resolvers, explain)
 }

@@ -2,11 +2,9 @@
 //! error is told; and what it is told of a file that can't be opened.
 
 use crate::devices::{Device, End, Feed};
-use crate::scenario_runs::{largest, lww};
-use plumctl_core::{explain_scenario, run_scenario, tell_unopened};
+use plumctl_core::{run_scenario, tell_unopened};
 use std::alloc::Global;
 use std::io::ErrorKind;
-use std::process::Abort;
 use streams::MayFail;
 
 /// A run: its text, and how the reader goes on after it; for how many bytes the writer has room;
@@ -137,8 +135,7 @@ wanted: nodes COUNT, once, as the first command; COUNT is 1 to 16\n",
 ];
 
 /// Returns whether a run ends, writes and tells as is wanted.
-fn is_run(rt: &impl Abort, alloc: Global, run: &Run, explain: bool) -> bool {
-    let resolvers = [lww(rt, alloc), largest(rt, alloc)];
+fn is_run(alloc: Global, run: &Run, explain: bool) -> bool {
     let mut reader = MayFail(Feed {
         end: run.end,
         ..Feed::new(run.text)
@@ -149,12 +146,7 @@ fn is_run(rt: &impl Abort, alloc: Global, run: &Run, explain: bool) -> bool {
         ..Device::new(output)
     });
     let mut errors = MayFail(Device::new(run.told));
-    let status = if explain {
-        explain_scenario(alloc, &mut reader, &mut writer, &mut errors, &resolvers)
-    } else {
-        run_scenario(alloc, &mut reader, &mut writer, &mut errors, &resolvers)
-    };
-    drop(resolvers);
+    let status = run_scenario(alloc, &mut reader, &mut writer, &mut errors, explain);
     let written = writer.0.is_right & writer.0.wanted.is_empty();
     let told = errors.0.is_right & errors.0.wanted.is_empty();
     (status == run.status) & written & told
@@ -163,8 +155,8 @@ fn is_run(rt: &impl Abort, alloc: Global, run: &Run, explain: bool) -> bool {
 #[test]
 fn each_run_ends_with_its_status_and_tells_its_fault(rt: HostRuntime) {
     for run in &RUNS {
-        assert!(rt; is_run(&rt, rt.alloc(), run, false));
-        assert!(rt; is_run(&rt, rt.alloc(), run, true));
+        assert!(rt; is_run(rt.alloc(), run, false));
+        assert!(rt; is_run(rt.alloc(), run, true));
     }
 }
 

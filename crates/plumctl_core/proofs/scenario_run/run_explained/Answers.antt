@@ -1,14 +1,14 @@
 use Rattle.std.proofs.Common.{inl, inr, subst, sym}
 use Rattle.scenario.specs.Run.{ReadsAll}
 use Rattle.plumctl_core.proofs.Going.{Keeps-self}
-use Rattle.plumctl_core.proofs.scenario_run.run_scenario.Goals as goal
+use Rattle.plumctl_core.proofs.scenario_run.run_explained.Goals as goal
 
 pub returns-in-Ok-clause-ends : goal.returns-in-Ok-clause-ends
 returns-in-Ok-clause-ends g c =
     let at = g.R.Source.at in
     inl (record {
-      text = c.as_slice.result.now;
-      reads = subst (ReadsAll (at c.args.reader.now) (at c.read_text.new.reader)) (sym c.as_slice.ensures.value) c.in-Ok.ensures.ok;
+      text = c.as_slice-in-Ok.result.now;
+      reads = subst (ReadsAll (at c.args.reader.now) (at c.read_text.new.reader)) (sym c.as_slice-in-Ok.ensures.value) c.in-Ok.ensures.ok;
       ends = c.run_as.ensures.ends;
     })
 
