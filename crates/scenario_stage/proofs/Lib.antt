@@ -14,3 +14,5 @@ pub mod Staging
 pub mod Listing
 -- what a command is, and acting on it
 pub mod Acting
+-- which marks a command sets
+pub mod Setting

@@ -13,5 +13,7 @@ pub mod Fault
 pub mod Printed
 -- what a command prints, and what it leaves
 pub mod Obeying
+-- which frames wait, and which marks a command sets
+pub mod Marking
 -- what private functions alone cite: what a command does, with the text that it adds
 pub mod Coded

@@ -2,7 +2,8 @@
 //! body does nothing, or compares.
 
 ghost use Rattle.std.specs.Prelude.{◌≡◌, ◌↔◌, ℕ, List, IsTrue};
-ghost use Rattle.scenario_stage.specs.Obeying.{Choices, Obeys, PassesLimit, Stage};
+ghost use Rattle.scenario_stage.specs.Marking.{SetsMarks};
+ghost use Rattle.scenario_stage.specs.Obeying.{Choices, Obeys, PassesLimit, Stage, was_given};
 ghost use Rattle.scenario_text.specs.Commands.{Command};
 
 use crate::fault::StageFault;
@@ -16,6 +17,17 @@ pub fn one_text_and_one_stage_left()
         → (text ≡ other) × (new ≡ left) }
     ensures within { (choices : Choices) (old new : Stage) (command : Command) (text : List ℕ)
         → Obeys choices old command text new → PassesLimit old command → ⊥ }
+{}
+
+/// A command sets the mark of the frame that it delivers, or none, and a settling those of all
+/// frames; the frames that it sends stand behind those that were there, and were not given. So a
+/// frame that was given stays so.
+pub fn each_command_sets_its_marks()
+    ensures sets { (choices : Choices) (old new : Stage) (command : Command) (text : List ℕ)
+        → Obeys choices old command text new → SetsMarks command old.given new.given }
+    ensures stays { (choices : Choices) (old new : Stage) (command : Command) (text : List ℕ)
+        → Obeys choices old command text new → (frame : ℕ)
+        → IsTrue (was_given frame old.given) → IsTrue (was_given frame new.given) }
 {}
 
 /// Faults are equal exactly where they are the same.

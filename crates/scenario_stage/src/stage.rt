@@ -59,9 +59,10 @@ impl Stage {
         }
     }
 
-    /// The world, as the commands have made it.
+    /// The world, as the commands have made it. Each of its frames has a mark.
     pub fn world(&self) -> &World
-        ensures { result.now ≡ self.now.world }
+        ensures world { result.now ≡ self.now.world }
+        ensures marks { length self.now.given ≡ length self.now.world.frames }
     {
         &self.world
     }
