@@ -27,6 +27,8 @@ fn play_command<P: Runner, W: Sink>(
     text: &mut Vec<u8>,
     writer: &mut W,
 ) -> Result<(), ScenarioFault>
+    requires { P.follows runner.old stage.old }
+    ensures follows { OnOk result (P.follows runner.new stage.new) }
     ensures ok { OnOk result (WritesCommand
         (manner_of P.opens P.does (map (λ r. choice r) resolvers.now)) stage.old
         (command_word command.now) (W.at writer.old) (W.at writer.new) stage.new) }
@@ -50,6 +52,7 @@ fn play_commands<P: Runner, W: Sink>(
     resolvers: &[Box<dyn Resolver>],
     writer: &mut W,
 ) -> Result<(), ScenarioFault>
+    requires { P.follows runner.old stage.old }
     ensures ok { OnOk result (WritesAll
         (manner_of P.opens P.does (map (λ r. choice r) resolvers.now)) stage.old
         script.old.commands (W.at writer.old) (W.at writer.new)) }
@@ -72,6 +75,7 @@ fn write_opening<P: Runner, W: Sink>(
     stage: &Stage,
     writer: &mut W,
 ) -> Result<(), StreamFault>
+    ensures follows { OnOk result (P.follows runner.new stage.now) }
     ensures ok { OnOk result (WritesOpening P.opens (W.at writer.old) (W.at writer.new)) }
     ensures err { IfErr result (EndsOpening P.opens (W.at writer.old) (W.at writer.new)) }
     ensures sound { OnOk result (FailsNoMore (W.at writer.old).failed (W.at writer.new).failed) }

@@ -3,7 +3,7 @@
 ghost use Rattle.std.specs.Prelude.{OnOk, List, ℕ, map};
 ghost use Rattle.scenario.specs.Output.{PlaysCommand, opens_plainly};
 ghost use Rattle.scenario.specs.Run.{DoesOrEnds, Opens};
-ghost use Rattle.scenario_stage.specs.Obeying.{Choices, Obeys};
+ghost use Rattle.scenario_stage.specs.Obeying.{Choices, Obeys, Stage as StageParts};
 ghost use Rattle.scenario_text.specs.Coded.{command_word};
 
 use resolvers::Resolver;
@@ -19,9 +19,14 @@ pub trait Runner {
     // what is printed of a command, by what the resolvers choose
     ghost does: { Choices → PlaysCommand };
 
-    /// Adds what is printed of `nodes`, once the nodes are there. Fails only when memory runs out.
+    // that what the runner remembers is so of this stage
+    ghost follows: { Self → StageParts → Type 0 };
+
+    /// Adds what is printed of `nodes`, once the nodes are there, and follows the stage from then
+    /// on. Fails only when memory runs out.
     fn open(&mut self, stage: &Stage, text: &mut Vec<u8>) -> Result<(), AllocError>
-        ensures { OnOk result (Opens opens text.old.items text.new.items) };
+        ensures opened { OnOk result (Opens opens text.old.items text.new.items) }
+        ensures begins { OnOk result (follows self.new stage.now) };
 
     /// Does what a command says, and adds what is printed of it. Ends as [`Stage::obey`] does.
     fn obey(
@@ -31,8 +36,10 @@ pub trait Runner {
         resolvers: &[Box<dyn Resolver>],
         text: &mut Vec<u8>,
     ) -> Result<(), StageFault>
-        ensures { DoesOrEnds (does (map (λ r. choice r) resolvers.now)) stage.old
-            (command_word command.now) text.old.items text.new.items stage.new result };
+        requires { follows self.old stage.old }
+        ensures obeyed { DoesOrEnds (does (map (λ r. choice r) resolvers.now)) stage.old
+            (command_word command.now) text.old.items text.new.items stage.new result }
+        ensures goes_on { OnOk result (follows self.new stage.new) };
 }
 
 /// Prints the results alone.
@@ -43,6 +50,8 @@ impl Runner for Plain {
     ghost opens = { opens_plainly };
 
     ghost does = { Obeys };
+
+    ghost follows = { λ _ _. Unit {0} };
 
     fn open(&mut self, _stage: &Stage, text: &mut Vec<u8>) -> Result<(), AllocError> {
         print_line(text, "ok")

@@ -2,8 +2,10 @@
 use Rattle.std.proofs.Common.{◌≡◌, ℕ, List, [], ◌∷◌, ◌++◌, refl, sym, ap, ◌∙◌, append_assoc}
 use Rattle.std.proofs.lemmas.List.{append-nil}
 use Rattle.scenario_text.specs.Commands.{Command}
+use Rattle.scenario_stage.specs.Marking.{all_waiting}
 use Rattle.scenario_stage.specs.Obeying.{Choices, Obeys, Stage}
-use Rattle.scenario_explain.specs.Told.{AddsTold, AreTold, Explains, told_line, told_lines}
+use Rattle.scenario_explain.specs.OnTheWay.{way_lines}
+use Rattle.scenario_explain.specs.Told.{AddsTold, AreTold, Explains, told_line, told_lines, told_way}
 
 pub none_told : AreTold []
 none_told = record { lines = []; text_is = refl }
@@ -36,19 +38,28 @@ adds_line old new line is = record {
 }
 
 -- what is told before a command, its results, and what is told after it
-pub explains : (choices : Choices) (old new : Stage) (command : Command) (text now later last : List ℕ) → AddsTold text now → ((added : List ℕ) × Obeys choices old command added new × (later ≡ now ++ added)) → AddsTold later last
-    → (added : List ℕ) × Explains choices old command added new × (last ≡ text ++ added)
-explains choices old new command text now later last before does after = (
-  before.added ++ (does.0 ++ after.added),
-  record {
-    before = before.added;
-    before_told = before.are_told;
-    results = does.0;
-    obeys = does.1;
-    after = after.added;
-    after_told = after.are_told;
-    text_is = refl;
-  },
-  after.text_is ∙ ap (λ (xs : List ℕ). xs ++ after.added) (does.2 ∙ ap (λ (xs : List ℕ). xs ++ does.0) before.text_is)
-      ∙ append_assoc (text ++ before.added) does.0 after.added ∙ append_assoc text before.added (does.0 ++ after.added),
-)
+pub explains : (choices : Choices) (old new : Stage) (command : Command) (text now later mid last frames : List ℕ) → AddsTold text now → ((added : List ℕ) × Obeys choices old command added new × (later ≡ now ++ added))
+    → frames ≡ all_waiting 1 new.given → mid ≡ later ++ told_lines (way_lines frames) → AddsTold mid last → (added : List ℕ) × Explains choices old command added new × (last ≡ text ++ added)
+explains choices old new command text now later mid last frames before does frames_are way after =
+    let results = does.0 in
+    let named : mid ≡ later ++ told_way new = way ∙ ap (λ (fs : List ℕ). later ++ told_lines (way_lines fs)) frames_are in
+    let begun : later ≡ text ++ (before.added ++ results) = does.2 ∙ ap (λ (xs : List ℕ). xs ++ results) before.text_is ∙ append_assoc text before.added results in (
+      before.added ++ (results ++ (told_way new ++ after.added)),
+      record {
+        before = before.added;
+        before_told = before.are_told;
+        results = results;
+        obeys = does.1;
+        of_nodes = after.added;
+        of_nodes_told = after.are_told;
+        text_is = refl;
+      },
+      after.text_is ∙ ap (λ (xs : List ℕ). xs ++ after.added) (named ∙ ap (λ (xs : List ℕ). xs ++ told_way new) begun)
+          ∙ append_assoc (text ++ (before.added ++ results)) (told_way new) after.added
+          ∙ append_assoc text (before.added ++ results) (told_way new ++ after.added)
+          ∙ ap (λ (xs : List ℕ). text ++ xs) (append_assoc before.added results (told_way new ++ after.added)),
+    )
+
+-- all that is told after a command
+pub told_after : (new : Stage) (of_nodes : List ℕ) → AreTold of_nodes → AreTold (told_way new ++ of_nodes)
+told_after new of_nodes told = told_then (told_way new) of_nodes (record { lines = way_lines (all_waiting 1 new.given); text_is = refl }) told

@@ -9,8 +9,8 @@ use Rattle.scenario_stage.specs.Printed.{line}
 use Rattle.scenario.specs.Ending.{bad_line, limit_line}
 use Rattle.scenario.specs.Output.{IsOutput, Plays, PlaysOrNothing, PlaysUnless, Runs, plain}
 use Rattle.scenario.specs.declared.fault.ScenarioFault.{ScenarioFault}
-use Rattle.scenario_explain.specs.Told.{AreResultsOf, AreTold, explained, output_of}
-use Rattle.scenario_explain.proofs.Adding.{none_told}
+use Rattle.scenario_explain.specs.Told.{AreResultsOf, AreTold, explained, told_way}
+use Rattle.scenario_explain.proofs.Adding.{none_told, told_after}
 
 -- a text in which nothing is told
 plainly : (text : List ℕ) → AreResultsOf text text
@@ -46,7 +46,7 @@ runs choices old (command ∷ commands) text ended (inr (first, rest, between, d
     let later = runs choices between commands rest ended others in (
       does.results ++ later.0,
       inr (does.results, later.0, between, does.obeys, later.1, refl),
-      command_then does.before does.results does.after first rest later.0 text does.before_told does.after_told does.text_is later.2 text_is,
+      command_then does.before does.results (told_way between ++ does.of_nodes) first rest later.0 text does.before_told (told_after between does.of_nodes does.of_nodes_told) does.text_is later.2 text_is,
     )
 
 plays : (choices : Choices) (scenario : Scenario) (text : List ℕ) (ended : Option ScenarioFault) → Plays (explained choices) scenario text ended

@@ -1,11 +1,14 @@
 -- What an explained run prints: the results of each command, and lines that tell more before them
--- and after them. These begin with two spaces.
+-- and after them. These begin with two spaces. The first behind them names the frames that are on
+-- their way then.
 use Rattle.std.specs.Prelude.{◌≡◌, ℕ, List, [], ◌∷◌, ◌++◌, map, codes}
 use Rattle.scenario_text.specs.Commands.{Command}
 use Rattle.scenario_hint.specs.Hint.{shown_byte}
+use Rattle.scenario_stage.specs.Marking.{all_waiting}
 use Rattle.scenario_stage.specs.Obeying.{Choices, Obeys, Stage}
 use Rattle.scenario_stage.specs.Printed.{line}
-use Rattle.scenario.specs.Output.{PlaysCommand, Manner, manner_of}
+use Rattle.scenario.specs.Output.{Manner, manner_of}
+use Rattle.scenario_explain.specs.OnTheWay.{way_lines}
 
 -- a line that is told: what can be printed of it, behind two spaces
 unfoldable pub told_line : List ℕ → List ℕ
@@ -20,17 +23,21 @@ pub record AreTold (text : List ℕ) : Type 0 where
   pub lines : List (List ℕ)
   pub text_is : text ≡ told_lines lines
 
--- what is told before a command's results, the results as a run prints them, and what is told after
--- them
+-- what is told of the frames that were never given to their addressees
+abbrev pub told_way : Stage → List ℕ
+told_way s = told_lines (way_lines (all_waiting 1 s.given))
+
+-- what is told before a command's results, the results as a run prints them, the frames that are on
+-- their way after it, and what is told of nodes
 pub record Explains (choices : Choices) (old : Stage) (command : Command) (text : List ℕ)
     (new : Stage) : Type 0 where
   pub before : List ℕ
   pub before_told : AreTold before
   pub results : List ℕ
   pub obeys : Obeys choices old command results new
-  pub after : List ℕ
-  pub after_told : AreTold after
-  pub text_is : text ≡ before ++ (results ++ after)
+  pub of_nodes : List ℕ
+  pub of_nodes_told : AreTold of_nodes
+  pub text_is : text ≡ before ++ (results ++ (told_way new ++ of_nodes))
 
 -- of `nodes`: what is told before its `ok`
 pub record OpensExplained (text : List ℕ) : Type 0 where

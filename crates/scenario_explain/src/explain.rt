@@ -1,11 +1,13 @@
 //! A scenario, run and explained over a reader and a writer.
 
-ghost use Rattle.std.specs.Prelude.{OnOk, IfErr, map};
+ghost use Rattle.std.specs.Prelude.{◌≡◌, OnOk, IfErr, map};
 ghost use Rattle.scenario.specs.Run.{EndsEarly, PrintsAll};
+ghost use Rattle.scenario_explain.specs.Noting.{NotesAll};
 ghost use Rattle.scenario_explain.specs.Told.{AddsTold, Explains, OpensExplained, explained};
 
 use crate::line::add_told;
 use crate::told::Told;
+use crate::waiting::Waiting;
 use printing::print_number;
 use resolvers::Resolver;
 use scenario::{Runner, ScenarioFault, read_text, run_text};
@@ -24,6 +26,7 @@ pub struct Explainer<'a> {
     /// How many lines of the text were passed.
     number: u64,
     told: Told,
+    waiting: Waiting,
 }
 
 impl<'a> Explainer<'a> {
@@ -34,13 +37,15 @@ impl<'a> Explainer<'a> {
             lines: Lines::of(text),
             number: 0,
             told: Told::new(alloc),
+            waiting: Waiting::new(alloc),
         }
     }
 
     /// Tells the line of the next command, and its number.
     #[tactic(auto, using(crate::proofs::Adding::adds_none, crate::proofs::Adding::adds_then))]
     fn add_line(&mut self, text: &mut Vec<u8>) -> Result<(), AllocError>
-        ensures { OnOk result (AddsTold text.old.items text.new.items) }
+        ensures told { OnOk result (AddsTold text.old.items text.new.items) }
+        ensures waiting { self.new.waiting ≡ self.old.waiting }
     {
         let Some(line) = next_line(&mut self.lines, &mut self.number) else {
             return Ok(());
@@ -69,9 +74,13 @@ impl<'a> Runner for Explainer<'a> {
 
     ghost does = { Explains };
 
+    // it has noted which frames wait there
+    ghost follows = { λ e s. NotesAll e.waiting.frames.items e.waiting.seen s.given };
+
     fn open(&mut self, stage: &Stage, text: &mut Vec<u8>) -> Result<(), AllocError> {
         self.add_line(text)?;
         self.told.open(stage.world())?;
+        self.waiting.begin(stage)?;
         print_line(text, "ok")
     }
 
@@ -84,7 +93,9 @@ impl<'a> Runner for Explainer<'a> {
     ) -> Result<(), StageFault> {
         self.add_line(text)?;
         stage.obey(command, resolvers, text)?;
-        self.told.add_news(stage, command, text)?;
+        self.waiting.note(stage, command)?;
+        self.waiting.add_frames(text)?;
+        self.told.add_news(stage.world(), command, text)?;
         Ok(())
     }
 }
@@ -94,9 +105,9 @@ impl<'a> Runner for Explainer<'a> {
 /// of the first sixteen frames that are on their way, which are those that were never given to
 /// their addressees, and how many more there are; and a line for each key under which a node shows
 /// other siblings or another context than before, `ctx - values -` where a restart has taken them
-/// away. Which of these are told is stated by no contract. Where two tables have the same root they
-/// are taken to show the same. Where it comes to its end, or to 70 or 71, so does `run_over`. It
-/// takes memory besides for a copy of what each node holds.
+/// away. Which frames are named the contract says, what is told of lines and of nodes it doesn't.
+/// Where two tables have the same root they are taken to show the same. Where it comes to its end,
+/// or to 70 or 71, so does `run_over`. It takes memory besides for a copy of what each node holds.
 pub fn explain_over<R: Source, W: Sink>(
     alloc: Global,
     reader: &mut R,

@@ -6,9 +6,9 @@ ghost use Rattle.scenario_explain.specs.Told.{AddsTold, told_line};
 use scenario_hint::add_printable;
 use std::alloc::AllocError;
 
-/// Adds a line, behind two spaces.
+/// Adds a line, behind two spaces: what can be printed of the bytes.
 #[tactic(auto, unfolding(crate::specs::Told::told_line))]
-fn add_line(text: &mut Vec<u8>, line: &[u8]) -> Result<(), AllocError>
+pub(crate) fn add_line(text: &mut Vec<u8>, line: &[u8]) -> Result<(), AllocError>
     ensures { OnOk result (text.new.items ≡ text.old.items ++ told_line line.now) }
 {
     text.extend_from_slice(b"  ")?;
@@ -17,7 +17,7 @@ fn add_line(text: &mut Vec<u8>, line: &[u8]) -> Result<(), AllocError>
     Ok(())
 }
 
-/// Adds a line that is told: what can be printed of the bytes, behind two spaces.
+/// Adds a line that is told.
 pub(crate) fn add_told(text: &mut Vec<u8>, line: &[u8]) -> Result<(), AllocError>
     ensures { OnOk result (AddsTold text.old.items text.new.items) }
 {

@@ -4,13 +4,12 @@ ghost use Rattle.std.specs.Prelude.{OnOk};
 ghost use Rattle.scenario_explain.specs.Told.{AddsTold};
 
 use crate::line::add_told;
-use crate::waiting::Waiting;
 use frame_fields::Digest;
 use meta_store::Store;
 use meta_types::{FullPrefix, MetaKey};
 use node_core::NodeState;
 use printing::{print_key, print_number, print_object};
-use scenario_stage::{Stage, keys_of};
+use scenario_stage::keys_of;
 use scenario_text::{Command, KeyWord};
 use std::alloc::{AllocError, Global};
 use world_core::World;
@@ -26,12 +25,11 @@ struct Shown {
     root: Digest,
 }
 
-/// What was told: what each node shows, and which frames are on their way.
+/// What was told of each node.
 #[derive(Drop)]
 pub(crate) struct Told {
     alloc: Global,
     nodes: Vec<Shown>,
-    waiting: Waiting,
 }
 
 /// What a command may have changed in the tables of nodes.
@@ -71,7 +69,6 @@ impl Told {
         Told {
             alloc,
             nodes: Vec::new(alloc),
-            waiting: Waiting::new(alloc),
         }
     }
 
@@ -88,23 +85,21 @@ impl Told {
         Ok(())
     }
 
-    /// Adds a line of the frames that are on their way after this command, and one for each key
-    /// under which a node shows something else than was told last.
+    /// Adds a line for each key under which a node shows something else than was told last, of
+    /// those that this command may have changed.
     #[tactic(auto, using(crate::proofs::Adding::adds_none, crate::proofs::Adding::adds_then))]
     pub(crate) fn add_news(
         &mut self,
-        stage: &Stage,
+        world: &World,
         command: &Command<'_>,
         text: &mut Vec<u8>,
     ) -> Result<(), AllocError>
         ensures { OnOk result (AddsTold text.old.items text.new.items) }
     {
-        self.waiting.note(stage, command)?;
-        self.waiting.add_frames(text)?;
         match changes_of(command) {
             Changes::Nothing => Ok(()),
-            Changes::Key(node, key) => self.add_key(stage.world(), node, key, text),
-            Changes::Tables => self.add_tables(stage.world(), text),
+            Changes::Key(node, key) => self.add_key(world, node, key, text),
+            Changes::Tables => self.add_tables(world, text),
         }
     }
 
