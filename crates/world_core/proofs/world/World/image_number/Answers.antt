@@ -9,8 +9,8 @@ use Rattle.world_core.proofs.Outcomes.{same_node}
 use Rattle.world_core.proofs.Refusing.{no_image_refuses, spent_refuses}
 use Rattle.world_core.proofs.world.World.image_number.Goals as goal
 
-pub returns-then-images-image-clause-fault : goal.returns-then-images-image-clause-fault
-returns-then-images-image-clause-fault c =
+pub returns-then-len-image-clause-fault : goal.returns-then-len-image-clause-fault
+returns-then-len-image-clause-fault c =
     let w : World = the_view c.self.inside in
     let low : c.args.node < length w.nodes = search rules in
     let at : c.index-there.result.now ≡ node_at w c.args.node = same_node w c.args.node c.index-there.result.now low (search rules) in
