@@ -1,11 +1,12 @@
 -- Lines that are told, one after the other.
-use Rattle.std.proofs.Common.{◌≡◌, ℕ, List, [], ◌∷◌, ◌++◌, refl, sym, ap, ◌∙◌, append_assoc}
-use Rattle.std.proofs.lemmas.List.{append-nil}
+use Rattle.std.proofs.Common.{◌≡◌, ℕ, List, [], ◌∷◌, ◌++◌, inl, inr, map, refl, sym, ap, ◌∙◌, append_assoc}
+use Rattle.std.specs.Prelude.{codes, decimal}
+use Rattle.std.proofs.lemmas.List.{append-nil, map-append}
 use Rattle.scenario_text.specs.Commands.{Command}
 use Rattle.scenario_stage.specs.Marking.{all_waiting}
 use Rattle.scenario_stage.specs.Obeying.{Choices, Obeys, Stage}
 use Rattle.scenario_explain.specs.OnTheWay.{way_lines}
-use Rattle.scenario_explain.specs.Told.{AddsTold, AreTold, Explains, told_line, told_lines, told_way}
+use Rattle.scenario_explain.specs.Told.{AddsCommand, AddsOfNodes, AreOfNodes, AreTold, Explains, IsOfCommand, told_line, told_lines, told_way}
 
 pub none_told : AreTold []
 none_told = record { lines = []; text_is = refl }
@@ -14,32 +15,75 @@ lines_then : (one other : List (List ℕ)) → told_lines (one ++ other) ≡ tol
 lines_then [] other = refl
 lines_then (text ∷ one) other = ap (λ (xs : List ℕ). told_line text ++ xs) (lines_then one other) ∙ sym (append_assoc (told_line text) (told_lines one) (told_lines other))
 
-pub told_then : (one other : List ℕ) → AreTold one → AreTold other → AreTold (one ++ other)
+told_then : (one other : List ℕ) → AreTold one → AreTold other → AreTold (one ++ other)
 told_then one other a b = record {
   lines = a.lines ++ b.lines;
   text_is = ap (λ (xs : List ℕ). xs ++ other) a.text_is ∙ ap (λ (xs : List ℕ). told_lines a.lines ++ xs) b.text_is ∙ sym (lines_then a.lines b.lines);
 }
 
-pub adds_none : (text : List ℕ) → AddsTold text text
-adds_none text = record { added = []; are_told = none_told; text_is = sym (append-nil text) }
+-- ---- the line of a command
 
-pub adds_then : (old now new : List ℕ) → AddsTold old now → AddsTold now new → AddsTold old new
-adds_then old now new a b = record {
-  added = a.added ++ b.added;
-  are_told = told_then a.added b.added a.are_told b.are_told;
-  text_is = b.text_is ∙ ap (λ (xs : List ℕ). xs ++ b.added) a.text_is ∙ append_assoc old a.added b.added;
-}
+pub command_told : (text : List ℕ) → IsOfCommand text → AreTold text
+command_told text (inl none) = record { lines = []; text_is = none }
+command_told text (inr (number, shown, is)) =
+    let line = decimal number ++ codes ": " ++ shown in
+    record { lines = line ∷ []; text_is = is ∙ sym (append-nil (told_line line)) }
 
-pub adds_line : (old new line : List ℕ) → new ≡ old ++ told_line line → AddsTold old new
-adds_line old new line is = record {
+pub no_command : (text : List ℕ) → AddsCommand text text
+no_command text = record { added = []; of_command = inl refl; text_is = sym (append-nil text) }
+
+pub one_command : (old new line shown : List ℕ) (number : ℕ) → line ≡ decimal number ++ codes ": " ++ shown → new ≡ old ++ told_line line → AddsCommand old new
+one_command old new line shown number is added = record {
   added = told_line line;
-  are_told = record { lines = line ∷ []; text_is = sym (append-nil (told_line line)) };
-  text_is = is;
+  of_command = inr (number, shown, ap told_line is);
+  text_is = added;
 }
+
+-- ---- lines of nodes
+
+pub adds_none : (text : List ℕ) → AddsOfNodes text text
+adds_none text = record { added = []; of_nodes = record { lines = []; text_is = refl }; text_is = sym (append-nil text) }
+
+pub adds_then : (old now new : List ℕ) → AddsOfNodes old now → AddsOfNodes now new → AddsOfNodes old new
+adds_then old now new a b =
+    let f : List ℕ → List ℕ = λ line. codes "node " ++ line in
+    record {
+      added = a.added ++ b.added;
+      of_nodes = record {
+        lines = a.of_nodes.lines ++ b.of_nodes.lines;
+        text_is =
+            ap (λ (xs : List ℕ). xs ++ b.added) a.of_nodes.text_is ∙ ap (λ (xs : List ℕ). told_lines (map f a.of_nodes.lines) ++ xs) b.of_nodes.text_is
+            ∙ sym (lines_then (map f a.of_nodes.lines) (map f b.of_nodes.lines)) ∙ ap told_lines (sym (map-append f a.of_nodes.lines b.of_nodes.lines));
+      };
+      text_is = b.text_is ∙ ap (λ (xs : List ℕ). xs ++ b.added) a.text_is ∙ append_assoc old a.added b.added;
+    }
+
+pub adds_line : (old new line rest : List ℕ) → line ≡ codes "node " ++ rest → new ≡ old ++ told_line line → AddsOfNodes old new
+adds_line old new line rest is added = record {
+  added = told_line line;
+  of_nodes = record { lines = rest ∷ []; text_is = ap told_line is ∙ sym (append-nil (told_line (codes "node " ++ rest))) };
+  text_is = added;
+}
+
+-- a line that is made piece by piece
+pub record Begins (front now : List ℕ) : Type 0 where
+  pub rest : List ℕ
+  pub is : now ≡ front ++ rest
+
+pub begins : (front old now : List ℕ) → old ≡ [] → now ≡ old ++ front → Begins front now
+begins front old now none is = record { rest = []; is = is ∙ ap (λ (xs : List ℕ). xs ++ front) none ∙ sym (append-nil front) }
+
+pub begins_still : (front now next more : List ℕ) → Begins front now → next ≡ now ++ more → Begins front next
+begins_still front now next more b is = record {
+  rest = b.rest ++ more;
+  is = is ∙ ap (λ (xs : List ℕ). xs ++ more) b.is ∙ append_assoc front b.rest more;
+}
+
+-- ---- a command
 
 -- what is told before a command, its results, and what is told after it
-pub explains : (choices : Choices) (old new : Stage) (command : Command) (text now later mid last frames : List ℕ) → AddsTold text now → ((added : List ℕ) × Obeys choices old command added new × (later ≡ now ++ added))
-    → frames ≡ all_waiting 1 new.given → mid ≡ later ++ told_lines (way_lines frames) → AddsTold mid last → (added : List ℕ) × Explains choices old command added new × (last ≡ text ++ added)
+pub explains : (choices : Choices) (old new : Stage) (command : Command) (text now later mid last frames : List ℕ) → AddsCommand text now → ((added : List ℕ) × Obeys choices old command added new × (later ≡ now ++ added))
+    → frames ≡ all_waiting 1 new.given → mid ≡ later ++ told_lines (way_lines frames) → AddsOfNodes mid last → (added : List ℕ) × Explains choices old command added new × (last ≡ text ++ added)
 explains choices old new command text now later mid last frames before does frames_are way after =
     let results = does.0 in
     let named : mid ≡ later ++ told_way new = way ∙ ap (λ (fs : List ℕ). later ++ told_lines (way_lines fs)) frames_are in
@@ -47,11 +91,11 @@ explains choices old new command text now later mid last frames before does fram
       before.added ++ (results ++ (told_way new ++ after.added)),
       record {
         before = before.added;
-        before_told = before.are_told;
+        of_command = before.of_command;
         results = results;
         obeys = does.1;
-        of_nodes = after.added;
-        of_nodes_told = after.are_told;
+        after = after.added;
+        of_nodes = after.of_nodes;
         text_is = refl;
       },
       after.text_is ∙ ap (λ (xs : List ℕ). xs ++ after.added) (named ∙ ap (λ (xs : List ℕ). xs ++ told_way new) begun)
@@ -61,5 +105,7 @@ explains choices old new command text now later mid last frames before does fram
     )
 
 -- all that is told after a command
-pub told_after : (new : Stage) (of_nodes : List ℕ) → AreTold of_nodes → AreTold (told_way new ++ of_nodes)
-told_after new of_nodes told = told_then (told_way new) of_nodes (record { lines = way_lines (all_waiting 1 new.given); text_is = refl }) told
+pub told_after : (new : Stage) (after : List ℕ) → AreOfNodes after → AreTold (told_way new ++ after)
+told_after new after of_nodes =
+    told_then (told_way new) after (record { lines = way_lines (all_waiting 1 new.given); text_is = refl })
+    (record { lines = map (λ (line : List ℕ). codes "node " ++ line) of_nodes.lines; text_is = of_nodes.text_is })

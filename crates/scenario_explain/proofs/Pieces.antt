@@ -10,7 +10,7 @@ use Rattle.scenario.specs.Ending.{bad_line, limit_line}
 use Rattle.scenario.specs.Output.{IsOutput, Plays, PlaysOrNothing, PlaysUnless, Runs, plain}
 use Rattle.scenario.specs.declared.fault.ScenarioFault.{ScenarioFault}
 use Rattle.scenario_explain.specs.Told.{AreResultsOf, AreTold, explained, told_way}
-use Rattle.scenario_explain.proofs.Adding.{none_told, told_after}
+use Rattle.scenario_explain.proofs.Adding.{command_told, none_told, told_after}
 
 -- a text in which nothing is told
 plainly : (text : List ℕ) → AreResultsOf text text
@@ -46,7 +46,7 @@ runs choices old (command ∷ commands) text ended (inr (first, rest, between, d
     let later = runs choices between commands rest ended others in (
       does.results ++ later.0,
       inr (does.results, later.0, between, does.obeys, later.1, refl),
-      command_then does.before does.results (told_way between ++ does.of_nodes) first rest later.0 text does.before_told (told_after between does.of_nodes does.of_nodes_told) does.text_is later.2 text_is,
+      command_then does.before does.results (told_way between ++ does.after) first rest later.0 text (command_told does.before does.of_command) (told_after between does.after does.of_nodes) does.text_is later.2 text_is,
     )
 
 plays : (choices : Choices) (scenario : Scenario) (text : List ℕ) (ended : Option ScenarioFault) → Plays (explained choices) scenario text ended
@@ -56,7 +56,7 @@ plays choices scenario text ended played =
     let later = runs choices (new_stage scenario.nodes) scenario.commands played.rest ended played.runs in (
       ok ++ later.0,
       record { opened = ok; opens = refl; rest = later.0; runs = later.1; output_is = refl },
-      piece_then played.opens.before ok played.rest later.0 text played.opens.before_told later.2
+      piece_then played.opens.before ok played.rest later.0 text (command_told played.opens.before played.opens.of_command) later.2
           (played.output_is ∙ ap (λ (xs : List ℕ). xs ++ played.rest) played.opens.text_is),
     )
 

@@ -1,7 +1,7 @@
 -- What an explained run prints: the results of each command, and lines that tell more before them
--- and after them. These begin with two spaces. The first behind them names the frames that are on
--- their way then.
-use Rattle.std.specs.Prelude.{◌≡◌, ℕ, List, [], ◌∷◌, ◌++◌, map, codes}
+-- and after them. These begin with two spaces. Before them stands the line of the command, behind
+-- them the frames that are on their way then, and lines of nodes.
+use Rattle.std.specs.Prelude.{◌≡◌, ◌⊎◌, ℕ, List, [], ◌∷◌, ◌++◌, map, codes, decimal}
 use Rattle.scenario_text.specs.Commands.{Command}
 use Rattle.scenario_hint.specs.Hint.{shown_byte}
 use Rattle.scenario_stage.specs.Marking.{all_waiting}
@@ -23,26 +23,37 @@ pub record AreTold (text : List ℕ) : Type 0 where
   pub lines : List (List ℕ)
   pub text_is : text ≡ told_lines lines
 
+-- the line of a command, as `3: join 1 0`: a number, and what is shown behind it; or nothing
+abbrev pub IsOfCommand : List ℕ → Type 0
+IsOfCommand text = (text ≡ [])
+    ⊎ ((number : ℕ) × (shown : List ℕ)
+    × (text ≡ told_line (decimal number ++ codes ": " ++ shown)))
+
+-- lines of nodes, as `node 1 shows ..`
+pub record AreOfNodes (text : List ℕ) : Type 0 where
+  pub lines : List (List ℕ)
+  pub text_is : text ≡ told_lines (map (λ line. codes "node " ++ line) lines)
+
 -- what is told of the frames that were never given to their addressees
 abbrev pub told_way : Stage → List ℕ
 told_way s = told_lines (way_lines (all_waiting 1 s.given))
 
--- what is told before a command's results, the results as a run prints them, the frames that are on
--- their way after it, and what is told of nodes
+-- the line of a command, its results as a run prints them, the frames that are on their way after
+-- it, and what nodes show; nothing else is told
 pub record Explains (choices : Choices) (old : Stage) (command : Command) (text : List ℕ)
     (new : Stage) : Type 0 where
   pub before : List ℕ
-  pub before_told : AreTold before
+  pub of_command : IsOfCommand before
   pub results : List ℕ
   pub obeys : Obeys choices old command results new
-  pub of_nodes : List ℕ
-  pub of_nodes_told : AreTold of_nodes
-  pub text_is : text ≡ before ++ (results ++ (told_way new ++ of_nodes))
+  pub after : List ℕ
+  pub of_nodes : AreOfNodes after
+  pub text_is : text ≡ before ++ (results ++ (told_way new ++ after))
 
 -- of `nodes`: what is told before its `ok`
 pub record OpensExplained (text : List ℕ) : Type 0 where
   pub before : List ℕ
-  pub before_told : AreTold before
+  pub of_command : IsOfCommand before
   pub text_is : text ≡ before ++ line (codes "ok")
 
 abbrev pub explained : Choices → Manner
@@ -76,8 +87,14 @@ pub record AreResultsOf (output results : List ℕ) : Type 0 where
 
 -- ---- what private functions cite
 
--- lines that are told were added
-pub record AddsTold (text_old text_new : List ℕ) : Type 0 where
+-- the line of a command was added
+pub record AddsCommand (text_old text_new : List ℕ) : Type 0 where
   pub added : List ℕ
-  pub are_told : AreTold added
+  pub of_command : IsOfCommand added
+  pub text_is : text_new ≡ text_old ++ added
+
+-- lines of nodes were added
+pub record AddsOfNodes (text_old text_new : List ℕ) : Type 0 where
+  pub added : List ℕ
+  pub of_nodes : AreOfNodes added
   pub text_is : text_new ≡ text_old ++ added

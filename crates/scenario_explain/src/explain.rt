@@ -3,9 +3,9 @@
 ghost use Rattle.std.specs.Prelude.{◌≡◌, OnOk, IfErr, map};
 ghost use Rattle.scenario.specs.Run.{EndsEarly, PrintsAll};
 ghost use Rattle.scenario_explain.specs.Noting.{NotesAll};
-ghost use Rattle.scenario_explain.specs.Told.{AddsTold, Explains, OpensExplained, explained};
+ghost use Rattle.scenario_explain.specs.Told.{AddsCommand, Explains, OpensExplained, explained};
 
-use crate::line::add_told;
+use crate::line::add_line;
 use crate::told::Told;
 use crate::waiting::Waiting;
 use printing::print_number;
@@ -42,9 +42,9 @@ impl<'a> Explainer<'a> {
     }
 
     /// Tells the line of the next command, and its number.
-    #[tactic(auto, using(crate::proofs::Adding::adds_none, crate::proofs::Adding::adds_then))]
-    fn add_line(&mut self, text: &mut Vec<u8>) -> Result<(), AllocError>
-        ensures told { OnOk result (AddsTold text.old.items text.new.items) }
+    #[tactic(auto, using(crate::proofs::Adding::no_command))]
+    fn tell_line(&mut self, text: &mut Vec<u8>) -> Result<(), AllocError>
+        ensures told { OnOk result (AddsCommand text.old.items text.new.items) }
         ensures waiting { self.new.waiting ≡ self.old.waiting }
     {
         let Some(line) = next_line(&mut self.lines, &mut self.number) else {
@@ -54,7 +54,7 @@ impl<'a> Explainer<'a> {
         print_number(&mut told, self.number)?;
         told.extend_from_slice(b": ")?;
         add_shown(&mut told, line)?;
-        add_told(text, told.as_slice())
+        add_line(text, told.as_slice())
     }
 }
 
@@ -78,7 +78,7 @@ impl<'a> Runner for Explainer<'a> {
     ghost follows = { λ e s. NotesAll e.waiting.frames.items e.waiting.seen s.given };
 
     fn open(&mut self, stage: &Stage, text: &mut Vec<u8>) -> Result<(), AllocError> {
-        self.add_line(text)?;
+        self.tell_line(text)?;
         self.told.open(stage.world())?;
         self.waiting.begin(stage)?;
         print_line(text, "ok")
@@ -91,7 +91,7 @@ impl<'a> Runner for Explainer<'a> {
         resolvers: &[Box<dyn Resolver>],
         text: &mut Vec<u8>,
     ) -> Result<(), StageFault> {
-        self.add_line(text)?;
+        self.tell_line(text)?;
         stage.obey(command, resolvers, text)?;
         self.waiting.note(stage, command)?;
         self.waiting.add_frames(text)?;

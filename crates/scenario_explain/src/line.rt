@@ -1,7 +1,7 @@
 //! Lines that are told.
 
 ghost use Rattle.std.specs.Prelude.{◌≡◌, ◌++◌, OnOk};
-ghost use Rattle.scenario_explain.specs.Told.{AddsTold, told_line};
+ghost use Rattle.scenario_explain.specs.Told.{told_line};
 
 use scenario_hint::add_printable;
 use std::alloc::AllocError;
@@ -14,13 +14,5 @@ pub(crate) fn add_line(text: &mut Vec<u8>, line: &[u8]) -> Result<(), AllocError
     text.extend_from_slice(b"  ")?;
     add_printable(text, line)?;
     text.push(b'\n')?;
-    Ok(())
-}
-
-/// Adds a line that is told.
-pub(crate) fn add_told(text: &mut Vec<u8>, line: &[u8]) -> Result<(), AllocError>
-    ensures { OnOk result (AddsTold text.old.items text.new.items) }
-{
-    add_line(text, line)?;
     Ok(())
 }

@@ -1,9 +1,9 @@
 //! What was told of a world, so that only what is new is told next.
 
-ghost use Rattle.std.specs.Prelude.{OnOk};
-ghost use Rattle.scenario_explain.specs.Told.{AddsTold};
+ghost use Rattle.std.specs.Prelude.{◌≡◌, ◌++◌, ℕ, List, OnOk};
+ghost use Rattle.scenario_explain.specs.Told.{AddsOfNodes};
 
-use crate::line::add_told;
+use crate::line::add_line;
 use frame_fields::Digest;
 use meta_store::Store;
 use meta_types::{FullPrefix, MetaKey};
@@ -94,7 +94,7 @@ impl Told {
         command: &Command<'_>,
         text: &mut Vec<u8>,
     ) -> Result<(), AllocError>
-        ensures { OnOk result (AddsTold text.old.items text.new.items) }
+        ensures { OnOk result (AddsOfNodes text.old.items text.new.items) }
     {
         match changes_of(command) {
             Changes::Nothing => Ok(()),
@@ -112,7 +112,7 @@ impl Told {
         key: KeyWord<'_>,
         text: &mut Vec<u8>,
     ) -> Result<(), AllocError>
-        ensures { OnOk result (AddsTold text.old.items text.new.items) }
+        ensures { OnOk result (AddsOfNodes text.old.items text.new.items) }
     {
         let (Some(state), Some(shown)) = (world.state(node), self.nodes.get_mut(node as usize))
         else {
@@ -127,7 +127,7 @@ impl Told {
     /// Adds a line for each key under which a node shows something else than was told last.
     #[tactic(auto, using(crate::proofs::Adding::adds_none, crate::proofs::Adding::adds_then))]
     fn add_tables(&mut self, world: &World, text: &mut Vec<u8>) -> Result<(), AllocError>
-        ensures { OnOk result (AddsTold text.old.items text.new.items) }
+        ensures { OnOk result (AddsOfNodes text.old.items text.new.items) }
     {
         let alloc = self.alloc;
         for (number, shown) in self.nodes.iter_mut().enumerate() {
@@ -149,7 +149,7 @@ impl Shown {
         state: &NodeState,
         text: &mut Vec<u8>,
     ) -> Result<(), AllocError>
-        ensures { OnOk result (AddsTold text.old.items text.new.items) }
+        ensures { OnOk result (AddsOfNodes text.old.items text.new.items) }
     {
         let root = state.tree().root();
         if root == self.root {
@@ -178,7 +178,7 @@ impl Shown {
         store: &Store,
         text: &mut Vec<u8>,
     ) -> Result<(), AllocError>
-        ensures { OnOk result (AddsTold text.old.items text.new.items) }
+        ensures { OnOk result (AddsOfNodes text.old.items text.new.items) }
     {
         for key in keys {
             self.add_change(alloc, node, key, store, text)?;
@@ -196,7 +196,7 @@ impl Shown {
         store: &Store,
         text: &mut Vec<u8>,
     ) -> Result<(), AllocError>
-        ensures { OnOk result (AddsTold text.old.items text.new.items) }
+        ensures { OnOk result (AddsOfNodes text.old.items text.new.items) }
     {
         if self.store.object(&key) == store.object(&key) {
             return Ok(());
@@ -221,8 +221,17 @@ impl Shown {
     }
 }
 
+/// Adds what the store holds under a key.
+fn print_held(line: &mut Vec<u8>, key: &MetaKey, store: &Store) -> Result<(), AllocError>
+    ensures { OnOk result ((more : List ℕ) × (line.new.items ≡ line.old.items ++ more)) }
+{
+    match store.object(key) {
+        Some(object) => print_object(line, object),
+        None => line.extend_from_slice(b"ctx - values -"),
+    }
+}
+
 /// Adds a line of what the node shows now under a key.
-#[tactic(auto, using(crate::proofs::Adding::adds_none, crate::proofs::Adding::adds_then))]
 fn add_shown(
     alloc: Global,
     node: u64,
@@ -230,7 +239,7 @@ fn add_shown(
     store: &Store,
     text: &mut Vec<u8>,
 ) -> Result<(), AllocError>
-    ensures { OnOk result (AddsTold text.old.items text.new.items) }
+    ensures { OnOk result (AddsOfNodes text.old.items text.new.items) }
 {
     let mut line = Vec::new(alloc);
     line.extend_from_slice(b"node ")?;
@@ -238,9 +247,6 @@ fn add_shown(
     line.extend_from_slice(b" shows ")?;
     print_key(&mut line, key)?;
     line.push(b' ')?;
-    match store.object(key) {
-        Some(object) => print_object(&mut line, object)?,
-        None => line.extend_from_slice(b"ctx - values -")?,
-    }
-    add_told(text, line.as_slice())
+    print_held(&mut line, key, store)?;
+    add_line(text, line.as_slice())
 }

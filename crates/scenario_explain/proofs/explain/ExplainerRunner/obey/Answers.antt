@@ -9,13 +9,13 @@ use Rattle.scenario_explain.proofs.explain.ExplainerRunner.obey.Goals as goal
 pub note-requires : goal.note-requires
 note-requires g c = record {
   before = c.args.stage.now.given;
-  noted = subst (λ (w : Waiting). NotesAll w.frames.items w.seen c.args.stage.now.given) (sym c.add_line.ensures.waiting) c.requires;
+  noted = subst (λ (w : Waiting). NotesAll w.frames.items w.seen c.args.stage.now.given) (sym c.tell_line.ensures.waiting) c.requires;
   sets = sets_marks (map (λ r. (goal.Resolver-dyn g (r.vtable, r.value)).choice r.value) c.args.resolvers.now) c.args.stage.now c.obey.new.self (command_word c.args.command.now) _ c.in_ok-obey.ensures.1;
 }
 
 pub returns-clause-obeyed : goal.returns-clause-obeyed
 returns-clause-obeyed g c =
-    explains _ c.args.stage.now c.obey.new.self _ _ _ _ _ _ _ c.in_ok-add_line.ensures.told c.in_ok-obey.ensures c.in_ok-note.ensures.frames_are c.in_ok-add_frames.ensures c.in_ok-add_news.ensures
+    explains _ c.args.stage.now c.obey.new.self _ _ _ _ _ _ _ c.in_ok-tell_line.ensures.told c.in_ok-obey.ensures c.in_ok-note.ensures.frames_are c.in_ok-add_frames.ensures c.in_ok-add_news.ensures
 
 pub returns-clause-goes_on : goal.returns-clause-goes_on
 returns-clause-goes_on g c = c.in_ok-note.ensures
