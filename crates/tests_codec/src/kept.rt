@@ -4,7 +4,7 @@ use meta_frame::{Frame, decode, encode, is_lawful};
 use std::alloc::{AllocError, Global};
 
 /// Adds the bytes of a frame from 0 to 1, number 1, of this kind and body.
-fn put_frame(out: &mut Vec<u8>, kind: u8, body: &[u8]) -> Result<(), AllocError> {
+pub(crate) fn put_frame(out: &mut Vec<u8>, kind: u8, body: &[u8]) -> Result<(), AllocError> {
     let len = u32::try_from(body.len()).unwrap_or(u32::MAX);
     out.extend_from_slice(&[b'P', b'T', 2, kind, 0, 0, 0, 1, 0, 0, 0, 0, 0, 0, 0, 1])?;
     out.extend_from_slice(&len.to_be_bytes())?;
@@ -25,7 +25,7 @@ fn is_copied(frame: &Frame) -> bool {
 }
 
 /// Returns whether the frame is lawful, and spelled by just these bytes.
-fn is_spelled(alloc: Global, frame: &Frame, bytes: &[u8]) -> bool {
+pub(crate) fn is_spelled(alloc: Global, frame: &Frame, bytes: &[u8]) -> bool {
     is_lawful(frame) && matches!(encode(alloc, frame), Ok(found) if found.as_slice() == bytes)
 }
 

@@ -4,7 +4,7 @@ use crate::kept::is_body_kept;
 use std::alloc::Global;
 
 // Round 0, key a/b/k, one value x of node 0 in its first life.
-const GOSSIP: &[u8] = b"\0\x00\0\x01a\0\x01b\0\x01k\
+pub(crate) const GOSSIP: &[u8] = b"\0\x00\0\x01a\0\x01b\0\x01k\
     \0\x01\0\x00\0\0\0\x01\0\0\0\0\0\0\0\x01\0\x01\x01\0\0\0\0\0\0\0\0\0\x01x";
 
 // Round 3, key a/b/k, the vector 0.1:2,0.2:1.
@@ -58,7 +58,7 @@ const XOBJECT: &[u8] = b"\0\x01a\0\x01b\0\x01k\0\x03\
 const XWANT: &[u8] = b"\0\x01a\0\x01b\0\x01k";
 
 // The kinds with their numbers; the priority high, and the answer no.
-static BODIES: [(u8, &[u8]); 21] = [
+pub(crate) static BODIES: [(u8, &[u8]); 21] = [
     (1, GOSSIP),
     (2, IHAVE),
     (3, IHAVE),

@@ -10,6 +10,8 @@
 // is as it should.
 
 #[cfg(test)]
+mod damaged;
+#[cfg(test)]
 mod fields;
 #[cfg(test)]
 mod kept;
