@@ -4,6 +4,7 @@ use crate::files::{EMPTY, OLD, OLD_ANEW, OLD_TWO, ONE, ROWS, SERVED, TWO, TWO_AN
 use crate::parts::{device, found_in, node, told};
 use devices::FailsOnce;
 use node_file::{FileFault, open_node};
+use std::alloc::Global;
 use std::test::Fail;
 
 #[test]
@@ -39,6 +40,49 @@ fn a_file_that_is_cut_short_is_damaged_at_a_gate(rt: HostRuntime) {
             _ => 129,
         };
         assert!(rt; found_in(rt.alloc(), &ONE[..n]) == Err((31, at)));
+    }
+}
+
+/// What the file of one record tells with this byte in that place.
+fn wanted_with(at: usize, byte: u8) -> Result<(u32, usize), (u16, usize)> {
+    match (at, byte) {
+        // The magic of version 1, in which the first payload is no key.
+        (7, b'1') => Err((31, 10)),
+        (0..=7, _) => Err((31, 0)),
+        (9, 1..=15) => Ok((1, 1)),
+        (8..=9, _) => Err((31, 8)),
+        (10, _) => Ok((0, 0)),
+        (11..=51, _) => Err((31, 10)),
+        (52, _) => Ok((1, 0)),
+        (53..=128, _) => Err((31, 52)),
+        (_, 1) => Err((31, 129)),
+        _ => Ok((1, 1)),
+    }
+}
+
+/// How often a file tells what it should when its byte in this place is made each other one.
+fn right_with(alloc: Global, file: &mut Vec<u8>, at: usize) -> usize {
+    let mut count = 0usize;
+    for change in 1u8..=255 {
+        let byte = file.get(at).copied().unwrap_or(0) ^ change;
+        if let Some(place) = file.get_mut(at) {
+            *place = byte;
+        }
+        if found_in(alloc, file.as_slice()) == wanted_with(at, byte) {
+            count = count.saturating_add(1);
+        }
+        if let Some(place) = file.get_mut(at) {
+            *place = byte ^ change;
+        }
+    }
+    count
+}
+
+#[test]
+fn a_file_with_one_byte_changed_is_damaged_at_its_gate_or_ends_there(rt: HostRuntime) {
+    let mut file = ONE.to_vec(rt.alloc()).expect(&rt, "memory");
+    for at in 0..ONE.len() {
+        assert!(rt; right_with(rt.alloc(), &mut file, at) == 255, "byte {at}");
     }
 }
 

@@ -20,6 +20,11 @@ fn reading_refusal(rt: &HostRuntime, path: &str) -> Option<OpenFault> {
     FileDevice::open_to_read(rt, rt.alloc(), path).err()
 }
 
+/// Why no file is found or made there.
+fn finding_refusal(rt: &HostRuntime, path: &str) -> Option<OpenFault> {
+    FileDevice::open_or_create(rt, rt.alloc(), path).err()
+}
+
 /// Why no file is made there.
 fn making_refusal(rt: &HostRuntime, path: &str) -> Option<OpenFault> {
     FileDevice::create_new(rt, rt.alloc(), path).err()
@@ -33,6 +38,8 @@ fn what_is_no_file_is_not_opened(rt: HostRuntime) {
     assert!(rt; reading_refusal(&rt, ".") == Some(OpenFault::NotAFile));
     assert!(rt; making_refusal(&rt, ".") == Some(OpenFault::Exists));
     assert!(rt; making_refusal(&rt, "no_folder/file") == Some(OpenFault::Missing));
+    assert!(rt; finding_refusal(&rt, ".") == Some(OpenFault::NotAFile));
+    assert!(rt; finding_refusal(&rt, "no_folder/file") == Some(OpenFault::Missing));
 }
 
 #[test]

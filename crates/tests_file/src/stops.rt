@@ -3,10 +3,11 @@
 ghost use Rattle.std.specs.Prelude.{◌≡◌, true};
 ghost use Rattle.node_file.specs.File.{file_state};
 
+use crate::files::{TWO, TWO_ANEW};
 use crate::parts::{device, found_in, node, object, write};
 use devices::{Call, Device, FailsAfter, MemoryDevice};
 use meta_store::Store;
-use node_file::{FileFault, NodeFile, create, serve};
+use node_file::{FileFault, NodeFile, create, open_node, serve};
 use std::alloc::Global;
 use std::cmp::Ordering;
 use std::process::Abort;
@@ -203,6 +204,30 @@ fn the_call_that_fails_is_told_and_stops_the_file(rt: HostRuntime) {
     }
     let ended = after(&rt, rt.alloc(), 11);
     assert!(rt; ended.done == 3 && ended.codes == (0, 0));
+}
+
+/// The number of the refusal, 0 for none, of writing the file of two records anew to a device that
+/// passes so many calls, and what the device holds then.
+fn anew_after(rt: &impl Abort, alloc: Global, passed: u64) -> (u16, MemoryDevice) {
+    let source = device(alloc, TWO).expect(rt, "memory");
+    let (file, table, life) = open_node(alloc, source, None).ok().expect(rt, "a file");
+    let mut target = FailsAfter::new(device(alloc, b"").expect(rt, "memory"), passed);
+    let code = match file.rewrite(alloc, &table, life, &mut target) {
+        Ok(()) => 0,
+        Err(fault) => fault.code(),
+    };
+    (code, target.into_inner())
+}
+
+#[test]
+fn a_target_that_fails_at_any_call_is_told(rt: HostRuntime) {
+    // A cut, a write and a sync make the front; then a life and an object are written, and synced.
+    for passed in 0u64..6 {
+        let (code, _) = anew_after(&rt, rt.alloc(), passed);
+        assert!(rt; code == 30, "{passed} calls");
+    }
+    let (code, target) = anew_after(&rt, rt.alloc(), 6);
+    assert!(rt; code == 0 && target.content() == TWO_ANEW);
 }
 
 /// Whether a crash after so many calls leaves a file as it was before the call that failed, or with
