@@ -53,11 +53,12 @@ fn a_last_line_feed_starts_no_line(rt: HostRuntime) {
 }
 
 /// How many bytes are seen outside, and how often they were passed on, when this many bytes were
-/// given one by one and the next is waited for; `None` where others were printed.
-fn seen_after(alloc: Global, given: usize) -> Option<(usize, u32)> {
+/// given one by one and the reader fails then; `None` where others were printed, or the run ended
+/// otherwise.
+fn seen_after(alloc: Global, given: usize, kind: ErrorKind) -> Option<(usize, u32)> {
     let feed = Feed {
         most: 1,
-        end: INTERRUPTED,
+        end: End::Fails(kind),
         ..Feed::new(&INPUT[..given.min(INPUT.len())])
     };
     let (done, device) = run(alloc, feed, Device::new(TEXT));
@@ -77,10 +78,12 @@ fn a_line_is_answered_before_the_next_is_waited_for(rt: HostRuntime) {
             48 => (42, 2),
             _ => (57, 3),
         };
-        assert!(rt;
-            seen_after(rt.alloc(), given) == Some(seen),
-            "{given} bytes"
-        );
+        for kind in [ErrorKind::Interrupted, ErrorKind::Other] {
+            assert!(rt;
+                seen_after(rt.alloc(), given, kind) == Some(seen),
+                "{given} bytes"
+            );
+        }
     }
 }
 
