@@ -207,8 +207,18 @@ fn leave<J: Naming, T: Trial, R: Wait + Abort>(
     let seat = writers.pop().expect(rt, "a seat");
     let not = not_closed(rt, node, writers, readers.as_slice());
     let closed = close_with(rt, not, seat, readers.as_slice());
+    assert!(rt; are_stopped(rt, alloc, readers.as_mut_slice()));
     drop(readers);
     Left { closed, receipts }
+}
+
+/// Whether each reader is refused with 34, as those of a node that was closed are.
+fn are_stopped<J: Naming>(rt: &impl Abort, alloc: Global, readers: &mut [ReadSeat<J>]) -> bool {
+    let mut are_stopped = true;
+    for reader in readers.iter_mut() {
+        are_stopped = are_stopped & (shown(rt, alloc, reader) == Err(34));
+    }
+    are_stopped
 }
 
 /// Why the node isn't closed, and what comes back.

@@ -7,7 +7,9 @@ use crate::parts::{key, next_life, open_first, put};
 use devices::{Device, FailsAfter, MemoryDevice};
 use meta_store::Store;
 use node_file::NodeFile;
-use node_lock::{Beginning, Capacity, Naming, Node, NotStarted, ReadSeat, Started, WriteSeat};
+use node_lock::{
+    Beginning, Capacity, LockFault, Naming, Node, NotStarted, ReadSeat, Started, WriteSeat,
+};
 use std::alloc::Global;
 use std::marker::Brand;
 use std::process::Abort;
@@ -40,12 +42,22 @@ fn close<J: Naming, R: Wait + Abort>(
     }
 }
 
-/// Writes three times, and closes the node.
+/// The number of the refusal, 0 for none.
+fn code<T: Drop>(answer: Result<T, LockFault>) -> u16 {
+    match answer {
+        Ok(_) => 0,
+        Err(fault) => fault.code(),
+    }
+}
+
+/// Writes three times, asks the stopped node for a cut and for a seat, and closes it.
 fn write<J: Naming, R: Wait + Abort>(
     rt: &R,
     alloc: Global,
     started: Started<Failing, J, &R>,
-) -> Came {
+) -> Came
+    requires { 9 ≤ J.parts }
+{
     let Started {
         node,
         mut writers,
@@ -57,6 +69,7 @@ fn write<J: Naming, R: Wait + Abort>(
         put(rt, alloc, &node, &mut seat, b'y'),
         put(rt, alloc, &node, &mut seat, b'z'),
     ];
+    assert!(rt; code(node.cut(rt, &seat)) == 34 && code(node.new_seat(rt)) == 34);
     writers.push(seat).ok().expect(rt, "memory");
     let (entries, device) = close(rt, node, writers, readers.as_slice());
     drop(readers);
