@@ -1,8 +1,12 @@
 //! What is printed and told, and the exit status.
 
-use cluster::{ClusterFault, ClusterPlan, NoGate};
+ghost use Rattle.std.specs.Prelude.{All};
+ghost use Rattle.devices.specs.Device.{IsDurable};
+
+use cluster::{ClusterFault, ClusterPlan, Limits, NoGate, run_cluster_on};
+use devices::{Device, MemoryDevice};
 use node_file::FileFault;
-use plumctl_live::{run_live, tell_run};
+use plumctl_live::{judge, run_live, tell_run};
 use std::alloc::Global;
 use std::process::Abort;
 use std::sync::Wait;
@@ -82,4 +86,40 @@ fn faults_are_told(rt: HostRuntime) {
             4
         )
     );
+}
+
+/// A new device in memory, alone in a list.
+fn new_device(rt: &impl Abort, alloc: Global) -> Vec<MemoryDevice>
+    ensures { All (λ d. IsDurable (⟦<MemoryDevice as Device>⟧.content d)
+        (⟦<MemoryDevice as Device>⟧.may_leave d)) result.items }
+{
+    let mut devices = Vec::new(alloc);
+    let device = MemoryDevice::new(alloc, Vec::new(alloc)).expect(rt, "memory");
+    devices.push(device).ok().expect(rt, "memory");
+    devices
+}
+
+/// The name of the refusal of a run of one node whose journal has room for so many entries.
+fn refusal<R: Threads + Wait + Abort + Sync>(
+    rt: &R,
+    alloc: Global,
+    journal: usize,
+) -> &'static str {
+    let limits = Limits { inbox: 1, journal };
+    let devices = new_device(rt, alloc);
+    let run = run_cluster_on(rt, alloc, plan(1, 4, 1), limits, devices, &NoGate);
+    let run = run.ok().expect(rt, "a run");
+    let judged = judge(alloc, &run);
+    drop(run);
+    match judged {
+        Ok(_) => "",
+        Err(fault) => fault.name(),
+    }
+}
+
+/// Nobody can say of a journal that was cut what its node did.
+#[test]
+fn a_journal_that_was_cut_is_not_judged(rt: HostRuntime) {
+    assert!(&rt; refusal(&rt, rt.alloc(), 1) == "NotWhole");
+    assert!(&rt; refusal(&rt, rt.alloc(), 4) == "");
 }
