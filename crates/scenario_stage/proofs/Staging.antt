@@ -17,7 +17,7 @@ use Rattle.scenario_stage.proofs.Passing.{frame_there, keep_is_accepted}
 
 -- ---- one event
 
-given_plain : (event : Event) (outcome : Result Answer WorldFault) (given : List Bool) → IsNoDelivery event → given_by event outcome given ≡ given
+pub given_plain : (event : Event) (outcome : Result Answer WorldFault) (given : List Bool) → IsNoDelivery event → given_by event outcome given ≡ given
 given_plain (events.Deliver frame n word) outcome given never = absurd never
 given_plain event outcome given never = refl
 
