@@ -14,6 +14,8 @@ mod damaged;
 #[cfg(test)]
 mod fields;
 #[cfg(test)]
+mod frame_lists;
+#[cfg(test)]
 mod kept;
 #[cfg(test)]
 mod kinds;

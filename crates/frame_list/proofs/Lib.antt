@@ -1,0 +1,2 @@
+-- the bytes of frames, by how they are kept
+pub mod Keeping

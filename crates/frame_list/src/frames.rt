@@ -1,0 +1,157 @@
+//! Frames, as a list of bytes, of which each may share its end with an earlier one.
+
+ghost use Rattle.std.specs.Prelude.{◌≡◌, ◌<◌, ◌^◌, ◌++◌, ◌∷◌, ◌≤◌, [], get_or, length, take, IfOk, IfSome, OnOk, OnErr};
+ghost use Rattle.frame_list.specs.Sharing.{AreShared, HasEndOf, ending, frames_behind};
+
+use meta_types::ByteString;
+use std::alloc::{AllocError, Global};
+use std::collections::BTreeMap;
+use std::marker::Model;
+
+/// A frame: bytes of its own, and behind them the last `shared` bytes of the frame at the place
+/// `of`. It has `len` bytes.
+#[derive(Debug, Drop)]
+pub(crate) struct Kept {
+    own: Vec<u8>,
+    of: usize,
+    shared: usize,
+    len: usize,
+}
+
+/// Frames, in the order in which they were added.
+///
+/// A frame shares with the last one before it that has the same sixteen bytes at its end as many
+/// bytes as these two have in common there. An object is spelled with the newest value of each
+/// writer in front, so a later object of a key ends as the earlier one does.
+#[derive(Debug, Drop)]
+pub struct Frames {
+    kept: Vec<Kept>,
+    /// Of each end the place of the last frame that has it.
+    latest: BTreeMap<ByteString, usize>,
+}
+
+impl Model for Frames {
+    ghost use Rattle.std.specs.Prelude.{ℕ, List, []};
+    ghost use Rattle.frame_list.specs.Sharing.{AreShared, frames_behind};
+
+    ghost Value = { List (List ℕ) };
+
+    ghost view = { λ f. frames_behind [] f.kept.items };
+
+    ghost invariant = { λ f. AreShared [] f.kept.items };
+}
+
+/// How many bytes at their end frames are looked for by.
+const END: usize = 16;
+
+impl Frames {
+    /// No frames. It takes no memory; what is kept will be taken from the allocator.
+    pub fn new(alloc: Global) -> Self
+        ensures { result ≡ [] }
+    {
+        Frames {
+            kept: Vec::new(alloc),
+            latest: BTreeMap::new(alloc),
+        }
+    }
+
+    /// How many there are.
+    pub fn len(&self) -> usize
+        ensures value { result ≡ length self.now }
+        ensures few { result < 2 ^ 63 }
+    {
+        self.kept.len()
+    }
+
+    /// The bytes of the frame at the place: a copy. Fails only when memory runs out.
+    pub fn bytes(&self, place: usize) -> Result<Vec<u8>, AllocError>
+        requires { place < length self.now }
+        ensures { IfOk result (λ bytes. bytes.items ≡ get_or self.now place []) }
+    {
+        bytes_at(*self.kept.allocator(), self.kept.as_slice(), place)
+    }
+
+    /// Adds a frame. Fails only when memory runs out, and then nothing changes.
+    pub fn push(&mut self, bytes: &[u8]) -> Result<(), AllocError>
+        ensures value { OnOk result (self.new ≡ self.old ++ bytes.now ∷ []) }
+        ensures same { OnErr result (self.new ≡ self.old) }
+    {
+        let alloc = *self.kept.allocator();
+        let place = self.kept.len();
+        let likely = self.latest.insert(end_of(alloc, bytes)?, place)?;
+        let (of, shared) = self.common(likely, bytes)?;
+        let len = bytes.len();
+        let (front, _) = bytes.split_at(len - shared);
+        let mut own = Vec::with_capacity(alloc, front.len())?;
+        own.extend_from_slice(front)?;
+        self.kept.push(Kept {
+            own,
+            of,
+            shared,
+            len,
+        })?;
+        Ok(())
+    }
+
+    /// The frame that is likely to end as these bytes do, and how many bytes the two have in common
+    /// at their ends; none with no frame.
+    fn common(&self, likely: Option<usize>, bytes: &[u8]) -> Result<(usize, usize), AllocError>
+        ensures { IfOk result (λ found. HasEndOf self.now found.0 found.1 bytes.now) }
+    {
+        match likely {
+            Some(place) if place < self.kept.len() => {
+                let other = self.bytes(place)?;
+                Ok((place, common_end(other.as_slice(), bytes)))
+            }
+            _ => Ok((0, 0)),
+        }
+    }
+
+    /// Keeps the first `len` frames alone, all where there are no more. It takes no memory.
+    pub fn truncate(&mut self, len: usize)
+        ensures { self.new ≡ take len self.old }
+    {
+        self.kept.truncate(len);
+    }
+}
+
+/// The bytes of the frame at the place: what is its own, and then down through the frames that it
+/// shares with.
+fn bytes_at(alloc: Global, kept: &[Kept], place: usize) -> Result<Vec<u8>, AllocError>
+    requires there { place < length kept.now }
+    requires shared { AreShared [] kept.now }
+    ensures { IfOk result (λ bytes. bytes.items ≡ get_or (frames_behind [] kept.now) place []) }
+{
+    let mut left = kept[place].len;
+    let mut bytes = Vec::with_capacity(alloc, left)?;
+    let mut at = place;
+    while 0 < left {
+        let frame = &kept[at];
+        let own = frame.own.as_slice();
+        let (_, end) = own.split_at(own.len() - left.saturating_sub(frame.shared));
+        bytes.extend_from_slice(end)?;
+        left = left.min(frame.shared);
+        at = frame.of;
+    }
+    Ok(bytes)
+}
+
+/// The last bytes of a frame, by which frames that end alike are found.
+fn end_of(alloc: Global, bytes: &[u8]) -> Result<ByteString, AllocError> {
+    let (_, end) = bytes.split_at(bytes.len().saturating_sub(END));
+    Ok(ByteString::new(end.to_vec(alloc)?))
+}
+
+/// How many bytes two lists have in common at their ends.
+fn common_end(one: &[u8], other: &[u8]) -> usize
+    ensures one { result ≤ length one.now }
+    ensures other { result ≤ length other.now }
+    ensures same { ending result one.now ≡ ending result other.now }
+{
+    let most = one.len().min(other.len());
+    let mut count = 0;
+    while count < most && one[one.len() - 1 - count] == other[other.len() - 1 - count] {
+        count += 1;
+    }
+    count
+}
