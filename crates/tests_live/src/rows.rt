@@ -88,6 +88,15 @@ fn faults_are_told(rt: HostRuntime) {
     );
 }
 
+/// Adds a device with nothing pending.
+fn add<D: Device + Drop>(rt: &impl Abort, devices: &mut Vec<D>, device: D)
+    requires all { All (λ d. IsDurable (D.content d) (D.may_leave d)) devices.old.items }
+    requires one { IsDurable (D.content device) (D.may_leave device) }
+    ensures { All (λ d. IsDurable (D.content d) (D.may_leave d)) devices.new.items }
+{
+    devices.push(device).ok().expect(rt, "memory");
+}
+
 /// A new device in memory, alone in a list.
 fn new_device(rt: &impl Abort, alloc: Global) -> Vec<MemoryDevice>
     ensures { All (λ d. IsDurable (⟦<MemoryDevice as Device>⟧.content d)
@@ -95,7 +104,7 @@ fn new_device(rt: &impl Abort, alloc: Global) -> Vec<MemoryDevice>
 {
     let mut devices = Vec::new(alloc);
     let device = MemoryDevice::new(alloc, Vec::new(alloc)).expect(rt, "memory");
-    devices.push(device).ok().expect(rt, "memory");
+    add(rt, &mut devices, device);
     devices
 }
 
