@@ -19,6 +19,7 @@ static FRAMES: [&str; 8] = [
 
 /// The frame at the place, read once more where memory is refused.
 fn bytes(rt: &impl Abort, frames: &Frames, place: usize) -> Vec<u8> {
+    assert!(rt; place < frames.len());
     match frames.bytes(place) {
         Ok(bytes) => bytes,
         Err(_) => frames.bytes(place).expect(rt, "memory once more"),

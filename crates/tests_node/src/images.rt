@@ -1,15 +1,19 @@
 //! What images show, also where their values stand in a log that went on, or could not.
 
+ghost use Rattle.std.specs.Prelude.{IfSome};
+ghost use Rattle.meta_store.specs.Table.{IsHeld};
+
 use crate::parts::{key, node, value};
-use dvvset::{Entries, Vector, join, update};
+use dvvset::Entries;
 use image_list::Images;
+use meta_store::{Source, Store};
 use meta_types::{Actor, MetaKey};
 use std::alloc::Global;
+use std::mem::replace;
 use std::process::Abort;
 
-/// What a write leaves of the object: of this node, which has read what is there or nothing, of
-/// this body. In place of the object of the images before it stands an empty one where it starts
-/// anew.
+/// A write of this node, which has read what is there or nothing, of this body; to a new store
+/// where it starts anew.
 struct Write {
     anew: bool,
     node: u16,
@@ -70,44 +74,64 @@ static WRITES: [Write; 8] = [
     },
 ];
 
-/// The object after the write; asked for once more where memory is refused.
-fn written(rt: &impl Abort, alloc: Global, object: &Entries, write: &Write) -> Entries {
-    match try_written(rt, alloc, object, write) {
-        Some(object) => object,
-        None => try_written(rt, alloc, object, write).expect(rt, "memory once more"),
+/// Makes the write; once more where memory is refused.
+fn make(rt: &impl Abort, alloc: Global, store: &mut Store, write: &Write) {
+    if write.anew {
+        drop(replace(store, Store::new(alloc)));
+    }
+    if !try_make(rt, alloc, store, write) {
+        assert!(rt; try_make(rt, alloc, store, write));
     }
 }
 
-fn try_written(rt: &impl Abort, alloc: Global, object: &Entries, write: &Write) -> Option<Entries> {
-    let empty = Entries::empty(alloc);
-    let before = if write.anew { &empty } else { object };
-    let read = if write.has_read {
-        join(alloc, before).ok()?
-    } else {
-        Vector::empty(alloc)
-    };
+/// Makes the write, unless memory is refused.
+fn try_make(rt: &impl Abort, alloc: Global, store: &mut Store, write: &Write) -> bool {
+    let key = key(rt, alloc, b"a", b"b", b"k");
     let actor = Actor::new(node(rt, write.node), 1);
+    let read = store.context(&key, Source { actor, step: 1 });
     let value = value(rt, alloc, 7, write.body.as_bytes());
-    update(alloc, &read, before, actor, value).ok()
-}
-
-/// What an image changes: a key and its object.
-fn change(rt: &impl Abort, alloc: Global, object: &Entries) -> (MetaKey, Entries) {
-    let copy = match object.copy() {
-        Ok(copy) => copy,
-        Err(_) => object.copy().expect(rt, "memory once more"),
+    let written = match &read {
+        Ok(read) if write.has_read => store.put(actor, key, value, Some(read)).is_ok(),
+        Ok(_) => store.put(actor, key, value, None).is_ok(),
+        Err(_) => false,
     };
-    (key(rt, alloc, b"a", b"b", b"k"), copy)
+    drop(read);
+    written
 }
 
-/// The image at the place shows the object; read once more where memory is refused.
-fn shows(rt: &impl Abort, images: &Images, at: usize, object: &Entries) {
+/// What an image changes: the key and its object.
+fn change(rt: &impl Abort, alloc: Global, store: &Store) -> Option<(MetaKey, Entries)>
+    ensures { IfSome result (λ change. IsHeld change.1) }
+{
+    let key = key(rt, alloc, b"a", b"b", b"k");
+    let object = store
+        .object(&key)?
+        .copy()
+        .or(store.object(&key)?.copy())
+        .ok()?;
+    Some((key, object))
+}
+
+/// Adds an image of what is in the store; once more where memory is refused.
+fn add(rt: &impl Abort, alloc: Global, images: &mut Images, store: &Store) {
+    let base = images.len();
+    let change = change(rt, alloc, store);
+    assert!(rt; change.is_some());
+    if images.push(base, change.as_ref()).is_err() {
+        assert_eq!(rt; images.len(), base);
+        assert!(rt; images.push(base, change.as_ref()).is_ok());
+    }
+    drop(change);
+}
+
+/// The image at the place shows what is in the store; read once more where memory is refused.
+fn shows(rt: &impl Abort, images: &Images, at: usize, store: &Store) -> bool {
+    assert!(rt; at < images.len());
     let change = images.at(at).change().expect(rt, "a change");
-    let shown = match change.object() {
-        Ok(shown) => shown,
-        Err(_) => change.object().expect(rt, "memory once more"),
-    };
-    assert!(rt; shown == *object, "image {at}");
+    let shown = change.object().or(change.object()).ok();
+    let is_shown = shown.as_ref() == store.object(change.key());
+    drop(shown);
+    is_shown
 }
 
 // Holds whichever single allocation is refused.
@@ -115,26 +139,14 @@ fn shows(rt: &impl Abort, images: &Images, at: usize, object: &Entries) {
 fn images_show_what_was_added_under_refused_memory(rt: HostRuntime) {
     let alloc = rt.alloc();
     let mut images = Images::new(alloc);
-    let mut object = Entries::empty(alloc);
-    for (at, write) in WRITES.iter().enumerate() {
-        object = written(&rt, alloc, &object, write);
-        let change = change(&rt, alloc, &object);
-        if images.push(at, Some(&change)).is_err() {
-            assert_eq!(&rt; images.len(), at);
-            images
-                .push(at, Some(&change))
-                .expect(&rt, "memory once more");
-        }
-        assert_eq!(&rt; images.len(), at + 1);
+    let mut store = Store::new(alloc);
+    for each in &WRITES {
+        make(&rt, alloc, &mut store, each);
+        add(&rt, alloc, &mut images, &store);
     }
-    show_all(&rt, alloc, &images);
-}
-
-/// Each image shows what the writes up to its own leave.
-fn show_all(rt: &impl Abort, alloc: Global, images: &Images) {
-    let mut object = Entries::empty(alloc);
-    for (at, write) in WRITES.iter().enumerate() {
-        object = written(rt, alloc, &object, write);
-        shows(rt, images, at, &object);
+    let mut again = Store::new(alloc);
+    for (at, each) in WRITES.iter().enumerate() {
+        make(&rt, alloc, &mut again, each);
+        assert!(rt; shows(&rt, &images, at, &again), "image {at}");
     }
 }
