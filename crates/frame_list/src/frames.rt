@@ -22,7 +22,8 @@ pub(crate) struct Kept {
 ///
 /// A frame shares with the last one before it that has the same sixteen bytes at its end as many
 /// bytes as these two have in common there. An object is spelled with the newest value of each
-/// writer in front, so a later object of a key ends as the earlier one does.
+/// writer in front, so a later object of a key ends as the earlier one does, as long as no write
+/// has read the last value there.
 #[derive(Debug, Drop)]
 pub struct Frames {
     kept: Vec<Kept>,
