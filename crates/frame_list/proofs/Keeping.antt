@@ -258,3 +258,20 @@ placed_as kept at k all low is = subst (IsPlaced (frames_behind [] kept) at) (sy
 
 pub low_now : (kept : List Kept) (place at left : ℕ) (bytes : List ℕ) → 0 < left → Walking (frames_behind [] kept) place at left bytes → at < length kept
 low_now kept place at left bytes some w = subst (λ n. at < n) (how_many kept) (there_now (frames_behind [] kept) place at left bytes some w.there)
+
+-- ---- the frame that keeps some of an end as its own
+
+-- what stands before the end was read, so to speak
+pub at_first : (kept : List Kept) (place count : ℕ) → place < length kept → count ≤ length (get_or (frames_behind [] kept) place [])
+    → Walking (frames_behind [] kept) place place count (take (length (get_or (frames_behind [] kept) place []) - count) (get_or (frames_behind [] kept) place []))
+at_first kept place count low within =
+    let frame : List ℕ = get_or (frames_behind [] kept) place [] in record {
+      there = inr (subst (λ n. place < n) (sym (how_many kept)) low);
+      within = within;
+      whole = take-append-drop (length frame - count) frame;
+    }
+
+-- while there is an end the place goes down
+pub less : (k : Kept) (at count : ℕ) → 0 < count → count ≤ k.shared → (k.shared ≡ 0) ⊎ (k.of < at) → k.of < at
+less k at count some few (inl none) = absurd (omega (arith, some, few, none))
+less k at count some few (inr low) = low

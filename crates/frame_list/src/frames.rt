@@ -1,6 +1,6 @@
 //! Frames, as a list of bytes, of which each may share its end with an earlier one.
 
-ghost use Rattle.std.specs.Prelude.{◌≡◌, ◌<◌, ◌^◌, ◌++◌, ◌∷◌, ◌≤◌, [], get_or, length, take, IfOk, IfSome, OnOk, OnErr};
+ghost use Rattle.std.specs.Prelude.{◌≡◌, ◌<◌, ◌^◌, ◌++◌, ◌∷◌, ◌≤◌, [], ℕ, List, get_or, length, take, IfOk, OnOk, OnErr};
 ghost use Rattle.frame_list.specs.Sharing.{AreShared, HasEndOf, ending, frames_behind};
 
 use meta_types::ByteString;
@@ -20,16 +20,18 @@ pub(crate) struct Kept {
 
 /// Frames, in the order in which they were added.
 ///
-/// A frame shares with the last one before it that has the same sixteen bytes at its end as many
-/// bytes as these two have in common there. An object is spelled with the newest value of each
-/// writer in front, so a later object of a key ends as the earlier one does, as long as no write
-/// has read the last value there.
+/// A frame of 128 bytes or more shares with the last such frame before it that ends in the same
+/// sixteen bytes as many bytes as the two have in common at their ends. An object is spelled with
+/// the newest value of each writer in front, so a later object of a key ends as the earlier one
+/// does, as long as no write has read the last value there. After a refusal less may be shared.
 #[derive(Debug, Drop)]
 pub struct Frames {
     kept: Vec<Kept>,
-    /// Of each end the place of the last frame that has it.
-    latest: BTreeMap<ByteString, usize>,
+    latest: Latest,
 }
+
+/// For each end, the place of the last frame that has it, among those of `LEAST` bytes or more.
+type Latest = BTreeMap<ByteString, usize>;
 
 impl Model for Frames {
     ghost use Rattle.std.specs.Prelude.{ℕ, List, []};
@@ -44,6 +46,10 @@ impl Model for Frames {
 
 /// How many bytes at their end frames are looked for by.
 const END: usize = 16;
+
+/// The least length of a frame that shares bytes. What is kept beside a shorter one would take as
+/// much memory as sharing saves.
+const LEAST: usize = 128;
 
 impl Frames {
     /// No frames. It takes no memory; what is kept will be taken from the allocator.
@@ -79,7 +85,7 @@ impl Frames {
     {
         let alloc = *self.kept.allocator();
         let place = self.kept.len();
-        let likely = self.latest.insert(end_of(alloc, bytes)?, place)?;
+        let likely = note(alloc, &mut self.latest, bytes, place)?;
         let (of, shared) = self.common(likely, bytes)?;
         let len = bytes.len();
         let (front, _) = bytes.split_at(len - shared);
@@ -94,15 +100,40 @@ impl Frames {
         Ok(())
     }
 
-    /// The frame that is likely to end as these bytes do, and how many bytes the two have in common
-    /// at their ends; none with no frame.
+    /// Adds these frames, in their order. Fails only when memory runs out, and then nothing changes.
+    pub fn extend(&mut self, frames: &[ByteString]) -> Result<(), AllocError>
+        ensures value { OnOk result (self.new ≡ self.old ++ frames.now) }
+        ensures same { OnErr result (self.new ≡ self.old) }
+    {
+        let before = self.len();
+        let added = self.push_each(frames);
+        if added.is_err() {
+            self.truncate(before);
+        }
+        added
+    }
+
+    /// Adds these frames. Where memory runs out, some may have been added.
+    fn push_each(&mut self, frames: &[ByteString]) -> Result<(), AllocError>
+        ensures some { (added : List (List ℕ)) × (self.new ≡ self.old ++ added) }
+        ensures all { OnOk result (self.new ≡ self.old ++ frames.now) }
+    {
+        for frame in frames {
+            self.push(frame.as_slice())?;
+        }
+        Ok(())
+    }
+
+    /// A frame that has an end in common with these bytes, and how many bytes that end has: as many
+    /// as the likely frame has in common with them, and none where there is no such frame.
     fn common(&self, likely: Option<usize>, bytes: &[u8]) -> Result<(usize, usize), AllocError>
         ensures { IfOk result (λ found. HasEndOf self.now found.0 found.1 bytes.now) }
     {
         match likely {
             Some(place) if place < self.kept.len() => {
                 let other = self.bytes(place)?;
-                Ok((place, common_end(other.as_slice(), bytes)))
+                let count = common_end(other.as_slice(), bytes);
+                Ok((keeper(self.kept.as_slice(), place, count), count))
             }
             _ => Ok((0, 0)),
         }
@@ -135,6 +166,41 @@ fn bytes_at(alloc: Global, kept: &[Kept], place: usize) -> Result<Vec<u8>, Alloc
         at = frame.of;
     }
     Ok(bytes)
+}
+
+/// The frame from which the last `count` bytes of the frame at the place are to be read: down through
+/// those that share all of them, to the first that has some as its own. So each step of a later read
+/// but the first finds bytes, however many frames are alike.
+fn keeper(kept: &[Kept], place: usize, count: usize) -> usize
+    requires there { place < length kept.now }
+    requires shared { AreShared [] kept.now }
+    requires within { count ≤ length (get_or (frames_behind [] kept.now) place []) }
+    ensures { let frames = frames_behind [] kept.now in
+        HasEndOf frames result count (get_or frames place []) }
+{
+    let mut at = place;
+    while 0 < count {
+        let frame = &kept[at];
+        if frame.shared < count {
+            break;
+        }
+        at = frame.of;
+    }
+    at
+}
+
+/// Notes that a frame of these bytes stands at the place, if they are long enough to share an end.
+/// Answers the place of the last frame with the same end.
+fn note(
+    alloc: Global,
+    latest: &mut Latest,
+    bytes: &[u8],
+    place: usize,
+) -> Result<Option<usize>, AllocError> {
+    if bytes.len() < LEAST {
+        return Ok(None);
+    }
+    Ok(latest.insert(end_of(alloc, bytes)?, place)?)
 }
 
 /// The last bytes of a frame, by which frames that end alike are found.

@@ -5,7 +5,7 @@ ghost use Rattle.std.specs.Prelude.{◌≡◌, ◌∷◌, ◌++◌, [], length, 
 ghost use Rattle.std.specs.Option.{option_copied, option_map};
 ghost use Rattle.meta_store.specs.Table.{IsHeld};
 ghost use Rattle.image_list.specs.Image.{IsChange};
-ghost use Rattle.image_list.specs.Logs.{GrowTo, IsKeptChange, IsInLogs, whole_change, whole_object};
+ghost use Rattle.image_list.specs.Logs.{GrowTo, IsKeptChange, IsInLogs, Keeps, whole_change, whole_object};
 
 use crate::kept::{Kept, KeptChange};
 use crate::logs::{LoggedEntry, Logs};
@@ -18,16 +18,21 @@ use std::marker::Model;
 /// The images of one node, but for image 0, which is empty. They are numbered from 1 in the order
 /// in which they were made.
 ///
-/// A value that several of them show is kept once, as far as each shows values of a writer that an
-/// earlier image of the key showed or that came right after them. So images take memory in
-/// proportion to their number, the number of writers under their keys, and the values.
+/// A value that several of them show is kept once, as far as the values of a writer under a key
+/// come one after the other, however images go to and fro between them: so images take memory in
+/// proportion to their number, the number of writers under their keys, and the values. Where some
+/// were left out that a later image has after all, or where memory ran out, values may be copied
+/// again.
 #[derive(Debug, Drop)]
 pub struct Images {
     kept: Vec<Kept>,
     logs: Logs,
-    /// Of each key the place of its last image, where logs are looked for that go on.
-    latest: BTreeMap<MetaKey, usize>,
+    latest: Latest,
 }
+
+/// For each key and writer, the log that was last begun or continued: the one in which the next values
+/// are looked for.
+type Latest = BTreeMap<(MetaKey, Actor), usize>;
 
 impl Model for Images {
     ghost use Rattle.std.specs.Prelude.{List, map, All};
@@ -172,8 +177,7 @@ impl Images {
             ++ (record { base = base; change = option_copied change.entry }) ∷ []) }
         ensures same { OnErr result (self.new ≡ self.old) }
     {
-        let kept = self.kept.as_slice();
-        let change = keep(kept, &mut self.logs, &mut self.latest, change)?;
+        let change = keep(&mut self.logs, &mut self.latest, change)?;
         self.kept.push(Kept { base, change })?;
         Ok(())
     }
@@ -186,13 +190,10 @@ impl Images {
     }
 }
 
-/// Keeps a change, if there is one. `latest` has the place of the last image of each key among
-/// these, whose logs may go on; it is noted there that the next one is of this key. Where memory
-/// runs out, logs may have grown.
+/// Keeps a change, if there is one. Where memory runs out, logs may have grown.
 fn keep(
-    kept: &[Kept],
     logs: &mut Logs,
-    latest: &mut BTreeMap<MetaKey, usize>,
+    latest: &mut Latest,
     change: Option<&(MetaKey, Entries)>,
 ) -> Result<Option<KeptChange>, AllocError>
     requires { IsChange (option_copied change) }
@@ -203,15 +204,14 @@ fn keep(
 {
     match change {
         None => Ok(None),
-        Some(change) => Ok(Some(keep_change(kept, logs, latest, change)?)),
+        Some(change) => Ok(Some(keep_change(logs, latest, change)?)),
     }
 }
 
 /// Keeps a change.
 fn keep_change(
-    kept: &[Kept],
     logs: &mut Logs,
-    latest: &mut BTreeMap<MetaKey, usize>,
+    latest: &mut Latest,
     change: &(MetaKey, Entries),
 ) -> Result<KeptChange, AllocError>
     requires { IsHeld change.now.1 }
@@ -219,30 +219,19 @@ fn keep_change(
     ensures change { IfOk result (IsKeptChange logs.new) }
     ensures value { IfOk result (λ kept. whole_change logs.new kept ≡ change.now) }
 {
-    let older = entries_at(kept, latest.insert(change.0.copy()?, kept.len())?);
-    let entries = keep_all(logs, change.1.entries(), older)?;
+    let entries = keep_all(logs, latest, &change.0, change.1.entries())?;
     Ok(KeptChange {
         key: change.0.copy()?,
         entries,
     })
 }
 
-/// The entries of what the image at the place changes.
-fn entries_at(kept: &[Kept], place: Option<usize>) -> &[LoggedEntry] {
-    match place {
-        Some(place) if place < kept.len() => match &kept[place].change {
-            Some(change) => change.entries.as_slice(),
-            None => &[],
-        },
-        _ => &[],
-    }
-}
-
-/// Keeps the entries of an object. Where memory runs out, logs may have grown.
+/// Keeps the entries of the object under the key. Where memory runs out, logs may have grown.
 fn keep_all(
     logs: &mut Logs,
+    latest: &mut Latest,
+    key: &MetaKey,
     entries: &[Entry],
-    older: &[LoggedEntry],
 ) -> Result<Vec<LoggedEntry>, AllocError>
     ensures grow { GrowTo logs.old logs.new }
     ensures within { IfOk result (λ kept. All (IsInLogs logs.new) kept.items) }
@@ -250,16 +239,23 @@ fn keep_all(
 {
     let mut kept = Vec::with_capacity(logs.alloc(), entries.len())?;
     for entry in entries {
-        let likely = log_of(older, entry.id());
-        kept.push(logs.keep(entry, likely)?)?;
+        kept.push(keep_entry(logs, latest, key, entry)?)?;
     }
     Ok(kept)
 }
 
-/// The log of the writer's values, if one of these entries has any.
-fn log_of(entries: &[LoggedEntry], id: Actor) -> Option<usize> {
-    match entries.binary_search_by_key(&id, |entry| entry.id) {
-        Ok(at) => Some(entries[at].log),
-        Err(_) => None,
-    }
+/// Keeps an entry, and notes in which log.
+fn keep_entry(
+    logs: &mut Logs,
+    latest: &mut Latest,
+    key: &MetaKey,
+    entry: &Entry,
+) -> Result<LoggedEntry, AllocError>
+    ensures { Keeps logs.old logs.new entry.now result }
+{
+    let writer = (key.copy()?, entry.id());
+    let likely = latest.get(&writer).copied();
+    let kept = logs.keep(entry, likely)?;
+    latest.insert(writer, kept.log)?;
+    Ok(kept)
 }

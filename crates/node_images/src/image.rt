@@ -1,7 +1,8 @@
 //! What an image has: what it changes, and else what its base has.
 
-ghost use Rattle.std.specs.Prelude.{◌≡◌, ◌≤◌, [], length, IfOk};
+ghost use Rattle.std.specs.Prelude.{◌≡◌, ◌≤◌, [], length, IfOk, IfSome};
 ghost use Rattle.std.specs.Option.{unwrap_or};
+ghost use Rattle.meta_store.specs.Table.{IsHeld};
 ghost use Rattle.image_list.specs.Image.{instead};
 ghost use Rattle.node_images.specs.Images.{ChangeEarlier, holdings};
 
@@ -19,7 +20,9 @@ pub fn object_in(
 ) -> Result<Option<Entries>, AllocError>
     requires number { number ≤ length images.now }
     requires earlier { ChangeEarlier images.now }
-    ensures { IfOk result (λ object. unwrap_or object [] ≡ holdings images.now number key.now) }
+    ensures value { IfOk result
+        (λ object. unwrap_or object [] ≡ holdings images.now number key.now) }
+    ensures held { IfOk result (λ object. IfSome object IsHeld) }
 {
     let mut at = number;
     while at > 0 {
@@ -34,7 +37,8 @@ pub fn object_in(
 
 /// What stands under the key instead: a copy.
 fn object_instead(image: &Image, key: &MetaKey) -> Result<Option<Entries>, AllocError>
-    ensures { IfOk result (λ object. object ≡ instead image.now.change key.now) }
+    ensures value { IfOk result (λ object. object ≡ instead image.now.change key.now) }
+    ensures held { IfOk result (λ object. IfSome object IsHeld) }
 {
     match image.change() {
         Some(change) if key == change.key() => Ok(Some(change.object()?)),

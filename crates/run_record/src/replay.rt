@@ -1,6 +1,6 @@
 //! A world in which the entries are made again.
 
-ghost use Rattle.std.specs.Prelude.{ℕ, ◌≡◌, ◌<◌, ◌≤◌, ◌++◌, length, slice_index, All, IfOk, IfErr, IfSome, IsNone, IsTrue, Some, ◌↔◌, OnOk};
+ghost use Rattle.std.specs.Prelude.{ℕ, ◌≡◌, ◌<◌, ◌≤◌, length, slice_index, All, IfOk, IfErr, IfSome, IsNone, IsTrue, Some, ◌↔◌, OnOk};
 ghost use Rattle.node_journal.specs.Closed.{AreWhole};
 ghost use Rattle.run_order.specs.Journals.{entry_at};
 ghost use Rattle.run_order.specs.Order.{AreFirst, HasEnded, IsOrderFrom, IsReady, with_turn};
@@ -120,7 +120,7 @@ impl Replay {
         let event = self.event_of(closed, node, &entry.event, turn.giver)?;
         has_lived(&self.world, node);
         match self.world.apply(event) {
-            Ok(answer) => match told_mark(&self.world, answer, entry) {
+            Ok(answer) => match told_mark(&self.world, answer, entry)? {
                 Some(mark) => {
                     self.marks[node].push(mark)?;
                     self.next[node] += 1;
@@ -165,15 +165,11 @@ fn refusal(fault: WorldFault, node: usize) -> RecordFault
     }
 }
 
-/// Returns whether the frames are those of both parts, one after the other.
-fn are_frames(first: &[ByteString], last: &[ByteString], frames: &[ByteString]) -> bool
-    ensures { IsTrue result ↔ (first.now ++ last.now ≡ frames.now) }
+/// Returns whether the frames are the same.
+fn are_frames(sent: &[ByteString], frames: &[ByteString]) -> bool
+    ensures { IsTrue result ↔ (sent.now ≡ frames.now) }
 {
-    if first.len() > frames.len() {
-        return false;
-    }
-    let (front, back) = frames.split_at(first.len());
-    front == first && back == last
+    sent == frames
 }
 
 /// Returns whether two replies are the same.
@@ -183,22 +179,23 @@ fn are_same(one: &Reply, other: &Reply) -> bool
     one == other
 }
 
-/// Returns whether the reply and the frames are those of the entry.
-fn is_as_told(world: &World, answer: &Answer, entry: &Entry) -> bool
-    ensures { IsTrue result ↔ AsTold world.now answer.now entry.now }
+/// Returns whether the reply and the frames are those of the entry. Fails only when memory runs
+/// out.
+fn is_as_told(world: &World, answer: &Answer, entry: &Entry) -> Result<bool, AllocError>
+    ensures { IfOk result (λ told. IsTrue told ↔ AsTold world.now answer.now entry.now) }
 {
     if !are_same(&answer.reply, &entry.reply) {
-        return false;
+        return Ok(false);
     }
-    let (first, last) = world.frames_at(answer.sent);
-    are_frames(first, last, entry.outbox.as_slice())
+    let sent = world.frames_at(answer.sent)?;
+    Ok(are_frames(sent.as_slice(), entry.outbox.as_slice()))
 }
 
-/// The mark of an entry, if the answer is as it tells.
-fn told_mark(world: &World, answer: Answer, entry: &Entry) -> Option<Mark>
-    ensures some { IfSome result (λ mark. AsTold world.now answer entry.now
-        × IsMarkOf answer mark) }
-    ensures none { IsNone result → AsTold world.now answer entry.now → ⊥ }
+/// The mark of an entry, if the answer is as it tells. Fails only when memory runs out.
+fn told_mark(world: &World, answer: Answer, entry: &Entry) -> Result<Option<Mark>, AllocError>
+    ensures some { IfOk result (λ mark. IfSome mark
+        (λ m. AsTold world.now answer entry.now × IsMarkOf answer m)) }
+    ensures none { IfOk result (λ mark. IsNone mark → AsTold world.now answer entry.now → ⊥) }
 {
     let told = is_as_told(world, &answer, entry);
     let mark = Mark {
@@ -206,5 +203,5 @@ fn told_mark(world: &World, answer: Answer, entry: &Entry) -> Option<Mark>
         read: answer.read,
     };
     drop(answer);
-    if told { Some(mark) } else { None }
+    Ok(if told? { Some(mark) } else { None })
 }

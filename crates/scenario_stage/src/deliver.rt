@@ -74,13 +74,14 @@ fn addressee_in(bytes: &[u8]) -> u64
 }
 
 impl Stage {
-    /// The addressee of the frame of that number; 0 where there is none.
-    fn addressee(&self, frame: u64) -> u64
-        ensures { result ≡ addressee self.now.world frame }
+    /// The addressee of the frame of that number; 0 where there is none. Fails only when memory
+    /// runs out.
+    fn addressee(&self, frame: u64) -> Result<u64, AllocError>
+        ensures { IfOk result (λ node. node ≡ addressee self.now.world frame) }
     {
-        match self.world.frame(frame) {
-            Some(bytes) => addressee_in(bytes.as_slice()),
-            None => 0,
+        match self.world.frame(frame)? {
+            Some(bytes) => Ok(addressee_in(bytes.as_slice())),
+            None => Ok(0),
         }
     }
 
@@ -105,7 +106,10 @@ impl Stage {
         ensures { OnOk result (Delivers self.old frame node word text.old.items
             text.new.items self.new) }
     {
-        let node = node.unwrap_or(self.addressee(frame));
+        let node = match node {
+            Some(node) => node,
+            None => self.addressee(frame)?,
+        };
         let outcome = self.apply(Event::Deliver { frame, node, word });
         let done = self.tell_delivery(frame, &outcome, text);
         drop(outcome);
@@ -154,7 +158,7 @@ impl Stage {
         requires { waiting self.old ≡ Some frame }
         ensures { OnOk result (HandsOn self.old frame self.new) }
     {
-        let node = self.addressee(frame);
+        let node = self.addressee(frame)?;
         let outcome = self.apply(Event::Deliver {
             frame,
             node,

@@ -232,8 +232,8 @@ pub fn print_frame_of(
     ensures { OnOk result ((frame : F) × (IsFrameOf world.now number frame
         × (out.new.items ≡ out.old.items ++ frame_line number frame))) }
 {
-    match world.frame(number) {
-        Some(bytes) => print_frame_line(alloc, out, number, bytes),
+    match world.frame(number)? {
+        Some(bytes) => print_frame_line(alloc, out, number, &bytes),
         None => unreachable!(),
     }
 }

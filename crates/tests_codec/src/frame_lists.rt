@@ -1,23 +1,34 @@
 //! Frames in a list, which share their ends where these are alike.
 
 use frame_list::Frames;
-use std::alloc::Global;
+use meta_types::ByteString;
+use std::alloc::{AllocError, Global};
 use std::process::Abort;
 
-/// Frames of which some end as an earlier one does, in more than sixteen bytes or fewer, some are
-/// the same, and one is empty.
-static FRAMES: [&str; 8] = [
-    "first of these, which ends in many bytes that are common",
-    "second, which ends in many bytes that are common",
-    "of another end",
-    "a third and longer one, which ends in many bytes that are common",
-    "third, which ends in many bytes that are common",
-    "of another end",
-    "",
-    "common",
+/// What each frame begins with, and how many bytes `e` come after that. Those that are long enough to
+/// share an end all end in the same sixteen bytes; two are the same, and one is the end of another.
+static FRAMES: [(&str, usize); 9] = [
+    ("first", 150),
+    ("second", 150),
+    ("of another end", 0),
+    ("third, which is longer", 200),
+    ("", 160),
+    ("", 160),
+    ("fourth", 140),
+    ("", 0),
+    ("short", 20),
 ];
 
-/// The frame at the place, read once more where memory is refused.
+/// The frame that is told so.
+fn made(alloc: Global, told: (&str, usize)) -> Result<ByteString, AllocError> {
+    let mut bytes = told.0.as_bytes().to_vec(alloc)?;
+    for _ in 0..told.1 {
+        bytes.push(b'e')?;
+    }
+    Ok(ByteString::new(bytes))
+}
+
+/// The frame at the place of the list, read once more where memory is refused.
 fn bytes(rt: &impl Abort, frames: &Frames, place: usize) -> Vec<u8> {
     assert!(rt; place < frames.len());
     match frames.bytes(place) {
@@ -26,24 +37,62 @@ fn bytes(rt: &impl Abort, frames: &Frames, place: usize) -> Vec<u8> {
     }
 }
 
-/// A list of all frames; each is added once more where memory is refused.
-fn all(rt: &impl Abort, alloc: Global) -> Frames {
-    let mut frames = Frames::new(alloc);
-    for (place, frame) in FRAMES.iter().enumerate() {
-        if frames.push(frame.as_bytes()).is_err() {
-            assert_eq!(rt; frames.len(), place);
-            frames.push(frame.as_bytes()).expect(rt, "memory once more");
+/// All frames; each is made once more where memory is refused.
+fn all(rt: &impl Abort, alloc: Global) -> Vec<ByteString> {
+    let mut frames = Vec::with_capacity(alloc, 0).expect(rt, "no memory is taken");
+    for told in FRAMES {
+        let frame = match made(alloc, told) {
+            Ok(frame) => frame,
+            Err(_) => made(alloc, told).expect(rt, "memory once more"),
+        };
+        if frames.reserve(1).is_err() {
+            frames.reserve(1).expect(rt, "memory once more");
         }
+        frames.push(frame).expect(rt, "room for one more");
     }
     frames
+}
+
+/// Asserts that the list has these frames from the place on.
+fn assert_has(rt: &impl Abort, frames: &Frames, from: usize, all: &[ByteString]) {
+    for (place, frame) in all.iter().enumerate() {
+        let there = bytes(rt, frames, from.saturating_add(place));
+        assert_eq!(rt; there.as_slice(), frame.as_slice());
+    }
 }
 
 // Holds whichever single allocation is refused.
 #[test]
 fn frames_are_read_as_they_were_added_under_refused_memory(rt: HostRuntime) {
-    let frames = all(&rt, rt.alloc());
-    assert_eq!(&rt; frames.len(), FRAMES.len());
-    for (place, frame) in FRAMES.iter().enumerate() {
-        assert_eq!(&rt; bytes(&rt, &frames, place).as_slice(), frame.as_bytes());
+    let all = all(&rt, rt.alloc());
+    let mut frames = Frames::new(rt.alloc());
+    for (place, frame) in all.iter().enumerate() {
+        if frames.push(frame.as_slice()).is_err() {
+            assert_eq!(&rt; frames.len(), place);
+            frames
+                .push(frame.as_slice())
+                .expect(&rt, "memory once more");
+        }
     }
+    assert_eq!(&rt; frames.len(), all.len());
+    assert_has(&rt, &frames, 0, all.as_slice());
+}
+
+// Holds whichever single allocation is refused.
+#[test]
+fn all_frames_are_added_or_none_under_refused_memory(rt: HostRuntime) {
+    let all = all(&rt, rt.alloc());
+    let mut frames = Frames::new(rt.alloc());
+    for _time in 0..2 {
+        let before = frames.len();
+        if frames.extend(all.as_slice()).is_err() {
+            assert_eq!(&rt; frames.len(), before);
+            frames
+                .extend(all.as_slice())
+                .expect(&rt, "memory once more");
+        }
+        assert_has(&rt, &frames, before, all.as_slice());
+    }
+    assert_eq!(&rt; frames.len(), all.len().saturating_mul(2));
+    assert_has(&rt, &frames, 0, all.as_slice());
 }

@@ -25,6 +25,8 @@ mod full;
 #[cfg(test)]
 mod images;
 #[cfg(test)]
+mod images_read;
+#[cfg(test)]
 mod lives;
 #[cfg(test)]
 mod overlay;

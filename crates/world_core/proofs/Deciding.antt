@@ -9,7 +9,6 @@ use Rattle.node_core.proofs.Outcomes.{one_outcome as one_outcome_of_step}
 use Rattle.node_events.specs.Event.{stored_key}
 use Rattle.node_events.specs.declared.event.NodeEvent.{NodeEvent}
 use Rattle.node_events.specs.declared.fault.StepFault.{StepFault}
-use Rattle.node_events.specs.declared.fault.StepFault.TheVariants as OfStep
 use Rattle.node_images.specs.Images.{Image}
 use Rattle.node_images.specs.Node.{BeginsFrom, ImagedNode, IsRestarted, arrived, context_read}
 use Rattle.world_core.specs.declared.answer.Answer.{Answer}

@@ -1,12 +1,11 @@
 -- Lists side by side, and lists with more behind them.
-use Rattle.std.proofs.Common.{◌≡◌, ◌⊎◌, ℕ, zero, suc, ◌+◌, ◌-◌, ◌<◌, ◌≤◌, List, [], ◌∷◌, ◌++◌, length, map, take, drop, Some, None, refl, sym, ap, subst, ◌∙◌, arith, inl, inr}
+use Rattle.std.proofs.Common.{◌≡◌, ◌⊎◌, ℕ, zero, suc, ◌+◌, ◌-◌, ◌<◌, ◌≤◌, List, [], ◌∷◌, ◌++◌, length, get_or, map, take, drop, Some, None, refl, sym, ap, subst, ◌∙◌, arith, inl, inr}
 use Rattle.std.specs.Prelude.{slice_get}
 use Rattle.std.specs.List.{range_with_len}
-use Rattle.std.proofs.lemmas.Bool.{cases_lt}
-use Rattle.std.proofs.lemmas.List.{append-nil, drop-append-le, drop_all, length-drop, length-take-le, take-append-le, take_all}
+use Rattle.std.proofs.lemmas.List.{drop-append-le, get_or-drop, length-drop, take-append-le, take_more}
 use Rattle.std.proofs.lemmas.List.FromFn.{map-range_with_len_more}
 use Rattle.std.proofs.lemmas.Option.{slice_get_past}
-use Rattle.std.proofs.Math.Seq.{drop-append-add, drop-append_seam, take-append-add, take-length, take-nil}
+use Rattle.std.proofs.Math.Seq.{drop-append_seam, take-length}
 use Rattle.world_core.specs.declared.answer.FrameNumbers.{FrameNumbers}
 use Rattle.world_core.specs.Numbers.{frames_at, numbered}
 use Rattle.world_core.specs.Tells.{Pairwise}
@@ -117,54 +116,16 @@ frames_at_end numbers frames more is =
     ∙ ap (take (length more)) (drop-append_seam frames more)
     ∙ take-length more
 
--- ---- those of some numbers, where the frames stand in two lists
-
--- some of the first ones: those of one list, and of the other one what is left
-take_both : {A : Type 0} (n : ℕ) (xs ys : List A) → take n xs ++ take (n - length (take n xs)) ys ≡ take n (xs ++ ys)
-take_both n xs ys = elim (cases_lt (length xs) n) [
-  | inl lt ↦
-      let m : ℕ = n - length xs in
-      let whole : take n xs ≡ xs = take_all n xs (omega (arith, lt)) in
-      let many : n ≡ length xs + m = omega (arith, lt) in
-      (λ i. whole i ++ take (n - length (whole i)) ys)
-      ∙ sym (take-append-add xs ys m)
-      ∙ ap (λ k. take k (xs ++ ys)) (sym many)
-  | inr le ↦
-      let count : length (take n xs) ≡ n = length-take-le n xs le in
-      let none : n - length (take n xs) ≡ 0 = omega (arith, count) in
-      ap (λ k. take n xs ++ take k ys) none
-      ∙ append-nil (take n xs)
-      ∙ sym (take-append-le n xs ys le)
-]
-
--- none stands behind the last, and from the place on stand no more
-pub none_at : {A : Type 0} (count place : ℕ) (xs : List A) → length xs ≤ place → [] ≡ take count (drop place xs)
-none_at count place xs past = sym (ap (take count) (drop_all place xs past) ∙ take-nil count)
-
-pub all_at : {A : Type 0} (count place : ℕ) (xs : List A) → length xs - place ≤ count → drop place xs ≡ take count (drop place xs)
-all_at count place xs few =
-    let left : length (drop place xs) ≡ length xs - place = length-drop place xs in
-    sym (take_all count (drop place xs) (omega (arith, left, few)))
-
-pub parts_at : {A : Type 0} (count place : ℕ) (xs ys : List A)
-    → take count (drop place xs) ++ take (count - length (take count (drop place xs))) (drop (place - length xs) ys) ≡ take count (drop place (xs ++ ys))
-parts_at count place xs ys = elim (cases_lt (length xs) place) [
-  | inl lt ↦
-      let n : ℕ = place - length xs in
-      let none : drop place xs ≡ [] = drop_all place xs (omega (arith, lt)) in
-      let nothing : take count (drop place xs) ≡ [] = ap (take count) none ∙ take-nil count in
-      let at : place ≡ length xs + n = omega (arith, lt) in
-      let all : count - 0 ≡ count = omega arith in
-      (λ i. nothing i ++ take (count - length (nothing i)) (drop n ys))
-      ∙ ap (λ k. take k (drop n ys)) all
-      ∙ ap (take count) (sym (drop-append-add xs ys n))
-      ∙ ap (λ k. take count (drop k (xs ++ ys))) (sym at)
-  | inr le ↦
-      let none : place - length xs ≡ 0 = omega (arith, le) in
-      ap (λ k. take count (drop place xs) ++ take (count - length (take count (drop place xs))) (drop k ys)) none
-      ∙ take_both count (drop place xs) ys
-      ∙ ap (take count) (sym (drop-append-le place xs ys le))
-]
+-- so many from a place on, and then one more
+pub part_more : {A : Type 0} (first place : ℕ) (xs : List A) (x d : A) → first ≤ place → place < length xs → x ≡ get_or xs place d
+    → take (place + 1 - first) (drop first xs) ≡ take (place - first) (drop first xs) ++ x ∷ []
+part_more {A = A} first place xs x d low high is =
+    let rest : List A = drop first xs in
+    let long : length rest ≡ length xs - first = length-drop first xs in
+    let here : place - first < length rest = omega (arith, low, high, long) in
+    ap (λ n. take n rest) (let e : place + 1 - first ≡ place - first + 1 = omega (arith, low) in e)
+    ∙ take_more rest (place - first) d here
+    ∙ ap (λ y. take (place - first) rest ++ y ∷ []) (get_or-drop first xs (place - first) d ∙ ap (λ n. get_or xs n d) (let e : first + (place - first) ≡ place = omega (arith, low) in e) ∙ sym is)
 
 -- ---- lists that are made one by one
 

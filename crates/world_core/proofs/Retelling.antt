@@ -1,8 +1,6 @@
 -- The history is told anew from what was accepted: one event and one frame after the other.
 use Rattle.std.proofs.Common.{◌≡◌, ℕ, zero, suc, ◌+◌, ◌-◌, ◌<◌, ◌≤◌, List, [], ◌∷◌, ◌++◌, length, take, drop, get_or, Option, None, Some, Result, Ok, Err, refl, sym, ap, subst, ◌∙◌, arith}
 use Rattle.std.specs.Prelude.{slice_get, IfOk, IfSome, OnOk}
-use Rattle.std.specs.Borrow.{Bor}
-use Rattle.std.specs.Option.{option_copied}
 use Rattle.std.proofs.lemmas.List.{get_or-drop, length-drop, take_more}
 use Rattle.std.proofs.Math.Seq.{take-length}
 use Rattle.std.proofs.lemmas.List.Elements.{All-get_or}
@@ -77,9 +75,11 @@ spelled w is zero bytes there = let no : None ≡ Some bytes = there in absurd (
 spelled w is (suc place) bytes there =
     let found = pair_first Spells is.telling.frames w.frames is.telling.spelled place bytes there in (found.0, found.1.1)
 
-pub lent_spells : (w : World) → IsWorld w → (number : ℕ) (lent : Option (Bor (List ℕ))) → option_copied lent ≡ numbered w.frames number → IfSome lent (λ bytes. (f : Frame) × Spells f bytes.now)
-lent_spells w is number None at = tt
-lent_spells w is number (Some bytes) at = spelled w is number bytes.now (sym at)
+pub copied_spells : {E : Type 0} (w : World) → IsWorld w → (number : ℕ) (copied : Result (Option (List ℕ)) E) → IfOk copied (λ bytes. bytes ≡ numbered w.frames number)
+    → IfOk copied (λ found. IfSome found (λ bytes. (f : Frame) × Spells f bytes))
+copied_spells w is number (Ok None) at = tt
+copied_spells w is number (Ok (Some bytes)) at = spelled w is number bytes (sym at)
+copied_spells w is number (Err e) at = tt
 
 -- so no other cause than memory stands against it
 pub never_refused : (w : World) (number : ℕ) → IsSent w number → (bytes : List ℕ) → numbered w.frames number ≡ Some bytes → (fault : FrameFault) → RefusesBytes bytes fault → ⊥

@@ -7,7 +7,7 @@ use Rattle.world_core.specs.World.{World}
 
 -- the frames of the last event come after all others
 abbrev pub frames_in : Chronicle → List (List ℕ)
-frames_in c = c.sent.items ++ c.last.items
+frames_in c = c.sent ++ c.last.items
 
 -- the world of these nodes
 abbrev pub world_in : List ImagedNode → Chronicle → World

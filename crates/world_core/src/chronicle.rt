@@ -1,7 +1,6 @@
 //! What a world keeps of what it has accepted.
 
-ghost use Rattle.std.specs.Prelude.{◌≡◌, ◌+◌, ◌≤◌, ◌∷◌, ◌++◌, [], None, OnOk, drop, length, take};
-ghost use Rattle.std.specs.Option.{option_copied};
+ghost use Rattle.std.specs.Prelude.{◌≡◌, ◌+◌, ◌≤◌, ◌∷◌, ◌<◌, ◌^◌, ◌++◌, [], None, IfOk, OnOk, get_or, length};
 ghost use Rattle.node_events.specs.declared.reply.Reply.TheVariants.{Done};
 ghost use Rattle.world_core.specs.Chronicle.{HasRoomForEvent, IsSame, frames_in};
 ghost use Rattle.world_core.specs.Outcome.{list_of, read_after};
@@ -10,6 +9,7 @@ ghost use Rattle.world_core.specs.declared.event.Event.TheVariants.{Restart};
 
 use crate::answer::{Accepted, Answer, FrameNumbers};
 use crate::event::Event;
+use frame_list::Frames;
 use meta_store::Context;
 use meta_types::ByteString;
 use node_events::{Outbox, Reply};
@@ -23,7 +23,7 @@ use std::mem::replace;
 #[derive(Drop)]
 pub(crate) struct Chronicle {
     pub(crate) accepted: Vec<Accepted>,
-    pub(crate) sent: Vec<ByteString>,
+    pub(crate) sent: Frames,
     pub(crate) last: Vec<ByteString>,
     pub(crate) contexts: Vec<Context>,
 }
@@ -37,7 +37,7 @@ impl Chronicle {
     {
         Chronicle {
             accepted: Vec::new(alloc),
-            sent: Vec::new(alloc),
+            sent: Frames::new(alloc),
             last: Vec::new(alloc),
             contexts: Vec::new(alloc),
         }
@@ -48,46 +48,57 @@ impl Chronicle {
         ensures same { IsSame self.old self.new }
         ensures room { OnOk result (HasRoomForEvent self.new) }
     {
-        self.sent.append(&mut self.last)?;
+        self.sent.extend(self.last.as_slice())?;
+        self.last.clear();
         self.accepted.reserve(1)?;
         self.contexts.reserve(1)
     }
 
     /// How many frames were sent.
     pub(crate) fn frame_count(&self) -> u64
-        ensures { result ≡ length (frames_in self.now) }
+        ensures value { result ≡ length (frames_in self.now) }
+        ensures few { result + 1 < 2 ^ 64 }
     {
         self.sent.len() as u64 + self.last.len() as u64
     }
 
-    /// The bytes of the frame of that number, if one has it.
-    pub(crate) fn frame(&self, number: u64) -> Option<&ByteString>
-        ensures { option_copied result ≡ numbered (frames_in self.now) number }
+    /// The bytes of the frame of that number, if one has it: a copy. Fails only when memory runs
+    /// out.
+    pub(crate) fn frame(&self, number: u64) -> Result<Option<ByteString>, AllocError>
+        ensures { IfOk result (λ bytes. bytes ≡ numbered (frames_in self.now) number) }
     {
-        if number == 0 {
-            return None;
+        if number == 0 || self.frame_count() < number {
+            return Ok(None);
         }
-        let place = number - 1;
-        let settled = self.sent.len() as u64;
-        if place < settled {
-            self.sent.get(place as usize)
-        } else {
-            self.last.get((place - settled) as usize)
-        }
+        Ok(Some(self.bytes(number - 1)?))
     }
 
-    /// The bytes of the frames of these numbers, as many as there are: in two parts, since those of
-    /// the last event stand apart.
-    #[tactic(auto, using(crate::proofs::Lists::parts_at))]
-    pub(crate) fn frames_at(&self, numbers: FrameNumbers) -> (&[ByteString], &[ByteString])
-        ensures { result.0.now ++ result.1.now ≡ frames_at numbers (frames_in self.now) }
+    /// The bytes of the frames of these numbers, as many as there are: copies. Fails only when
+    /// memory runs out.
+    pub(crate) fn frames_at(&self, numbers: FrameNumbers) -> Result<Vec<ByteString>, AllocError>
+        ensures { IfOk result
+            (λ frames. frames.items ≡ frames_at numbers (frames_in self.now)) }
     {
-        let place = numbers.first.saturating_sub(1);
+        let first = numbers.first.saturating_sub(1);
+        let end = first.saturating_add(numbers.count).min(self.frame_count());
+        let mut frames = Vec::new(*self.accepted.allocator());
+        for place in first..end {
+            frames.push(self.bytes(place)?)?;
+        }
+        Ok(frames)
+    }
+
+    /// The bytes of the frame at the place: a copy.
+    fn bytes(&self, place: u64) -> Result<ByteString, AllocError>
+        requires { place < length (frames_in self.now) }
+        ensures { IfOk result (λ bytes. bytes ≡ get_or (frames_in self.now) place []) }
+    {
         let settled = self.sent.len() as u64;
-        let first = part(self.sent.as_slice(), place, numbers.count);
-        let left = numbers.count - first.len() as u64;
-        let rest = part(self.last.as_slice(), place.saturating_sub(settled), left);
-        (first, rest)
+        if place < settled {
+            Ok(ByteString::new(self.sent.bytes(place as usize)?))
+        } else {
+            self.last[(place - settled) as usize].copy()
+        }
     }
 
     /// Adds an event, with what its step gave. There is room for it.
@@ -196,20 +207,4 @@ fn done(sent: FrameNumbers) -> Answer
         read: None,
         sent,
     }
-}
-
-/// So many frames from the place on, or as many as there are.
-#[tactic(auto, using(crate::proofs::Lists::none_at, crate::proofs::Lists::all_at))]
-fn part(frames: &[ByteString], place: u64, count: u64) -> &[ByteString]
-    ensures { result.now ≡ take count (drop place frames.now) }
-{
-    let len = frames.len() as u64;
-    if len <= place {
-        return &[];
-    }
-    let behind = &frames[place as usize..];
-    if len - place <= count {
-        return behind;
-    }
-    &behind[..count as usize]
 }

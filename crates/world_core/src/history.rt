@@ -283,7 +283,7 @@ impl World {
         requires there { number ≤ length self.now.frames }
         ensures { IfOk result (IsFrameOf self.now number) }
     {
-        let bytes = self.chronicle.frame(number).unwrap();
+        let bytes = self.chronicle.frame(number)?.unwrap();
         match decode(alloc, bytes.as_slice()) {
             Ok(frame) => Ok(frame),
             Err(fault) => Err(want_of_memory(fault)),

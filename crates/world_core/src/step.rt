@@ -153,12 +153,9 @@ impl World {
         ensures refused { FailsWith Memory (λ fault. (fault ≡ NoSuchFrame)
             × (numbered self.now.frames frame ≡ None)) result }
     {
-        match self.chronicle.frame(frame) {
+        match self.chronicle.frame(frame)? {
             None => Err(WorldFault::NoSuchFrame),
-            Some(bytes) => Ok(NodeEvent::Take {
-                frame: bytes.copy()?,
-                word,
-            }),
+            Some(frame) => Ok(NodeEvent::Take { frame, word }),
         }
     }
 }

@@ -1,8 +1,7 @@
 //! All nodes of a cluster, in one value.
 
-ghost use Rattle.std.specs.Prelude.{◌≡◌, ◌≤◌, ◌<◌, ◌⊎◌, ◌↔◌, ◌++◌, ℕ, All, List, Some, length, map, IfOk, IfErr, IfSome, IsNone};
+ghost use Rattle.std.specs.Prelude.{◌≡◌, ◌≤◌, ◌<◌, ◌⊎◌, ◌↔◌, ℕ, All, List, Some, length, map, IfOk, IfErr, IfSome, IsNone};
 ghost use Rattle.std.specs.List.{range_with_len};
-ghost use Rattle.std.specs.Option.{option_copied};
 ghost use Rattle.meta_types.specs.Failing.{FailsWith};
 ghost use Rattle.meta_types.specs.Name.{Key};
 ghost use Rattle.dvvset.specs.Object.{Entry};
@@ -83,35 +82,26 @@ impl World {
         self.chronicle.accepted.as_slice()
     }
 
-    /// The bytes of all frames that were sent, in the order of their numbers, the first of which
-    /// has number 1: in two parts, as a `VecDeque` gives its elements. The object of each frame is
-    /// that of what its sender knew when it was sent.
-    pub fn frames(&self) -> (&[ByteString], &[ByteString])
-        ensures value { result.0.now ++ result.1.now ≡ self.now.frames }
-        ensures carries { (number : ℕ) (frame : F) (key : Key) (object : List Entry)
+    /// The bytes of the frame of that number, if one has it: a copy. The first that was sent has
+    /// number 1. They spell a frame; an object that it carries is that of the writes that its sender
+    /// knew when it was sent. Fails only when memory runs out.
+    pub fn frame(&self, number: u64) -> Result<Option<ByteString>, AllocError>
+        ensures value { IfOk result (λ bytes. bytes ≡ numbered self.now.frames number) }
+        ensures spelled { IfOk result
+            (λ found. IfSome found (λ bytes. (frame : F) × Spells frame bytes)) }
+        ensures carries { (frame : F) (key : Key) (object : List Entry)
             → IsFrameOf self.now number frame → carried_object frame.message ≡ Some (key, object)
             → OfAllTold self.now (λ t. CarriesLoad t number frame.from key object) }
-    {
-        (
-            self.chronicle.sent.as_slice(),
-            self.chronicle.last.as_slice(),
-        )
-    }
-
-    /// The bytes of the frame of that number, if one has it. They spell a frame.
-    pub fn frame(&self, number: u64) -> Option<&ByteString>
-        ensures value { option_copied result ≡ numbered self.now.frames number }
-        ensures spelled { IfSome result (λ bytes. (frame : F) × Spells frame bytes.now) }
     {
         // Read for what it tells: this is a world.
         let _ = self.nodes.len();
         self.chronicle.frame(number)
     }
 
-    /// The bytes of the frames of these numbers, such as an answer has: in two parts, as `frames`
-    /// gives them. Numbers that no frame has give nothing. It takes no memory.
-    pub fn frames_at(&self, numbers: FrameNumbers) -> (&[ByteString], &[ByteString])
-        ensures { result.0.now ++ result.1.now ≡ frames_at numbers self.now.frames }
+    /// The bytes of the frames of these numbers, such as an answer has: copies. Numbers that no
+    /// frame has give nothing. Fails only when memory runs out.
+    pub fn frames_at(&self, numbers: FrameNumbers) -> Result<Vec<ByteString>, AllocError>
+        ensures { IfOk result (λ frames. frames.items ≡ frames_at numbers self.now.frames) }
     {
         self.chronicle.frames_at(numbers)
     }

@@ -1,14 +1,10 @@
-use Rattle.std.proofs.Common.{[], ◌∷◌, ◌++◌, map, Result, Ok, Err, sym, ap, subst, ◌∙◌}
+use Rattle.std.proofs.Common.{[], ◌∷◌, ◌++◌, map, sym, ap, subst, ◌∙◌}
 use Rattle.std.specs.Prelude.{All}
 use Rattle.std.specs.Option.{option_copied}
-use Rattle.std.specs.Result.{OnErr}
+use Rattle.meta_store.proofs.Maps.{always}
 use Rattle.image_list.specs.Logs.{IsImageKept, whole_image}
 use Rattle.image_list.proofs.Growing.{images_on, kept_on, one_more_image, one_more_kept}
 use Rattle.image_list.proofs.images.Images.push.Goals as goal
-
-always : {A E P : Type 0} (r : Result A E) → P → OnErr r P
-always (Ok x) p = tt
-always (Err e) p = p
 
 -- ---- without memory for the change
 

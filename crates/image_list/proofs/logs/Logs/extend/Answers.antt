@@ -1,8 +1,8 @@
-use Rattle.std.proofs.Common.{◌≡◌, ◌++◌, ◌<◌, List, [], ℕ, length, map, get_or, set, reverse, sym, ap, subst, ◌∙◌, Result, Ok, Err}
-use Rattle.std.specs.Result.{OnErr}
+use Rattle.std.proofs.Common.{◌≡◌, ◌++◌, ◌<◌, List, [], ℕ, length, map, get_or, set, reverse, sym, ap, subst, ◌∙◌}
 use Rattle.std.proofs.lemmas.List.{get_or-map, length-map, map-set}
 use Rattle.std.proofs.Math.Seq.{map-set_same}
 use Rattle.meta_types.specs.Value.{ValueParts}
+use Rattle.meta_store.proofs.Maps.{always}
 use Rattle.image_list.specs.Logs.{log_at}
 use Rattle.image_list.proofs.logs.Logs.extend.Goals as goal
 
@@ -12,10 +12,6 @@ longer : {A : Type 0} (values : A → List ValueParts) (all : List A) (at : ℕ)
 longer values all at old new more low is e =
     map-set values all at new
     ∙ ap (set (map values all) at) (e ∙ ap (λ x. x ++ more) (ap values is ∙ sym (get_or-map values all at old [] (subst (λ n. at < n) (length-map all values) low))))
-
-always : {A E P : Type 0} (r : Result A E) → P → OnErr r P
-always (Ok x) p = tt
-always (Err e) p = p
 
 pub returns-in_err-append-clause-same : goal.returns-in_err-append-clause-same
 returns-in_err-append-clause-same c =

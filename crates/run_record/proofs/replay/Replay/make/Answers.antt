@@ -1,6 +1,6 @@
-use Rattle.std.proofs.Common.{◌≡◌, ◌+◌, get_or, set, refl, sym, subst, ◌∙◌}
+use Rattle.std.proofs.Common.{◌≡◌, ◌+◌, get_or, set, IfSome, IsNone, refl, sym, subst, ◌∙◌}
 use Rattle.std.proofs.lemmas.List.{get_or_default}
-use Rattle.run_record.specs.Replay.{IsReplayOf}
+use Rattle.run_record.specs.Replay.{AsTold, IsMarkOf, IsReplayOf}
 use Rattle.run_record.proofs.Differing.{refused_so, unequal_gave, unequal_refused}
 use Rattle.run_record.proofs.Naming.{given_to, row_of}
 use Rattle.run_record.proofs.Replaying.{replay_step}
@@ -24,7 +24,7 @@ returns-in-None-clause-err c =
     c.args.turn c.next_entry-entry.result.now c.in_ok-event.event c.in-Ok.answer
     c.runs_go_on-2.ensures c.no_event_has_two_outcomes.ensures c.requires.replay c.requires.ready
     c.next_entry-entry.ensures c.in_ok-event.ensures c.has_lived.ensures c.in-Ok.ensures
-    (c.in-None.ensures.none refl)
+    (c.in_ok-mark-in-Ok.ensures.none (subst (λ mark. IsNone mark) (sym c.in-None.is) refl))
 
 pub returns-in_ok-push-in-Some-clause-ok : goal.returns-in_ok-push-in-Some-clause-ok
 returns-in_ok-push-in-Some-clause-ok c =
@@ -35,7 +35,9 @@ returns-in_ok-push-in-Some-clause-ok c =
     let rows = old.marks.items in
     let new = c.apply.new.self in
     let row = c.index_mut.result.now in
-    let told = c.in-Some.ensures.some in
+    let told = subst (λ mark. IfSome mark
+    (λ m. AsTold new c.in-Ok.answer c.next_entry-entry.result.now × IsMarkOf c.in-Ok.answer m))
+    c.in-Some.is c.in_ok-mark-in-Ok.ensures.some in
     let same : c.index_mut-in-Some.result.now ≡ get_or next turn.node 0 =
     c.index_mut-in-Some.ensures.value
     ∙ get_or_default next turn.node _ 0 c.requires.ready.node in

@@ -21,7 +21,7 @@ returns c =
     let old = c.args.self.now in
     let between = c.apply-outcome.new.self in
     let new = c.tell_delivery-done.new.self in
-    let node : c.unwrap_or-node.result ≡ unwrap_or c.args.node (addressee old.world c.args.frame) = search rules in
+    let node : c.match-node.node ≡ unwrap_or c.args.node (addressee old.world c.args.frame) = search rules in
     let to = unwrap_or c.args.node (addressee old.world c.args.frame) in
     let is = subst (λ n. Outcome old.world (events.Deliver c.args.frame n c.args.word) c.apply-outcome.result between.world) node c.apply-outcome.ensures.passes.comes in
     on_ok_both c.tell_delivery-done.result

@@ -14,5 +14,5 @@ mark-requires c =
 pub returns : goal.returns
 returns c =
     on_ok c.mark.result
-    (hands_on c.args.self.now c.apply-outcome.new.self c.mark.new.self c.args.frame c.addressee-node.result c.apply-outcome.result c.addressee-node.ensures c.requires c.apply-outcome.ensures.passes.comes
+    (hands_on c.args.self.now c.apply-outcome.new.self c.mark.new.self c.args.frame c.in_ok-node.node c.apply-outcome.result c.in_ok-node.ensures c.requires c.apply-outcome.ensures.passes.comes
     (not_so _ _ c.lacks_memory-lacks_memory.ensures c.if-lacks_memory.false) c.apply-outcome.ensures.given c.mark.ensures.world) c.mark.ensures.given
