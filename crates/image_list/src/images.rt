@@ -30,9 +30,12 @@ pub struct Images {
     latest: Latest,
 }
 
-/// For each key and writer, the log that was last begun or continued: the one in which the next values
-/// are looked for.
-type Latest = BTreeMap<(MetaKey, Actor), usize>;
+/// The logs of each key.
+type Latest = BTreeMap<MetaKey, Writers>;
+
+/// For each writer under a key, the log that was last begun or continued: the one in which its next
+/// values are looked for.
+type Writers = BTreeMap<Actor, usize>;
 
 impl Model for Images {
     ghost use Rattle.std.specs.Prelude.{List, map, All};
@@ -219,7 +222,7 @@ fn keep_change(
     ensures change { IfOk result (IsKeptChange logs.new) }
     ensures value { IfOk result (λ kept. whole_change logs.new kept ≡ change.now) }
 {
-    let entries = keep_all(logs, latest, &change.0, change.1.entries())?;
+    let entries = keep_object(logs, latest, &change.0, change.1.entries())?;
     Ok(KeptChange {
         key: change.0.copy()?,
         entries,
@@ -227,7 +230,7 @@ fn keep_change(
 }
 
 /// Keeps the entries of the object under the key. Where memory runs out, logs may have grown.
-fn keep_all(
+fn keep_object(
     logs: &mut Logs,
     latest: &mut Latest,
     key: &MetaKey,
@@ -237,9 +240,28 @@ fn keep_all(
     ensures within { IfOk result (λ kept. All (IsInLogs logs.new) kept.items) }
     ensures value { IfOk result (λ kept. whole_object logs.new kept.items ≡ entries.now) }
 {
+    if let Some(writers) = latest.get_mut(key) {
+        return keep_all(logs, writers, entries);
+    }
+    let mut writers = BTreeMap::new(logs.alloc());
+    let kept = keep_all(logs, &mut writers, entries)?;
+    latest.insert(key.copy()?, writers)?;
+    Ok(kept)
+}
+
+/// Keeps the entries of an object.
+fn keep_all(
+    logs: &mut Logs,
+    writers: &mut Writers,
+    entries: &[Entry],
+) -> Result<Vec<LoggedEntry>, AllocError>
+    ensures grow { GrowTo logs.old logs.new }
+    ensures within { IfOk result (λ kept. All (IsInLogs logs.new) kept.items) }
+    ensures value { IfOk result (λ kept. whole_object logs.new kept.items ≡ entries.now) }
+{
     let mut kept = Vec::with_capacity(logs.alloc(), entries.len())?;
     for entry in entries {
-        kept.push(keep_entry(logs, latest, key, entry)?)?;
+        kept.push(keep_entry(logs, writers, entry)?)?;
     }
     Ok(kept)
 }
@@ -247,15 +269,13 @@ fn keep_all(
 /// Keeps an entry, and notes in which log.
 fn keep_entry(
     logs: &mut Logs,
-    latest: &mut Latest,
-    key: &MetaKey,
+    writers: &mut Writers,
     entry: &Entry,
 ) -> Result<LoggedEntry, AllocError>
     ensures { Keeps logs.old logs.new entry.now result }
 {
-    let writer = (key.copy()?, entry.id());
-    let likely = latest.get(&writer).copied();
+    let likely = writers.get(&entry.id()).copied();
     let kept = logs.keep(entry, likely)?;
-    latest.insert(writer, kept.log)?;
+    writers.insert(entry.id(), kept.log)?;
     Ok(kept)
 }
