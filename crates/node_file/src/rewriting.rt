@@ -44,6 +44,7 @@ impl<D: Device> NodeFile<D> {
             (IsDurable (E.content target.new) (E.may_leave target.new)) }
         ensures refused { IfErr result (λ fault.
             IsOfDevice fault (E.failed target.old) (E.failed target.new)) }
+        ensures still { OnOk result (E.failed target.new ≡ E.failed target.old) }
     {
         let node = self.node();
         // What it holds isn't asked for any more.
