@@ -7,7 +7,7 @@ use devices::MemoryDevice;
 use dvvset::Entries;
 use meta_store::size::may_be_held;
 use meta_types::MetaKey;
-use node_file::{FileFault, open_node, serve};
+use node_file::{FileFault, NodeFile, open_node, serve};
 use std::alloc::Global;
 
 /// Whether the bytes open as one of the two: the last life and how many keys.
@@ -42,26 +42,50 @@ fn key_and_object(alloc: Global) -> Option<(MetaKey, Entries)> {
     Some((key, object.copy().ok()?))
 }
 
-/// Whether an append to the served file leaves the file of one record; where memory is refused,
-/// the served file, or where the append stopped it one of the two.
-fn is_appended(alloc: Global) -> Option<bool> {
-    let (key, object) = key_and_object(alloc)?;
-    let (mut file, table, _) = serve(alloc, device(alloc, EMPTY).ok()?, None).ok()?;
-    if !may_be_held(&object) || !table.has_room_for(&key) {
-        return Some(false);
-    }
-    match file.append(alloc, &key, &object) {
-        Ok(()) => Some(file.device().content() == ONE),
-        Err(fault) => {
-            let same = file.device().content() == SERVED;
-            let one_of = is_one_of(alloc, file.device().content(), [(1, 0), (1, 1)]);
-            if fault == FileFault::Memory && (same || file.is_stopped() && one_of) {
+/// What an append that ended so left of the served file: whether that is the file of one record;
+/// where memory was refused, the served file, or where the append stopped it one of the two.
+fn left(
+    alloc: Global,
+    file: &NodeFile<MemoryDevice>,
+    ended: Result<(), FileFault>,
+) -> Option<bool> {
+    let content = file.device().content();
+    match ended {
+        Ok(()) => Some(content == ONE),
+        Err(FileFault::Memory) => {
+            let is_one = file.is_stopped() && is_one_of(alloc, content, [(1, 0), (1, 1)]);
+            if content == SERVED || is_one {
                 None
             } else {
                 Some(false)
             }
         }
+        Err(_) => Some(false),
     }
+}
+
+/// The same, of an append of the object under the key.
+fn append_leaves(alloc: Global, key: &MetaKey, object: &Entries) -> Option<bool> {
+    let (mut file, table, _) = serve(alloc, device(alloc, EMPTY).ok()?, None).ok()?;
+    let fits = may_be_held(object) && table.has_room_for(key);
+    drop(table);
+    let left = if fits {
+        let ended = file.append(alloc, key, object);
+        left(alloc, &file, ended)
+    } else {
+        Some(false)
+    };
+    drop(file);
+    left
+}
+
+/// Whether an append to the served file leaves the file of one record.
+fn is_appended(alloc: Global) -> Option<bool> {
+    let (key, object) = key_and_object(alloc)?;
+    let left = append_leaves(alloc, &key, &object);
+    drop(key);
+    drop(object);
+    left
 }
 
 /// Whether a file with two records is written anew.

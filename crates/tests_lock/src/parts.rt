@@ -57,6 +57,26 @@ pub(crate) fn put<D: Device + Drop, J: Naming, R: Wait + Abort>(
     }
 }
 
+/// Puts a letter under the same key, and lets the reader learn of it.
+pub(crate) fn put_and_learn<D: Device + Drop, J: Naming, R: Wait + Abort>(
+    rt: &R,
+    alloc: Global,
+    node: &Node<D, J, &R>,
+    seat: &mut WriteSeat<J>,
+    letter: u8,
+    reader: &mut ReadSeat<J>,
+) {
+    let key = key(rt, alloc, b'1');
+    let value = value(rt, alloc, letter);
+    match node.put(rt, seat, key, value, None) {
+        Ok(done) => {
+            reader.learn(done.revision());
+            drop(done);
+        }
+        Err(_) => panic!(rt; "an accepted call"),
+    }
+}
+
 /// What a reader is shown under the key: how many values, or the number of the refusal.
 pub(crate) fn shown<J: Naming>(
     rt: &impl Abort,
@@ -145,7 +165,9 @@ pub(crate) fn counted<T: Trial, R: Wait + Abort>(
     capacity: Capacity,
 ) -> (u64, usize) {
     let left = tried::<T, R>(rt, alloc, capacity);
-    (left.closed.base().steps(), left.closed.journal().len())
+    let counted = (left.closed.base().steps(), left.closed.journal().len());
+    drop(left);
+    counted
 }
 
 /// What a trial leaves, or the number of the refusal where the node isn't started.

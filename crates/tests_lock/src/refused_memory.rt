@@ -41,6 +41,18 @@ fn shown<J: Naming>(rt: &impl Abort, alloc: Global, reader: &mut ReadSeat<J>) ->
     Some(shown.ok()?.values.len())
 }
 
+/// Asserts that each reader is shown so many values at least.
+fn assert_shown<J: Naming>(
+    rt: &impl Abort,
+    alloc: Global,
+    readers: &mut [ReadSeat<J>],
+    least: usize,
+) {
+    for reader in readers {
+        assert!(rt; shown(rt, alloc, reader).is_some_and(|values| values >= least));
+    }
+}
+
 /// Each call is made; once the node is stopped, each answers 34. At last a reader looks.
 struct Again;
 
@@ -61,10 +73,7 @@ impl Trial for Again {
             }
         }
         writers.push(seat).ok().expect(rt, "room");
-        for reader in readers.iter_mut() {
-            let most = receipts.len().min(1);
-            assert!(rt; shown(rt, alloc, reader).is_some_and(|values| values >= most));
-        }
+        assert_shown(rt, alloc, readers.as_mut_slice(), receipts.len().min(1));
         receipts
     }
 }
@@ -88,6 +97,15 @@ fn is_front(one: &[Entry], other: &[Entry]) -> bool {
     is_front
 }
 
+/// Whether one has the entry of each call and the other a front of these, and both a receipt of
+/// each entry.
+fn agree(one: &Left, other: &Left) -> bool {
+    let (here, there) = (one.closed.journal(), other.closed.journal());
+    let is_whole = here.len().max(there.len()) == CALLS;
+    let receipts = (one.receipts.len(), other.receipts.len());
+    is_front(here, there) & is_whole & (receipts == (here.len(), there.len()))
+}
+
 // Passes whichever single allocation is refused. Of two nodes of which the same is asked one is
 // refused no memory. The other has the same entries, with the same replies and frames, or a front
 // of them where it was stopped; and a receipt of each.
@@ -95,7 +113,8 @@ fn is_front(one: &[Entry], other: &[Entry]) -> bool {
 fn calls_are_made_again_under_refused_memory(rt: HostRuntime) {
     let one = left(&rt, rt.alloc());
     let other = left(&rt, rt.alloc());
-    let (here, there) = (one.closed.journal(), other.closed.journal());
-    assert!(rt; is_front(here, there) && here.len().max(there.len()) == CALLS);
-    assert!(rt; one.receipts.len() == here.len() && other.receipts.len() == there.len());
+    let agree = agree(&one, &other);
+    drop(one);
+    drop(other);
+    assert!(rt; agree);
 }

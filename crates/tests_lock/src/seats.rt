@@ -1,6 +1,6 @@
 //! Seats of both kinds, and how the journal is cut.
 
-use crate::parts::{Trial, counted, key, put, shown, value};
+use crate::parts::{Trial, counted, put, put_and_learn, shown};
 use devices::MemoryDevice;
 use node_lock::{Capacity, Naming, Node, ReadSeat, Receipt, WriteSeat};
 use std::alloc::Global;
@@ -118,9 +118,7 @@ impl Trial for OneLearnt {
         let mut one = readers.pop().expect(rt, "a reader");
         let mut other = readers.pop().expect(rt, "a reader");
         assert!(rt; shown(rt, alloc, &mut one) == Ok(0));
-        let (key, value) = (key(rt, alloc, b'1'), value(rt, alloc, b'x'));
-        let done = node.put(rt, &mut seat, key, value, None);
-        one.learn(done.ok().expect(rt, "an accepted call").revision());
+        put_and_learn(rt, alloc, node, &mut seat, b'x', &mut one);
         assert!(rt; shown(rt, alloc, &mut one) == Ok(1));
         let seen = shown(rt, alloc, &mut other);
         assert!(rt; seen == Ok(0) || seen == Ok(1));

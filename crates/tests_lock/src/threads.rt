@@ -3,7 +3,7 @@
 ghost use Rattle.std.specs.Prelude.{◌≡◌, ◌≤◌};
 ghost use Rattle.node_desk.specs.Starting.{IsFileOf};
 
-use crate::parts::{close, next_life, open_first, put, shown};
+use crate::parts::{close, next_life, open_first, put, put_and_learn, shown};
 use devices::{Device, MemoryDevice};
 use meta_store::Store;
 use node_file::NodeFile;
@@ -70,7 +70,7 @@ fn write_both<J: Naming + Send + Sync, R: Threads + Wait + Abort + Sync>(
 }
 
 /// One thread writes while one looks: how many values the reader is shown at last, once it learnt
-/// of a call behind these writes.
+/// of one more write.
 fn write_and_look<J: Naming + Send + Sync, R: Threads + Wait + Abort + Sync>(
     rt: &R,
     alloc: Global,
@@ -86,8 +86,7 @@ fn write_and_look<J: Naming + Send + Sync, R: Threads + Wait + Abort + Sync>(
         move || look(rt, alloc, reader),
     );
     drop(places);
-    let last = node.tick(rt, &mut writer, 0);
-    reader.learn(last.ok().expect(rt, "an accepted call").revision());
+    put_and_learn(rt, alloc, node, &mut writer, b'x', &mut reader);
     let seen = shown(rt, alloc, &mut reader);
     writers.push(writer).ok().expect(rt, "memory");
     readers.push(reader).ok().expect(rt, "memory");
@@ -117,10 +116,12 @@ fn used<J: Naming + Send + Sync, R: Threads + Wait + Abort + Sync>(
     let seen = write_and_look(rt, alloc, &node, &mut writers, &mut readers);
     let closed = close(rt, node, writers, readers.as_slice());
     drop(readers);
+    let entries = closed.journal().len();
+    drop(closed);
     Came {
         places,
         seen,
-        entries: closed.journal().len(),
+        entries,
     }
 }
 
@@ -166,7 +167,7 @@ fn are_all_places(places: &[u64]) -> bool {
 }
 
 fn is_as_wanted(came: &Came) -> bool {
-    are_all_places(&came.places) && came.seen == Ok(3 * EACH) && came.entries == 301
+    are_all_places(&came.places) && came.seen == Ok(3 * EACH + 1) && came.entries == 301
 }
 
 /// What came of it on a new node.

@@ -3,7 +3,7 @@
 ghost use Rattle.std.specs.Prelude.{◌≡◌, ◌≤◌};
 ghost use Rattle.node_desk.specs.Starting.{IsFileOf};
 
-use crate::parts::{key, next_life, open_first, put, shown, value};
+use crate::parts::{next_life, open_first, put, put_and_learn, shown};
 use devices::{Device, DeviceFault, MemoryDevice};
 use meta_store::Store;
 use node_file::NodeFile;
@@ -131,14 +131,7 @@ fn looked<J: Naming + Send + Sync, R: Threads + Wait + Abort + Sync>(
     writer: &mut WriteSeat<J>,
     reader: &mut ReadSeat<J>,
 ) -> (Result<usize, u16>, Result<usize, u16>) {
-    let first = node.put(
-        rt,
-        writer,
-        key(rt, alloc, b'1'),
-        value(rt, alloc, b'x'),
-        None,
-    );
-    reader.learn(first.ok().expect(rt, "an accepted call").revision());
+    put_and_learn(rt, alloc, node, writer, b'x', reader);
     *gate.lock(rt) = Gate::Closed;
     let (place, seen) = thread::join(
         rt,
