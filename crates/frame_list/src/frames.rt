@@ -100,7 +100,7 @@ impl Frames {
         Ok(())
     }
 
-    /// Adds these frames, in their order. Fails only when memory runs out, and then nothing changes.
+    /// Adds these frames, in order. Fails only when memory runs out, and then nothing changes.
     pub fn extend(&mut self, frames: &[ByteString]) -> Result<(), AllocError>
         ensures value { OnOk result (self.new ≡ self.old ++ frames.now) }
         ensures same { OnErr result (self.new ≡ self.old) }
@@ -168,9 +168,9 @@ fn bytes_at(alloc: Global, kept: &[Kept], place: usize) -> Result<Vec<u8>, Alloc
     Ok(bytes)
 }
 
-/// The frame from which the last `count` bytes of the frame at the place are to be read: down through
-/// those that share all of them, to the first that has some as its own. So each step of a later read
-/// but the first finds bytes, however many frames are alike.
+/// The frame from which the last `count` bytes of the frame at the place are to be read: down
+/// through those that share all of them, to the first that has some as its own. So each step of a
+/// later read but the first finds bytes, however many frames are alike.
 fn keeper(kept: &[Kept], place: usize, count: usize) -> usize
     requires there { place < length kept.now }
     requires shared { AreShared [] kept.now }

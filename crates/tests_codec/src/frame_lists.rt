@@ -5,8 +5,9 @@ use meta_types::ByteString;
 use std::alloc::{AllocError, Global};
 use std::process::Abort;
 
-/// What each frame begins with, and how many bytes `e` come after that. Those that are long enough to
-/// share an end all end in the same sixteen bytes; two are the same, and one is the end of another.
+/// What each frame begins with, and how many bytes `e` come after that. Those that are long enough
+/// to share an end all end in the same sixteen bytes; two are the same, and one is the end of
+/// another.
 static FRAMES: [(&str, usize); 9] = [
     ("first", 150),
     ("second", 150),

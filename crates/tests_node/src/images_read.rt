@@ -8,8 +8,8 @@ use std::alloc::Global;
 use std::process::Abort;
 use world_core::{Event, World};
 
-/// How many values each image of node 0 has: the empty one; those that two blind writes left; and the
-/// one that a blind write left after a restart from the first of these.
+/// How many values each image of node 0 has: the empty one; those that two blind writes left; and
+/// the one that a blind write left after a restart from the first of these.
 static VALUES: [usize; 4] = [0, 1, 2, 2];
 
 /// What happens at node 0.

@@ -83,7 +83,7 @@ impl World {
     }
 
     /// The bytes of the frame of that number, if one has it: a copy. The first that was sent has
-    /// number 1. They spell a frame; an object that it carries is that of the writes that its sender
+    /// number 1. They spell a frame; an object that it carries is that of the writes its sender
     /// knew when it was sent. Fails only when memory runs out.
     pub fn frame(&self, number: u64) -> Result<Option<ByteString>, AllocError>
         ensures value { IfOk result (λ bytes. bytes ≡ numbered self.now.frames number) }
