@@ -17,7 +17,7 @@ abbrev pub reading_at : Table → Key → Source → Reading
 reading_at table key source =
     record { key = key; vector = join (object_at table key); source = source }
 
--- the vector that a write has read: that of its context, or none
+-- the vector that a write has read: the vector of its context, or the empty one
 abbrev pub vector_read : Option Reading → List Counter
 vector_read None = []
 vector_read (Some context) = context.vector

@@ -14,7 +14,7 @@ use Rattle.meta_store.specs.Kept.{Rows}
 abbrev pub row_eq : {K : Type 0} → (K → K → Bool) → K × List Entry → K × List Entry → Bool
 row_eq eq row other = eq row.0 other.0 && entries_eq row.1 other.1
 
--- of one full prefix
+-- the rows of one full prefix are equal
 abbrev pub rows_eq : Rows → Rows → Bool
 rows_eq = pointwise (row_eq (pointwise nat_eq))
 

@@ -29,7 +29,7 @@ Parts = PartsOf (List Entry)
 abbrev pub rows_under : {X : Type 0} → Prefix → RowsOf X → List (Key × X)
 rows_under prefix rows = map (λ row. (record { prefix = prefix; key = row.0 }, row.1)) rows
 
--- all rows that are kept so: of a store, its table
+-- all rows that are kept so, in order: for a store, its table
 abbrev pub table_of : {X : Type 0} → PartsOf X → List (Key × X)
 table_of parts = flat_map (λ part. rows_under part.0 part.1) parts
 
@@ -37,11 +37,12 @@ table_of parts = flat_map (λ part. rows_under part.0 part.1) parts
 abbrev pub rows_at : {X : Type 0} → Prefix → PartsOf X → RowsOf X
 rows_at prefix parts = unwrap_or (find prefix_cmp prefix parts) []
 
--- the rows without that of the key
+-- the rows without the row of the key
 abbrev pub without_row : {X : Type 0} → List ℕ → RowsOf X → RowsOf X
 without_row key rows = filter (λ row. not (is_eq (bytes_cmp key row.0))) rows
 
--- these rows under the full prefix in place of those there; without rows it holds no key, and goes
+-- these rows under the full prefix in place of those there; where there are none, the full prefix
+-- is taken out
 abbrev pub with_rows : {X : Type 0} → Prefix → RowsOf X → PartsOf X → PartsOf X
 with_rows prefix [] parts = filter (λ part. not (prefix_eq prefix part.0)) parts
 with_rows prefix (row ∷ rows) parts = put prefix_cmp prefix (row ∷ rows) parts

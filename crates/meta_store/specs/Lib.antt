@@ -22,7 +22,7 @@ pub mod Context
 pub mod Step
 -- the numbers of refusals
 pub mod Fault
--- how a store keeps its table, by full prefix: what is gone over row by row
+-- how a store keeps its table, by full prefix, as it is gone over row by row
 pub mod Kept
 -- lemmas, which stand here since impls cite them: the comparisons decide equality of all parts
 pub mod Equal

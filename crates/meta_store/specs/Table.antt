@@ -26,7 +26,7 @@ with_object key object table = put key_cmp key object table
 abbrev pub without_object : Key → Table → Table
 without_object key table = filter (λ row. not (is_eq (key_cmp key row.0))) table
 
--- the vector of what is held has read all that the other has read
+-- the vector of the object under the key has read all that this vector has
 abbrev pub is_stale : Table → Key → List Counter → Bool
 is_stale table key vector = descends (join (object_at table key)) vector
 
@@ -42,19 +42,19 @@ prefixes_of rows = dedup prefix_eq (map (λ row. row.0.prefix) rows)
 
 -- ---- limits
 
--- of the keys of a table
+-- the most keys of a table
 abbrev pub most_keys : ℕ
 most_keys = 8192
 
--- of the entries of an object
+-- the most entries of an object
 abbrev pub most_entries : ℕ
 most_entries = 65535
 
--- of the values of one writer that an object shows
+-- the most values of one writer that an object shows
 abbrev pub most_values : ℕ
 most_values = 65535
 
--- of the bytes of an object, as a field of a frame, after a write and after a merge
+-- the most bytes of an object, as a field of a frame, after a write and after a merge
 abbrev pub most_written : ℕ
 most_written = 1048576
 
@@ -66,7 +66,7 @@ abbrev pub has_few_values : Entry → Bool
 has_few_values e = nat_le (length e.values) most_values
 
 -- the object has few enough entries, each of which shows few enough values, and as a field of a
--- frame it has at most so many bytes
+-- frame it has at most `most` bytes
 abbrev pub is_small_enough : ℕ → List Entry → Bool
 is_small_enough most es = nat_le (length es) most_entries
     && (list_all has_few_values es && nat_le (length (object.spell es)) most)
@@ -79,7 +79,7 @@ pub record IsHeld (es : List Entry) : Type 0 where
   pub shows : has_value es ≡ true
   pub small : is_small_enough most_merged es ≡ true
 
--- the keys rise strictly, each is one, and they are few enough; each object may be held
+-- the keys rise strictly, each is lawful, and they are few enough; each object may be held
 pub record IsTable (table : Table) : Type 0 where
   pub rising : is_sorted key_cmp table ≡ true
   pub keys : All (λ row. IsKey row.0) table

@@ -8,7 +8,7 @@
 //! ```
 //!
 //! Read `store` with `rows`, `put`, `merge`, `context` with `source`, then `laws` and `fault`;
-//! `size` tells what may be held, `parts` is private.
+//! `size` says what may be held, `parts` is private.
 #![tactic(auto)]
 
 pub mod context;

@@ -35,15 +35,15 @@ pub enum Merged {
 
 impl Store {
     /// Merges an object that came from another store into what is held under the key. Where it
-    /// counts no write that isn't known the answer is `Stale`, and nothing changes; that takes no
-    /// memory and is never refused. Nothing changes under other keys.
+    /// counts no write that isn't known, returns `Stale`, and nothing changes; that takes no memory
+    /// and is never refused. Nothing changes under other keys.
     ///
     /// What isn't stale is refused, in this order, with 21 `BadEntries` where the merge would show
-    /// no value, as only forged objects give, 25 `StoreFull` for a new key where 8,192 are held,
-    /// and 27 `ObjectTooLarge` where the merge would have more than 65,535 entries, more than
-    /// 65,535 values of one writer, or more than 16,000,000 bytes as its field of a frame; 99
-    /// `Memory` may stand in place of any answer. Then nothing changes. Key and object are dropped
-    /// with a refusal.
+    /// no value, which happens only with forged objects, 25 `StoreFull` for a new key where 8,192
+    /// are held, and 27 `ObjectTooLarge` where the merge would have more than 65,535 entries, more
+    /// than 65,535 values of one writer, or more than 16,000,000 bytes as its field of a frame; 99
+    /// `Memory` may stand in place of any other result. Then nothing changes. Key and object are
+    /// dropped with a refusal.
     pub fn merge(&mut self, key: MetaKey, object: Entries) -> Result<Merged, StoreFault>
         ensures stale { is_stale self.old key (join object) ≡ true → result ≡ Ok Stale }
         ensures value { OnOk result (self.new ≡ table_after_merge self.old key object) }

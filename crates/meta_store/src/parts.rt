@@ -12,7 +12,7 @@ use meta_types::{ByteString, FullPrefix};
 use std::alloc::{AllocError, Global};
 use std::collections::BTreeMap;
 
-/// Holds the object under the key in place of what is held there, and answers whether the key is
+/// Holds the object under the key in place of what is held there, and returns whether the key is
 /// new. Fails only when memory runs out for a new key, and then nothing changes.
 pub(crate) fn put_part(
     alloc: Global,
@@ -40,7 +40,7 @@ pub(crate) fn put_part(
     Ok(true)
 }
 
-/// Takes the key and its object out, and the full prefix with its last key; answers whether the key
+/// Takes the key and its object out, and the full prefix with its last key; returns whether the key
 /// was held. It takes no memory.
 pub(crate) fn remove_part(
     parts: &mut BTreeMap<FullPrefix, Rows>,

@@ -53,17 +53,17 @@ impl Store {
         Ok(object)
     }
 
-    /// A write by `id`, which has read what its context says, or without one nothing: the values
-    /// that were read are no longer shown, the others stay beside the new one as siblings. The
-    /// context counts also where nothing is held, or less than it has read. Nothing changes under
-    /// other keys.
+    /// A write by `id`. It has read what its context says, or nothing where it has no context: the
+    /// values that were read are no longer shown, the others stay beside the new one as siblings.
+    /// The context counts also where nothing is held, or less than it has read. Nothing changes
+    /// under other keys.
     ///
     /// Refused, in this order, with 26 `WrongKey` where the context is of another key, 25
     /// `StoreFull` for a new key where 8,192 are held, 20 `CounterSpent` where the writer's
     /// counter, in what is held or in what was read, is 18,446,744,073,709,551,615, and 27
     /// `ObjectTooLarge` where the object would have more than 65,535 entries, more than 65,535
     /// values of one writer, or more than 1,048,576 bytes as its field of a frame; 99 `Memory` may
-    /// stand in place of any answer. Then nothing changes. Key and value are dropped with a
+    /// stand in place of any other result. Then nothing changes. Key and value are dropped with a
     /// refusal.
     pub fn put(
         &mut self,

@@ -46,7 +46,7 @@ impl Rows {
         Ok(Rows { by_key })
     }
 
-    /// Holds the object under the key in place of what is held there, and answers whether the key
+    /// Holds the object under the key in place of what is held there, and returns whether the key
     /// is new. Fails only when memory runs out for a new key, and then nothing changes.
     pub(crate) fn hold(&mut self, key: ByteString, object: Entries) -> Result<bool, AllocError>
         requires in_range { IsName 256 key }
@@ -59,7 +59,7 @@ impl Rows {
         Ok(before.is_none())
     }
 
-    /// Takes the key and its object out, and answers whether it was held. It takes no memory.
+    /// Takes the key and its object out, and returns whether it was held. It takes no memory.
     pub(crate) fn forget(&mut self, key: &ByteString) -> bool
         ensures value { self.new ≡ without_row key.now self.old }
         ensures was_held { result ≡ is_some (find bytes_cmp key.now self.old) }

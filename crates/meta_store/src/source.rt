@@ -1,7 +1,7 @@
 use meta_types::Actor;
 
-/// Who read: a node in one of its lives, and the number of the step in which it was. A node numbers
-/// the steps of a life from 1.
+/// Who read: a node in one of its lives, and the number of the step in which it read. A node
+/// numbers the steps of a life from 1.
 #[derive(Clone, Copy, Debug, PartialEq, Eq)]
 pub struct Source {
     pub actor: Actor,

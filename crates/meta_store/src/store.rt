@@ -48,7 +48,7 @@ impl Model for Store {
 }
 
 impl Store {
-    /// A store that holds nothing. It takes no memory; what is held will be taken from the
+    /// A store that holds nothing. It takes no memory; memory for what is held will come from the
     /// allocator.
     pub fn new(alloc: Global) -> Self
         ensures { result ≡ [] }
@@ -83,15 +83,16 @@ impl Store {
         self.parts.get(key.prefix())?.object(key.own_bytes())
     }
 
-    /// The values under the key, which are siblings if there are several, by writer and of each the
-    /// newest first, and the vector of their object; both are empty where nothing is held. They are
-    /// copies. Fails only when memory runs out.
+    /// The values under the key, by writer and the newest first for each, which are siblings if
+    /// there are several; and the vector of their object. Both are empty where nothing is held.
+    /// They are copies. Fails only when memory runs out.
     pub fn get(&self, key: &MetaKey) -> Result<(Vec<Value>, Vector), AllocError>
         ensures values { IfOk result
             (λ read. read.0.items ≡ values_of (object_at self.now key.now)) }
         ensures vector { IfOk result (λ read. read.1 ≡ join (object_at self.now key.now)) }
     {
-        Ok((self.values(key)?, self.vector(key)?))
+        let absent = Entries::empty(self.alloc);
+        read(self.alloc, self.object_or(key, &absent))
     }
 
     /// The values under the key, as `get` has them, and a context for a later write that has read
@@ -101,7 +102,9 @@ impl Store {
             (λ read. read.0.items ≡ values_of (object_at self.now key.now)) }
         ensures context { IfOk result (λ read. read.1 ≡ reading_at self.now key.now source) }
     {
-        Ok((self.values(key)?, self.context(key, source)?))
+        let key_read = key.copy()?;
+        let (values, vector) = self.get(key)?;
+        Ok((values, Context::new(key_read, vector, source)))
     }
 
     /// A context for a later write that has read what is under the key; where nothing is held its
@@ -111,14 +114,6 @@ impl Store {
         ensures { IfOk result (λ context. context ≡ reading_at self.now key.now source) }
     {
         Ok(Context::new(key.copy()?, self.vector(key)?, source))
-    }
-
-    /// The values under the key, none where nothing is held. They are copies.
-    fn values(&self, key: &MetaKey) -> Result<Vec<Value>, AllocError>
-        ensures { IfOk result (λ values. values.items ≡ values_of (object_at self.now key.now)) }
-    {
-        let absent = Entries::empty(self.alloc);
-        values(self.alloc, self.object_or(key, &absent))
     }
 
     /// The vector of the object under the key, which has read nothing where nothing is held.
@@ -155,9 +150,9 @@ impl Store {
         self.len < MAX_KEYS || self.object(key).is_some()
     }
 
-    /// Holds the object under the key, in place of what is held there, as a store is filled from
-    /// what another one has held. Fails only when memory runs out for a new key, and then nothing
-    /// changes. A key that is held is never refused.
+    /// Holds the object under the key, in place of what is held there. It is for filling a store
+    /// with what another one has held. Fails only when memory runs out for a new key, and then
+    /// nothing changes. A key that is held is never refused.
     pub fn hold(&mut self, key: MetaKey, object: Entries) -> Result<(), AllocError>
         requires held { IsHeld object }
         requires room { is_full_for self.old key ≡ false }
@@ -238,6 +233,14 @@ impl Store {
     pub(crate) fn allocator(&self) -> Global {
         self.alloc
     }
+}
+
+/// The values of an object and its vector, both copies. Fails only when memory runs out.
+fn read(alloc: Global, object: &Entries) -> Result<(Vec<Value>, Vector), AllocError>
+    ensures values { IfOk result (λ read. read.0.items ≡ values_of object.now) }
+    ensures vector { IfOk result (λ read. read.1 ≡ join object.now) }
+{
+    Ok((values(alloc, object)?, join(alloc, object)?))
 }
 
 impl PartialEq for Store {

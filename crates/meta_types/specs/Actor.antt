@@ -1,13 +1,13 @@
--- Who counts writes: a node in one of its lives, which incarnations number. A writer is one number
--- that keeps their order: first by node, then by incarnation. The rule is our own.
+-- A writer is a node in one of its lives, which incarnations number. It is one number, in an order
+-- that is first by node, then by incarnation. The rule is our own.
 use Rattle.std.specs.Prelude.{◌≡◌, ◌<◌, ◌⊎◌, ℕ, ◌+◌, ◌*◌, ◌/◌, ◌%◌}
 use Rattle.meta_types.specs.Node.{IsNode}
 
--- how many incarnations a node has numbers for: those of 32 bits
+-- how many incarnation numbers a node has: those of 32 bits
 abbrev pub incarnations : ℕ
 incarnations = 4294967296
 
--- the writer that a node is in its life of that number
+-- the writer of a node's number and an incarnation
 abbrev pub writer_number : ℕ → ℕ → ℕ
 writer_number node incarnation = node * incarnations + incarnation
 

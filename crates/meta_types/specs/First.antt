@@ -1,4 +1,5 @@
--- Of several refusals in their order, each with whether it applies, the first that does.
+-- The first refusal that applies, from a list of refusals in their order, each with whether it
+-- does.
 use Rattle.std.specs.Prelude.{if◌then◌else◌, Bool, List, [], ◌∷◌, Option, Some, None}
 
 abbrev pub first_that_applies : {F : Type 0} → List (Bool × F) → Option F

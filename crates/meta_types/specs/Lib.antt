@@ -1,7 +1,7 @@
 -- What must be believed of node numbers, names and values, in the order in which to read it.
 -- the numbers of nodes
 pub mod Node
--- who counts writes: a node in one of its lives
+-- writers: a node in one of its lives
 pub mod Actor
 -- the parts of a prefix and of a key, and their lengths
 pub mod Name
@@ -19,5 +19,7 @@ pub mod Failing
 pub mod Chain
 -- which of several refusals comes first
 pub mod First
+-- the head of a byte string, by which most comparisons end
+pub mod Head
 -- the numbers of refusals
 pub mod Fault

@@ -1,5 +1,5 @@
--- Lemmas that impls cite: two values tie in their order exactly where they are equal, and where
--- each part is compared the whole is.
+-- Lemmas that impls cite: two values tie in their order exactly where they are equal, and tests of
+-- the parts of a fact together decide the fact.
 use Rattle.std.proofs.Common.{ℕ, ◌≡◌, ◌&&◌, ◌==◌, Bool, List, Option, Some, None, nat_eq, refl, sym, ◌∙◌}
 use Rattle.std.specs.Bool.{Decides}
 use Rattle.std.specs.declared.cmp.Ordering.{Ordering}
@@ -29,7 +29,7 @@ value_ties v w =
     (λ i. unsigned_ties v.stamp w.stamp i && body_ties v.body w.body i)
     ∙ sym (is_eq-then (nat_cmp v.stamp w.stamp) (option_cmp bytes_cmp v.body w.body))
 
--- two tests decide a fact that is the facts of both
+-- two tests, each of which decides a fact, together decide the fact that both facts make up
 pub both_decide : {P Q R : Type 0} (s t : Bool) → Decides s P → Decides t Q
     → (P → Q → R) → (R → P) → (R → Q) → Decides (s && t) R
 both_decide s t d e whole left right = (

@@ -9,14 +9,14 @@ use crate::node::NodeId;
 use std::cmp::Ordering;
 use std::marker::Model;
 
-/// How many numbers there are for the incarnations of a node.
+/// How many incarnation numbers a node has.
 pub const INCARNATIONS: u64 = 4_294_967_296;
 
-/// Who counts writes: a node in one of its lives. A node has a new incarnation in each life, so
-/// what it writes after a restart is counted apart from what it wrote before.
+/// A writer: a node in one of its lives. A node has a new incarnation in each life, so what it
+/// writes after a restart is counted apart from what it wrote before.
 ///
 /// Actors are ordered by node, then by incarnation. An actor's incarnation may be any number of 32
-/// bits; a node's first life has 1, and 0 stands for who wrote before there were incarnations.
+/// bits; a node's first life has 1, and 0 stands for writers from before there were incarnations.
 #[derive(Clone, Copy, Debug)]
 pub struct Actor {
     node: NodeId,
@@ -57,7 +57,7 @@ impl Actor {
         self.incarnation
     }
 
-    /// One number for node and incarnation, which keeps the order of actors.
+    /// Node and incarnation as one number, which keeps the order of actors.
     pub fn number(self) -> u64
         ensures value { result ≡ self }
         ensures in_range { IsWriter self }

@@ -1,27 +1,89 @@
-ghost use Rattle.std.specs.Prelude.{◌≡◌, ℕ, List, IfOk};
+ghost use Rattle.std.specs.Prelude.{◌≡◌, ◌+◌, ◌*◌, ◌<◌, ℕ, List, IfOk};
+ghost use Rattle.meta_types.specs.Head.{IsHeadOf, byte_at, four_from};
+ghost use Rattle.meta_types.specs.Order.{bytes_cmp};
 
 use std::alloc::AllocError;
 use std::cmp::Ordering;
 use std::marker::Model;
 
-/// A byte string that contracts see as the list of its bytes: what makes the comparisons of names
-/// and values lawful, in byte order.
+/// A byte string that contracts see as the list of its bytes, so that names and values are compared
+/// lawfully, in byte order.
+///
+/// Its first eight bytes stand beside it as one number, the head, by which most comparisons end:
+/// a search of a map reads the bytes of a key only where the heads are equal.
 #[derive(Debug, Drop)]
 pub struct ByteString {
     bytes: Vec<u8>,
+    head: u64,
 }
 
 impl Model for ByteString {
+    ghost use Rattle.std.specs.Prelude.{ℕ, List};
+    ghost use Rattle.meta_types.specs.Head.{IsHeadOf};
+
     ghost Value = { List ℕ };
 
     ghost view = { λ s. s.bytes.items };
+
+    ghost invariant = { λ s. IsHeadOf s.head s.bytes.items };
+}
+
+/// The byte at this place, 0 past the end.
+fn byte_at(bytes: &[u8], at: usize) -> u8
+    ensures { result ≡ byte_at bytes.now at }
+{
+    bytes.get(at).copied().unwrap_or(0)
+}
+
+/// Four bytes as one number, the first of them the greatest digit.
+fn number_of(a: u8, b: u8, c: u8, d: u8) -> u64
+    ensures value { result ≡ ((a * 256 + b) * 256 + c) * 256 + d }
+    ensures small { result < 4294967296 }
+{
+    (u64::from(a) * 256 + u64::from(b)) * 65_536 + u64::from(c) * 256 + u64::from(d)
+}
+
+/// The four bytes from this place on as one number, the first of them the greatest digit.
+fn four_from(bytes: &[u8], at: usize) -> u64
+    requires { at < 8 }
+    ensures value { result ≡ four_from bytes.now at }
+    ensures small { result < 4294967296 }
+{
+    if at + 4 <= bytes.len() {
+        return number_of(bytes[at], bytes[at + 1], bytes[at + 2], bytes[at + 3]);
+    }
+    let (a, b) = (byte_at(bytes, at), byte_at(bytes, at + 1));
+    number_of(a, b, byte_at(bytes, at + 2), byte_at(bytes, at + 3))
+}
+
+/// The first eight bytes as one number, the first of them the greatest digit.
+fn head_of(bytes: &[u8]) -> u64
+    ensures { IsHeadOf result bytes.now }
+{
+    four_from(bytes, 0) * 4_294_967_296 + four_from(bytes, 4)
+}
+
+/// The order of two byte strings that have these heads. Bytes are read only where the heads are
+/// equal and a string has more than eight.
+fn order(mine: &[u8], others: &[u8], head: u64, other_head: u64) -> Ordering
+    requires { IsHeadOf head mine.now × IsHeadOf other_head others.now }
+    ensures { result ≡ bytes_cmp mine.now others.now }
+{
+    if head != other_head {
+        return head.cmp(&other_head);
+    }
+    if mine.len() <= 8 && others.len() <= 8 {
+        return mine.len().cmp(&others.len());
+    }
+    mine.cmp(others)
 }
 
 impl ByteString {
     pub fn new(bytes: Vec<u8>) -> Self
         ensures { result ≡ bytes.items }
     {
-        ByteString { bytes }
+        let head = head_of(bytes.as_slice());
+        ByteString { bytes, head }
     }
 
     /// The bytes, without taking memory.
@@ -42,6 +104,7 @@ impl ByteString {
     {
         Ok(ByteString {
             bytes: self.bytes.clone()?,
+            head: self.head,
         })
     }
 }
@@ -57,7 +120,7 @@ impl PartialEq for ByteString {
     ghost laws = { Prim.search (comparing, rules) };
 
     fn eq(&self, other: &ByteString) -> bool {
-        self.bytes.as_slice() == other.bytes.as_slice()
+        self.head == other.head && self.bytes.as_slice() == other.bytes.as_slice()
     }
 }
 
@@ -87,7 +150,8 @@ impl Ord for ByteString {
         ensures value { result ≡ bytes_cmp self.now other.now }
         ensures before { (result ≡ Less) ↔ BytesBefore self.now other.now }
     {
-        self.bytes.as_slice().cmp(other.bytes.as_slice())
+        let (mine, others) = (self.bytes.as_slice(), other.bytes.as_slice());
+        order(mine, others, self.head, other.head)
     }
 }
 

@@ -15,7 +15,7 @@ pub enum TypeFault {
     ValueTooLong,
     /// 3: no node can have this number.
     BadNode,
-    /// 99: an allocation was refused. No call of this crate answers it: a copy answers
+    /// 99: an allocation was refused. No call of this crate returns it: a copy returns
     /// `AllocError`, which `?` turns into this.
     Memory,
 }

@@ -34,15 +34,16 @@ impl MetaKey {
     ghost use Rattle.meta_types.specs.Name.{Key, IsName, IsKey};
     ghost use Rattle.meta_types.specs.declared.fault.TypeFault.TheVariants.{BadName};
 
-    /// Refused with 1 `BadName` where the length is out of range, and only then. What was handed in
-    /// is dropped with a refusal: whoever needs it afterwards compares its length first.
+    /// The key of these parts. Refused with 1 `BadName` where the length is out of range, and only
+    /// then. What was handed in is dropped with a refusal: a caller that needs it afterwards
+    /// compares its length first.
     pub fn new(prefix: FullPrefix, key: Vec<u8>) -> Result<Self, TypeFault>
         ensures range { IsOk result ↔ IsName 256 key.items }
         ensures value { IfOk result (λ k. k ≡ record { prefix = prefix; key = key.items }) }
         ensures fault { IfErr result (λ fault. fault ≡ BadName) }
     {
         if is_name(key.as_slice(), MAX_KEY_LEN) {
-            // Read for what it tells: the prefix is in range.
+            // Read for its contract, which says that the prefix is in range.
             let _ = prefix.prefix();
             Ok(MetaKey {
                 prefix,
@@ -68,7 +69,7 @@ impl MetaKey {
         self.key.as_slice()
     }
 
-    /// The same bytes as the byte string that is kept, by which ordered maps find a key under its
+    /// The bytes of the key itself as a `ByteString`, by which ordered maps find a key under its
     /// prefix.
     pub fn own_bytes(&self) -> &ByteString
         ensures value { result.now ≡ self.now.key }
@@ -91,7 +92,7 @@ impl MetaKey {
         requires in_range { IsName 256 key }
         ensures { result ≡ record { prefix = prefix; key = key } }
     {
-        // Read for what it tells: the prefix is in range.
+        // Read for its contract, which says that the prefix is in range.
         let _ = prefix.prefix();
         MetaKey { prefix, key }
     }

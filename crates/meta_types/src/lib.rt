@@ -1,6 +1,6 @@
 //! Node numbers, names, keys and values: the plain types that every crate of the store speaks of.
 //!
-//! Each type keeps its limits by itself: a value that exists is in range. A constructor answers a
+//! Each type keeps its limits by itself: a value that exists is in range. A constructor returns a
 //! refusal for what is out of range, and `copy` is the only call that takes memory.
 //!
 //! ```

@@ -1,7 +1,7 @@
 use crate::fault::TypeFault;
 use std::marker::Model;
 
-/// How many nodes a cluster has at most: they are numbered from 0.
+/// The most nodes of a cluster, which are numbered from 0.
 pub const MAX_NODES: u16 = 16;
 
 /// The number of a node, 0 to 15, ordered as numbers are.
@@ -28,7 +28,7 @@ impl NodeId {
     ghost use Rattle.meta_types.specs.Node.{IsNode};
     ghost use Rattle.meta_types.specs.declared.fault.TypeFault.TheVariants.{BadNode};
 
-    /// Refused with 3 `BadNode` from 16 on, and only then.
+    /// The node of this number. Refused with 3 `BadNode` from 16 on, and only then.
     pub fn new(number: u16) -> Result<Self, TypeFault>
         ensures range { IsOk result ↔ IsNode number }
         ensures value { IfOk result (λ node. node ≡ number) }

@@ -43,8 +43,9 @@ impl FullPrefix {
     ghost use Rattle.meta_types.specs.Name.{Prefix, IsName, IsFullPrefix};
     ghost use Rattle.meta_types.specs.declared.fault.TypeFault.TheVariants.{BadName};
 
-    /// Refused with 1 `BadName` where a length is out of range, and only then. What was handed in
-    /// is dropped with a refusal: whoever needs it afterwards compares its length first.
+    /// The full prefix of these parts. Refused with 1 `BadName` where a length is out of range, and
+    /// only then. What was handed in is dropped with a refusal: a caller that needs it afterwards
+    /// compares its length first.
     pub fn new(prefix: Vec<u8>, sub: Vec<u8>) -> Result<Self, TypeFault>
         ensures range { IsOk result
             ↔ IsFullPrefix (record { prefix = prefix.items; sub = sub.items }) }

@@ -35,8 +35,9 @@ impl Value {
     ghost use Rattle.meta_types.specs.Value.{ValueParts, IsBody, IsValue, body_of};
     ghost use Rattle.meta_types.specs.declared.fault.TypeFault.TheVariants.{ValueTooLong};
 
-    /// Refused with 2 `ValueTooLong` where the body is too long, and only then. What was handed in
-    /// is dropped with a refusal: whoever needs it afterwards compares its length first.
+    /// The value of these parts. Refused with 2 `ValueTooLong` where the body is too long, and only
+    /// then. What was handed in is dropped with a refusal: a caller that needs it afterwards
+    /// compares its length first.
     pub fn new(stamp: u64, body: Option<Vec<u8>>) -> Result<Self, TypeFault>
         ensures range { IsOk result ↔ IsBody (body_of body) }
         ensures value { IfOk result (λ v. v ≡ record { stamp = stamp; body = body_of body }) }
