@@ -63,8 +63,8 @@ fn served<D: Device + Drop>(alloc: Global, device: D) -> io::Result<(NodeFile<D>
     }
 }
 
-/// The table that the file at the path holds, and the number of its last life, 0 for none. Nothing
-/// is written.
+/// Returns the table that the file at the path holds, and the number of its last life, 0 for none.
+/// Nothing is written.
 pub(crate) fn read(rt: &HostRuntime, path: &str) -> io::Result<(Store, u32)> {
     let device = FileDevice::open_to_read(rt, rt.alloc(), path).map_err(refused)?;
     match open_node(rt.alloc(), device, None) {

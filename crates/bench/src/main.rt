@@ -2,7 +2,7 @@
 //! part, and the others are the part's own.
 //!
 //! Each part has a module and a folder: `lock`, `cluster` (in `clusters`), `node`, `file`,
-//! `threads` and `storm`. What more than one of them has stands beside them.
+//! `threads` and `storm`. What several parts use stands beside them.
 #![tactic(auto)]
 
 mod begun;
@@ -30,8 +30,8 @@ fn main(rt: HostRuntime) -> io::Result<()> {
     }
 }
 
-/// Does what the part is asked for. The handle is the runtime once more, as what may start threads
-/// and wait.
+/// Does what the part is asked for. `handle` is the same runtime, as what may start threads and
+/// wait.
 fn run<R: Threads + Wait + Clock + Print + Sync>(
     rt: &HostRuntime,
     handle: &R,

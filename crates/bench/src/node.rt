@@ -20,13 +20,13 @@ use steps::{median_of_gossips, median_of_writes, print_rate};
 use table::{Table, Work};
 use writes::Writes;
 
-/// How many keys under how many full prefixes a table has.
+/// How many keys a table has, and under how many full prefixes.
 const TABLES: [(u32, u32); 4] = [(100, 1), (1_000, 1), (8_192, 1), (8_192, 32)];
 
 /// Under how many keys two stores differ.
 const CHANGES: [u32; 4] = [1, 10, 100, 1_000];
 
-/// How many keys a node holds whose steps are measured.
+/// How many keys a node holds when its steps are measured.
 const SIZES: [u32; 2] = [100, 8_192];
 
 pub(crate) fn run(rt: &HostRuntime, words: &[String]) -> io::Result<()> {

@@ -1,4 +1,4 @@
-//! Who writes, keys, the value that is written under them, and places that look random.
+//! Writers, keys, the value that is written under them, and places that look random.
 
 use crate::samples::refused;
 use meta_types::{Actor, FullPrefix, MetaKey, NodeId, Value};
@@ -35,7 +35,7 @@ pub(crate) fn key(alloc: Global, number: u32) -> io::Result<MetaKey> {
     numbered(alloc, "p", number)
 }
 
-/// The key of this number, under one of so many full prefixes in turn: `bench` and `p7`.
+/// The key of this number, under one of `prefixes` full prefixes by turns: `bench` and `p7`.
 fn key_in_turn(alloc: Global, number: u32, prefixes: u32) -> io::Result<MetaKey> {
     let sub = format!(in alloc; "p{}", number % prefixes.max(1))?;
     numbered(alloc, sub.as_str(), number)
@@ -54,7 +54,7 @@ pub(crate) struct Rows {
 }
 
 impl Rows {
-    /// So many keys of one full prefix.
+    /// `count` keys of one full prefix.
     pub(crate) fn new(alloc: Global, count: u32) -> io::Result<Self> {
         let mut keys = Vec::with_capacity(alloc, count as usize)?;
         for number in 0..count {
@@ -63,7 +63,7 @@ impl Rows {
         Rows::of(alloc, keys)
     }
 
-    /// So many keys, under so many full prefixes in turn.
+    /// `count` keys, under `prefixes` full prefixes by turns.
     pub(crate) fn in_turn(alloc: Global, count: u32, prefixes: u32) -> io::Result<Self> {
         let mut keys = Vec::with_capacity(alloc, count as usize)?;
         for number in 0..count {
@@ -99,7 +99,7 @@ impl Rows {
     }
 }
 
-/// What chooses places that look random, the same in each run.
+/// Chooses places that look random, the same in each run.
 #[derive(Clone, Copy)]
 pub(crate) struct Dice {
     state: u64,

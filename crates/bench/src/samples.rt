@@ -1,4 +1,4 @@
-//! What is made of samples, and how it is printed.
+//! Medians and rates of samples, and printing them.
 
 use std::io;
 
@@ -7,13 +7,14 @@ pub(crate) fn refused<E: Drop>(_refusal: E) -> io::Error {
     io::Error::from(io::ErrorKind::Other)
 }
 
-/// The middle one of the samples, which are sorted.
+/// Sorts the samples, and returns the median.
 pub(crate) fn median(samples: &mut [u128]) -> u128 {
     samples.sort_unstable();
     samples.get(samples.len() / 2).copied().unwrap_or(1)
 }
 
-/// How often in a second, of what came so often in so many nanoseconds.
+/// Returns how often in a second something is done that was done `count` times in `nanos`
+/// nanoseconds.
 pub(crate) fn rate(count: u64, nanos: u128) -> u128 {
     u128::from(count) * 1_000_000_000 / nanos.max(1)
 }

@@ -1,4 +1,4 @@
-//! How a node is started and closed.
+//! Starting a node, and closing it.
 
 ghost use Rattle.std.specs.Prelude.{◌≡◌, ◌≤◌};
 ghost use Rattle.node_desk.specs.Starting.{IsFileOf};
@@ -15,7 +15,7 @@ use std::io;
 use std::sync::Wait;
 use std::sync::ledger::Blank;
 
-/// Starts the node whose file it is, with so many seats.
+/// Starts the node of this file, with the seats of `capacity`.
 pub(crate) fn start<'a, D: Device + Drop, J: Naming, R: Wait>(
     rt: &'a R,
     alloc: Global,

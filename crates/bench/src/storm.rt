@@ -51,7 +51,7 @@ fn usage(rt: &HostRuntime) -> io::Result<()> {
     eprintln!(rt; "bench storm [--tell] PATH MILLISECONDS [KEYS], or --check PATH")
 }
 
-/// A storm over the node at the path, for so many milliseconds, over so many keys.
+/// Raises a storm over the node at the path, for this number of milliseconds, over `keys` keys.
 fn run_at<R: Threads + Wait + Clock + Print + Sync>(
     rt: &HostRuntime,
     handle: &R,
@@ -69,7 +69,7 @@ fn run_at<R: Threads + Wait + Clock + Print + Sync>(
     }
 }
 
-/// A storm for the milliseconds that are written there, over so many keys.
+/// The plan of a storm for the milliseconds that `time` spells, over `keys` keys.
 fn plan_of(time: &str, keys: u32, is_told: bool) -> io::Result<Plan> {
     Ok(Plan {
         milliseconds: time.parse().map_err(refused)?,

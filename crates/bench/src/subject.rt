@@ -1,5 +1,5 @@
-//! A node that is measured. Who drives it sees nothing of what it is, and so has nothing to prove
-//! of it.
+//! A node that is measured. Its driver sees nothing of what it is, and so has nothing to prove of
+//! it.
 
 use crate::rows::{Rows, node};
 use crate::samples::refused;
@@ -52,7 +52,7 @@ impl Subject {
         self.state.step(event).map_err(refused)
     }
 
-    /// Writes a copy of the rows' value over what is held under the key. Answers the frame that is
+    /// Writes a copy of the rows' value over what is held under the key. Returns the frame that is
     /// sent, if one is.
     pub(crate) fn put_over(
         &mut self,
@@ -83,7 +83,7 @@ impl Subject {
         Ok(())
     }
 
-    /// Takes a frame. Answers whether it brought something new.
+    /// Takes a frame. Returns whether it brought something new.
     pub(crate) fn take(&mut self, frame: ByteString) -> io::Result<bool> {
         Ok(is_fresh(&self.step(NodeEvent::Take { frame, word: 0 })?))
     }

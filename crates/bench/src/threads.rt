@@ -1,5 +1,5 @@
 //! Measures an inbox, and prints lines `name value unit` with the word `inbox`: frames that one
-//! thread puts and takes in turn, and frames that four threads put while a fifth takes. With
+//! thread puts and takes by turns, and frames that four threads put while a fifth takes. With
 //! another word, or none, it prints nothing. The names are those of `bench/threads` of the
 //! repository.
 

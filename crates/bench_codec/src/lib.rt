@@ -16,13 +16,13 @@ pub mod laws;
 #[cfg(test)]
 mod tests;
 
-/// What an export answers where memory was refused.
+/// What an export returns where memory was refused.
 pub const NO_MEMORY: u64 = u64::MAX;
 
-/// What an export answers where the bytes aren't frames one after another.
+/// What an export returns where the bytes aren't frames one after another.
 pub const REFUSED: u64 = u64::MAX - 1;
 
-/// The greatest number that an export answers: more bytes are told as so many.
+/// The greatest count that an export returns: it stands for all greater ones.
 pub const MOST: u64 = u64::MAX - 2;
 
 fn u32_at(bytes: &[u8], at: usize) -> u32
@@ -32,8 +32,8 @@ fn u32_at(bytes: &[u8], at: usize) -> u32
     u32::from_be_bytes([bytes[at], bytes[at + 1], bytes[at + 2], bytes[at + 3]])
 }
 
-/// The bytes of the first frame, as many as the header at the front names, and those after them.
-/// Refused where there are fewer.
+/// Splits off the first frame, as long as the header at the front says, from the bytes after it.
+/// Refused where there are fewer bytes.
 fn split(bytes: &[u8]) -> Result<(&[u8], &[u8]), FrameFault>
     ensures front { IfOk result (λ x. x.0.now ≡ take (20 + len_in bytes.now) bytes.now) }
     ensures rest { IfOk result (λ x. x.1.now ≡ drop (20 + len_in bytes.now) bytes.now) }
@@ -50,7 +50,7 @@ fn split(bytes: &[u8]) -> Result<(&[u8], &[u8]), FrameFault>
     Ok(bytes.split_at(HEADER_LEN + body_len))
 }
 
-/// How many frames the bytes are, each dropped once it is read.
+/// Returns how many frames the bytes are, each dropped once it is read.
 fn count_frames(alloc: Global, bytes: &[u8]) -> Result<u64, FrameFault>
     ensures counted { IfOk result (λ count. (frames : List Frame) × AreSpelled frames bytes.now
         × (count ≡ length frames)) }
@@ -84,7 +84,7 @@ fn frames_of(alloc: Global, bytes: &[u8]) -> Result<Vec<Frame>, FrameFault>
     Ok(frames)
 }
 
-/// How many bytes the frame is written as. It fails only where memory is refused.
+/// Returns how many bytes the frame is written as. Fails only when memory runs out.
 fn written_len(alloc: Global, frame: &Frame) -> Result<u64, FrameFault>
     requires { Spells frame.now (spelling frame.now) }
     ensures written { IfOk result (λ len. len ≡ length (spelling frame.now)) }
@@ -94,7 +94,7 @@ fn written_len(alloc: Global, frame: &Frame) -> Result<u64, FrameFault>
     Ok(bytes.len() as u64)
 }
 
-/// How many bytes the frames are written as, each once. It fails only where memory is refused.
+/// Returns how many bytes the frames are written as, each once. Fails only when memory runs out.
 fn written_once(alloc: Global, frames: &[Frame]) -> Result<u64, FrameFault>
     requires each { All (λ f. Spells f (spelling f)) frames.now }
     requires fits { length (flat_map spelling frames.now) ≤ usize.MAX }
@@ -108,8 +108,8 @@ fn written_once(alloc: Global, frames: &[Frame]) -> Result<u64, FrameFault>
     Ok(len)
 }
 
-/// How many bytes the frames are written as, `rounds` times over, or `u64::MAX` where they are
-/// more. It fails only where memory is refused.
+/// Returns how many bytes the frames are written as, `rounds` times over, or `u64::MAX` where they
+/// are more. Fails only when memory runs out.
 fn written_often(alloc: Global, frames: &[Frame], rounds: u32) -> Result<u64, FrameFault>
     requires each { All (λ f. Spells f (spelling f)) frames.now }
     requires fits { length (flat_map spelling frames.now) ≤ usize.MAX }
@@ -134,7 +134,7 @@ fn read_and_written(alloc: Global, bytes: &[u8], rounds: u32) -> Result<u64, Fra
     written_often(alloc, frames.as_slice(), rounds)
 }
 
-/// What an export answers for a fault.
+/// What an export returns for a fault.
 fn answer_for(fault: &FrameFault) -> u64
     ensures { ((fault.now ≡ FrameFault.Memory) × (result ≡ NO_MEMORY))
         ⊎ ((fault.now ≢ FrameFault.Memory) × (result ≡ REFUSED)) }
@@ -145,9 +145,9 @@ fn answer_for(fault: &FrameFault) -> u64
     }
 }
 
-/// Reads all frames of the bytes, and answers how many they are; `REFUSED` where the bytes aren't
+/// Reads all frames of the bytes, and returns how many they are; `REFUSED` where the bytes aren't
 /// frames one after another, and only then; `NO_MEMORY` where memory was refused. A contract can't
-/// say when memory is refused, so this one allows that answer always.
+/// say when memory is refused, so this one always allows that result.
 #[unsafe(no_mangle)]
 pub extern "C" fn bench_codec_decode(alloc: Global, bytes: &[u8]) -> u64
     ensures counted { result ≤ MOST → (frames : List Frame) × AreSpelled frames bytes.now
@@ -163,7 +163,7 @@ pub extern "C" fn bench_codec_decode(alloc: Global, bytes: &[u8]) -> u64
 /// Reads all frames of the bytes, writes each as its spelling, `rounds` times, and returns how many
 /// bytes it wrote, `MOST` where they are more; `REFUSED` where the bytes aren't frames one after
 /// another, and only then; `NO_MEMORY` where memory was refused. A contract can't say when memory
-/// is refused, so this one allows that answer always.
+/// is refused, so this one always allows that result.
 #[unsafe(no_mangle)]
 pub extern "C" fn bench_codec_encode(alloc: Global, bytes: &[u8], rounds: u32) -> u64
     ensures written { result ≤ MOST → AreFrames bytes.now

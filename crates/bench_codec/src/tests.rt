@@ -4,11 +4,11 @@ use super::*;
 const TWO_FRAMES: &[u8] = b"PT\x02\x04\0\x01\0\0\0\0\0\0\0\0\0\x05\0\0\0\0\
     PT\x02\x08\0\x01\0\x02\0\0\0\0\0\0\0\x01\0\0\0\x01\x01";
 
-// The same, without the last byte.
+// `TWO_FRAMES`, without the last byte.
 const CUT: &[u8] = b"PT\x02\x04\0\x01\0\0\0\0\0\0\0\0\0\x05\0\0\0\0\
     PT\x02\x08\0\x01\0\x02\0\0\0\0\0\0\0\x01\0\0\0\x01";
 
-/// What the exports answer.
+/// What the exports return.
 struct Row {
     bytes: &'static [u8],
     rounds: u32,

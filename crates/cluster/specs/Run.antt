@@ -30,13 +30,13 @@ pub record IsRunOf (lives : List LifeView) (run : ClusterRun) : Type 0 where
   pub worked : AllZip HasWorked lives all
   pub together : IsPutTogether all run
 
--- the contents of so many devices that hold nothing
+-- the contents of `nodes` devices that hold nothing
 abbrev pub nothing_on : ℕ → List (List ℕ)
 nothing_on nodes = replicate nodes []
 
 -- ---- why there is none
 
--- what workers end a run with: memory was wanting, or a node isn't closed
+-- what workers end a run with: memory ran out, or a node isn't closed
 abbrev pub RefusesGathering : ClusterFault → Type 0
 RefusesGathering (Node fault) = fault ≡ SeatsMissing
 RefusesGathering Memory = Unit {0}
@@ -48,7 +48,7 @@ pub record CanRun {D : Type 0} (content : D → List ℕ) (plan : ClusterPlan) (
   pub none : refusal_of_run plan limits (length devices) ≡ None
   pub served : CanServeAll content devices
 
--- what stands against it; or a thread isn't made, a node isn't closed or memory is wanting, where
+-- what stands against it; or a thread isn't made, a node isn't closed or memory runs out, where
 -- nothing does
 abbrev pub RefusesRun : {D : Type 0} → (D → List ℕ) → (D → ℕ) → ClusterPlan → Limits → List D
     → ClusterFault → Type 0
@@ -65,7 +65,7 @@ RefusesRun content failed plan limits devices (Node fault) =
 RefusesRun content failed plan limits devices Memory =
     refusal_of_run plan limits (length devices) ≡ None
 
--- the same on new devices in memory, which don't fail and hold nothing that is refused
+-- why there is none on new devices in memory, which don't fail and hold nothing that is refused
 abbrev pub RefusesNewRun : ClusterPlan → ClusterFault → Type 0
 RefusesNewRun plan NoSuchNode = refusal_of_run plan largest plan.nodes ≡ Some NoSuchNode
 RefusesNewRun plan BadLimit = ⊥

@@ -40,7 +40,7 @@ pub struct ClusterRun {
 }
 
 impl ClusterRun {
-    /// Of no node yet.
+    /// A run of no node yet.
     fn new(alloc: Global) -> Self
         ensures { IsPutTogether [] result }
     {
@@ -138,7 +138,7 @@ fn jobs_of<D: Device + Drop>(
     Ok(jobs)
 }
 
-/// Empty devices in memory, as many.
+/// `count` empty devices in memory.
 fn memory_devices(alloc: Global, count: u64) -> Result<Vec<MemoryDevice>, AllocError>
     requires { count ≤ 16 }
     ensures empty { IfOk result (λ devices.
@@ -158,7 +158,7 @@ fn memory_devices(alloc: Global, count: u64) -> Result<Vec<MemoryDevice>, AllocE
 /// each node is in its first life.
 ///
 /// Refused with 44 `NoSuchNode` before memory is taken. Then 56 `NoThread`, 54 of a node that isn't
-/// closed, of which no cause is known, and 99 `Memory` may come.
+/// closed, for which no cause is known, and 99 `Memory` may come.
 pub fn run_cluster<R: Threads + Wait + Sync, G: Gate + Sync>(
     rt: &R,
     alloc: Global,
@@ -179,7 +179,7 @@ pub fn run_cluster<R: Threads + Wait + Sync, G: Gate + Sync>(
     run_cluster_on(rt, alloc, plan, Limits::largest(), devices, gate)
 }
 
-/// Runs a cluster on these devices, that of node 0 first. The next life of each node is begun in
+/// Runs a cluster on these devices, node 0's first. The next life of each node is begun in
 /// its device's file, which is made where the device is empty. Then each node has a worker, in a
 /// thread of its own, that starts it, makes its turns and closes it.
 ///
@@ -188,17 +188,18 @@ pub fn run_cluster<R: Threads + Wait + Sync, G: Gate + Sync>(
 /// `live/all/k` and a digit, the turn modulo 8, in place of what the node holds there; otherwise
 /// the oldest frame of the node's inbox is taken; where there is none, time goes on by a tick. The
 /// frames of a call are put into the inboxes of their addressees; one that finds no room is lost.
-/// Each join, frame and tick has the next random word, of a `Pcg64` whose seed is that of the plan
-/// and the node's number, added up and wrapped.
+/// Each join, frame and tick has the next random word, of a `Pcg64` whose seed is the plan's plus
+/// the node's number, wrapped.
 ///
 /// Where a journal is full it is cut, and the call made once more. A node whose device fails is
-/// stopped: it makes no more turns, while the others go on. Any other refusal costs the turn.
+/// stopped: it makes no more turns, while the others go on. 99 `Memory` ends the run; any other
+/// refusal costs the turn.
 ///
 /// Refused in this order: 44 `NoSuchNode`; 55 `BadLimit`, both before memory is taken; then in the
 /// order of the nodes 30 `Device`, or what a file is refused with; 56 `NoThread`, once those
-/// threads have ended that could be made; at last, of the least node of which it comes, 54 where it
-/// isn't closed, of which no cause is known. 99 `Memory` may come at any time after the first two,
-/// also from a worker, after the others have made all their turns.
+/// threads have ended that could be made; at last 54, of the first node that isn't closed, for
+/// which no cause is known. 99 `Memory` may come at any time after the first two, also from a
+/// worker, after the others have made all their turns.
 ///
 /// It takes memory for all that the nodes hold, and copies each frame that it sends, and each that
 /// it takes. It waits for all workers.

@@ -103,7 +103,7 @@ where
     }
 }
 
-/// Waits for all threads: what came of each, in their order. There is room for it.
+/// Waits for all threads, and returns what came of each, in their order. There is room for it.
 fn join_all<R: Threads>(rt: &R, handles: Vec<Handle>, outcomes: Vec<Outcome>) -> Vec<Outcome>
     requires { (outcomes.items ≡ []) × (length handles.items ≤ vec_capacity outcomes) }
     ensures { AreOutcomesOf (map (λ h. h.promise) handles.items) result.items }
@@ -115,8 +115,8 @@ fn join_all<R: Threads>(rt: &R, handles: Vec<Handle>, outcomes: Vec<Outcome>) ->
     outcomes
 }
 
-/// Does each job in a thread of its own, and waits for all of them: what came of each, in their
-/// order.
+/// Does each job in a thread of its own, waits for all of them, and returns what came of each, in
+/// their order.
 ///
 /// Refused with 56 `NoThread` where a thread can't be made, after those that were made have ended,
 /// and with 99 `Memory` before any is made.

@@ -25,12 +25,12 @@ fault_name NoThread = codes "NoThread"
 fault_name (Node fault) = nodes.fault_name fault
 fault_name Memory = codes "Memory"
 
--- that of a file
+-- the refusal of a file
 abbrev pub of_file : FileFault → ClusterFault
 of_file OfFile.Memory = Memory
 of_file fault = File fault
 
--- that of a node
+-- the refusal of a node
 abbrev pub of_node : LockFault → ClusterFault
 of_node OfNode.Memory = Memory
 of_node fault = Node fault

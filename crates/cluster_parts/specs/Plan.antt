@@ -14,8 +14,8 @@ IsNodeCount n = (1 ≤ n) × (n ≤ 16)
 abbrev pub is_outside : ℕ → ℕ → ℕ → Bool
 is_outside first last n = nat_lt n first || nat_lt last n
 
--- the first that applies, with so many devices: the cluster has no node or more than 16; a limit is
--- out of range, or the devices are not as many as the nodes
+-- the first that applies, with `devices` devices: the cluster has no node or more than 16; a limit
+-- is out of range, or the devices are not as many as the nodes
 abbrev pub refusal_of_run : ClusterPlan → Limits → ℕ → Option ClusterFault
 refusal_of_run plan limits devices = first_that_applies (
     (is_outside 1 16 plan.nodes, NoSuchNode)

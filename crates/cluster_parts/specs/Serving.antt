@@ -22,7 +22,7 @@ abbrev pub life_of : ℕ → ℕ → Table → LifeView
 life_of node incarnation opened =
     record { node = node; incarnation = incarnation; opened = opened }
 
--- the first lives of so many nodes, which hold nothing
+-- the first lives of `nodes` nodes, which hold nothing
 abbrev pub first_lives : ℕ → List LifeView
 first_lives nodes = map (λ node. life_of node 1 []) (range_with_len 0 nodes)
 
@@ -59,17 +59,17 @@ IsServed content file held = IsFileOf content file.node file.life held file
 abbrev pub refusal_on : ℕ → List ℕ → Option FileFault
 refusal_on node bytes = refusal_of_serve (Some node) (file_bytes node bytes)
 
--- a life can be begun on each of the first so many devices
+-- a life can be begun on each of the first `end` devices
 abbrev pub CanServeBefore : {D : Type 0} → (D → List ℕ) → List D → ℕ → Type 0
 CanServeBefore {D} content devices end = (node : ℕ) (device : D) → node < end
     → slice_get devices node ≡ Some device → refusal_on node (content device) ≡ None
 
--- on all of them
+-- a life can be begun on each device
 abbrev pub CanServeAll : {D : Type 0} → (D → List ℕ) → List D → Type 0
 CanServeAll content devices = CanServeBefore content devices (length devices)
 
--- the device failed meanwhile, or the node's file of these bytes is refused; want of memory is told
--- otherwise
+-- the device failed meanwhile, or the node's file of these bytes is refused; memory that runs out
+-- is another refusal
 pub record CannotServe {D : Type 0} (failed : D → ℕ) (device : D) (node : ℕ) (bytes : List ℕ)
     (fault : FileFault) : Type 0 where
   pub another : fault ≢ OfFile.Memory
@@ -82,7 +82,7 @@ RefusesServing failed device node bytes (File fault) = CannotServe failed device
 RefusesServing failed device node bytes Memory = Unit {0}
 RefusesServing failed device node bytes fault = ⊥
 
--- it is so of the device at some place, and a life can be begun on each before it
+-- no life is begun on the device at some place, and one can be begun on each before it
 pub record CannotServeOne {D : Type 0} (content : D → List ℕ) (failed : D → ℕ) (devices : List D)
     (fault : FileFault) : Type 0 where
   pub node : ℕ

@@ -9,7 +9,7 @@ use Rattle.cluster_parts.specs.declared.turns.Ending.{Ending}
 use Rattle.cluster_parts.specs.declared.turns.Ending.TheVariants.{Failed, Stopped}
 use Rattle.cluster_parts.specs.declared.turns.Worker.{Worker}
 
--- it is the worker of a node in this life, whose seat has counted so many calls: it has passes of
+-- it is the worker of a node in this life, whose seat has counted `calls` calls: it has passes of
 -- these inboxes and a receipt of each call, and no more frames are lost than were sent
 pub record IsWorkerOf (inboxes : List InboxView) (life : LifeView) (calls : ℕ) (worker : Worker)
     : Type 0 where
@@ -19,7 +19,7 @@ pub record IsWorkerOf (inboxes : List InboxView) (life : LifeView) (calls : ℕ)
   pub counted : length worker.receipts.items ≡ calls
   pub lost : worker.lost ≤ frames_in worker.receipts.items
 
--- what ends the run is want of memory, since no call of a node is refused with 52
+-- turns end the run only where memory runs out, since no call of a node is refused with 52
 abbrev pub EndsTurns : Ending → Type 0
 EndsTurns Stopped = Unit {0}
 EndsTurns (Failed fault) = fault ≡ Memory

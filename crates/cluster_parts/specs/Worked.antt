@@ -45,7 +45,7 @@ pub record HasWorked (life : LifeView) (w : Worked) : Type 0 where
   pub counted : length w.receipts.items ≤ w.closed.base.steps + length w.closed.journal
   pub lost : w.lost ≤ frames_in w.receipts.items
 
--- why a worker ends the whole run: memory was wanting, or seats of its node are missing, so that it
+-- why a worker ends the whole run: memory ran out, or seats of its node are missing, so that it
 -- isn't closed
 abbrev pub EndsRun : LockFault → Type 0
 EndsRun fault = (fault ≡ Memory) ⊎ (fault ≡ SeatsMissing)
@@ -60,6 +60,6 @@ pub record IsJob {D : Type 0} (content : D → List ℕ) (inboxes : List InboxVi
 abbrev pub IsOutcomeOf : LifeView → Result Worked LockFault → Type 0
 IsOutcomeOf life outcome = MatchResult outcome (HasWorked life) EndsRun
 
--- the same of each, in the order of the nodes
+-- what comes of each worker, in the order of the nodes
 abbrev pub AreOutcomesOf : List LifeView → List (Result Worked LockFault) → Type 0
 AreOutcomesOf lives outcomes = AllZip IsOutcomeOf lives outcomes

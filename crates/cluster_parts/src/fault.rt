@@ -20,8 +20,8 @@ pub enum ClusterFault {
     BadLimit,
     /// 56: a thread couldn't be made.
     NoThread,
-    /// 54 where a node isn't closed, of which no cause is known. Of no other refusal of a node does
-    /// a run answer this; it is never 99.
+    /// 54 where a node isn't closed, for which no cause is known. A run returns this for no other
+    /// refusal of a node; it is never 99.
     Node(LockFault),
     /// 99: an allocation was refused, here or in a worker.
     Memory,

@@ -18,7 +18,7 @@ pub struct Passes {
     pub puts: Vec<PutPass>,
 }
 
-/// An inbox of this room, with passes for so many senders.
+/// An inbox of this room, with passes for `nodes` senders.
 fn new_inbox(alloc: Global, nodes: usize, room: usize) -> Result<Fresh, AllocError>
     requires nodes { IsSenderCount nodes }
     requires room { IsRoom room }
@@ -27,12 +27,12 @@ fn new_inbox(alloc: Global, nodes: usize, room: usize) -> Result<Fresh, AllocErr
     match Inbox::with_room(alloc, nodes, room) {
         Ok(fresh) => Ok(fresh),
         Err(InboxFault::Memory) => Err(AllocError),
-        // It is refused for its room alone, which is in range.
+        // It is refused only for its room, which is in range.
         Err(_) => unreachable!(),
     }
 }
 
-/// So many inboxes of this room, each with passes for as many senders.
+/// `nodes` inboxes of this room, each with passes for as many senders.
 fn open_all(alloc: Global, nodes: usize, room: usize) -> Result<Vec<Fresh>, AllocError>
     requires nodes { IsSenderCount nodes }
     requires room { IsRoom room }
@@ -46,7 +46,7 @@ fn open_all(alloc: Global, nodes: usize, room: usize) -> Result<Vec<Fresh>, Allo
     Ok(all)
 }
 
-/// An empty row for each of so many senders, each with room for as many passes.
+/// An empty row for each of `nodes` senders, each with room for as many passes.
 fn empty_rows(alloc: Global, nodes: usize) -> Result<Vec<Vec<PutPass>>, AllocError>
     ensures { IfOk result (λ rows. AreSenderRows [] nodes rows.items) }
 {
@@ -57,7 +57,7 @@ fn empty_rows(alloc: Global, nodes: usize) -> Result<Vec<Vec<PutPass>>, AllocErr
     Ok(rows)
 }
 
-/// Puts the pass of each sender behind those of its row.
+/// Puts the pass of each sender at the end of its row.
 fn deal(puts: Vec<PutPass>, rows: &mut Vec<Vec<PutPass>>)
     requires number { length puts.items ≡ length rows.old.items }
     requires room { All (λ row. length row.items < vec_capacity row) rows.old.items }
@@ -71,7 +71,7 @@ fn deal(puts: Vec<PutPass>, rows: &mut Vec<Vec<PutPass>>)
     }
 }
 
-/// Lists with room for what is made of so many inboxes.
+/// Lists with room for all inboxes, and for the passes to each and of each node.
 #[derive(Drop)]
 struct Lists {
     inboxes: Vec<Inbox>,
@@ -145,7 +145,7 @@ fn gather(takes: Vec<TakePass>, rows: Vec<Vec<PutPass>>, passes: Vec<Passes>) ->
     passes
 }
 
-/// An inbox of this room for each of so many nodes, and the passes of each node to all of them.
+/// An inbox of this room for each of `nodes` nodes, and the passes of each node to all of them.
 /// Fails only when memory runs out.
 pub fn connect(
     alloc: Global,
@@ -167,7 +167,7 @@ pub fn connect(
     Ok((inboxes, passes))
 }
 
-/// Closes all inboxes, once no worker has them any more. What is left in them goes with them.
+/// Closes all inboxes, once no worker has them any more. What is left in them is dropped.
 pub fn close_all(inboxes: Vec<Inbox>) {
     for inbox in inboxes {
         let mut inbox = inbox;

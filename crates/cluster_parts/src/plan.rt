@@ -26,7 +26,7 @@ pub struct Limits {
 }
 
 impl Limits {
-    /// The greatest.
+    /// The greatest limits.
     pub fn largest() -> Self
         ensures { result ≡ largest }
     {
@@ -37,14 +37,14 @@ impl Limits {
     }
 }
 
-/// Returns whether a cluster may have so many nodes.
+/// Returns whether a cluster may have this number of nodes.
 pub fn is_node_count(nodes: u64) -> bool
     ensures { IsTrue result ↔ IsNodeCount nodes }
 {
     nodes > 0 && nodes <= MAX_NODES
 }
 
-/// Why no cluster is run so, with so many devices.
+/// Why no cluster is run by this plan and these limits, with `devices` devices.
 pub fn refusal_of(plan: ClusterPlan, limits: Limits, devices: usize) -> Option<ClusterFault>
     ensures { result ≡ refusal_of_run plan limits devices }
 {

@@ -27,7 +27,7 @@ fn send<R: Wait>(rt: &R, inboxes: &[Inbox], puts: &mut Vec<PutPass>, frame: Byte
     }
 }
 
-/// Sends the frames in their order, and answers how many of them are lost.
+/// Sends the frames in their order, and returns how many of them are lost.
 pub(crate) fn send_all<R: Wait>(
     rt: &R,
     inboxes: &[Inbox],

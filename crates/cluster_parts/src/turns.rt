@@ -44,14 +44,14 @@ pub(crate) struct Worker {
     pub node: NodeId,
     pub passes: Passes,
     pub words: Pcg64,
-    /// Those of the accepted calls, in order.
+    /// The receipts of the accepted calls, in order.
     pub receipts: Vec<Receipt>,
     /// How many of the frames that were sent are lost.
     pub lost: u64,
 }
 
 impl Worker {
-    /// At the beginning.
+    /// A worker before its first call.
     pub(crate) fn new(alloc: Global, node: NodeId, passes: Passes, seed: u64) -> Self
         ensures passes { result.passes ≡ passes }
         ensures node { result.node ≡ node }
@@ -93,7 +93,7 @@ impl<T: Drop> From<AllocFailed<T>> for Ending {
     }
 }
 
-/// What a refusal ends, 30 and 34 the turns of the node, 52 and 99 the run; any other costs the
+/// What a refusal ends: 30 and 34 end the turns of the node, 52 and 99 the run; any other costs the
 /// turn.
 fn after_refusal(fault: LockFault) -> Result<(), Ending>
     ensures { IsAfterRefusal fault result }
@@ -179,7 +179,7 @@ fn make_turn<D: Device + Drop, J: Naming, H: Wait + Drop, R: Wait, G>(
     make(shared, node, seat, worker, &call)
 }
 
-/// A node but the first joins by the first.
+/// Joins by node 0, unless the node is node 0 itself.
 fn join_first<D: Device + Drop, J: Naming, H: Wait + Drop, R: Wait, G>(
     shared: &Shared<R, G>,
     node: &Node<D, J, H>,

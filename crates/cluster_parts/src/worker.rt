@@ -32,11 +32,11 @@ pub struct Job<D: Device> {
 pub struct Worked {
     pub node: NodeId,
     pub closed: Closed,
-    /// Those of the accepted calls, in order.
+    /// The receipts of the accepted calls, in order.
     pub receipts: Vec<Receipt>,
     /// How many of the frames that were sent are lost.
     pub lost: u64,
-    /// A call of its device failed in one of its turns.
+    /// Whether a call of its device failed in one of its turns.
     pub is_stopped: bool,
 }
 
@@ -53,7 +53,7 @@ pub fn work<D: Device + Drop, R: Wait, G: Gate>(
     work_as::<Brand, D, R, G>(shared, tokens, job)
 }
 
-/// The same, over the name of the node.
+/// Does a job, over the name of the node.
 fn work_as<J: Naming, D: Device + Drop, R: Wait, G: Gate>(
     shared: &Shared<R, G>,
     tokens: (Blank, Beginning),
@@ -164,7 +164,7 @@ fn outcome_of(closed: Closed, worker: Worker, made: Result<(), Ending>) -> Resul
     }
 }
 
-/// Whether the turns ended since the node was stopped; refused with what ends the whole run.
+/// Whether the turns ended because the node was stopped; refused with what ends the whole run.
 fn is_stopped(made: Result<(), Ending>) -> Result<bool, LockFault>
     requires { IfErr made EndsTurns }
     ensures { IfErr result (λ fault. fault ≡ Memory) }

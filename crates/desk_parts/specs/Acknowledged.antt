@@ -1,4 +1,4 @@
--- What an accepted call answers.
+-- What an accepted call returns.
 use Rattle.std.specs.Prelude.{◌≡◌, ℕ, List, true}
 use mathlib.Core.List.{IsPrefix}
 use Rattle.meta_types.specs.Name.{Key}
@@ -18,7 +18,7 @@ pub record Acknowledged : Type 0 where
   pub list : List Published
 
 -- a vector that knows all that was known under the key after each change that a seat was shown,
--- among them those of which it learnt from a write, descends the vector that the write was answered
+-- among them those that it learnt of from a write, descends the vector that the write was answered
 abbrev pub LearntWritesAreKnown : Type 0
 LearntWritesAreKnown = (w : ℕ) (key : Key) (value : ValueParts) (answered vector : List Counter)
     (opening : Table) (list learnt shown : List Published)

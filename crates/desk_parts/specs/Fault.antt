@@ -30,12 +30,13 @@ fault_name SeatsMissing = codes "SeatsMissing"
 fault_name BadLimit = codes "BadLimit"
 fault_name Memory = codes "Memory"
 
--- that of a step
+-- the refusal of a step
 abbrev pub of_step : StepFault → LockFault
 of_step OfStep.Memory = Memory
 of_step fault = Step fault
 
--- that of an append: it is full, its device failed, or memory was wanting, and nothing else
+-- the refusal of an append: the file is full, its device failed, or memory ran out; there is no
+-- other
 abbrev pub of_append : FileFault → LockFault
 of_append OfFile.FileFull = FileFull
 of_append OfFile.Device = Device

@@ -45,10 +45,10 @@ pub record IsJournaled (base state : NodeParts) (journal : List Entry) (list : L
   pub run : IsRunWith base journal published state
   pub whole : base.steps ≡ 0 → before ≡ []
 
--- ---- what a write is told
+-- ---- what a write is answered
 
--- the list ends with the key's object, whose vector the reply tells and of which the value is the
--- newest of the writer
+-- the list ends with the key's object: the reply has its vector, and the value is the writer's
+-- newest in it
 pub record EndsWith (w : ℕ) (key : Key) (value : ValueParts) (reply : Reply) (list : List Published)
     : Type 0 where
   pub before : List Published

@@ -4,7 +4,7 @@ pub mod Journaled
 pub mod Stored
 -- what is made ready before an entry is kept
 pub mod Ready
--- what an accepted call answers
+-- what an accepted call returns
 pub mod Acknowledged
 -- the numbers and names of refusals
 pub mod Fault

@@ -24,7 +24,7 @@ use Rattle.desk_parts.specs.declared.fault.LockFault.TheVariants.{Step, JournalF
 use Rattle.desk_parts.specs.declared.ready.Made.{Made}
 use Rattle.desk_parts.specs.Journaled.{IsPublishedBy}
 
--- a journal of this limit and so many entries takes no more; nor does a life whose steps are
+-- a journal of this limit and `count` entries takes no more; nor does a life whose steps are
 -- counted as far as they can be
 abbrev pub IsFullFor : ℕ → ℕ → ℕ → Type 0
 IsFullFor limit count steps = (limit ≤ count) ⊎ (2 ^ 64 - 1 ≤ steps)
@@ -79,7 +79,7 @@ pub record IsMade (old : NodeParts) (event : NodeEvent) (new : NodeParts) (made 
   pub copy : made.copy ≡ entry_made event made.stepped
   pub change : IsPublishedBy event made.stepped.reply new.table (listed made.change)
 
--- the same as an entry
+-- what is ready: the entry of the step that was tried, its copy, and what it publishes
 pub record IsReady (old : NodeParts) (event : NodeEvent) (new : NodeParts) (ready : ReadyView)
     : Type 0 where
   pub is_event : ready.entry.event ≡ event

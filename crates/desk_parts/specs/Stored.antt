@@ -20,7 +20,7 @@ use Rattle.node_file.specs.File.{FileState, OpensLike, WithOrWithout, file_state
 use Rattle.node_file.specs.Refusal.{is_too_long_with}
 use Rattle.node_file.specs.View.{FileView, IsSettled}
 
--- ---- the record that tells what an event left
+-- ---- the record of what an event left
 
 abbrev pub object_record : Key → Option (List Entry) → Option Record
 object_record key None = None
@@ -30,8 +30,8 @@ abbrev pub record_under : Option Key → Table → Option Record
 record_under None held = None
 record_under (Some key) held = object_record key (find key_cmp key held)
 
--- of an event after which this is held: that the object under its key is what is held there, where
--- it is one that is stored, and something is held
+-- the record that an event stores, after which this is held: the object that is held under its key,
+-- where it stores one and something is held there
 abbrev pub record_after : NodeEvent → Table → Option Record
 record_after event held = record_under (stored_key event) held
 
@@ -41,7 +41,7 @@ abbrev pub with_stored : Option Record → FileState → FileState
 with_stored None s = s
 with_stored (Some record_) s = state_with s record_
 
--- the file tells of the record, if there is one, beside all that it had, and every crash leaves that
+-- the file has the record, if there is one, besides all that it had, and every crash leaves that
 pub record HasStored {D : Type 0} (content : D → List ℕ) (may_leave : D → List ℕ → Type 0)
     (stored : Option Record) (old new : FileView D) : Type 0 where
   pub tells : file_state (content new.device)
@@ -60,19 +60,19 @@ pub record IsOfSameLife {D : Type 0} (old new : FileView D) : Type 0 where
   pub life : new.life ≡ old.life
   pub served : new.is_served ≡ old.is_served
 
--- what the file tells of: keys that rise, each of which is held
+-- what the file has: keys that rise, each of which is held
 pub record IsStoredOf (held stored : Table) : Type 0 where
   pub rising : is_sorted key_cmp stored ≡ true
   pub keys : KeepsKeys stored held
 
 -- ---- what a crash leaves on the way
 
--- bytes that open as before, or that tell of the record too
+-- bytes that open as before, or that have the record too
 abbrev pub LeavesRecord : List ℕ → Option Record → List ℕ → Type 0
 LeavesRecord content None bytes = OpensLike content bytes
 LeavesRecord content (Some record_) bytes = WithOrWithout content record_ bytes
 
--- bytes that open as before, or that tell too of what a step of the event stores
+-- bytes that open as before, or that also have what a step of the event stores
 pub record LeavesStep (old : NodeParts) (event : NodeEvent) (content bytes : List ℕ) : Type 0 where
   pub new : NodeParts
   pub stepped : Stepped
@@ -90,8 +90,8 @@ abbrev pub IsTooLong : ℕ → Option Record → Type 0
 IsTooLong gate None = ⊥
 IsTooLong gate (Some record_) = is_too_long_with gate record_ ≡ true
 
--- something was to be stored, and a file of this closed gate, of which the count of failures was
--- `before` and is `now`, is full; or its device failed, which stops it; or memory was wanting
+-- something was to be stored, and a file of this closed gate is full; or its device, whose count of
+-- failures was `before` and is `now`, failed, which stops the file; or memory ran out
 abbrev pub RefusesStoring : {D : Type 0} → ℕ → Option Record → ℕ → ℕ → FileView D → FileFault
     → Type 0
 RefusesStoring gate stored before now new FileFull =

@@ -6,7 +6,7 @@ use node_history::{Naming, Revision};
 use node_journal::{Entry, Receipt};
 use std::marker::Model;
 
-/// What an accepted call answers: its receipt, and the revision of the published table that has
+/// What an accepted call returns: its receipt, and the revision of the published table that has
 /// what the call changed, for readers to learn.
 #[derive(Drop)]
 pub struct Acknowledgement<J: Naming> {
@@ -28,8 +28,8 @@ impl<J: Naming> Model for Acknowledgement<J> {
 }
 
 impl<J: Naming> Acknowledgement<J> {
-    /// Of a receipt, and of the revision that has what its call changed. Where its entry is a write,
-    /// the list of the revision ends with what it wrote.
+    /// Made of a receipt, and the revision that has what its call changed. Where its entry is a
+    /// write, the list of the revision ends with what it wrote.
     pub fn of(receipt: Receipt, revision: Revision<J>) -> Self
         requires { TellsOfEntry (writer_number J.node J.incarnation) receipt.entry revision }
         ensures { result ≡ record { receipt = receipt; list = revision } }
@@ -37,7 +37,7 @@ impl<J: Naming> Acknowledgement<J> {
         Acknowledgement { receipt, revision }
     }
 
-    /// The receipt. Where its entry is a write, what it wrote is what the published list ends with.
+    /// The receipt. Where its entry is a write, the published list ends with what it wrote.
     pub fn receipt(&self) -> &Receipt
         ensures value { result.now ≡ self.now.receipt }
         ensures tells { TellsOfEntry (writer_number J.node J.incarnation)

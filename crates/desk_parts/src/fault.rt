@@ -10,7 +10,7 @@ use thiserror::Error;
 #[derive(Debug, Drop, Error, PartialEq, Eq)]
 #[error("{}", self.name())]
 pub enum LockFault {
-    /// What the node's step answers. It is never 99.
+    /// The refusal of the node's step. It is never 99.
     Step(StepFault),
     /// 30: a call of the device failed, which stops the node.
     Device,

@@ -2,8 +2,8 @@
 
 ghost use Rattle.desk_parts.specs.Acknowledged.{LearntWritesAreKnown};
 
-/// What a seat is shown under a key that learnt of a write descends what that write was answered:
-/// put together of [`Acknowledgement::receipt`](crate::Acknowledgement::receipt): `tells`, and of
+/// What a seat that learnt of a write is shown under its key descends what the write was answered.
+/// The law joins [`Acknowledgement::receipt`](crate::Acknowledgement::receipt): `tells`,
 /// `ReadSeat::learn`: `revision`, and `ReadSeat::peek`: `holds_learnt`, `descends`.
 pub fn learnt_writes_are_known()
     ensures { LearntWritesAreKnown }

@@ -74,8 +74,8 @@ pub(crate) struct Made {
 }
 
 /// Tries the step on the spare, makes room for one more entry in the journal, and makes copies of
-/// all that is handed out and published. Where it is refused, the spare is the state, or isn't
-/// called even.
+/// all that is handed out and published. Where it is refused, the spare is the state, or
+/// `is_even` is false.
 ///
 /// Refused in this order: what the step refuses; 51 `JournalFull`. 99 `Memory` may come at any time.
 pub fn prepare(
@@ -156,7 +156,7 @@ fn try_known(
     each_step_grows(event);
     what_is_held_is_kept();
     let stepped = try_step(state, spare, is_even, event);
-    // Read for what they tell: what a store holds is a table.
+    // Read for their contracts, which say that what a store holds is a table.
     let _ = state.store().len();
     let _ = spare.store().len();
     stepped
@@ -210,7 +210,7 @@ fn make(
     })
 }
 
-/// What the event publishes, of what the store now holds: a copy.
+/// A copy of what the event publishes, out of what the store now holds.
 fn change_of(
     alloc: Global,
     event: &NodeEvent,
@@ -226,7 +226,7 @@ fn change_of(
     }
 }
 
-/// The key under which the event changed what is held: a copy.
+/// A copy of the key under which the event changed what is held.
 fn changed_key(
     alloc: Global,
     event: &NodeEvent,
@@ -242,8 +242,8 @@ fn changed_key(
     }
 }
 
-/// The key of the object that the frame carries. It decodes the frame once more, which only a fresh
-/// one costs.
+/// The key of the object that the frame carries. It decodes the frame once more, and is called only
+/// for a fresh one.
 fn carried_key(alloc: Global, bytes: &ByteString) -> Result<Option<MetaKey>, AllocError>
     ensures { IfOk result (IsCarriedKey bytes.now) }
 {
@@ -272,7 +272,7 @@ fn key_of_message(message: &Message) -> Result<Option<MetaKey>, AllocError>
     }
 }
 
-/// What the store holds under the key: a copy of the object.
+/// The change to a copy of what the store holds under the key.
 fn held_under(key: MetaKey, store: &Store) -> Result<Published, AllocError>
     requires { find key_cmp key store.now ≢ None }
     ensures { IfOk result (λ change. (change.key ≡ key)

@@ -3,7 +3,7 @@ ghost use Rattle.std.specs.Prelude.{◌≡◌, ◌+◌, length, sum_by};
 use std::marker::Model;
 use std::sync::ledger::{Book, Ledger, Share};
 
-/// The right to make calls of one node. It counts those that were accepted, in proofs alone: it has
+/// The right to make calls of one node. It counts those that were accepted, only in proofs: it has
 /// no bytes, and may go to another thread.
 #[derive(Drop)]
 pub struct WriteSeat<L: Ledger> {

@@ -16,7 +16,7 @@ use node_events::NodeEvent;
 use node_file::{FileFault, NodeFile};
 use std::alloc::Global;
 
-/// Puts what the event stores, of what the store then holds, into the file.
+/// Puts what the event stores into the file, out of what the store then holds.
 pub fn store_in<D: Device>(
     alloc: Global,
     file: &mut NodeFile<D>,
@@ -40,7 +40,7 @@ pub fn store_in<D: Device>(
     match event.stored_key() {
         Some(key) => store_under(alloc, file, key, store),
         None => {
-            // Read for what it tells: a crash leaves what the file has.
+            // Read for its contract, which says that a crash leaves what the file has.
             let _ = file.device();
             Ok(())
         }
@@ -69,7 +69,8 @@ fn store_under<D: Device>(
         (LeavesRecord (D.content file.old.device) (record_under (Some key.now) store.now)) }
     ensures whose { IsOfSameLife file.old file.new }
 {
-    // Read for what they tell: a crash leaves what the file has, and what is held is a table.
+    // Read for their contracts, which say that a crash leaves what the file has, and that what is
+    // held is a table.
     let _ = file.device();
     let _ = store.len();
     match store.object(key) {

@@ -39,7 +39,7 @@ pub fn try_step(
     stepped
 }
 
-/// The spare, one step behind, makes that step too. Answers whether it is even.
+/// The spare, one step behind, makes that step too. Returns whether it is even.
 pub fn catch_up(state: &NodeState, spare: &mut NodeState, event: &NodeEvent) -> bool
     requires { (stepped : Stepped) × IsNodeStep spare.old event.now state.now stepped }
     ensures { result ≡ true → spare.new ≡ state.now }

@@ -1,4 +1,4 @@
--- A device that tells its calls: what it holds after them, and what a crash may leave. The newest
+-- A device that notes its calls: what it holds after them, and what a crash may leave. The newest
 -- call stands first.
 use Rattle.std.specs.Prelude.{◌≡◌, ◌⊎◌, ℕ, ◌+◌, ◌≤◌, List, [], ◌∷◌, ◌++◌, length, take, drop}
 use Rattle.devices.specs.Device.{Shortened, Torn}
@@ -6,7 +6,7 @@ use Rattle.devices.specs.Device.{Shortened, Torn}
 -- a call that changed something, or may have changed something since it failed
 pub data DeviceCall : Type 0 where
   wrote : ℕ → List ℕ → DeviceCall
-  -- at this offset, of so many bytes
+  -- at this offset, of this number of bytes
   failed_to_write : ℕ → ℕ → DeviceCall
   cut_to : ℕ → DeviceCall
   failed_to_cut : ℕ → DeviceCall
@@ -23,8 +23,8 @@ content_after first (cut_to n ∷ calls) = take n (content_after first calls)
 content_after first (failed_to_cut n ∷ calls) = content_after first calls
 content_after first (synced ∷ calls) = content_after first calls
 
--- what a crash may leave where this is read and it might have left those: what is read, or one of
--- those, changed
+-- what a crash may leave where `read` is read, and it might have left `old` before: what is read,
+-- or one of the old contents, changed
 abbrev pub ReadOrChanged : List ℕ → (List ℕ → Type 0) → (List ℕ → List ℕ → Type 0) → List ℕ → Type 0
 ReadOrChanged read old change c = (c ≡ read) ⊎ ((d : List ℕ) × old d × change d c)
 

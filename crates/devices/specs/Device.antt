@@ -22,7 +22,7 @@ pub record Torn (at n : ℕ) (old new : List ℕ) : Type 0 where
 abbrev pub Shortened : ℕ → List ℕ → List ℕ → Type 0
 Shortened n old new = (new ≡ old) ⊎ ((n ≤ length new) × (take (length new) old ≡ new))
 
--- ---- what a crash leaves: contents of which it may leave any
+-- ---- what a crash leaves: any one of some contents
 
 -- a crash leaves this content and no other
 abbrev pub IsDurable : List ℕ → (List ℕ → Type 0) → Type 0
@@ -48,13 +48,13 @@ pub record TimePasses (before now : ℕ) (past since : ℕ → List ℕ → Type
   pub nothing_else : (t : ℕ) (c : List ℕ) → t ≤ before → since t c → past t c ⊎ may_leave c
   pub keeps : (t : ℕ) (c : List ℕ) → t ≤ before → past t c → since t c
 
--- The same of a device, of which a call made the new out of the old.
+-- time passes in this way from the old device to the new one, which a call left
 abbrev pub Elapses : {D : Type 0} → (D → ℕ) → (D → ℕ → List ℕ → Type 0) → (D → List ℕ → Type 0)
     → D → D → Type 0
 Elapses moment left_since may_leave old new =
     TimePasses (moment old) (moment new) (left_since old) (left_since new) (may_leave new)
 
--- A crash at any moment from the old device to the new one leaves a content of which this holds.
+-- A crash at any moment from the old device to the new one leaves a content for which this holds.
 pub record LeavesOnly {D : Type 0} (moment : D → ℕ) (left_since : D → ℕ → List ℕ → Type 0)
     (old new : D)
     (holds : List ℕ → Type 0) : Type 0 where
@@ -70,7 +70,8 @@ pub record LeavesOnly {D : Type 0} (moment : D → ℕ) (left_since : D → ℕ 
 abbrev pub HasFailed : ℕ → ℕ → Type 0
 HasFailed before now = (before ≤ now) × ((before < now) ⊎ (before ≡ 18446744073709551615))
 
--- it rises by one where `Failed` is told, unless it stands at its greatest value, and never else
+-- the count rises by one where `Failed` is returned, unless it stands at its greatest value; it
+-- never rises otherwise
 pub record CountsFailure {T : Type 0} (before now : ℕ) (result : Result T DeviceFault)
     : Type 0 where
   pub later : before ≤ now

@@ -1,4 +1,4 @@
--- A device that tells its calls keeps the laws of a device.
+-- A device that notes its calls keeps the laws of a device.
 use Rattle.std.specs.Prelude.{ℕ, ◌≤◌, List, [], ◌∷◌, length}
 use mathlib.Core.Logic.{inl}
 use Rattle.std.proofs.Common.{refl, ⊎_elim, arith}

@@ -1,9 +1,9 @@
 -- What must be believed of devices, in the order in which to read it.
 -- what calls do to the content of a device, what a crash may leave of it, and how a call fails
 pub mod Device
--- a device that tells its calls: what it holds after them, and what a crash may leave
+-- a device that notes its calls: what it holds after them, and what a crash may leave
 pub mod Calls
 pub mod CallLog
 pub mod Noted
--- such a device is one
+-- it keeps the laws of a device
 pub mod Laws

@@ -1,5 +1,5 @@
--- The call that a note tells, which is plain numbers and bytes: which call, and where it was made,
--- or how long the content is to be.
+-- The call that a note stands for. A note is plain numbers and bytes: which call, and its offset
+-- or the length that the content is cut to.
 use Rattle.std.specs.Prelude.{ℕ, List, length, slice_index, ◌==◌, if◌then◌else◌}
 use Rattle.devices.specs.Calls.{DeviceCall, wrote, failed_to_write, cut_to, failed_to_cut, synced}
 

@@ -41,7 +41,7 @@ impl CallRecord {
         }
     }
 
-    /// Notes one call more: which it is, and its offset or length.
+    /// Notes one more call: which it is, and its offset or length.
     pub(crate) fn note(&mut self, _numbers: &[u64], _bytes: &[u8])
         ensures { self.new.calls ≡ call_noted _numbers.now _bytes.now ∷ self.old.calls }
     {}

@@ -9,7 +9,7 @@ use std::alloc::{AllocError, AllocFailed};
 pub enum DeviceFault {
     /// An allocation was refused; the device was asked for nothing.
     Memory,
-    /// The device failed, as the count of its failures tells.
+    /// The device failed, as the count of its failures shows.
     Failed,
 }
 
@@ -63,7 +63,7 @@ pub trait Device {
     fn len(&self) -> usize
         ensures { result ≡ length (content self.now) };
 
-    /// The bytes, where the device has them in memory. It asks for nothing.
+    /// The bytes, where the device has them in memory.
     fn held(&self) -> Option<&[u8]>
         ensures { IfSome result (λ bytes. bytes.now ≡ content self.now) };
 
@@ -113,8 +113,8 @@ pub trait Device {
         ensures time { Elapses moment left_since may_leave self.old self.new }
         ensures cause { CountsFailure (failed self.old) (failed self.new) result };
 
-    /// Lets a device that keeps its content in memory forget it, as whoever has read all that it
-    /// needs asks for. A later read may fail, and counts as a failure then.
+    /// Lets a device that keeps its content in memory forget it: called once all that is needed
+    /// was read. A later read may fail, and then counts as a failure.
     fn seal(&mut self)
         ensures same { content self.new ≡ content self.old }
         ensures crash { LeavesNoMore (may_leave self.old) (may_leave self.new) }
@@ -125,7 +125,7 @@ pub trait Device {
     ghost now_counts: { (device : Self) (t : ℕ) (c : List ℕ)
         → t ≤ moment device → may_leave device c → left_since device t c };
 
-    /// Since this moment there is no other.
+    /// What a crash may have left since this moment, it may leave now.
     ghost now_is_all: { (device : Self) (c : List ℕ)
         → left_since device (moment device) c → may_leave device c };
 

@@ -1,5 +1,5 @@
-//! Devices that fail, for tests: each stands before another device, passes calls on to it, and
-//! fails at some. None holds its content in memory for a caller, so that each read can fail.
+//! Devices that fail, for tests: each wraps another device, passes calls on to it, and fails some
+//! of them. None holds its content in memory for a caller, so that each read can fail.
 
 ghost use Rattle.std.specs.Prelude.{◌≡◌, ◌≤◌, ◌+◌, Result, Some};
 ghost use Rattle.devices.specs.Device.{CountsFailure, HasFailed};
@@ -16,7 +16,7 @@ fn fail(failed: &mut u64) -> DeviceFault
     DeviceFault::Failed
 }
 
-/// What the device behind answered; its failure is counted here too.
+/// Returns the answer of the inner device, whose failure is counted here too.
 fn counted(failed: &mut u64, answer: Result<(), DeviceFault>) -> Result<(), DeviceFault>
     ensures same { result ≡ answer }
     ensures cause { CountsFailure failed.old failed.new result }
@@ -27,7 +27,8 @@ fn counted(failed: &mut u64, answer: Result<(), DeviceFault>) -> Result<(), Devi
     }
 }
 
-/// Passes so many calls of `write_at`, `cut` and `sync` on, and then fails at each call.
+/// Passes on `passed` calls of `write_at`, `cut` and `sync` in all; after them these and `read_at`
+/// always fail.
 #[derive(Drop)]
 pub struct FailsAfter<D: Device> {
     inner: D,
@@ -55,7 +56,7 @@ impl<D: Device> FailsAfter<D> {
         &self.inner
     }
 
-    /// The same, by value.
+    /// The device that calls are passed on to, by value.
     pub fn into_inner(self) -> D
         ensures { result ≡ self.inner }
     {
@@ -132,11 +133,11 @@ impl<D: Device> Device for FailsAfter<D> {
     }
 }
 
-/// Passes so many calls of `read_at` on, fails at the next one, and passes all others on.
+/// Passes on the first `passed` calls of `read_at`, fails the next one, and passes on all others.
 #[derive(Drop)]
 pub struct FailsOnce<D: Device> {
     inner: D,
-    /// How many reads are passed on before the one that fails; none fails once it did.
+    /// How many reads are passed on before the one that fails; `None` once it has failed.
     left: Option<u64>,
     failed: u64,
 }

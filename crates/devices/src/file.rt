@@ -11,11 +11,11 @@ use std::fs::File;
 /// A device over a file of the operating system.
 ///
 /// The file is read once, as it is opened, and reads are answered from that copy until the device
-/// is sealed. So the memory that it takes doesn't grow with what is written afterwards. It holds
+/// is sealed: then the copy is dropped, and what is written afterwards takes no memory. It holds
 /// the lock of the file as long as it lives.
 ///
-/// After a call that failed each later one fails too, but for `len`, `failures` and `seal`: the
-/// file may be other than its answers tell. The path is opened anew then.
+/// After a call that returned `Failed` each later one fails too, but for `len`, `failures`, `held`
+/// and `seal`: the file may be other than these say. The path is opened anew then.
 ///
 /// What is assumed of a file: see the README of the crate.
 #[derive(Drop)]

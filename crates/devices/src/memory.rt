@@ -13,15 +13,15 @@ use std::marker::Model;
 pub enum Call {
     /// These bytes, from this offset on.
     Wrote(usize, Vec<u8>),
-    /// To so many bytes.
+    /// To this number of bytes.
     CutTo(usize),
     Synced,
 }
 
-/// A device in memory. It never fails but for want of memory, and keeps what it held at first and
+/// A device in memory. It fails only when memory runs out, and keeps what it held at first and
 /// each call that changed something, so that a test can make each content that a crash may leave.
 ///
-/// Each call takes memory for its note; a write takes time for its own bytes alone.
+/// Each write, cut and sync takes memory for its note; a write takes time only for its own bytes.
 #[derive(Drop)]
 pub struct MemoryDevice {
     alloc: Global,

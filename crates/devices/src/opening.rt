@@ -18,7 +18,7 @@ pub enum OpenFault {
     Memory,
     /// Nothing is there, or the folder isn't.
     Missing,
-    /// Something is there that was to be made.
+    /// Something is there already, where a file was to be made.
     Exists,
     /// It is no regular file.
     NotAFile,
@@ -93,7 +93,7 @@ impl FileDevice {
     }
 
     /// Opens the file at the path, for this device alone, and makes an empty one where nothing is.
-    /// A path that was mistyped is made too: who knows that a file is there calls `open`.
+    /// A mistyped path is made too: call `open` where a file is known to be there.
     pub fn open_or_create(
         rt: &HostRuntime,
         alloc: Global,
@@ -109,8 +109,8 @@ impl FileDevice {
     }
 }
 
-/// Reads the first bytes of the file at the path, as many as the buffer has or as there are, and
-/// answers how many. The path is opened and locked as `open_to_read` does, and let go again. It
+/// Reads the first bytes of the file at the path into the buffer, as many as fit or as there are,
+/// and returns how many. The file is opened and locked as `open_to_read` does, and closed again. It
 /// takes no memory.
 pub fn read_front(rt: &HostRuntime, path: &str, buffer: &mut [u8]) -> Result<usize, OpenFault>
     ensures within { IfOk result (λ n. n ≤ length buffer.old) }
@@ -150,7 +150,7 @@ fn take_over(
         return Err(OpenFault::NotAFile);
     }
     lock(&file, sharing)?;
-    // Who wrote the file may have died before its own syncs.
+    // Whoever wrote the file may have died before its own syncs.
     file.sync_all()?;
     sync_folder(rt, path)?;
     let len = file.metadata()?.len() as usize;
@@ -161,7 +161,7 @@ fn take_over(
     Ok(FileDevice::new(file, bytes))
 }
 
-/// Takes the lock of the file, without waiting. It goes with the file.
+/// Locks the file, without waiting. The lock ends with the file.
 fn lock(file: &File, sharing: Sharing) -> Result<(), OpenFault> {
     let taken = match sharing {
         Sharing::Nobody => file.try_lock(),

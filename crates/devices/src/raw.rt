@@ -1,6 +1,6 @@
 //! The calls of the operating system that change or sync a file, each with its note. Each method
-//! makes the one call that it notes, and notes it as the answer tells. No contract says so, since
-//! none speaks of a disk: it has to be read here.
+//! makes the one call that it notes, and notes it as the system answered. No contract says so,
+//! since none speaks of a disk: it has to be read here.
 
 ghost use Rattle.std.specs.Prelude.{◌≡◌, [], ◌∷◌, length, if◌then◌else◌};
 ghost use Rattle.devices.specs.Calls.{wrote, failed_to_write, cut_to, failed_to_cut, synced};
@@ -26,7 +26,7 @@ impl RawFile {
         RawFile { file, noted }
     }
 
-    /// Writes all the bytes from the offset on; answers whether it was done.
+    /// Writes all the bytes from the offset on; returns whether it was done.
     pub(crate) fn write(&mut self, at: usize, bytes: &[u8]) -> bool
         ensures { self.new.noted.calls
             ≡ (if result then wrote at bytes.now else failed_to_write at (length bytes.now))
@@ -38,7 +38,7 @@ impl RawFile {
         is_done
     }
 
-    /// Cuts the file to its first `len` bytes; answers whether it was done.
+    /// Cuts the file to its first `len` bytes; returns whether it was done.
     pub(crate) fn cut(&mut self, len: usize) -> bool
         ensures { self.new.noted.calls
             ≡ (if result then cut_to len else failed_to_cut len) ∷ self.old.noted.calls }
@@ -50,7 +50,7 @@ impl RawFile {
     }
 
     /// Waits until the bytes, and what is needed to read them back, are on the disk (fdatasync);
-    /// answers whether it was done.
+    /// returns whether it was done.
     pub(crate) fn sync(&mut self) -> bool
         ensures { self.new.noted.calls
             ≡ (if result then synced ∷ self.old.noted.calls else self.old.noted.calls) }

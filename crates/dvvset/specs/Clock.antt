@@ -1,5 +1,5 @@
--- The clock formulas, on lists; their source is that of an object. A lawful entry (id, count,
--- values) shows the events numbered from its cover + 1 to its count.
+-- The clock formulas, on lists; `Object` names their source. A lawful entry (id, count, values)
+-- shows the events numbered from its cover + 1 to its count.
 use Rattle.std.specs.Prelude.{ℕ, ◌+◌, ◌-◌, ◌==◌, nat_lt, nat_le, if◌then◌else◌, List, [], ◌∷◌, length, take, map, flat_map, Bool, true, false, ◌&&◌}
 use Rattle.meta_types.specs.Value.{ValueParts}
 use Rattle.dvvset.specs.Object.{Entry, Counter}
@@ -62,7 +62,7 @@ abbrev pub count_for : List Counter → ℕ → ℕ
 count_for [] w = 0
 count_for (c ∷ cs) w = if c.id == w then c.count else count_for cs w
 
--- each counter of the second is at most that of the first
+-- each counter of the second vector is at most the first vector's
 abbrev pub descends : List Counter → List Counter → Bool
 descends a [] = true
 descends a (c ∷ cs) = nat_le c.count (count_for a c.id) && descends a cs

@@ -16,8 +16,8 @@ count_of es w = count_for (join es) w
 -- ---- a merge
 
 -- both sides know the writer: the merge knows the events that either knows, shows none that either
--- has covered, and its values are the newest of the side that knows more, of the first where both
--- know as many
+-- has covered, and its values are the newest of the side that knows more, or of the first side
+-- where both know equally many
 pub record IsMerged (a b merged : Entry) : Type 0 where
   pub id : merged.id ≡ a.id
   pub count : merged.count ≡ max a.count b.count
@@ -44,9 +44,9 @@ abbrev pub shown : Option Entry → List ValueParts
 shown None = []
 shown (Some e) = e.values
 
--- a write of `v` by `id` that has read the vector: of each writer the events that either knows are
--- known, and the values that were not read stay; the write is one more event of its writer, and its
--- value stands in front
+-- a write of `v` by `id` that has read the vector: for each writer the events that the vector or
+-- the object knows are known, and the values that were not read stay; the write is one more event
+-- of its writer, and its value stands in front
 pub record IsWritten (read : List Counter) (object : List Entry) (id : ℕ) (v : ValueParts)
     (written : List Entry) : Type 0 where
   pub counts : (w : ℕ) → count_of written w

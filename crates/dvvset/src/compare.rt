@@ -22,8 +22,8 @@ pub fn count_of(entries: &[Entry], id: Actor) -> u64
     0
 }
 
-/// Returns whether each counter of the second is at most that of the first, so that whoever has
-/// read the first has read all that the second has. An absent counter is 0. One pass over both.
+/// Returns whether each counter of `b` is at most the counter of `a`: then whoever has read `a` has
+/// read all that `b` has. An absent counter is 0. One pass over both.
 pub fn descends(a: &Vector, b: &Vector) -> bool
     ensures value { result ≡ descends a.now b.now }
     ensures counters { IsTrue result ↔ ((w : ℕ) → count_for b.now w ≤ count_for a.now w) }
@@ -99,7 +99,8 @@ fn descends_over<A: Counts, B: Counts>(a: &[A], b: &[B]) -> bool
     true
 }
 
-/// Returns whether two objects have the same writers, each with as many events and as many values.
+/// Returns whether two objects have the same writers, each with equal numbers of events and of
+/// values.
 pub fn same(a: &Entries, b: &Entries) -> bool
     ensures value { result ≡ same a.now b.now }
     ensures shapes { IsTrue result ↔ (shapes a.now ≡ shapes b.now) }

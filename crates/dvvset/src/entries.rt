@@ -10,8 +10,8 @@ use meta_types::Value;
 use std::alloc::{AllocError, Global};
 use std::marker::Model;
 
-/// An object: what is kept under one key. Its entries stand in the order of their writers; the one
-/// without entries is the absent object.
+/// An object: what is kept under one key. Its entries stand in the order of their writers; the
+/// object without entries is the absent object.
 #[derive(Debug, Drop)]
 pub struct Entries {
     entries: Vec<Entry>,
@@ -42,7 +42,7 @@ impl Entries {
         }
     }
 
-    /// The object of these parts, which must be one.
+    /// The object of these parts, which must be those of an object.
     pub fn new(entries: Vec<Entry>) -> Self
         requires { IsObject entries.items }
         ensures { result ≡ entries.items }
@@ -50,9 +50,9 @@ impl Entries {
         Entries { entries }
     }
 
-    /// The object of these parts. Refused with 21 `BadEntries` where they are none, and only then:
-    /// where writers don't rise strictly, a count is 0, or an entry shows more values than its
-    /// count. What was handed in is dropped with a refusal.
+    /// The object of these parts. Refused with 21 `BadEntries` where they are not those of an
+    /// object, and only then: where writers don't rise strictly, a count is 0, or an entry shows
+    /// more values than its count. What was handed in is dropped with a refusal.
     pub fn from_parts(entries: Vec<Entry>) -> Result<Self, ClockFault>
         ensures range { IsOk result ↔ IsObject entries.items }
         ensures value { IfOk result (λ object. object ≡ entries.items) }
@@ -102,7 +102,7 @@ impl Entries {
     }
 }
 
-/// Copies of the values that an object shows, in the order of the writers, newest first of each.
+/// Copies of the values that an object shows, by writer, and the newest first for each.
 pub fn values(alloc: Global, object: &Entries) -> Result<Vec<Value>, AllocError>
     ensures { IfOk result (λ values. values.items ≡ values_of object.now) }
 {
@@ -133,7 +133,7 @@ fn copy_entries(alloc: Global, entries: &[Entry]) -> Result<Vec<Entry>, AllocErr
     Ok(copy)
 }
 
-/// Returns whether entries are an object.
+/// Returns whether entries are those of an object.
 fn is_object(entries: &[Entry]) -> bool
     ensures { IsTrue result ↔ IsObject entries.now }
 {
@@ -156,8 +156,8 @@ fn is_entry(entry: &Entry) -> bool
     1 <= entry.count() && entry.values().len() as u64 <= entry.count() && are_values(entry.values())
 }
 
-/// Always true: what is asked of each value is what its type keeps. It is asked here so that an
-/// object can say it of all its values.
+/// Always true: the type of a value keeps what is asked of it. It is asked here so that the
+/// contract of an object can say it of all its values.
 fn are_values(values: &[Value]) -> bool
     ensures holds { All IsValue values.now }
     ensures answer { IsTrue result }

@@ -11,7 +11,7 @@ use std::marker::Model;
 /// The events of one writer: how many there were, and the values of the newest of them, newest
 /// first.
 ///
-/// An entry is plain parts, whatever they are: `Entries::from_parts` tells whether they are lawful.
+/// An entry may have any parts: `Entries::from_parts` refuses those that are not lawful.
 #[derive(Debug, Drop)]
 pub struct Entry {
     id: Actor,

@@ -7,8 +7,8 @@ ghost use Rattle.dvvset.specs.Writer.{entry_of};
 
 use crate::fault::ClockFault;
 
-/// Objects in which each writer has the same entry, or none, are equal. So what the laws of merging
-/// and writing say writer by writer determines their answers.
+/// Objects in which each writer has the same entry, or none, are equal. So the laws of merging and
+/// writing, which speak of one writer at a time, determine the results.
 pub fn entries_determine_an_object()
     ensures { (a b : List Entry) → IsObject a → IsObject b → ((w : ℕ) → entry_of a w ≡ entry_of b w)
         → a ≡ b }

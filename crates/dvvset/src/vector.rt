@@ -47,8 +47,8 @@ impl Counter {
     }
 }
 
-/// A vector: how many events of each writer are known, in the order of the writers. It is the
-/// vector of a read's context; the one without counters has read nothing.
+/// A vector: how many events of each writer are known, in the order of the writers. A read's
+/// context has one; the vector without counters has read nothing.
 #[derive(Debug, Drop)]
 pub struct Vector {
     counters: Vec<Counter>,
@@ -79,7 +79,7 @@ impl Vector {
         }
     }
 
-    /// The vector of these parts, which must be one.
+    /// The vector of these parts, which must be those of a vector.
     pub fn new(counters: Vec<Counter>) -> Self
         requires { IsVector counters.items }
         ensures { result ≡ counters.items }
@@ -87,9 +87,9 @@ impl Vector {
         Vector { counters }
     }
 
-    /// The vector of these parts. Refused with 21 `BadEntries` where they are none, and only then:
-    /// where writers don't rise strictly or a count is 0. What was handed in is dropped with a
-    /// refusal.
+    /// The vector of these parts. Refused with 21 `BadEntries` where they are not those of a
+    /// vector, and only then: where writers don't rise strictly or a count is 0. What was handed in
+    /// is dropped with a refusal.
     pub fn from_parts(counters: Vec<Counter>) -> Result<Self, ClockFault>
         ensures range { IsOk result ↔ IsVector counters.items }
         ensures value { IfOk result (λ vector. vector ≡ counters.items) }
@@ -152,7 +152,7 @@ fn counters_of(alloc: Global, entries: &[Entry]) -> Result<Vec<Counter>, AllocEr
     Ok(counters)
 }
 
-/// Returns whether counters are a vector.
+/// Returns whether counters are those of a vector.
 fn is_vector(counters: &[Counter]) -> bool
     ensures { IsTrue result ↔ IsVector counters.now }
 {

@@ -60,11 +60,11 @@ fn raise(entries: Vec<Entry>, id: Actor, value: Value) -> Result<Vec<Entry>, Clo
     Ok(entries)
 }
 
-/// What a write by `id` of a value that has read the vector makes of an object: values that the
-/// vector has read are no longer shown, the others stay beside the new one as siblings. Refused
-/// with 20 `CounterSpent` exactly where the writer's counter, on either side, is at its greatest
-/// value, but for want of memory. The value is dropped with a refusal. It takes memory for the
-/// entries, the vector's too, and for copies of the values that stay.
+/// The object after a write by `id` that has read the vector: values that the vector has read are
+/// no longer shown, the others stay beside the new one as siblings. Refused with 20 `CounterSpent`
+/// exactly where the writer's counter, in the vector or in the object, is at its greatest value,
+/// unless memory runs out. The value is dropped with a refusal. It takes memory for the entries,
+/// the vector's too, and for copies of the values that stay.
 pub fn update(
     alloc: Global,
     read: &Vector,

@@ -1,5 +1,5 @@
 //! A node's file in use: the next life of a node is begun in the file at a path, which is made
-//! where nothing is, and a value is written under a key, in place of what stood there.
+//! where there is none, and a value is written under a key, in place of what stood there.
 //!
 //! `example_file PATH KEY VALUE`, with a key as `a/b/k`. It prints the number of the life once the
 //! write is durable.

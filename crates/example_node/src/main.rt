@@ -28,8 +28,8 @@ fn main(rt: HostRuntime) -> io::Result<()> {
     }
 }
 
-/// Writes the value in the next life of the node at the path. The handle is the runtime once more,
-/// as what may wait.
+/// Writes the value in the next life of the node at the path. `handle` is the same runtime, as what
+/// may wait.
 fn run<R: Wait>(
     rt: &HostRuntime,
     handle: &R,

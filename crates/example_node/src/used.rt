@@ -15,7 +15,7 @@ use std::io;
 use std::sync::Wait;
 use std::sync::ledger::Blank;
 
-/// Starts the node, writes a value in place of what it holds under the key, and closes it. Says
+/// Starts the node, writes a value in place of what it holds under the key, and closes it. Returns
 /// what a reader is shown that learnt of the write, and how many entries the journal had.
 pub(crate) fn written<J: Naming, R: Wait>(
     rt: &R,
@@ -76,7 +76,7 @@ fn used<J: Naming, R: Wait>(
     Ok(format!(in alloc; "{shown}; {entries} in the journal")?)
 }
 
-/// Writes the value, and says what the reader is shown that learnt of it.
+/// Writes the value, and returns what a reader is shown that learnt of it.
 fn write<J: Naming, R: Wait>(
     rt: &R,
     alloc: Global,
@@ -115,7 +115,7 @@ fn text_of(value: Option<&Value>) -> &str {
     }
 }
 
-/// Closes the node: how many entries its journal had.
+/// Closes the node, and returns how many entries its journal had.
 fn close<J: Naming, R: Wait>(
     node: Node<FileDevice, J, &R>,
     writers: Vec<WriteSeat<J>>,

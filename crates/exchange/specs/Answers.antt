@@ -24,7 +24,7 @@ answer_root table theirs =
     then []
     else XPrefixes (prefix_roots (rows_of table)) ∷ []
 
--- ---- XPREFIXES: for each full prefix of either side in order that differs or stands on one side,
+-- ---- XPREFIXES: for each full prefix of either side that differs or stands on one side, in order,
 -- XINNER with the own digests
 
 abbrev pub inner_message : Table → Prefix → Message
@@ -35,7 +35,7 @@ answer_prefixes table theirs =
     map (inner_message table) (differing_keys prefix_cmp (map prefix_row_parts theirs)
     (map prefix_row_parts (prefix_roots (rows_of table))))
 
--- ---- XINNER: for each inner node in order that differs, XLEAVES with the own digests
+-- ---- XINNER: for each inner node that differs, in order, XLEAVES with the own digests
 
 abbrev pub leaves_message : Table → Prefix → ℕ → Message
 leaves_message table p inner = XLeaves p inner (leaf_digests (rows_below p table) inner)
@@ -44,7 +44,7 @@ abbrev pub answer_inner : Table → Prefix → List Digest → List Message
 answer_inner table p theirs =
     map (leaves_message table p) (differing_places theirs (inner_digests (rows_below p table)))
 
--- ---- XLEAVES: for each leaf in order that differs, XBUCKET with the own keys; there may be none
+-- ---- XLEAVES: for each leaf that differs, in order, XBUCKET with the own keys; there may be none
 
 abbrev pub bucket_message : Table → Prefix → ℕ → Message
 bucket_message table p leaf = XBucket p leaf (bucket (rows_below p table) leaf)
@@ -58,8 +58,8 @@ answer_leaves table p inner theirs =
     else map (λ place. bucket_message table p (16 * inner + place))
     (differing_places theirs (leaf_digests (rows_below p table) inner))
 
--- ---- XBUCKET: for each key of either side in order that differs or stands on one side, XOBJECT if
--- it is held, then XWANT if the other side listed it
+-- ---- XBUCKET: for each key of either side that differs or stands on one side, in order, XOBJECT
+-- if it is held, then XWANT if the other side listed it
 
 abbrev pub object_messages : Key → Option (List Entry) → List Message
 object_messages key None = []

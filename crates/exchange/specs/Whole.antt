@@ -28,7 +28,7 @@ unfoldable pub refusal_of_one : Table → Message → Option StoreFault
 refusal_of_one table (XObject key object) = refusal_of_merge table key object
 refusal_of_one table _ = None
 
--- ---- messages that are taken in turn, each answered from what is held once it was taken
+-- ---- messages that are taken one after another, each answered from what is held once it was taken
 
 abbrev pub table_after_all : Table → List Message → Table
 table_after_all table [] = table
@@ -41,7 +41,7 @@ answers_in_turn table (message ∷ messages) =
     answers_to (table_after table message) message
     ++ answers_in_turn (table_after table message) messages
 
--- what was held once the first of the messages were taken, as many as that may be
+-- what is held once the first `n` messages were taken, for some `n`
 abbrev pub TookFront : Table → List Message → Table → Type 0
 TookFront old messages new = (n : ℕ) × (new ≡ table_after_all old (take n messages))
 
@@ -52,25 +52,26 @@ refusal_of_all table (message ∷ messages) =
     option_or (refusal_of_one table message) (refusal_of_all (table_after table message) messages)
 
 -- ---- seven rounds: in each, one side takes all that the other answered in the round before. An
--- exchange begins with the root of here
+-- exchange begins with the root of `here`
 
 abbrev pub answers_to_all : Table → List Message → List Message
 answers_to_all table messages = flat_map (answers_to table) messages
 
--- the first five rounds bring digests, by which nothing changes; what there answers in the fifth
+-- the first five rounds bring digests, by which nothing changes; this is what `there` answers in
+-- the fifth
 unfoldable pub offers : Table → Table → List Message
 offers here there =
     answers_to_all there (answers_to_all here (answers_to_all there (answers_to_all here
     (answers_to there (XRoot (tree_root (rows_of here)))))))
 
--- in the sixth, here takes objects and wants
+-- in the sixth, `here` takes objects and wants
 unfoldable pub here_after : Table → Table → Table
 here_after here there = table_after_all here (offers here there)
 
 unfoldable pub wanted : Table → Table → List Message
 wanted here there = answers_in_turn here (offers here there)
 
--- in the seventh, there takes objects
+-- in the seventh, `there` takes objects
 unfoldable pub there_after : Table → Table → Table
 there_after here there = table_after_all there (wanted here there)
 
@@ -84,7 +85,7 @@ refusal_of_exchange here there =
 pub record Holds (hs : List Happening) (known : Knowledge) (table : Table) : Type 0 where
   pub each : (key : Key) → IsObjectOf (writes hs) key (known key) (object_at table key)
 
--- the object of a set of writes that has at least these, and at most those
+-- the object of a set of writes that has at least those of `least`, and at most those of `most`
 pub record IsBetween (hs : List Happening) (key : Key) (least most : Places)
     (object : List Entry) : Type 0 where
   pub set : Places
@@ -110,7 +111,7 @@ EndInUnion here there here_end there_end =
     → Holds hs known_here here → Holds hs known_there there
     → Reconciled hs known_here known_there here_end there_end ⊎ Collides here there
 
--- under every key
+-- under every key, each side holds at least what it knew, and at most what either knew
 pub record AreBetween (hs : List Happening) (known_here known_there : Knowledge)
     (here_end there_end : Table) : Type 0 where
   pub here_holds : HoldsBetween hs known_here (union_by_key known_here known_there) here_end

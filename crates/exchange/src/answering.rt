@@ -18,7 +18,7 @@ use meta_frame::Message;
 use meta_types::{ByteString, FullPrefix, MetaKey};
 use std::alloc::{AllocError, Global};
 
-/// What begins an exchange: the root of what is held here. It takes no memory.
+/// The message that begins an exchange: the root of what is held here. It takes no memory.
 pub fn start(held: &Held) -> Message
     ensures { result ≡ XRoot (tree_root (rows_of held.now)) }
 {

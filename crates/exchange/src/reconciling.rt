@@ -20,8 +20,8 @@ use meta_store::StoreFault;
 use meta_types::MetaKey;
 use std::alloc::{AllocError, Global};
 
-/// Takes messages in turn, and answers each from what is held once it was taken. After a refusal
-/// those before it are taken.
+/// Takes messages one after another, and answers each from what is held once it was taken. After a
+/// refusal, those before the refused one are taken.
 fn take_all(
     alloc: Global,
     held: &mut Held,
@@ -94,7 +94,7 @@ fn merge(held: &mut Held, key: &MetaKey, object: &Entries) -> Result<(), StoreFa
     }
 }
 
-/// What the root of here is answered there.
+/// What `there` answers to the root of `here`.
 fn answer_start(alloc: Global, here: &Held, there: &Held) -> Result<Vec<Message>, AllocError>
     ensures { IfOk result
         (λ answers. answers.items ≡ answers_to there.now (XRoot (tree_root (rows_of here.now)))) }
@@ -103,7 +103,7 @@ fn answer_start(alloc: Global, here: &Held, there: &Held) -> Result<Vec<Message>
     answer(alloc, there, &root)
 }
 
-/// What a round of messages that bring no object is answered. It is dropped.
+/// The answers to a round of messages that bring no object. The round is dropped.
 fn answer_round(
     alloc: Global,
     held: &Held,
@@ -114,7 +114,7 @@ fn answer_round(
     answer_all(alloc, held, messages.as_slice())
 }
 
-/// What there offers and wants, after five rounds of digests, by which nothing changes.
+/// What `there` offers and wants, after five rounds of digests, by which nothing changes.
 fn offered(alloc: Global, here: &Held, there: &Held) -> Result<Vec<Message>, AllocError>
     ensures { IfOk result (λ offered. offered.items ≡ offers here.now there.now) }
 {
@@ -125,7 +125,7 @@ fn offered(alloc: Global, here: &Held, there: &Held) -> Result<Vec<Message>, All
     answer_round(alloc, there, buckets)
 }
 
-/// Takes a round of messages in turn, as `take_all` does. It is dropped.
+/// Takes a round of messages one after another, as `take_all` does. The round is dropped.
 fn take_round(
     alloc: Global,
     held: &mut Held,
@@ -157,13 +157,13 @@ fn take_last(alloc: Global, held: &mut Held, messages: Vec<Message>) -> Result<(
     }
 }
 
-/// A whole exchange of two stores, which here begins. Where all objects arose in one history, both
-/// then hold the union of what they held, or two unequal byte strings that are hashed for what they
-/// held have one digest. Each tree stays that of its store, after a refusal too.
+/// A whole exchange of two stores, which `here` begins. Where all objects arose in one history,
+/// both then hold the union of what they held, or two unequal byte strings that are hashed for what
+/// they held have one digest. Each tree stays that of its store, after a refusal too.
 ///
-/// It is refused as the first merge that is refused: 21 `BadEntries`, as only forged objects give,
-/// 25 `StoreFull`, 27 `ObjectTooLarge`; or with 99 `Memory` at any moment. What was merged before a
-/// refusal stays merged.
+/// It is refused as the first merge that is refused: 21 `BadEntries`, which happens only with
+/// forged objects, 25 `StoreFull`, 27 `ObjectTooLarge`; or with 99 `Memory` at any moment. What was
+/// merged before a refusal stays merged.
 pub fn reconcile(alloc: Global, here: &mut Held, there: &mut Held) -> Result<(), StoreFault>
     ensures union { OnOk result (EndInUnion here.old there.old here.new there.new) }
     ensures between { StayBetween here.old there.old here.new there.new }
@@ -174,7 +174,7 @@ pub fn reconcile(alloc: Global, here: &mut Held, there: &mut Held) -> Result<(),
     ensures no_refusal { OnOk result (refusal_of_exchange here.old there.old ≡ None) }
     ensures fault { FailsBy Memory (refusal_of_exchange here.old there.old) result }
 {
-    // Read for what they tell: each is a table.
+    // Read for their contracts, which say that each is a table.
     let _ = (here.store().len(), there.store().len());
     let offered = offered(alloc, here, there)?;
     match take_round(alloc, here, offered) {

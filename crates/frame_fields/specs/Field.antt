@@ -41,7 +41,7 @@ answer = seen_as (number w8 0 1) answer_number
 abbrev pub life : Form ℕ
 life = number w32 1 4294967295
 
--- a length and so many bytes: two fields
+-- a length and this number of bytes: two fields
 abbrev pub counted_bytes : List ℕ → ℕ × List ℕ
 counted_bytes bytes = (length bytes, bytes)
 
@@ -60,7 +60,7 @@ key_parts k = (k.prefix, k.key)
 abbrev pub key : Form Key
 key = seen_as (then_form prefix (λ _. name 1 256)) key_parts
 
--- a count, and so many values: each is a field of its own, or several
+-- a count, and this number of values, each of one field or of several
 abbrev pub counted : {A : Type 0} → List A → ℕ × List A
 counted xs = (length xs, xs)
 
@@ -87,7 +87,7 @@ digest = some_bytes 32
 abbrev pub digests : Form (List (List ℕ))
 digests = each (λ (_ : ℕ). digest) forget no_state 16
 
--- which of sixteen
+-- the number of one of sixteen
 abbrev pub place : Form ℕ
 place = number w8 0 15
 
@@ -150,7 +150,7 @@ key_bytes row = row.key
 abbrev pub keys : Form (List KeyDigest)
 keys = list 0 most_rows key_row key_bytes []
 
--- ---- writers: they rise strictly, so each is told the least that it may be
+-- ---- writers: they rise strictly, so the form of each takes the least that it may be
 
 abbrev pub writer_parts : ℕ → ℕ × ℕ
 writer_parts writer = (node_of_writer writer, incarnation_of_writer writer)

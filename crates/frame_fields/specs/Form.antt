@@ -1,7 +1,7 @@
 -- A form says how the values of a field are spelled as bytes, which values have a spelling, and
--- which bytes are at fault. A fault is told by the number of bytes from the first byte of the field
--- at fault, itself included, to the end of all bytes: an offset is the number of all bytes less
--- that.
+-- which bytes are at fault. The place of a fault is the number of bytes from the first byte of the
+-- field at fault, itself included, to the end of all bytes; its offset is the number of all bytes
+-- less this number.
 --
 -- The rule of faults is our own: fields are read from left to right, and the first one that is cut
 -- by the end of the bytes, or whose value its rule forbids, is at fault. An object without any
@@ -15,7 +15,7 @@ pub record Form (A : Type 0) : Type 1 where
   pub spell : A → List ℕ
   -- the value has a spelling
   pub Fits : A → Type 0
-  -- at the front of these bytes a field of the form is at fault, with so many bytes left
+  -- at the front of these bytes a field of the form is at fault, with this number of bytes left
   pub Bad : List ℕ → ℕ → Type 0
 
 -- fewer bytes are there than a field has
@@ -39,7 +39,7 @@ any_number w = record {
   Bad = IsCut (byte_len w);
 }
 
--- so many bytes, whatever they are
+-- `size` bytes, whatever they are
 abbrev pub some_bytes : ℕ → Form (List ℕ)
 some_bytes size = record {
   spell = λ bytes. bytes;
@@ -98,7 +98,7 @@ abbrev pub state_behind : {S A : Type 0} → (A → S) → S → List A → S
 state_behind next s [] = s
 state_behind next s (x ∷ xs) = state_behind next (next x) xs
 
--- after some values that are right, fewer than there are to be, the next is at fault
+-- some values are right, fewer than `count`, and the next one is at fault
 pub record BadAmong {S A : Type 0} (form : S → Form A) (next : A → S)
     (count : ℕ) (s : S) (bytes : List ℕ) (left : ℕ) : Type 0 where
   pub before : List A
@@ -108,7 +108,7 @@ pub record BadAmong {S A : Type 0} (form : S → Form A) (next : A → S)
   pub spelled : bytes ≡ spell_each form next s before ++ rest
   pub bad : (form (state_behind next s before)).Bad rest left
 
--- so many values, one after another
+-- `count` values, one after another
 abbrev pub each : {S A : Type 0} → (S → Form A) → (A → S) → S → ℕ → Form (List A)
 each form next s count = record {
   spell = spell_each form next s;

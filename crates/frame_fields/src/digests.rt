@@ -72,8 +72,8 @@ impl Digests {
     }
 }
 
-/// Returns whether digests are sixteen. What is asked of each digest its type keeps, as for node
-/// numbers.
+/// Returns whether there are sixteen digests. The type of a digest keeps what is asked of each, as
+/// for node numbers.
 fn are_digests(parts: &[Digest]) -> bool
     ensures { IsTrue result ↔ digests.Fits parts.now }
 {

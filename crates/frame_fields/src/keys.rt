@@ -119,8 +119,8 @@ fn are_rows(rows: &[KeyDigest]) -> bool
     true
 }
 
-/// Returns whether the key of a row has a lawful length and stands after these bytes. What is asked
-/// of its digest the digest's type keeps.
+/// Returns whether the key of a row has a lawful length and stands after these bytes. The type of
+/// its digest keeps what is asked of the digest.
 fn is_row_above(low: &[u8], row: &KeyDigest) -> bool
     ensures { IsTrue result ↔ (key_row low.now).Fits row.now }
 {

@@ -16,10 +16,10 @@ use crate::prefixes::PrefixDigests;
 use dvvset::{Entries, Entry, Vector};
 use meta_types::{FullPrefix, MetaKey, NodeId};
 
-/// The most that a count of 16 bits can say.
+/// The greatest count of 16 bits.
 const MAX_COUNT: usize = 65_535;
 
-/// Always true: what a frame asks of a number of 16 bits its type keeps.
+/// Always true: the type keeps what a frame asks of a number of 16 bits.
 pub fn is_u16(number: &u16) -> bool
     ensures { IsTrue result ↔ (any_number w16).Fits number.now }
 {
@@ -27,7 +27,7 @@ pub fn is_u16(number: &u16) -> bool
     true
 }
 
-/// Returns whether a number is that of a life: at least 1.
+/// Returns whether a number is at least 1, as that of a life is.
 pub fn is_life(number: &u32) -> bool
     ensures { IsTrue result ↔ life.Fits number.now }
 {
@@ -42,7 +42,7 @@ pub fn is_u8(number: &u8) -> bool
     true
 }
 
-/// Always true: what a frame asks of a node number its type keeps.
+/// Always true: the type keeps what a frame asks of a node number.
 pub fn is_node(id: &NodeId) -> bool
     ensures { IsTrue result ↔ node.Fits id.now }
 {
@@ -70,7 +70,7 @@ pub fn is_answer(a: &NeighborAnswer) -> bool
     }
 }
 
-/// Returns whether a number is that of one of sixteen: below 16.
+/// Returns whether a number is below 16, and so numbers one of sixteen.
 pub fn is_place(number: &u8) -> bool
     ensures { IsTrue result ↔ place.Fits number.now }
 {
@@ -125,7 +125,7 @@ pub fn is_keys(k: &KeyDigests) -> bool
     true
 }
 
-/// Always true: what a frame asks of a key its type keeps.
+/// Always true: the type keeps what a frame asks of a key.
 pub fn is_key(k: &MetaKey) -> bool
     ensures { IsTrue result ↔ key.Fits k.now }
 {
@@ -133,7 +133,7 @@ pub fn is_key(k: &MetaKey) -> bool
     true
 }
 
-/// Returns whether a vector has a spelling in frames: it counts some writer, and no more than
+/// Returns whether a vector has a spelling in frames: it counts at least one writer, and at most
 /// 65,535.
 pub fn is_vector(v: &Vector) -> bool
     ensures { IsTrue result ↔ vector.Fits v.now }
@@ -141,7 +141,7 @@ pub fn is_vector(v: &Vector) -> bool
     is_count(v.counters().len())
 }
 
-/// Returns whether a count is at least 1 and can be said in 16 bits.
+/// Returns whether a count is at least 1 and fits 16 bits.
 fn is_count(count: usize) -> bool
     ensures { IsTrue result ↔ ((1 ≤ count) × (count < 2 ^ 16)) }
 {

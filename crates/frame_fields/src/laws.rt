@@ -14,7 +14,7 @@ pub fn rows_fit_where_they_rise()
     ensures keys { (rows : List KeyDigest) → keys.Fits rows ↔ AreKeyRows rows }
 {}
 
-/// In rows that fit each stands before all that follow it.
+/// In rows that fit, each row stands before all that follow it.
 pub fn rows_that_fit_rise_throughout()
     ensures prefixes { (rows : List PrefixDigest) → prefixes.Fits rows
         → IsRisingThroughout (λ row later. PrefixBefore row.prefix later.prefix) rows }

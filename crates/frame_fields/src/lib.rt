@@ -1,6 +1,5 @@
 //! The fields that frames are made of: their forms, which values have a spelling, how long it is,
-//! and how it is written. What reads them is `frame_readers`. Their tests are the crate
-//! `tests_codec`.
+//! and how it is written. `frame_readers` reads them. Their tests are the crate `tests_codec`.
 //!
 //! Read the forms in `specs/Form.antt` and `specs/Field.antt`; then the types (`digest`, `digests`,
 //! `nodes`, `prefixes`, `keys`, `neighbor`), `lawful`, `lengths` and `writing`.

@@ -72,8 +72,8 @@ impl Nodes {
     }
 }
 
-/// Returns whether node numbers are at most 16. What is asked of each number its type keeps; it is
-/// asked here so that the list can say it of all its numbers.
+/// Returns whether there are at most 16 node numbers. The type of a number keeps what is asked of
+/// each; it is asked here so that the contract of the list can say it of all its numbers.
 fn are_nodes(numbers: &[NodeId]) -> bool
     ensures { IsTrue result ↔ nodes.Fits numbers.now }
 {

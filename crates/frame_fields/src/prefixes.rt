@@ -120,8 +120,8 @@ fn are_rows(rows: &[PrefixDigest]) -> bool
     true
 }
 
-/// Returns whether the prefix of a row stands after these two parts. What is asked of its digest
-/// the digest's type keeps.
+/// Returns whether the prefix of a row stands after these two parts. The type of its digest keeps
+/// what is asked of the digest.
 fn is_row_above(low: &[u8], low_sub: &[u8], row: &PrefixDigest) -> bool
     ensures { IsTrue result ↔ (prefix_row
         (record { prefix = low.now; sub = low_sub.now })).Fits row.now }

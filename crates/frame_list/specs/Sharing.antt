@@ -1,9 +1,9 @@
--- How frames are kept: each as bytes of its own, and behind them the end of an earlier one. Private
+-- How frames are kept: each as bytes of its own, and after them the end of an earlier one. Private
 -- functions cite it. The rule is our own.
 use Rattle.std.specs.Prelude.{◌≡◌, ℕ, ◌-◌, ◌<◌, ◌≤◌, ◌⊎◌, ◌++◌, List, [], ◌∷◌, drop, get_or, length}
 use Rattle.frame_list.specs.declared.frames.Kept.{Kept}
 
--- the last so many of a list
+-- the last `count` elements of a list
 abbrev pub ending : ℕ → List ℕ → List ℕ
 ending count xs = drop (length xs - count) xs
 
@@ -11,24 +11,24 @@ ending count xs = drop (length xs - count) xs
 abbrev pub bytes_over : List (List ℕ) → Kept → List ℕ
 bytes_over before kept = kept.own.items ++ ending kept.shared (get_or before kept.of [])
 
--- the bytes of each frame, behind those of the frames before it
+-- the frames `before`, and after them the bytes of each frame that is kept
 abbrev pub frames_behind : List (List ℕ) → List Kept → List (List ℕ)
 frames_behind before [] = before
 frames_behind before (kept ∷ later) = frames_behind (before ++ bytes_over before kept ∷ []) later
 
--- what a frame shares is there, of an earlier one; and it knows its length
+-- an earlier frame has the bytes that this one shares, and `len` is the length of this one
 pub record IsShared (before : List (List ℕ)) (kept : Kept) : Type 0 where
   pub there : (kept.shared ≡ 0) ⊎ (kept.of < length before)
   pub within : kept.shared ≤ length (get_or before kept.of [])
   pub length : kept.len ≡ length (bytes_over before kept)
 
--- so it is with each
+-- each frame is shared so, over the frames before it
 abbrev pub AreShared : List (List ℕ) → List Kept → Type 0
 AreShared before [] = Unit {0}
 AreShared before (kept ∷ later) =
     IsShared before kept × AreShared (before ++ bytes_over before kept ∷ []) later
 
--- the last so many bytes are those of the frame at the place, if there are any
+-- the last `count` bytes are those of the frame at the place, which is there unless `count` is 0
 pub record HasEndOf (frames : List (List ℕ)) (place count : ℕ) (bytes : List ℕ) : Type 0 where
   pub there : (count ≡ 0) ⊎ (place < length frames)
   pub within : count ≤ length (get_or frames place [])

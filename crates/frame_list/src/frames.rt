@@ -1,4 +1,4 @@
-//! Frames, as a list of bytes, of which each may share its end with an earlier one.
+//! A list of frames, as bytes, in which each may share its end with an earlier one.
 
 ghost use Rattle.std.specs.Prelude.{◌≡◌, ◌<◌, ◌^◌, ◌++◌, ◌∷◌, ◌≤◌, [], ℕ, List, get_or, length, take, IfOk, OnOk, OnErr};
 ghost use Rattle.frame_list.specs.Sharing.{AreShared, HasEndOf, ending, frames_behind};
@@ -8,7 +8,7 @@ use std::alloc::{AllocError, Global};
 use std::collections::BTreeMap;
 use std::marker::Model;
 
-/// A frame: bytes of its own, and behind them the last `shared` bytes of the frame at the place
+/// A frame: bytes of its own, and after them the last `shared` bytes of the frame at the place
 /// `of`. It has `len` bytes.
 #[derive(Debug, Drop)]
 pub(crate) struct Kept {
@@ -20,10 +20,11 @@ pub(crate) struct Kept {
 
 /// Frames, in the order in which they were added.
 ///
-/// A frame of 128 bytes or more shares with the last such frame before it that ends in the same
-/// sixteen bytes as many bytes as the two have in common at their ends. An object is spelled with
-/// the newest value of each writer in front, so a later object of a key ends as the earlier one
-/// does, as long as no write has read the last value there. After a refusal less may be shared.
+/// A frame of 128 bytes or more shares its end with the last such frame before it that ends in the
+/// same sixteen bytes: as many bytes as the two have in common there. An object is spelled with the
+/// newest value of each writer in front, so a later object of a key ends as the earlier one does,
+/// as long as no write has read the last value there. After a refusal or a `truncate` less may be
+/// shared.
 #[derive(Debug, Drop)]
 pub struct Frames {
     kept: Vec<Kept>,
@@ -44,7 +45,7 @@ impl Model for Frames {
     ghost invariant = { λ f. AreShared [] f.kept.items };
 }
 
-/// How many bytes at their end frames are looked for by.
+/// The length of the ends by which frames are looked up.
 const END: usize = 16;
 
 /// The least length of a frame that shares bytes. What is kept beside a shorter one would take as
@@ -52,7 +53,7 @@ const END: usize = 16;
 const LEAST: usize = 128;
 
 impl Frames {
-    /// No frames. It takes no memory; what is kept will be taken from the allocator.
+    /// No frames. It takes no memory; memory for what is kept will come from the allocator.
     pub fn new(alloc: Global) -> Self
         ensures { result ≡ [] }
     {
@@ -125,7 +126,7 @@ impl Frames {
     }
 
     /// A frame that has an end in common with these bytes, and how many bytes that end has: as many
-    /// as the likely frame has in common with them, and none where there is no such frame.
+    /// as the likely frame has in common with them, and 0 where there is no likely frame.
     fn common(&self, likely: Option<usize>, bytes: &[u8]) -> Result<(usize, usize), AllocError>
         ensures { IfOk result (λ found. HasEndOf self.now found.0 found.1 bytes.now) }
     {
@@ -139,7 +140,7 @@ impl Frames {
         }
     }
 
-    /// Keeps the first `len` frames alone, all where there are no more. It takes no memory.
+    /// Keeps only the first `len` frames, or all if there are fewer. It takes no memory.
     pub fn truncate(&mut self, len: usize)
         ensures { self.new ≡ take len self.old }
     {
@@ -190,7 +191,7 @@ fn keeper(kept: &[Kept], place: usize, count: usize) -> usize
 }
 
 /// Notes that a frame of these bytes stands at the place, if they are long enough to share an end.
-/// Answers the place of the last frame with the same end.
+/// Returns the place of the last frame with the same end.
 fn note(
     alloc: Global,
     latest: &mut Latest,

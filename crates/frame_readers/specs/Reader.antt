@@ -1,4 +1,4 @@
--- The forms of the fields as readers on lists, from left to right. A reader answers the value and
+-- The forms of the fields as readers on lists, from left to right. A reader returns the value and
 -- the bytes after it, or how many bytes were left at the field that is at fault. The functions here
 -- are proved against these, and the readers against the forms (`proofs/Fields.antt`,
 -- `proofs/Listed.antt`).
@@ -27,7 +27,7 @@ abbrev pub ◌>>=◌ : {A B : Type 0} → Result A ℕ → (A → Result B ℕ) 
 (Ok x) >>= f = f x
 (Err e) >>= f = Err e
 
--- what a function answered is what a reader gives, unless memory ran out
+-- what a function returned is what a reader gives, unless memory ran out
 abbrev pub Fails : {Y : Type 0} → FieldFault → Result Y ℕ → Type 0
 Fails faults.Memory read = Unit {0}
 Fails (faults.Left n) read = read ≡ Err n
@@ -36,7 +36,7 @@ abbrev pub Gives : {X Y : Type 0} → (X → Y) → Result X FieldFault → Resu
 Gives view (Ok x) read = read ≡ Ok (view x)
 Gives view (Err e) read = Fails e read
 
--- what a function answered matches the reader: the value as it is, and the bytes after it
+-- what a function returned matches the reader: the value as it is, and the bytes after it
 abbrev pub MatchesReader : {A : Type 0} → Result (A × Bor (List ℕ)) FieldFault
     → Result (A × List ℕ) ℕ → Type 0
 MatchesReader result read = Gives (λ x. (x.0, x.1.now)) result read

@@ -83,7 +83,7 @@ pub fn read_digests(alloc: Global, bytes: &[u8]) -> Result<(Digests, &[u8]), Fie
     Ok((Digests::new(digests), rest))
 }
 
-/// The first part of a prefix, which is not less than that of the one before.
+/// The first part of a prefix, which is not less than the first part of the prefix before.
 #[tactic(auto, unfolding(crate::specs::Reader::first_reader))]
 fn read_first<'a>(low: &[u8], bytes: &'a [u8]) -> Result<(&'a [u8], &'a [u8]), FieldFault>
     ensures value { Gives (λ x. (x.0.now, x.1.now)) result (first_reader low.now bytes.now) }
@@ -97,8 +97,8 @@ fn read_first<'a>(low: &[u8], bytes: &'a [u8]) -> Result<(&'a [u8], &'a [u8]), F
     Ok((first, after))
 }
 
-/// The second part of a prefix, which lies above that of the one before, or after a greater first
-/// part.
+/// The second part of a prefix, which follows a greater first part or is greater than the second
+/// part of the prefix before.
 #[tactic(auto, unfolding(crate::specs::Reader::second_reader))]
 fn read_second<'a>(
     low: &[u8],
@@ -211,7 +211,7 @@ pub fn read_prefixes(alloc: Global, bytes: &[u8]) -> Result<(PrefixDigests, &[u8
     Ok((PrefixDigests::new(rows), rest))
 }
 
-/// The bytes of a key, which lie above those of the one before.
+/// The bytes of a key, which stand after the bytes of the key before.
 #[tactic(auto, unfolding(crate::specs::Reader::key_above_reader))]
 fn key_above<'a>(low: &[u8], bytes: &'a [u8]) -> Result<(&'a [u8], &'a [u8]), FieldFault>
     ensures { Gives (λ x. (x.0.now, x.1.now)) result (key_above_reader low.now bytes.now) }

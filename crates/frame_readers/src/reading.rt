@@ -1,4 +1,4 @@
-//! Reading fields from the front of bytes. Each function answers the value and the bytes after it.
+//! Reading fields from the front of bytes. Each function returns the value and the bytes after it.
 
 ghost use Rattle.std.specs.Prelude.{◌≡◌, ◌≢◌, ◌+◌, ◌≤◌, ◌<◌, length, Ok, IfOk, IfErr};
 ghost use Rattle.std.specs.Int.{w8, w16, w32, w64};
@@ -111,7 +111,7 @@ pub(crate) fn u64_within(low: u64, high: u64, bytes: &[u8]) -> Result<(u64, &[u8
     }
 }
 
-/// `len` bytes, where they are.
+/// The first `len` bytes, if there are that many, and the bytes after them.
 pub(crate) fn read_bytes(len: usize, bytes: &[u8]) -> Result<(&[u8], &[u8]), FieldFault>
     ensures { Gives (λ x. (x.0.now, x.1.now)) result (bytes_reader len bytes.now) }
 {

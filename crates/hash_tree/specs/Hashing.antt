@@ -7,6 +7,6 @@ use Rattle.hash_tree.specs.declared.text_hasher.TextHasher.{TextHasher}
 unfoldable pub HasTaken : TextHasher → List ℕ → Type 0
 HasTaken h text = (front : List ℕ) × (Holds256 h.hasher front × (front ++ h.gathered.items ≡ text))
 
--- the hasher has taken in these bytes, behind whatever it had taken in
+-- the hasher has taken in these bytes, after whatever it had taken in
 abbrev pub Adds : TextHasher → TextHasher → List ℕ → Type 0
 Adds old new bytes = (text : List ℕ) → HasTaken old text → HasTaken new (text ++ bytes)

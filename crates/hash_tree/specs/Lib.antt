@@ -11,7 +11,7 @@ pub use Rattle.meta_store.specs.Table
 pub use Rattle.meta_store.specs.Kept as Parts
 -- each digest of a tree, from all rows at once
 pub mod Tree
--- the order of what a tree tells
+-- the order of the full prefixes and keys that a tree returns
 pub mod Rising
 -- which byte strings are hashed for two tables, and two of them that collide
 pub mod Hashed

@@ -1,4 +1,4 @@
--- The order of what a tree tells.
+-- The order of the full prefixes and keys that a tree returns.
 use Rattle.std.specs.Prelude.{Bool, List, map}
 use Rattle.std.specs.FinMap.{is_sorted}
 use Rattle.meta_types.specs.Order.{bytes_cmp, prefix_cmp}

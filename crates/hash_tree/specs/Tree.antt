@@ -1,6 +1,7 @@
 -- The tree of digests that stands for a table in an exchange: for each full prefix 256 leaves under
 -- 16 inner nodes under a root, and a root over these. Digests are SHA-256 of FIPS 180-4; what is
--- hashed is in the form of frames. The rule is our own. Each digest is told from all rows at once.
+-- hashed is in the form of frames. The rule is our own. Each digest is defined from all rows at
+-- once.
 use Rattle.std.specs.Prelude.{ℕ, ◌*◌, ◌==◌, List, ◌++◌, map, slice_index}
 use Rattle.std.specs.List.{concat, filter, flat_map, range_with_len}
 use Rattle.std.specs.FinMap.{put}
@@ -22,7 +23,7 @@ Digest = List ℕ
 abbrev pub DigestRows : Type 0
 DigestRows = List (Key × Digest)
 
--- the digest of an object: that of its field of a frame
+-- the digest of an object: the digest of its spelling as a field of a frame
 unfoldable pub object_digest : List Entry → Digest
 object_digest es = sha256 (object.spell es)
 
@@ -67,14 +68,14 @@ text_of rows = flat_map (λ row. (name 1 256).spell row.0 ++ row.1) rows
 unfoldable pub leaf_digest : OwnRows → ℕ → Digest
 leaf_digest rows leaf = sha256 (text_of (in_leaf leaf rows))
 
--- of the sixteen leaves under an inner node: leaf i stands under inner node i / 16
+-- the digests of the sixteen leaves under an inner node: leaf i stands under inner node i / 16
 abbrev pub leaf_digests : OwnRows → ℕ → List Digest
 leaf_digests rows inner = map (leaf_digest rows) (range_with_len (16 * inner) 16)
 
 unfoldable pub inner_digest : OwnRows → ℕ → Digest
 inner_digest rows inner = sha256 (concat (leaf_digests rows inner))
 
--- of the sixteen inner nodes
+-- the digests of the sixteen inner nodes
 abbrev pub inner_digests : OwnRows → List Digest
 inner_digests rows = map (inner_digest rows) (range_with_len 0 16)
 
@@ -83,7 +84,7 @@ prefix_root rows = sha256 (concat (inner_digests rows))
 
 -- ---- over all full prefixes
 
--- those that hold a key, in order, each with its root: what XPREFIXES carries
+-- the full prefixes that hold a key, in order, each with its root: what XPREFIXES carries
 abbrev pub prefix_roots : DigestRows → List PrefixDigest
 prefix_roots rows =
     map (λ p. record { prefix = p; digest = prefix_root (own_rows p rows) }) (prefixes_of rows)

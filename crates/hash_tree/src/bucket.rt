@@ -95,7 +95,7 @@ impl Bucket {
     }
 }
 
-/// The place of the key among rising rows, or as an error the one where it would stand.
+/// The place of the key among rising rows, or as an error the place where it would stand.
 fn place_of(rows: &[KeyDigest], key: &ByteString) -> Result<usize, usize>
     requires { do_keys_rise rows.now ≡ true }
     ensures there { IfOk result (IsAt key.now rows.now) }

@@ -37,7 +37,7 @@ pub(crate) fn add_prefix(hasher: &mut TextHasher, p: &FullPrefix)
     add_name(hasher, p.sub());
 }
 
-/// The digest of digests, one behind the other.
+/// The digest of digests, one after the other.
 pub(crate) fn digest_of_all(digests: &[Digest]) -> Digest
     ensures { result ≡ sha256 (concat digests.now) }
 {

@@ -39,7 +39,7 @@ impl Held {
         Ok(Held { store, tree })
     }
 
-    /// The same; but where memory runs out, the store comes back.
+    /// Holds what the store does, as `new` does; but where memory runs out, the store comes back.
     pub fn from_store(alloc: Global, store: Store) -> Result<Self, AllocFailed<Store>>
         ensures held { IfOk result (λ held. held ≡ store) }
         ensures back { IfErr result (λ failed. failed.value ≡ store) }
@@ -77,8 +77,8 @@ impl Held {
         &self.tree
     }
 
-    /// Holds this object under the key from now on. Fails only when memory runs out, and then all
-    /// is as before.
+    /// Holds this object under the key from now on. Fails only when memory runs out, and then
+    /// nothing changes.
     pub fn hold(&mut self, key: &MetaKey, object: Entries) -> Result<(), AllocError>
         requires held { IsHeld object }
         requires room { is_full_for self.old key.now ≡ false }

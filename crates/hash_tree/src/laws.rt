@@ -7,8 +7,8 @@ ghost use Rattle.meta_store.specs.Table.{IsTable, Table, with_object};
 ghost use Rattle.hash_tree.specs.Tree.{object_digest, rows_of, tree_root, with_digest};
 ghost use Rattle.hash_tree.specs.Hashed.{Collides};
 
-/// What a write or a fresh merge makes of a table, an update with the digest of the new object
-/// makes of the rows of its tree.
+/// After a write or a fresh merge, an update with the digest of the new object makes the rows of
+/// the tree those of the new table.
 pub fn an_update_follows_a_change_of_the_table()
     ensures { (table : Table) (key : Key) (object : List Entry)
         → rows_of (with_object key object table)

@@ -78,7 +78,7 @@ impl Leaves {
         }
     }
 
-    /// The same, where the digest of a leaf without keys is known: `empty`.
+    /// The digest of a leaf, where `empty` is the digest of a leaf without keys.
     fn digest_or(&self, leaf: u8, empty: Digest) -> Digest
         requires { empty ≡ sha256 [] }
         ensures { result ≡ leaf_digest self.now leaf }

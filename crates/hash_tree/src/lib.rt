@@ -9,10 +9,10 @@
 //! ```
 //! let mut tree = Tree::from_store(alloc, &store)?;
 //! tree.update(&key, object_digest(object))?; // after a write under the key
-//! tree.root() // that of `plain_root(alloc, &store)?`
+//! tree.root() // equals `plain_root(alloc, &store)?`
 //! ```
 //!
-//! `Held` is a store with its tree, of which one never changes without the other.
+//! `Held` is a store with its tree; neither changes without the other.
 //!
 //! Read `tree`, `object`, `held`, then `laws`; `parts`, `prefix_tree`, `leaves`, `bucket`,
 //! `hashing` and `text_hasher` are private.

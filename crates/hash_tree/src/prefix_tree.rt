@@ -151,7 +151,7 @@ fn copied(digests: &Vec<Digest>) -> Result<Vec<Digest>, AllocError>
     digests.clone()
 }
 
-/// Of the digests of all leaves, those under an inner node.
+/// The digests of the leaves under an inner node, from those of all leaves.
 fn sixteen(leaf_digests: &[Digest], inner: usize) -> &[Digest]
     requires all { length leaf_digests.now ≡ 256 }
     requires place { inner < 16 }

@@ -48,8 +48,8 @@ impl Tree {
         Ok(Tree { alloc, parts })
     }
 
-    /// Takes in that the object under the key has this digest. Fails only when memory runs out for
-    /// a key that the tree doesn't have, and then nothing changes.
+    /// Sets the digest of the object under the key. Fails only when memory runs out for a key that
+    /// the tree doesn't have, and then nothing changes.
     pub fn update(&mut self, key: &MetaKey, digest: Digest) -> Result<(), AllocError>
         ensures value { OnOk result (self.new ≡ with_digest key.now digest self.old) }
         ensures absent { OnErr result (find key_cmp key.now self.old ≡ None) }
@@ -59,7 +59,7 @@ impl Tree {
         Ok(())
     }
 
-    /// The root, computed from those of all full prefixes. It takes no memory.
+    /// The root, computed from the roots of all full prefixes. It takes no memory.
     pub fn root(&self) -> Digest
         ensures { result ≡ tree_root self.now }
     {
@@ -107,7 +107,7 @@ impl Tree {
         copied(self.alloc, self.lent_bucket(prefix, leaf))
     }
 
-    /// The same keys as they are kept. It takes no memory.
+    /// The keys that `bucket` copies, lent as they are kept. It takes no memory.
     pub fn lent_bucket(&self, prefix: &FullPrefix, leaf: u8) -> &[KeyDigest]
         ensures value { result.now ≡ bucket (own_rows prefix.now self.now) leaf }
         ensures rising { do_keys_rise result.now ≡ true }

@@ -10,7 +10,7 @@ use Rattle.peer_lists.specs.Lists.{has, without, put_last, choose}
 use Rattle.hyparview.specs.Limits.{active_view_size, passive_view_size}
 
 -- the node, its active and its passive view, whom it asked for a place in the present search for a
--- neighbour, what its last shuffle offered until it was replied to, and what the step has given out
+-- neighbour, what its last shuffle offered, until the reply came, and what the step has given out
 pub record Draft : Type 0 where
   pub node : ℕ
   pub active : List ℕ

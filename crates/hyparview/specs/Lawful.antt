@@ -35,8 +35,8 @@ StayLawful =
 
 -- ---- what a step gives out
 
--- whoever knows the old neighbours and follows each Up and Down knows the new ones; each Up is of a
--- node that is no neighbour then, each Down of one that is
+-- whoever knows the old neighbours and follows each Up and Down knows the new ones; each Up names a
+-- node that is no neighbour then, each Down one that is
 abbrev pub Follows : List ℕ → List ViewOut → List ℕ → Type 0
 Follows old [] new = new ≡ old
 Follows old (Send to message ∷ os) new = Follows old os new

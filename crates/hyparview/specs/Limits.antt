@@ -14,7 +14,7 @@ passive_view_size = 8
 abbrev pub active_random_walk_length : ℕ
 active_random_walk_length = 4
 
--- how many steps are left of its walk where the node that joined is kept in reserve
+-- how many steps of its walk a join has left when the node that joined goes into reserve
 abbrev pub passive_random_walk_length : ℕ
 passive_random_walk_length = 2
 

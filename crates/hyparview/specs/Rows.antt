@@ -19,8 +19,8 @@ use Rattle.meta_types.specs.Chain.{◌▷◌}
 abbrev pub is_empty : List ℕ → Bool
 is_empty xs = nat_eq (length xs) 0
 
--- ---- TakeIn: the nodes that a shuffle brought, each as AddPassive has it, but a full passive view
--- first loses the first of those given away that is in it, and only without one a random member
+-- ---- TakeIn: each node that a shuffle brought goes into the passive view as by AddPassive, but a
+-- full view loses the first of those given away that is in it, or a random member if none is
 
 unfoldable pub member_to_replace : ℕ → List ℕ → List ℕ → ℕ
 member_to_replace word given passive = unwrap_or (find (has passive) given) (choose word passive)
@@ -144,8 +144,8 @@ on_shuffle_due word t =
     if is_empty t.active then t
     else (t ▷ remember_sent offer ▷ send to (Shuffle t.node shuffle_ttl offer))
 
--- ---- SHUFFLE: it walks on to a random neighbour; at its end the origin is answered as many
--- members of the passive view, and what the shuffle brought is taken in for them
+-- ---- SHUFFLE: it walks on to a random neighbour; at its end the origin is sent as many members of
+-- the passive view as the shuffle lists, and what the shuffle brought is taken in for them
 
 abbrev pub walks_on : ℕ → List ℕ → List ℕ → Bool
 walks_on ttl active others = nat_le 2 ttl && nat_lt 1 (length active) && not (is_empty others)

@@ -6,7 +6,7 @@ use Rattle.hyparview.specs.Draft.{Draft}
 use Rattle.hyparview.specs.Rows.{row}
 
 -- the node, its active and its passive view, whom it asked for a place in the present search for a
--- neighbour, and what its last shuffle offered until it was replied to
+-- neighbour, and what its last shuffle offered, until the reply came
 pub record NodeViews : Type 0 where
   pub node : ℕ
   pub active : List ℕ

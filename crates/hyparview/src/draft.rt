@@ -140,7 +140,7 @@ impl Draft {
     }
 }
 
-/// Says of each of these nodes that it is a neighbour no more.
+/// Gives out a `Down` for each of these nodes, in their order.
 fn tell_down(out: &mut Vec<ViewOut>, nodes: &[NodeId]) -> Result<(), AllocError>
     ensures { OnOk result (out.new.items ≡ out.old.items ++ map (λ x. Down x) nodes.now) }
 {

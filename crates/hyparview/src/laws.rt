@@ -6,10 +6,10 @@ pub fn views_stay_lawful()
     ensures { StayLawful }
 {}
 
-/// Of each step: the node stays the same and the views lawful; whoever knows the neighbours and
-/// follows each `Up` and `Down` knows the new ones, and each is of a node that wasn't, or was, one;
-/// nothing is sent to the node itself, unless the event came from itself; and only messages of
-/// HyParView are sent.
+/// Each step keeps the views lawful, and those of the same node. Whoever knows the neighbours and
+/// follows each `Up` and `Down` knows the new ones; each `Up` names a node that is no neighbour
+/// then, each `Down` one that is. Nothing is sent to the node itself, unless the event came from
+/// itself; and only messages of HyParView are sent.
 pub fn each_step_tells_it_all()
     ensures { EachStepTellsItAll }
 {}

@@ -19,7 +19,7 @@ use std::alloc::{AllocError, Global};
 /// How many steps a join walks.
 const ACTIVE_RANDOM_WALK_LENGTH: u8 = 4;
 
-/// How many steps are left of its walk where the node that joined is kept in reserve.
+/// How many steps of its walk a join has left when the node that joined goes into reserve.
 const PASSIVE_RANDOM_WALK_LENGTH: u8 = 2;
 
 /// How many steps a shuffle walks.
@@ -223,7 +223,7 @@ impl Draft {
         Ok(())
     }
 
-    /// Asks another one for a place, if this node was asked.
+    /// Asks another member for a place, if the node `from` was asked.
     fn ask_another(&mut self, word: u64, from: NodeId) -> Result<(), AllocError>
         ensures { OnOk result (self.new ≡ ask_another word from self.old) }
     {
@@ -395,7 +395,7 @@ impl Draft {
     }
 }
 
-/// Tells each of these nodes of one that joined.
+/// Gives out a FORWARDJOIN to each of these nodes, of the node that joined.
 fn forward_to_each(out: &mut Vec<ViewOut>, to: &[NodeId], node: NodeId) -> Result<(), AllocError>
     ensures { OnOk result
         (out.new.items ≡ out.old.items
@@ -417,7 +417,7 @@ fn say_bye(out: &mut Vec<ViewOut>, to: &[NodeId]) -> Result<(), AllocError>
     Ok(())
 }
 
-/// Whom a full passive view loses for a node that a shuffle brought.
+/// The member that a full passive view loses for a node that a shuffle brought.
 #[tactic(auto, unfolding(crate::specs::Rows::member_to_replace))]
 fn member_to_replace(word: u64, given: &[NodeId], passive: &[NodeId]) -> NodeId
     requires { 0 < length passive.now }

@@ -54,7 +54,8 @@ impl Views {
         }
     }
 
-    /// Returns whether they know nobody, asked nobody and sent no list to anybody, as new ones.
+    /// Returns whether the views are as new ones: the node knows nobody, asked nobody and sent
+    /// nobody a list.
     pub fn is_new(&self) -> bool
         ensures { IsTrue result ↔ (self.now ≡ empty self.now.node) }
     {
@@ -62,7 +63,7 @@ impl Views {
         knows_nobody && self.asked.is_empty() && self.sent.as_slice().is_empty()
     }
 
-    /// Whose views they are.
+    /// The node whose views these are.
     pub fn node(&self) -> NodeId
         ensures { result ≡ self.now.node }
     {
@@ -85,9 +86,9 @@ impl Views {
         self.passive.as_slice()
     }
 
-    /// One event, with a random word: a row of the table. Answers what it gives out, in order: what
-    /// is to be sent, and who became a neighbour or is one no more. Fails only when memory runs
-    /// out. What a caller can rely on of each row, whichever it is, is in `laws`.
+    /// Takes one event, with a random word, by its row of the table. Returns what it gives out, in
+    /// order: what is to be sent, and who became a neighbour or is one no more. Fails only when
+    /// memory runs out. What holds of every row is in `laws`.
     pub fn step(&mut self, event: ViewEvent, word: u64) -> Result<Vec<ViewOut>, AllocError>
         ensures row { IfOk result (λ out. IsStep self.old event word self.new out.items) }
         ensures unchanged { OnErr result (self.new ≡ self.old) }
@@ -95,7 +96,7 @@ impl Views {
         self.take(&event, word)
     }
 
-    /// The same, of an event that stays the caller's.
+    /// As `step`, with an event that stays the caller's.
     fn take(&mut self, event: &ViewEvent, word: u64) -> Result<Vec<ViewOut>, AllocError>
         ensures row { IfOk result (λ out. IsStep self.old event.now word self.new out.items) }
         ensures unchanged { OnErr result (self.new ≡ self.old) }
@@ -125,7 +126,7 @@ impl Views {
         Ok(draft)
     }
 
-    /// The views become those of the draft. Answers what it gave out.
+    /// The views become those of the draft. Returns what the draft gave out.
     fn commit(&mut self, draft: Draft) -> Vec<ViewOut>
         requires { AreLawful draft.node draft.active draft.passive }
         ensures views { self.new ≡ views_of draft }

@@ -1,4 +1,4 @@
--- One image of a node, as it is told: the number of the image that it changes, and the object that
+-- One image of a node, as it is lent: the number of the image that it changes, and the object that
 -- stands under a key instead; none where nothing is changed. The rule is our own.
 use Rattle.std.specs.Prelude.{ℕ, List, Option, Some, None, if◌then◌else◌}
 use Rattle.meta_types.specs.Name.{Key}

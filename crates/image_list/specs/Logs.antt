@@ -45,12 +45,12 @@ pub record IsInLogs (logs : Logs) (e : LoggedEntry) : Type 0 where
   pub log : e.log < length logs
   pub values : e.start + e.len ≤ length (log_at logs e.log)
 
--- so it is with each entry of a change, whose object may be held
+-- what each entry of a change shows is there, and the object of the change may be held
 pub record IsKeptChange (logs : Logs) (c : KeptChange) : Type 0 where
   pub within : All (IsInLogs logs) c.entries.items
   pub held : IsHeld (whole_object logs c.entries.items)
 
--- and so of an image, if it changes anything
+-- the change of an image, if it has one, is kept so
 abbrev pub IsImageKept : Logs → Kept → Type 0
 IsImageKept logs kept = IfSome kept.change (IsKeptChange logs)
 
@@ -62,8 +62,8 @@ pub record GrowTo (old new : Logs) : Type 0 where
   pub begin : (at : ℕ) → at < length old
       → (rest : List ValueParts) × (log_at new at ≡ log_at old at ++ rest)
 
--- a log has these values, newest first, from a place on; but for so many of the newest, which are
--- to come after its end
+-- a log has these values, newest first, from the place `start` on, but for the `fresh` newest,
+-- which are to come after its end
 pub record Continues (log : List ValueParts) (start fresh : ℕ) (values : List ValueParts)
     : Type 0 where
   pub few : fresh ≤ length values

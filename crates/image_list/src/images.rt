@@ -149,7 +149,7 @@ impl Images {
         *self.kept.allocator()
     }
 
-    /// How many there are, but for image 0.
+    /// The number of images, without image 0.
     pub fn len(&self) -> usize
         ensures value { result ≡ length self.now }
         ensures few { result < 2 ^ 63 }
@@ -168,8 +168,8 @@ impl Images {
         }
     }
 
-    /// Adds an image that changes the one of the number `base`: what there is to copy of the object
-    /// is copied. Fails only when memory runs out, and then nothing changes.
+    /// Adds an image that changes the one of the number `base`, and copies what isn't kept yet of
+    /// the object. Fails only when memory runs out, and then nothing changes.
     pub fn push(
         &mut self,
         base: usize,
@@ -185,7 +185,7 @@ impl Images {
         Ok(())
     }
 
-    /// Keeps the first `len` images alone, all where there are no more. It takes no memory.
+    /// Keeps only the first `len` images, or all where there are no more. It takes no memory.
     pub fn truncate(&mut self, len: usize)
         ensures { self.new ≡ take len self.old }
     {

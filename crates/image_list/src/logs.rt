@@ -20,8 +20,8 @@ pub(crate) struct LoggedEntry {
     pub(crate) len: usize,
 }
 
-/// Values of one writer's events under one key, oldest first: those of the events from the one
-/// after number `before` on.
+/// Values of one writer's events under one key, oldest first, beginning with that of the event
+/// after number `before`.
 #[derive(Debug, Drop)]
 struct Log {
     before: u64,
@@ -160,7 +160,7 @@ impl Logs {
         Ok(())
     }
 
-    /// Adds a log of values, newest first, the oldest of which is that of the event after number
+    /// Adds a log of these values, given newest first; the oldest is that of the event after number
     /// `before`.
     fn add(&mut self, before: u64, values: &[Value]) -> Result<(), AllocError>
         ensures value { OnOk result (self.new ≡ self.old ++ reverse values.now ∷ []) }
@@ -172,7 +172,7 @@ impl Logs {
     }
 }
 
-/// Copies of values in the other order.
+/// Copies of the values, in reverse order.
 fn reversed(alloc: Global, values: &[Value]) -> Result<Vec<Value>, AllocError>
     ensures { IfOk result (λ copies. copies.items ≡ reverse values.now) }
 {
@@ -200,7 +200,7 @@ fn place_in(log: &Log, entry: &Entry) -> Option<Place>
     }
 }
 
-/// Returns whether the values of one are those of the other, in the other order.
+/// Returns whether the values are the others in reverse order.
 fn are_reversed(values: &[Value], others: &[Value]) -> bool
     ensures { IsTrue result → values.now ≡ reverse others.now }
 {

@@ -12,14 +12,14 @@ IsSenderCount n = (1 ≤ n) × (n ≤ 16)
 abbrev pub IsRoom : ℕ → Type 0
 IsRoom n = (1 ≤ n) × (n ≤ 1024)
 
--- a pass for each of so many senders, by their numbers from 0, by none of which anything was put
+-- a pass for each of `senders` senders, in the order of their numbers from 0; nothing was put yet
 pub record AreNewPasses (line : TableId) (senders : ℕ) (passes : List PutView) : Type 0 where
   pub number : length passes ≡ senders
   pub each : (k : ℕ) → k < senders
       → slice_get passes k ≡ Some (record { line = line; from = k; put = [] })
 
--- an open inbox of this room, a pass for each of so many senders, and the pass to take, by which
--- nothing was taken and to which none came back
+-- an open inbox of this room, a pass for each of `senders` senders, and the pass to take, by
+-- which nothing was taken and to which none came back
 pub record IsFresh (senders : ℕ) (size : ℕ) (fresh : Fresh) : Type 0 where
   pub room : fresh.inbox.room ≡ size
   pub is_open : fresh.inbox.closed ≡ false

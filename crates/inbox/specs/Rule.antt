@@ -46,7 +46,7 @@ nobody = record {
   back = [];
 }
 
--- ---- `seat` tells at which place the pass of a sender is, if it is out; `sent` all that it put
+-- ---- `seat` says at which place the pass of a sender is, if it is out; `sent` all that it put
 
 -- a sender's pass: it is where its sender has its seat, and knows all that this one put
 pub record FitsSender (seat : ℕ → Option ℕ) (sent : ℕ → List Parcel) (place : ℕ) (v : Knowledge)
@@ -60,7 +60,7 @@ AreBack sent seat made [] = Unit {0}
 AreBack sent seat made (b ∷ bs) =
     (b.0 < made) × (seat b.0 ≡ none) × (b.1 ≡ sent b.0) × AreBack sent seat made bs
 
--- who was given no pass has no seat, and put nothing
+-- a sender that was given no pass has no seat, and put nothing
 abbrev pub NoneFrom : (ℕ → List Parcel) → (ℕ → Option ℕ) → ℕ → Type 0
 NoneFrom sent seat made = (p : ℕ) → made ≤ p → (seat p ≡ none) × (sent p ≡ [])
 

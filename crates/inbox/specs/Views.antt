@@ -9,13 +9,13 @@ pub record InboxView : Type 0 where
   pub room : ℕ
   pub closed : Bool
 
--- a pass to put: of which inbox it is, the number of its sender, and what was put by it, in order
+-- a pass to put: its inbox, the number of its sender, and what was put by it, in order
 pub record PutView : Type 0 where
   pub line : TableId
   pub from : ℕ
   pub put : List Parcel
 
--- the pass to take: of which inbox it is; what was taken by it, in order; how many senders were
+-- the pass to take: its inbox; what was taken by it, in order; how many senders were
 -- given a pass; and of each pass that came back its sender, with what was put by it
 pub record TakeView : Type 0 where
   pub line : TableId

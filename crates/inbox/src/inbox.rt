@@ -44,7 +44,7 @@ impl Model for Inbox {
     } };
 }
 
-/// A new inbox with its passes: that of the sender 0 first, then those of 1, 2 and so on.
+/// A new inbox with its passes; those to put are in the order of the senders, from 0.
 #[derive(Drop)]
 pub struct Fresh {
     pub inbox: Inbox,
@@ -73,7 +73,7 @@ fn deal(queue: Line, pass: Pass<Parcel, Knowledge>, puts: Vec<PutPass>, senders:
 }
 
 impl Inbox {
-    /// An inbox with room for 1,024 frames. Refused with 99 `Memory` alone.
+    /// An inbox with room for 1,024 frames. Refused only with 99 `Memory`.
     pub fn new(alloc: Global, senders: usize) -> Result<Fresh, InboxFault>
         requires { IsSenderCount senders }
         ensures fresh { IfOk result (IsFresh senders 1024) }
@@ -82,7 +82,7 @@ impl Inbox {
         Inbox::with_room(alloc, senders, MAX_ROOM)
     }
 
-    /// An inbox with room for so many frames, of 1 to 16 senders, numbered from 0. Refused with 55
+    /// An inbox with room for `room` frames, of 1 to 16 senders, numbered from 0. Refused with 55
     /// `BadLimit` where the room isn't 1 to 1,024, and with 99 `Memory`. All memory is taken here;
     /// no later call takes any.
     pub fn with_room(alloc: Global, senders: usize, room: usize) -> Result<Fresh, InboxFault>
@@ -110,7 +110,7 @@ impl Inbox {
         PutPass { pass, from }
     }
 
-    /// Puts a frame behind all others. It may wait for other threads in the midst of a call.
+    /// Puts a frame after all others. It may wait for other threads in the midst of a call.
     ///
     /// Refused with 53 `Closed`, and where it isn't closed with 50 `Full`. The frame comes back.
     pub fn put<R: Wait>(&self, rt: &R, pass: &mut PutPass, frame: ByteString) -> Result<(), NotPut>
@@ -139,8 +139,8 @@ impl Inbox {
         }
     }
 
-    /// Takes the oldest frame, closed or not; `None` where there is none. It may wait for other
-    /// threads in the midst of a call.
+    /// Takes the oldest frame, whether the inbox is closed or not; `None` where there is none. It
+    /// may wait for other threads in the midst of a call.
     pub fn take<R: Wait>(&self, rt: &R, pass: &mut TakePass) -> Option<Parcel>
         requires { pass.old.line ≡ self.now.line }
         ensures some { IfSome result (λ parcel. pass.new ≡ with_taken pass.old parcel) }
@@ -149,7 +149,7 @@ impl Inbox {
         self.queue.pop_as::<Takes, R>(rt, &mut pass.pass)
     }
 
-    /// Takes a sender's pass back, by which the taker learns what was put by it.
+    /// Takes a sender's pass back; the taker's pass learns from it what was put by it.
     pub fn hand_back(&self, given: PutPass, pass: &mut TakePass)
         requires given { given.line ≡ self.now.line }
         requires pass { pass.old.line ≡ self.now.line }
@@ -164,8 +164,8 @@ impl Inbox {
         self.queue.learn_as::<Takes>(&mut pass.pass);
     }
 
-    /// From here on nothing is put; what is left may still be taken. No thread has the inbox any
-    /// more, as `&mut` asks.
+    /// Closes the inbox: from here on nothing is put; what is left may still be taken. No other
+    /// thread has the inbox any more, since `&mut` is asked for.
     pub fn close(&mut self)
         ensures { self.new ≡ record self.old { closed = true } }
     {

@@ -6,7 +6,7 @@ ghost use Rattle.inbox.specs.Law.{AllIsHere};
 use crate::fault::InboxFault;
 
 /// Once as many passes came back as were given, what was taken and then what is left has each
-/// parcel as often as it was put, and of each sender what was put, in its order.
+/// parcel as often as it was put, and the parcels of each sender in the order they were put.
 pub fn all_is_here()
     ensures { AllIsHere }
 {}

@@ -50,7 +50,7 @@ impl Join<Knowledge> for Sender {
     ghost spent = { nobody };
 }
 
-/// A frame is put; where it can't be, what its sender put is there all the same.
+/// A frame is put; where it can't be, what its sender put before is still there.
 pub struct Puts;
 
 impl Outcome<Parcel, Knowledge> for Puts {

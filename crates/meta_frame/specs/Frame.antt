@@ -116,7 +116,7 @@ abbrev pub IsMessage : Message → Type 0
 IsMessage m = (row_of m).Fits
 
 -- a field of a body of this kind is at fault; the messages of a kind have one form, so any of them
--- tells
+-- will do
 pub record BadFields (number : ℕ) (bytes : List ℕ) (left : ℕ) : Type 0 where
   pub message : Message
   pub kind_is : number ≡ kind_of message
@@ -154,7 +154,7 @@ pub record Spells (f : Frame) (bytes : List ℕ) : Type 0 where
 
 -- ---- which refusal comes first
 
--- the number of a width at an offset, asked only where there are so many bytes
+-- the number of a width at an offset, asked only where there are enough bytes
 abbrev pub number_in : Width → ℕ → List ℕ → ℕ
 number_in w at bytes = from_be_bytes w (take (byte_len w) (drop at bytes))
 

@@ -39,7 +39,7 @@ front_tests bytes =
     ∷ (nat_lt limit (20 + len_in bytes), TooLong)
     ∷ []
 
--- whether there are as many bytes as it names
+-- the tests that there are as many bytes as it names, in their order
 abbrev pub length_tests : List ℕ → List (Bool × FrameFault)
 length_tests bytes =
     (nat_lt (length bytes) (20 + len_in bytes), Short)

@@ -103,7 +103,7 @@ checked bytes None = whole bytes (message_reader (kind_in bytes) (drop 20 bytes)
 unfoldable pub decode_of : List ℕ → Result Frame FrameFault
 decode_of bytes = checked bytes (first_that_applies (header_tests bytes))
 
--- what a call answered is what reading gives, unless memory ran out
+-- what a call returned is what reading gives, unless memory ran out
 abbrev pub Decodes : Result Frame FrameFault → Result Frame FrameFault → Type 0
 Decodes (Ok frame) read = read ≡ Ok frame
 Decodes (Err fault) read = (fault ≡ frames.Memory) ⊎ (read ≡ Err fault)

@@ -46,10 +46,11 @@ fn frame_of(bytes: &[u8], message: Message) -> Frame
     }
 }
 
-/// The frame that the bytes spell, all of them. Otherwise the first refusal that applies: of the
-/// tests of the header in their order, 10 `Short`, 11 `BadMagic`, 12 `BadVersion`, 13 `BadKind`,
-/// 14 `TooLong`, 10, 16 `LeftOver`, 15 `BadBody` at 4 for the sender and at 6 for the addressee;
-/// then 15 `BadBody` at the first byte of the first field of the body that is at fault.
+/// The frame that all of the bytes spell. Otherwise the first refusal that applies: of the tests of
+/// the header in their order, 10 `Short`, 11 `BadMagic`, 12 `BadVersion`, 13 `BadKind`, 14
+/// `TooLong`, 10, 16 `LeftOver`, 15 `BadBody` at 4 for the sender and at 6 for the addressee; then
+/// 15 `BadBody` at the first byte of the first field of the body that is at fault, or of what is
+/// left of the body after its last field.
 pub fn decode(alloc: Global, bytes: &[u8]) -> Result<Frame, FrameFault>
     ensures found { IfOk result (λ frame. Spells frame bytes.now) }
     ensures refused { FailsWith FrameFault.Memory (RefusesBytes bytes.now) result }

@@ -31,7 +31,7 @@ fn write(out: &mut Vec<u8>, frame: &Frame, len: u32) -> Result<(), AllocError>
 }
 
 /// The spelling of a lawful frame, in a buffer of just its length. Refused with 14 `TooLong` where
-/// that is longer than a frame may be, and only then.
+/// it is longer than a frame may be, and only then.
 pub fn encode(alloc: Global, frame: &Frame) -> Result<Vec<u8>, FrameFault>
     requires { IsLawful frame.now }
     ensures ok { IfOk result (λ bytes. Spells frame.now bytes.items) }
@@ -48,7 +48,7 @@ pub fn encode(alloc: Global, frame: &Frame) -> Result<Vec<u8>, FrameFault>
 }
 
 /// Adds the spelling of an object at the end of bytes, which stay as they were where memory is
-/// refused. It takes memory for the object once more than the bytes grow by.
+/// refused. It takes memory for the spelling once more, besides what the bytes grow by.
 pub fn put_object(out: &mut Vec<u8>, o: &Entries) -> Result<(), AllocError>
     requires { object.Fits o.now }
     ensures ok { OnOk result (out.new.items ≡ out.old.items ++ object.spell o.now) }

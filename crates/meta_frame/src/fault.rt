@@ -20,7 +20,8 @@ pub enum FrameFault {
     BadKind,
     /// 14: the frame has more than 16,777,216 bytes.
     TooLong,
-    /// 15: a field is cut, or breaks its rule; `at` is the offset of its first byte.
+    /// 15: a field is cut, or breaks its rule, or bytes of the body are left after its last field;
+    /// `at` is the offset of the first byte of that field, or of those bytes.
     BadBody { at: usize },
     /// 16: more bytes than a header and its body.
     LeftOver,

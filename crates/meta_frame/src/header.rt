@@ -25,7 +25,7 @@ const MAGIC: u16 = 0x5054;
 /// The version of frames, their third byte.
 pub const VERSION: u8 = 2;
 
-/// What the first twenty bytes of a frame say: all that is wanted to cut a stream of frames and to
+/// What the first twenty bytes of a frame say: all that is needed to cut a stream of frames and to
 /// pass each on.
 #[derive(Clone, Copy, Debug, PartialEq, Eq)]
 pub struct Header {
@@ -42,9 +42,9 @@ pub struct Header {
 }
 
 /// The header at the front of bytes, whatever follows it. It takes no memory. Otherwise the first
-/// refusal that applies, of those of `decode`, but for its tests of what follows: 10 `Short` below
-/// twenty bytes, 11 `BadMagic`, 12 `BadVersion`, 13 `BadKind`, 14 `TooLong`, 15 `BadBody` at 4 for
-/// the sender and at 6 for the addressee.
+/// refusal of `decode` that applies, without its tests of what follows: 10 `Short` below twenty
+/// bytes, 11 `BadMagic`, 12 `BadVersion`, 13 `BadKind`, 14 `TooLong`, 15 `BadBody` at 4 for the
+/// sender and at 6 for the addressee.
 pub fn read_header(bytes: &[u8]) -> Result<Header, FrameFault>
     ensures value { IfOk result (λ header. header ≡ header_in bytes.now) }
     ensures accepted { OnOk result
@@ -91,7 +91,7 @@ pub(crate) fn header_fault(bytes: &[u8]) -> Option<FrameFault>
     node_fault(bytes)
 }
 
-/// The first test that applies of those that look at the twenty bytes, but for the nodes.
+/// The first test of the twenty bytes that applies, without the tests of the nodes.
 fn front_fault(bytes: &[u8]) -> Option<FrameFault>
     ensures value { result ≡ first_that_applies (front_tests bytes.now) }
     ensures long { IfNone result (20 ≤ length bytes.now) }
@@ -119,7 +119,7 @@ fn frame_len(bytes: &[u8]) -> u64
     HEADER_LEN as u64 + u64::from(u32_at(bytes, 16))
 }
 
-/// Whether there are fewer bytes than the header names, or more.
+/// The refusal of fewer bytes than the header names, or of more.
 fn length_fault(bytes: &[u8]) -> Option<FrameFault>
     requires { 20 ≤ length bytes.now }
     ensures { result ≡ first_that_applies (length_tests bytes.now) }
@@ -134,7 +134,7 @@ fn length_fault(bytes: &[u8]) -> Option<FrameFault>
     }
 }
 
-/// Which of the two nodes that the header names is none, or the other one again.
+/// The refusal of a number that is no node's, or of an addressee that is the sender.
 fn node_fault(bytes: &[u8]) -> Option<FrameFault>
     requires { 20 ≤ length bytes.now }
     ensures value { result ≡ first_that_applies (node_tests bytes.now) }

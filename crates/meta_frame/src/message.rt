@@ -6,7 +6,7 @@ use frame_fields::{Digest, Digests, KeyDigests, NeighborAnswer, Nodes, PrefixDig
 use meta_types::{FullPrefix, MetaKey, NodeId};
 use std::alloc::AllocError;
 
-/// What a node tells another: one variant for each kind.
+/// A message from one node to another: one variant for each kind.
 #[derive(Debug, Drop, PartialEq, Eq)]
 pub enum Message {
     /// 1: an object, passed on after a write or a merge. `round` counts how often it was passed on.

@@ -44,7 +44,7 @@ call_broadcast call t =
       sent = t.sent ++ map (envelope_of t.parts.table) (out_of call t.parts.overlay);
     }
 
--- ---- the views, of which the broadcast hears who came and who went
+-- ---- the views; the broadcast hears who came and who went
 
 abbrev pub step_views : ViewEvent → ℕ → NodeDraft → NodeDraft
 step_views event word t =

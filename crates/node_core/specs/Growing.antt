@@ -31,8 +31,8 @@ pub record CarriesUnder (key : Key) (bytes : List ℕ) : Type 0 where
   pub object : List Entry
   pub carried : carried_object frame.message ≡ Some (key, object)
 
--- the key under which an accepted event with this reply changed what is held: that of a write, and
--- of the object in a frame that was taken fresh
+-- the key under which an accepted event with this reply changed what is held: the key of a write,
+-- or of the object in a frame that was taken fresh
 abbrev pub IsKeyChanged : NodeEvent → Reply → Key → Type 0
 IsKeyChanged (Write written value context) reply key = key ≡ written
 IsKeyChanged (PutOver written value) reply key = key ≡ written
@@ -40,7 +40,7 @@ IsKeyChanged (Take bytes word) TookFresh key = CarriesUnder key bytes
 IsKeyChanged event reply key = ⊥
 
 -- under that key there may be another object now, and all else is as before; where there is no such
--- key, all is
+-- key, all is as before
 pub record ChangesUnder (event : NodeEvent) (reply : Reply) (old new : Table) : Type 0 where
   pub there : (key : Key) → IsKeyChanged event reply key
       → new ≡ with_object key (object_at new key) old
@@ -52,8 +52,8 @@ pub record ChangesUnder (event : NodeEvent) (reply : Reply) (old new : Table) : 
 abbrev pub newest : ℕ → List Entry → Option ValueParts
 newest w object = slice_get (shown (entry_of object w)) 0
 
--- the reply tells the vector of what is held under the key then; and there, what was written is the
--- newest value of the writer
+-- the reply has the vector of what is then held under the key; and what was written is the newest
+-- value of the writer there
 pub record TellsWrite (w : ℕ) (key : Key) (value : ValueParts) (reply : Reply) (new : Table)
     : Type 0 where
   pub vector : reply ≡ Wrote (join (object_at new key))
@@ -95,7 +95,7 @@ abbrev pub EachStepGrows : NodeEvent → Type 0
 EachStepGrows event = (old new : NodeParts) (s : Stepped)
     → IsTable old.table → IsNodeStep old event new s → StepGrows old event new s
 
--- a key once held stays held, over a step and over a run; and to descend goes on from step to step
+-- a key once held stays held, over a step and over a run; and descending is transitive
 pub record HeldIsKept : Type 0 where
   pub steps : (old : NodeParts) (event : NodeEvent) (new : NodeParts) (s : Stepped)
       → IsNodeStep old event new s → KeepsKeys old.table new.table
@@ -104,7 +104,7 @@ pub record HeldIsKept : Type 0 where
   pub onwards : (first second third : Table) → IsTable first
       → Descends first second → Descends second third → Descends first third
 
--- a reply with a context is that to a read, whose context is that of what the node held
+-- a reply with a context is the reply to a read, and the context is of what the node held
 abbrev pub OnlyReadsHandOut : Type 0
 OnlyReadsHandOut = (old : NodeParts) (event : NodeEvent) (new : NodeParts) (s : Stepped)
     (values : List ValueParts) (context : Reading)

@@ -18,8 +18,8 @@ use Rattle.node_core.specs.Draft.{NodeDraft}
 use Rattle.node_core.specs.Rows.{Input, row_of_message, write}
 use Rattle.node_core.specs.Step.{IsStepTo, begun, node_draft_after, refusal_of, refusal_of_message, refusal_of_write, reply_of, reply_of_message}
 
--- it made the step to what is left when this is done, with this reply; or it failed, for want of
--- memory or with the refusal that there is, and changed nothing
+-- it made the step to what is left when this is done, with this reply; or it failed, with `Memory`
+-- or with the refusal that there is, and changed nothing
 abbrev pub StepsTo : NodeParts → Option StepFault → NodeDraft → Reply → Result Stepped StepFault
     → NodeParts → Type 0
 StepsTo old refusal done reply (Ok stepped) new = IsStepTo old refusal done reply new stepped
@@ -46,8 +46,8 @@ StepsOnWrite old key value context =
     StepsTo old (refusal_of_write key value context old) done
     (Wrote (vector_under key done.parts))
 
--- this was done, but for the count of the step: the node is so, and what was sent goes out as these
--- frames; or memory ended, and nothing changed
+-- this was done, but the step isn't counted yet: the node is what is left, and what was sent goes
+-- out as these frames; or memory ran out, and nothing changed
 abbrev pub Does : NodeParts → NodeDraft → Result Outbox StepFault → NodeParts → Type 0
 Does old done (Ok outbox) new =
     (new ≡ done.parts) × AreFramesOf old.node old.frames done.sent outbox

@@ -81,6 +81,6 @@ vector_under key s = join (object_at s.table key)
 abbrev pub present : Key → NodeParts → Reading
 present key s = reading_at s.table key (record { actor = writer s; step = count_on s.steps 1 })
 
--- the node, talking to these
+-- the node, with this overlay
 abbrev pub with_overlay : Overlay → NodeParts → NodeParts
 with_overlay overlay s = record s { overlay = overlay }

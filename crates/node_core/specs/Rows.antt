@@ -128,7 +128,7 @@ pub data Input : Type 0 where
   Local : NodeEvent → Input
   Received : Frame → ℕ → Input
 
--- the event, whose bytes, if it brings some, spell the frame
+-- what the event asks for; the bytes of a `Take` spell the frame
 abbrev pub IsInput : NodeEvent → Input → Type 0
 IsInput (Take bytes word) (Local event) = ⊥
 IsInput (Take bytes word) (Received frame w) = Spells frame bytes × (w ≡ word)

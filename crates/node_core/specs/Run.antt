@@ -8,12 +8,12 @@ use Rattle.node_parts.specs.Outbox.{count_on}
 use Rattle.node_core.specs.Node.{NodeParts}
 use Rattle.node_core.specs.Step.{CanComeOf, IsNodeStep}
 
--- the two are the same cause, but that memory may end at any time
+-- the two are the same cause, unless memory ran out in one of them
 abbrev pub IsOneCause : StepFault → StepFault → Type 0
 IsOneCause fault other = (fault ≡ Memory) ⊎ ((other ≡ Memory) ⊎ (fault ≡ other))
 
 -- what a node was and the event determine the outcome: what the node is then and what the step
--- gives, or the cause of the refusal; and what is accepted is refused for want of memory alone
+-- gives, or the cause of the refusal; and what can be accepted is refused only when memory runs out
 pub record NoEventHasTwoOutcomes : Type 0 where
   pub steps : (old : NodeParts) (event : NodeEvent) (new other : NodeParts) (s t : Stepped)
       → IsNodeStep old event new s → IsNodeStep old event other t → (new ≡ other) × (s ≡ t)
@@ -60,7 +60,7 @@ pub record RunsJoinAndSplit : Type 0 where
       → IsRun old (first ++ later) new
       → (mid : NodeParts) × (IsRun old first mid × IsRun mid later new)
 
--- the same node in the same life, which has counted so many more steps and frames
+-- the same node in the same life, which has counted `made` more steps and `sent` more frames
 pub record CountsOn (made sent : ℕ) (old new : NodeParts) : Type 0 where
   pub node : new.node ≡ old.node
   pub life : new.incarnation ≡ old.incarnation

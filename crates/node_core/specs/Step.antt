@@ -104,7 +104,7 @@ reply_of (Received frame word) s = reply_of_message frame.message s
 
 -- it isn't refused; the old node becomes what is left when all is done, with this reply, and what
 -- is to be sent goes out as frames, as bytes, numbered over the life from 1, in order; each frame
--- is lawful, and so one to another node, and its bytes are no more than a frame may have
+-- is lawful, so it goes to another node, and has no more bytes than a frame may have
 pub record IsStepTo (old : NodeParts) (refusal : Option StepFault) (done : NodeDraft)
     (reply : Reply) (new : NodeParts) (stepped : Stepped) : Type 0 where
   pub accepted : refusal ≡ None
@@ -132,13 +132,13 @@ abbrev pub IsNoFrame : NodeEvent → StepFault → Type 0
 IsNoFrame (Take bytes word) (OfFrame fault) = RefusesBytes bytes fault
 IsNoFrame event fault = ⊥
 
--- what it asks, or the frame that it brings, is refused so
+-- what it asks, or the frame that it brings, is refused with this
 pub record IsRefused (old : NodeParts) (event : NodeEvent) (fault : StepFault) : Type 0 where
   pub input : Input
   pub is_input : IsInput event input
   pub first : refusal_of input old ≡ Some fault
 
--- memory ended, its bytes are no frame, or it is refused
+-- memory ran out, its bytes are no frame, or it is refused
 abbrev pub CanComeOf : NodeParts → NodeEvent → StepFault → Type 0
 CanComeOf old event fault = (fault ≡ Memory) ⊎ (IsNoFrame event fault ⊎ IsRefused old event fault)
 

@@ -50,7 +50,7 @@ impl NodeState {
         }
     }
 
-    /// The same, where what is held under the key descends the vector, which has read something.
+    /// GRAFT, where what is held under the key descends the vector, which has read something.
     fn on_held_graft(
         &mut self,
         from: NodeId,
@@ -63,10 +63,10 @@ impl NodeState {
         requires held { is_stale self.old.table key.now vector.now ≡ true }
         ensures { StepsOnMessage self.old from 0 (Graft round key.now vector.now) result self.new }
     {
-        // The contract alone needs it.
+        // Only the contract needs it.
         let _ = vector;
         let Some(object) = self.held.store().object(key) else {
-            // Never so: nothing descends no vector that has read something.
+            // Never so: an absent object descends no vector that has read something.
             return Ok(self.finish(Reply::Took, self.nothing_sent()));
         };
         let (alloc, number) = (self.alloc, self.frames);
@@ -76,7 +76,7 @@ impl NodeState {
         Ok(self.finish(Reply::Took, outbox))
     }
 
-    /// PRUNE: the sender wants announcements alone.
+    /// PRUNE: the sender wants only announcements.
     pub(crate) fn on_prune(&mut self, from: NodeId) -> Result<Stepped, StepFault>
         ensures { StepsOnMessage self.old from 0 Prune result self.new }
     {

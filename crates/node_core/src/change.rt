@@ -19,7 +19,7 @@ use node_events::{Outbox, StepFault};
 use node_parts::{News, Origin, gossips};
 
 impl NodeState {
-    /// This object is held under the key, and all that hear of it are told. Answers its vector, and
+    /// This object is held under the key, and all that hear of it are told. Returns its vector, and
     /// the frames. Fails only when memory runs out, and then all is as before.
     pub(crate) fn change(
         &mut self,
@@ -62,7 +62,7 @@ impl NodeState {
         Ok(())
     }
 
-    /// What there is to tell of this object under the key. Fails only when memory runs out.
+    /// The news of this object under the key. Fails only when memory runs out.
     fn news(&self, key: &MetaKey, object: &Entries) -> Result<News, StepFault>
         ensures news { IfOk result (λ news. AreNews key.now object.now self.now news) }
         ensures memory { IfErr result (λ fault. fault ≡ Memory) }
@@ -71,8 +71,8 @@ impl NodeState {
         Ok(self.watches.news(key, vector)?)
     }
 
-    /// The object is held, and the peers are told. Answers the frames. Where memory ends, all is as
-    /// before.
+    /// The object is held, and the peers are told. Returns the frames. Where memory runs out, all
+    /// is as before.
     fn spread(
         &mut self,
         origin: Origin,
@@ -92,7 +92,7 @@ impl NodeState {
         ensures memory { IfErr result (λ fault. fault ≡ Memory) }
         ensures same { OnErr result (self.new ≡ self.old) }
     {
-        // Read for what it tells: the peers are the active view.
+        // Read for what its type says: the peers are the active view.
         let _ = self.overlay.views();
         let savepoint = self.overlay.savepoint()?;
         match self.try_spread(origin, key, object, vector) {
@@ -104,7 +104,7 @@ impl NodeState {
         }
     }
 
-    /// The same; but where memory ends, the broadcast may be ahead, and can be rolled back.
+    /// As `spread`; but where memory runs out, the broadcast may be ahead, and can be rolled back.
     fn try_spread(
         &mut self,
         origin: Origin,
@@ -124,7 +124,7 @@ impl NodeState {
         ensures memory { IfErr result (λ fault. fault ≡ Memory) }
         ensures ahead { OnErr result (IsBehind self.old self.new) }
     {
-        // Read for what they tell: the key and the round are in range.
+        // Read for what their types say: the key and the round are in range.
         let _ = key.key();
         reveal_round(&origin);
         let outs = self.overlay.spread(origin, key, vector)?;
@@ -134,7 +134,7 @@ impl NodeState {
         Ok(outbox)
     }
 
-    /// Watches note the change, and it isn't waited for any more. Answers the vector. It never
+    /// Watches note the change, and it isn't waited for any more. Returns the vector. It never
     /// fails.
     fn tell(&mut self, key: &MetaKey, news: News) -> Vector
         requires key { key.now ≡ news.change.key }

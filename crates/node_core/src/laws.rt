@@ -10,7 +10,7 @@ ghost use Rattle.node_core.specs.Run.{RunsGoOn, RunsJoinAndSplit};
 use meta_store::Context;
 use node_events::NodeEvent;
 
-/// What a node is and the event determine what comes of it.
+/// What a node is and the event determine the outcome.
 pub fn no_event_has_two_outcomes()
     ensures { NoEventHasTwoOutcomes }
 {}
@@ -46,7 +46,7 @@ pub fn what_a_step_leaves()
 pub fn each_step_grows(event: &NodeEvent)
     ensures { EachStepGrows event.now }
 {
-    // Read for what it tells: what a write has read is a vector.
+    // Read for what its type says: what a write has read is a vector.
     match context_of_write(event) {
         Some(context) => {
             let _counters = context.vector().counters();

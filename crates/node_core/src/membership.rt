@@ -81,7 +81,7 @@ impl NodeState {
         Ok(self.finish(Reply::Took, outbox))
     }
 
-    /// The node, if a neighbour, is one no more. Answers the frames.
+    /// The node, if a neighbour, is one no more. Returns the frames.
     fn drop_neighbour(&mut self, node: NodeId, word: u64) -> Result<Outbox, StepFault>
         requires { node ≢ self.old.node }
         ensures { Does self.old (drop_neighbour node word (begun self.old)) result self.new }
@@ -93,23 +93,23 @@ impl NodeState {
         }
     }
 
-    /// An event of the views. Answers the frames.
+    /// Takes an event of the views. Returns the frames.
     fn step_views(&mut self, event: ViewEvent, word: u64) -> Result<Outbox, StepFault>
         requires { IsOfAnother self.old.node event }
         ensures { Does self.old (step_views event word (begun self.old)) result self.new }
     {
-        // Dropped on its one way out, where the proof has one case for it.
+        // The event is dropped at the only way out, so that the proof has one case for it.
         let outbox = self.step_views_on(&event, word);
         drop(event);
         outbox
     }
 
-    /// The same, of an event that stays the caller's.
+    /// As `step_views`, with an event that stays the caller's.
     fn step_views_on(&mut self, event: &ViewEvent, word: u64) -> Result<Outbox, StepFault>
         requires { IsOfAnother self.old.node event.now }
         ensures { Does self.old (step_views event.now word (begun self.old)) result self.new }
     {
-        // Read for what it tells: the views are lawful.
+        // Read for what its type says: the views are lawful.
         let _ = self.overlay.views();
         let (alloc, number) = (self.alloc, self.frames);
         let outbox = self.overlay.on_view_event(alloc, number, event, word)?;

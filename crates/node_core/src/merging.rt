@@ -47,7 +47,7 @@ impl NodeState {
         requires stale { is_stale self.old.table key.now (join came.now) ≡ true }
         ensures { StepsOnMessage self.old from 0 (Gossip round key.now came.now) result self.new }
     {
-        // The contract alone needs these.
+        // Only the contract needs these.
         let _ = round;
         let _ = key;
         let _ = came;

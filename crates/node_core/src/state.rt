@@ -154,7 +154,8 @@ impl NodeState {
         }
     }
 
-    /// Returns whether a life begins so: the node made no step and knows nobody, whatever it holds.
+    /// Returns whether this is the beginning of a life: no step was made, and the node knows
+    /// nobody, whatever it holds.
     pub fn is_opening(&self) -> bool
         ensures { IsTrue result
             ↔ (self.now ≡ opening self.now.node self.now.incarnation self.now.table) }
@@ -226,7 +227,8 @@ impl NodeState {
         ensures value { result.now ≡ self.now.watches }
         ensures lawful { IsNodeState self.now }
     {
-        // Read for what they tell: the peers are the active view, and how many lives are noted.
+        // Read for what their types say: the peers are the active view, and how many lives are
+        // noted.
         let _ = self.overlay.views();
         reveal_heard(&self.heard);
         self.watches.as_slice()

@@ -7,22 +7,23 @@ use crate::state::{NodeState, Stepped};
 use node_events::{NodeEvent, StepFault};
 
 impl NodeState {
-    /// What the node does with an event: the reply, and the frames to send. A refused event changes
-    /// nothing, and doesn't count as a step. The refusals are, for a `Join`, `PeerDown`, `Exchange`
-    /// or `Hello` of the node itself, 3 `BadNode`; for a `Take`, 10 to 16 as bytes are decoded,
-    /// then 40 `NotAddressed`, then for an object 21, 25 and 27 as a store merges; for a write, as
-    /// a store writes; 28 `BadWatch` and 29 `NoSuchWatch`; and 99 `Memory` at any of them.
+    /// Makes the step of an event. Returns the reply, and the frames to send. A refused event
+    /// changes nothing, and doesn't count as a step. The refusals are, for a `Join`, `PeerDown`,
+    /// `Exchange` or `Hello` of the node itself, 3 `BadNode`; for a `Take`, 10 to 16 as bytes are
+    /// decoded, then 40 `NotAddressed`, then for an object 21, 25 and 27 as a store merges; for a
+    /// write, as a store writes; 28 `BadWatch` and 29 `NoSuchWatch`; and 99 `Memory` at any of
+    /// them.
     pub fn step(&mut self, event: NodeEvent) -> Result<Stepped, StepFault>
         ensures step { IfOk result (IsNodeStep self.old event self.new) }
         ensures refused { IfErr result (λ fault. Rejects self.old event fault self.new) }
     {
-        // Dropped on its one way out, where the proof has one case for it.
+        // The event is dropped at the only way out, so that the proof has one case for it.
         let stepped = self.step_on(&event);
         drop(event);
         stepped
     }
 
-    /// The same, of an event that stays with the caller.
+    /// As `step`, with an event that stays the caller's.
     pub fn step_on(&mut self, event: &NodeEvent) -> Result<Stepped, StepFault>
         ensures step { IfOk result (IsNodeStep self.old event.now self.new) }
         ensures refused { IfErr result (λ fault. Rejects self.old event.now fault self.new) }

@@ -28,7 +28,7 @@ impl NodeState {
             (λ fault. Rejects self.old (Take bytes.now word) fault self.new) }
     {
         let frame = decode(self.alloc, bytes.as_slice())?;
-        // Dropped on its one way out, where the proof has one case for it.
+        // The frame is dropped at the only way out, so that the proof has one case for it.
         let taken = self.receive(&frame, word);
         drop(frame);
         taken
@@ -99,7 +99,7 @@ impl NodeState {
         ensures may { IfOk result (λ sent. All (MaySend self.now.node) sent.items) }
         ensures memory { IfErr result (λ fault. fault ≡ Memory) }
     {
-        // Read for what it tells: what is held is a table.
+        // Read for what its type says: what is held is a table.
         let _few = self.held.store().len();
         let messages = answer(self.alloc, &self.held, message)?;
         Ok(addressed(self.alloc, to, messages)?)

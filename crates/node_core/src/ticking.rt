@@ -13,7 +13,7 @@ impl NodeState {
     pub(crate) fn tick(&mut self, word: u64) -> Result<Stepped, StepFault>
         ensures { Steps self.old (Local (Tick word)) result self.new }
     {
-        // Read for what it tells: the views are lawful.
+        // Read for what its type says: the views are lawful.
         let _ = self.overlay.views();
         let ticks = self.ticks.saturating_add(1);
         let (alloc, number) = (self.alloc, self.frames);

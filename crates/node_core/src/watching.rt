@@ -21,7 +21,7 @@ impl NodeState {
         Ok(self.finish(Reply::Watching { number }, self.nothing_sent()))
     }
 
-    /// What a watch has noted is handed out.
+    /// A watch hands out what it has noted.
     pub(crate) fn changes(&mut self, number: u64) -> Result<Stepped, StepFault>
         ensures { Steps self.old (Local (Changes number)) result self.new }
     {

@@ -61,7 +61,7 @@ pub record IsOfLife (number incarnation : ℕ) (state : NodeParts) : Type 0 wher
   pub node : state.node ≡ number
   pub life : state.incarnation ≡ incarnation
 
--- file and publisher go on, and what the file tells of is held
+-- file and publisher go on, and what the file has is held
 pub record IsGoing (file_stopped publisher_stopped : Bool) (stored held : Table) : Type 0 where
   pub file : file_stopped ≡ false
   pub publisher : publisher_stopped ≡ false
@@ -87,7 +87,7 @@ pub record KeepsButSeats {D : Type 0} (old new : DeskView D) : Type 0 where
   pub limit : new.limit ≡ old.limit
   pub stopped : new.stopped ≡ old.stopped
 
--- of a new seat: eight are out, or the node is stopped
+-- why a new seat is refused: eight are out, or the node is stopped
 abbrev pub refusal_of_seat : ℕ → Bool → Option LockFault
 refusal_of_seat out stopped =
     first_that_applies ((nat_le 8 out, NoSeat) ∷ (stopped, Stopped) ∷ [])

@@ -18,7 +18,7 @@ refusal_of_start c = first_that_applies (
     ∷ (nat_lt 8 c.writers || nat_lt 8 c.readers, NoSeat)
     ∷ [])
 
--- memory was wanting, or it is the refusal
+-- memory ran out, or it is the refusal of this capacity
 abbrev pub RefusesStarting : Capacity → LockFault → Type 0
 RefusesStarting c fault = (fault ≡ Memory) ⊎ (refusal_of_start c ≡ Some fault)
 
@@ -32,7 +32,7 @@ pub record IsFileOf {D : Type 0} (content : D → List ℕ) (number incarnation 
   pub going : file.is_stopped ≡ false
   pub table : (file_state (content file.device)).contents.table ≡ held
 
--- so many seats, each of which counted no call yet
+-- `count` seats, each of which counted no call yet
 abbrev pub AreNewWriters : ℕ → List ℕ → Type 0
 AreNewWriters count seats = seats ≡ replicate count 0
 
@@ -40,7 +40,7 @@ AreNewWriters count seats = seats ≡ replicate count 0
 abbrev pub new_seat : SeatView
 new_seat = record { shown = []; learnt = [] }
 
--- so many seats, each of which was shown nothing yet
+-- `count` seats, each of which was shown nothing yet
 abbrev pub AreNewReaders : ℕ → List SeatView → Type 0
 AreNewReaders count seats = seats ≡ replicate count new_seat
 

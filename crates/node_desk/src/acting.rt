@@ -31,14 +31,14 @@ use std::mem::swap;
 use std::sync::Wait;
 
 impl<D: Device + Drop, J: Naming, H: Wait + Drop> Desk<D, J, H> {
-    /// Makes the event: a step of the node, whose entry is journaled, what it stores durable in the
-    /// file, and what it changes shown to readers. It adds one to the seat's count.
+    /// Makes a step of the node for the event: its entry is journaled, what it stores is durable in
+    /// the file, and what it changes is shown to readers. It adds one to the seat's count.
     ///
     /// Refused in this order: 34 `Stopped`; what the step refuses; 51 `JournalFull`; 33 `FileFull`;
     /// 30 `Device`, which stops the node. 99 `Memory` may come at any time, and stops the node
     /// where a byte went out to the device, or readers couldn't be shown the change. A refused call
-    /// leaves all as before, but that where it stops the node a crash may leave its object in the
-    /// file.
+    /// leaves all as before, except that where it stops the node a crash may leave its object in
+    /// the file.
     ///
     /// It waits for readers that are inside a `peek` while it publishes, and for the device.
     pub fn act<R: Wait>(
@@ -76,7 +76,7 @@ impl<D: Device + Drop, J: Naming, H: Wait + Drop> Desk<D, J, H> {
         if self.is_stopped {
             return Err(LockFault::Stopped);
         }
-        // Read for what it tells: a crash leaves what the file has.
+        // Read for its contract, which says that a crash leaves what the file has.
         let _ = self.file.device();
         let ready = prepare(
             self.alloc,
@@ -168,7 +168,7 @@ fn settle<D: Device + Drop, J: Naming, H: Wait + Drop, R: Wait>(
     Ok(())
 }
 
-/// The refusal of an append, as that of a call.
+/// The refusal of an append, as a refusal of a call.
 fn of_append(fault: FileFault) -> LockFault
     ensures { result ≡ of_append fault }
 {

@@ -29,7 +29,7 @@ pub struct Desk<D: Device + Drop, J: Naming, H: Wait + Drop> {
     pub(crate) state: NodeState,
     /// What the next step is tried on.
     pub(crate) spare: NodeState,
-    /// The spare is the state.
+    /// Whether the spare is known to be the state.
     pub(crate) is_even: bool,
     pub(crate) journal: Vec<Entry>,
     pub(crate) file: NodeFile<D>,

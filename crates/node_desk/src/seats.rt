@@ -12,7 +12,7 @@ use std::mem::replace;
 use std::sync::Wait;
 
 impl<D: Device + Drop, J: Naming, H: Wait + Drop> Desk<D, J, H> {
-    /// Moves the whole journal into the base, and answers how many entries it had. The state, and
+    /// Moves the whole journal into the base, and returns how many entries it had. The state, and
     /// what readers are shown, stay as they are.
     ///
     /// Refused in this order: 34 `Stopped`, 99 `Memory`. It copies the state.

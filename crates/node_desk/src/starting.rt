@@ -20,7 +20,7 @@ use std::alloc::{AllocError, Global};
 use std::sync::Wait;
 use std::sync::ledger::{Blank, Book, Share};
 
-/// How many entries a journal may have where no less is asked for.
+/// How many entries a journal may have at most.
 pub const MAX_JOURNAL: usize = 1_048_576;
 
 /// How many seats of each kind a node has from the start, 0 to 8, and how many entries its journal
@@ -33,7 +33,7 @@ pub struct Capacity {
 }
 
 impl Capacity {
-    /// So many seats, and the longest journal.
+    /// `writers` write seats, `readers` read seats, and the longest journal.
     pub fn new(writers: usize, readers: usize) -> Self
         ensures { result ≡ record { writers = writers; readers = readers; journal = 1048576 } }
     {
@@ -83,7 +83,7 @@ fn opened(alloc: Global, node: NodeId, life: u32, table: &Store) -> Result<NodeS
     NodeState::from_store(alloc, node, life, table)
 }
 
-/// So many read seats, which were shown nothing yet.
+/// `count` read seats, which were shown nothing yet.
 fn read_seats<J: Naming, H: Wait + Drop>(
     alloc: Global,
     publisher: &Publisher<J, H>,
@@ -98,7 +98,7 @@ fn read_seats<J: Naming, H: Wait + Drop>(
     Ok(seats)
 }
 
-/// So many write seats, which have counted nothing, out of the share.
+/// `count` write seats, which have counted nothing, out of the share.
 fn write_seats<J: Naming>(
     alloc: Global,
     rest: &mut Share<J>,
@@ -131,7 +131,7 @@ struct Parts<J: Naming, H: Wait + Drop> {
     readers: Vec<ReadSeat<J>>,
 }
 
-/// A publisher of copies of the table, and so many read seats.
+/// A publisher of copies of the table, and `readers` read seats.
 fn published<J: Naming, H: Wait + Drop>(
     handle: H,
     alloc: Global,
@@ -150,7 +150,7 @@ fn published<J: Naming, H: Wait + Drop>(
     both(Ok(publisher), seats)
 }
 
-/// So many write seats, and the share that is left.
+/// The share that is left, and `writers` write seats.
 fn shared<J: Naming>(
     alloc: Global,
     whole: Share<J>,
@@ -166,7 +166,7 @@ fn shared<J: Naming>(
     both(Ok(rest), seats)
 }
 
-/// What is made of copies of the table.
+/// The parts that are made of copies of the table.
 fn make_parts<J: Naming, H: Wait + Drop>(
     handle: H,
     alloc: Global,
@@ -285,7 +285,7 @@ fn begun<D: Device + Drop, J: Naming, H: Wait + Drop>(
     ensures refused { IfErr result (λ not. not.fault ≡ Memory) }
     ensures back { IfErr result (λ not. (not.file ≡ file) × (not.table ≡ table)) }
 {
-    // Read for what it tells: what the store holds is a table.
+    // Read for its contract, which says that what the store holds is a table.
     let _ = table.len();
     match NodeState::begin(alloc, file.node(), file.life(), table) {
         Ok(state) => Ok(desk_of(alloc, parts, state, file, capacity)),
@@ -308,7 +308,7 @@ impl<D: Device + Drop, J: Naming, H: Wait + Drop> Desk<D, J, H> {
     /// limit is 0 or more than 1,048,576; 52 `NoSeat` where more than eight seats of a kind are
     /// asked for. 99 `Memory` may come at any time.
     ///
-    /// It makes four copies of the table: of the state before and on the way, and two for readers.
+    /// It makes four copies of the table: for the base, for the spare, and two for readers.
     pub fn start(
         handle: H,
         alloc: Global,

@@ -1,4 +1,4 @@
--- Equality of lists of values, of changes and of frames is that of all their parts.
+-- Lists of values, of changes and of frames are equal where all their parts are.
 use Rattle.std.specs.Prelude.{◌≡◌, ℕ, Bool, List, nat_eq}
 use Rattle.std.specs.Bool.{Decides}
 use Rattle.std.specs.Ordering.{on, eq_of_both}

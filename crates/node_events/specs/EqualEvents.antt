@@ -1,4 +1,4 @@
--- Equality of events and of replies is that of their kinds and of all their parts.
+-- Events, and replies, are equal where their kinds and all their parts are.
 use Rattle.std.specs.Prelude.{◌≡◌, nat_eq, Bool, true, false, ◌&&◌, Option, Some, None, refl}
 use Rattle.std.specs.Ordering.{on, eq_of_both}
 use Rattle.std.specs.Option.{option_eq}

@@ -54,12 +54,12 @@ pub enum NodeEvent {
     Keep {
         key: MetaKey,
     },
-    /// Somebody wants to hear of the changes under a full prefix: so many of the last.
+    /// Somebody wants to hear of the changes under a full prefix, the last `capacity` of them.
     Watch {
         prefix: FullPrefix,
         capacity: usize,
     },
-    /// What the watch of that number has noted is handed out. Watches are numbered from 1.
+    /// The watch of that number hands out what it has noted. Watches are numbered from 1.
     Changes {
         number: u64,
     },

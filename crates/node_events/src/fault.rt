@@ -17,7 +17,7 @@ pub enum StepFault {
     BadNode,
     /// 10 to 16: why the bytes are no frame. It is never 99.
     Frame(FrameFault),
-    /// 20, 21, 25, 26 or 27: what the node's store answers. It is never 99.
+    /// 20, 21, 25, 26 or 27: the refusal of the node's store. It is never 99.
     Store(StoreFault),
     /// 28: the capacity of a watch is 0 or more than 1,024, or the node has 16 watches.
     BadWatch,
@@ -25,7 +25,7 @@ pub enum StepFault {
     NoSuchWatch,
     /// 40: the frame is addressed to another node.
     NotAddressed,
-    /// 99: an allocation was refused. It may stand in place of any other answer.
+    /// 99: an allocation was refused. It may come in place of any other outcome.
     Memory,
 }
 

@@ -19,7 +19,7 @@ pub enum Reply {
     TookFresh,
     /// A frame was taken whose object counts no write that wasn't known.
     TookStale,
-    /// It is done, and there is nothing to tell.
+    /// It is done, and there is nothing to report.
     Done,
     /// The new watch has this number.
     Watching { number: u64 },

@@ -36,8 +36,8 @@ abbrev pub of_device : DeviceFault → FileFault
 of_device OfDevice.Memory = Memory
 of_device OfDevice.Failed = Device
 
--- of a call on a device, whose count of failures is told from before and after it: it is 99, and
--- the count is the same, or it is 30, and the count has risen
+-- the refusal is one of a call on a device, whose count of failures was `before` and is `now`: it
+-- is 99, and the count is the same, or it is 30, and the count has risen
 abbrev pub IsOfDevice : FileFault → ℕ → ℕ → Type 0
 IsOfDevice fault before now =
     ((fault ≡ Memory) × (now ≡ before)) ⊎ ((fault ≡ Device) × HasFailed before now)

@@ -53,7 +53,7 @@ abbrev pub is_other : Option ℕ → ℕ → Bool
 is_other None node = false
 is_other (Some asked) node = if asked == node then false else true
 
--- of so many bytes in all, what was read behind the front; too many keys are found last
+-- what was read after the front of a file of `total` bytes; too many keys are found last
 abbrev pub ended : ℕ → ℕ × ℕ → Result (Contents × ℕ) ℕ → Result (FileState × ℕ) FileFault
 ended total front (Err left) = Err (Damaged (total - left))
 ended total front (Ok read) =
@@ -109,7 +109,7 @@ state_with s record_ = record {
 abbrev pub gated : Record → List ℕ
 gated record_ = 1 ∷ (record_bytes (payload record_) ++ 0 ∷ [])
 
--- how many bytes a record takes, from its gate to the one behind it
+-- how many bytes a record takes, from its gate to the one after it
 unfoldable pub record_size : Record → ℕ
 record_size record_ = 37 + length (payload record_)
 
@@ -117,7 +117,7 @@ record_size record_ = 37 + length (payload record_)
 unfoldable pub IsAppended : ℕ → Record → List ℕ → List ℕ → Type 0
 IsAppended gate record_ old new = Overwrites old gate (gated record_) new
 
--- they open as the old ones do, to the same answer
+-- they open as the old ones do, with the same result
 abbrev pub OpensLike : List ℕ → List ℕ → Type 0
 OpensLike old bytes = opened None bytes ≡ opened None old
 

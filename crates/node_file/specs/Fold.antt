@@ -1,4 +1,4 @@
--- Records one after the other, each behind an open gate, up to a closed one.
+-- Records one after the other, each after an open gate, up to a closed one.
 use Rattle.std.specs.Prelude.{ℕ, zero, suc, ◌+◌, List, [], ◌∷◌, length, Option, Some, None, Result, Ok, Err, Bool, true, nat_lt, ◌==◌, if◌then◌else◌}
 use Rattle.meta_store.specs.Table.{Table, with_object}
 use Rattle.node_file.specs.declared.record.Record.{Record}

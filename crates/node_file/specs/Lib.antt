@@ -22,6 +22,6 @@ pub mod Fault
 pub mod Refusal
 -- what contracts see of a node's file, and when it can take another record
 pub mod View
--- what private functions answer
+-- what private functions return
 pub mod Reads
 pub mod Putting

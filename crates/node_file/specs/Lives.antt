@@ -4,7 +4,7 @@ use Rattle.node_file.specs.declared.record.Record.{Record}
 use Rattle.node_file.specs.declared.record.Record.TheVariants.{Life, Object}
 use Rattle.node_file.specs.Fold.{Contents, no_contents, with_record, records_from}
 
--- what records make, the last of which is first
+-- what records make, the last record first
 abbrev pub contents_of : List Record → Contents
 contents_of [] = no_contents
 contents_of (record_ ∷ before) = with_record (contents_of before) record_

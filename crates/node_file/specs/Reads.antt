@@ -1,4 +1,4 @@
--- What private functions answer.
+-- What private functions return.
 use Rattle.std.specs.Prelude.{◌≡◌, ◌⊎◌, ◌<◌, ◌≤◌, ℕ, List, length, Option, Some, None, Result, Ok, Err, Bool, true, false}
 use Rattle.std.specs.Borrow.{Bor}
 use Rattle.frame_readers.specs.declared.fault.FieldFault.{FieldFault}

@@ -66,12 +66,12 @@ old_object_in bytes = object_read (then_reader key_reader (λ _. old_object_read
 unfoldable pub record_of : ℕ → List ℕ → Option Record
 record_of version bytes = if version == 1 then old_object_in bytes else record_of_kind bytes
 
--- ---- a record behind its gate: the length of its payload, the payload, and its digest
+-- ---- a record after its gate: the length of its payload, the payload, and its digest
 
 unfoldable pub record_bytes : List ℕ → List ℕ
 record_bytes payload = to_be_bytes w32 (length payload) ++ (payload ++ sha256 payload)
 
--- of the bytes of a payload
+-- the most bytes of a payload
 abbrev pub most_payload : ℕ
 most_payload = 16777216
 
@@ -79,8 +79,7 @@ abbrev pub with_size : ℕ → Option Record → Option (Record × ℕ)
 with_size size None = None
 with_size size (Some record_) = Some (record_, size)
 
--- what these bytes say, which are those of a record with a payload of n bytes, and how many they
--- are
+-- what the bytes of a record with a payload of n bytes say, and how many they are
 unfoldable pub whole_record : ℕ → ℕ → List ℕ → Option (Record × ℕ)
 whole_record version n bytes =
     if bytes_eq (sha256 (take n (drop 4 bytes))) (drop (4 + n) bytes)

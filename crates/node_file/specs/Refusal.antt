@@ -1,4 +1,4 @@
--- Which refusal of a call applies first. An opening may answer 99 in place of any.
+-- Which refusal of a call applies first. An opening may return 30 or 99 in place of any.
 use Rattle.std.specs.Prelude.{ℕ, ◌+◌, ◌==◌, List, [], ◌∷◌, length, Bool, not, ◌&&◌, nat_le, nat_lt, Option, Some, None, Result, Ok, Err}
 use Rattle.std.specs.List.{list_all}
 use Rattle.meta_types.specs.First.{first_that_applies}
@@ -13,19 +13,19 @@ use Rattle.node_file.specs.declared.record.Record.TheVariants.{Life, Object}
 use Rattle.node_file.specs.Record.{payload}
 use Rattle.node_file.specs.File.{FileState, opened}
 
--- of the bytes of a file: 2^40
+-- the most bytes of a file: 2^40
 abbrev pub most_file : ℕ
 most_file = 1099511627776
 
--- with this record behind the gate, and a closed gate behind it, the file would be too long
+-- with this record after the gate, and a closed gate after it, the file would be too long
 abbrev pub is_too_long_with : ℕ → Record → Bool
 is_too_long_with gate record_ = nat_lt most_file (gate + 38 + length (payload record_))
 
--- the object has few enough entries, each of few enough values; of another no record tells
+-- the object has few enough entries, each of few enough values, for a record
 abbrev pub has_spelling : List Entry → Bool
 has_spelling o = nat_le (length o) most_entries && list_all has_few_values o
 
--- of an append: the file is stopped, it is full, the object is too large
+-- why an append is refused: the file is stopped, it is full, the object is too large
 abbrev pub refusal_of_append : Bool → ℕ → Key → List Entry → Option FileFault
 refusal_of_append is_stopped gate k o = first_that_applies (
     (is_stopped, Stopped)
@@ -33,7 +33,7 @@ refusal_of_append is_stopped gate k o = first_that_applies (
     ∷ (not (is_small_enough most_merged o), Store ObjectTooLarge)
     ∷ [])
 
--- of the next life of what was opened
+-- why no next life is begun in what was opened
 abbrev pub refusal_of_life : Result (FileState × ℕ) FileFault → Option FileFault
 refusal_of_life (Err fault) = Some fault
 refusal_of_life (Ok file) = first_that_applies (

@@ -17,7 +17,7 @@ use std::marker::Model;
 #[derive(Clone, Copy, Debug)]
 pub(crate) enum ReadFault {
     Memory,
-    /// A record isn't whole or may not follow, or there is no gate: so many bytes were left there.
+    /// A record isn't whole or may not follow, or there is no gate: how many bytes are left there.
     Left(usize),
     /// There are more keys than a store holds, and all records are whole.
     Full,
@@ -31,7 +31,7 @@ impl From<AllocError> for ReadFault {
     }
 }
 
-/// What records say: the number of the last life, 0 for none, and of each key the last object.
+/// What records say: the number of the last life, 0 for none, and the last object of each key.
 #[derive(Drop)]
 pub(crate) struct Contents {
     life: u32,
@@ -85,7 +85,7 @@ impl Contents {
                 Ok(Taken::Done)
             }
             Record::Object(key, object) => {
-                // Read for what it tells: what is held is a table.
+                // Read for its contract, which says that what is held is a table.
                 let _ = self.store.len();
                 if !self.store.has_room_for(&key) {
                     return Ok(Taken::TooMany);
@@ -97,7 +97,7 @@ impl Contents {
     }
 }
 
-/// What the records here say, and how many bytes are left at the gate that ends them.
+/// Returns what the records say, and how many bytes are left at the gate that ends them.
 #[tactic(auto, using(crate::proofs::Folding::contents_turns))]
 pub(crate) fn read_contents(
     alloc: Global,
@@ -114,7 +114,7 @@ pub(crate) fn read_contents(
     while !rest.is_empty() {
         let (gate, behind) = rest.split_at(1);
         if gate[0] != OPEN_GATE {
-            // Read for what it tells: the keys are few enough.
+            // Read for its contract, which says that the keys are few enough.
             let _ = contents.store.len();
             return Ok((contents, rest.len()));
         }
@@ -132,7 +132,7 @@ pub(crate) fn read_contents(
     Err(ReadFault::Left(0))
 }
 
-/// Goes over the records here, of which nothing is kept but the life: whether all are whole.
+/// Checks that all the records are whole and may follow; keeps nothing of them but the life.
 #[tactic(auto, using(crate::proofs::Folding::life_turns))]
 fn look_over(alloc: Global, version: u8, begun: u32, bytes: &[u8]) -> Result<(), ReadFault>
     ensures { EndsAs result (life_from version begun 0 bytes.now) }
@@ -157,8 +157,8 @@ fn look_over(alloc: Global, version: u8, begun: u32, bytes: &[u8]) -> Result<(),
     Err(ReadFault::Left(0))
 }
 
-/// Why a file is refused whose keys are too many, where these records are still to be read: a
-/// record that isn't whole comes first.
+/// Why a file of too many keys is refused, where these records are left to read: a record among
+/// them that isn't whole or may not follow comes first.
 fn fault_behind(alloc: Global, version: u8, life: u32, bytes: &[u8]) -> ReadFault
     ensures { FailsBehind result (life_from version life 0 bytes.now) }
 {
@@ -170,7 +170,7 @@ fn fault_behind(alloc: Global, version: u8, life: u32, bytes: &[u8]) -> ReadFaul
     }
 }
 
-/// The last life with the record, or none where it may not follow.
+/// The last life after the record, or `None` where the record may not follow.
 fn risen(life: u32, read: &Record) -> Option<u32>
     ensures { RisesTo life read.now result }
 {

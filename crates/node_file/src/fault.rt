@@ -14,11 +14,11 @@ pub enum FileFault {
     /// 25 `StoreFull`: the file holds more keys than a store. 27 `ObjectTooLarge`: a store may not
     /// hold the object. It is no other refusal of a store.
     Store(StoreFault),
-    /// 30: a call of the device failed, as the count of its failures tells.
+    /// 30: a call of the device failed, as the count of its failures shows.
     Device,
     /// 31: the bytes are no file; from this offset on they aren't what a file has there.
     Damaged { at: usize },
-    /// 32: it is the file of another node than the one that was asked for.
+    /// 32: the file is of another node than the one that was asked for.
     OtherNode,
     /// 33: the file would have more than 1,099,511,627,776 bytes.
     FileFull,
@@ -26,7 +26,7 @@ pub enum FileFault {
     Stopped,
     /// 35: the last life has the greatest number that there is, 4,294,967,295.
     IncarnationSpent,
-    /// 36: the file is of version 1, which tells no lives. It is rewritten first.
+    /// 36: the file is of version 1, which has no lives. It is rewritten first.
     OldVersion,
     /// 99: an allocation was refused.
     Memory,

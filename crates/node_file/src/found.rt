@@ -83,9 +83,9 @@ fn read_front(bytes: &[u8]) -> Result<(u8, NodeId), FileFault>
     }
 }
 
-/// Returns whether a file that begins with these bytes is refused for its front, by its magic or
-/// the number of its node: then opening it answers what opening these bytes alone does, so that no
-/// more need be read. It wants `MIN_FILE_LEN` bytes; of fewer it can't be told.
+/// Returns whether a file that begins with these bytes is refused for its front: its magic, or the
+/// number of its node. Opening it then returns what opening these bytes alone does, so that no more
+/// need be read. Returns `false` for fewer than `MIN_FILE_LEN` bytes.
 pub fn is_refused_by_front(front: &[u8]) -> bool
     ensures value { result ≡ is_refused_by_front front.now }
     ensures whatever_follows { IsTrue result → (rest : List ℕ)
@@ -128,7 +128,7 @@ pub(crate) fn open_bytes(
             at: bytes.len().saturating_sub(left),
         }),
         Ok((contents, left)) => {
-            // Read for what it tells: the node's number is in range.
+            // Read for its contract, which says that the node's number is in range.
             let _ = node.number();
             Ok(Found {
                 version,

@@ -16,29 +16,29 @@ pub fn a_payload_says_one_record()
 {}
 
 /// What a file stands for is what its records say, one after the other, and the numbers of its
-/// lives rise strictly, the last being that of the file. So the life that `serve` answers is
+/// lives rise strictly, the last being the file's. So the life that `serve` returns is
 /// greater than each before it.
 pub fn lives_rise()
     ensures { (bytes : List ℕ) (s : FileState) (gate : ℕ)
         → opened None bytes ≡ Ok (s, gate) → IsTold s.version (drop 10 bytes) s.contents }
 {}
 
-/// What stands behind the closed gate of a file, a torn record for example, counts for nothing.
+/// What stands after the closed gate of a file, a torn record for example, counts for nothing.
 pub fn nothing_counts_behind_the_closed_gate()
     ensures { (bytes behind : List ℕ) (s : FileState) (gate : ℕ)
         → opened None bytes ≡ Ok (s, gate)
         → opened None (take (gate + 1) bytes ++ behind) ≡ Ok (s, gate) }
 {}
 
-/// A record that was written is read again from the front of its bytes, whatever is behind them.
+/// A record that was written is read again from the front of its bytes, whatever follows them.
 pub fn a_record_is_read_again()
     ensures { (said : Record) (rest : List ℕ) → IsRecord said
         → record_in 2 (record_bytes (payload said) ++ rest)
         ≡ Some (said, 36 + length (payload said)) }
 {}
 
-/// An empty file, as [`create`](crate::create) makes it for a node, is one that the node can be
-/// served from; it was in no life yet, and holds no key.
+/// A node can be served from the empty file that [`create`](crate::create) makes for it. The file
+/// has no life yet, and holds no key.
 pub fn an_empty_file_is_served()
     ensures { (node : ℕ) → node < 16 → (refusal_of_serve (Some node) (empty_file node) ≡ None)
         × (file_state (empty_file node) ≡ new_state node 0 []) }

@@ -1,5 +1,5 @@
-//! The file of a node on a device: whatever moment a crash comes, it holds the table from before a
-//! call or the table with the one new object; and each life of the node has a number of its own.
+//! The file of a node on a device: at whatever moment a crash comes, it holds the table from before
+//! a call or the table with the one new object; and each life of the node has a number of its own.
 //!
 //! ```
 //! let device = FileDevice::open(rt, alloc, "node-3")?;

@@ -113,7 +113,7 @@ impl<D: Device> NodeFile<D> {
         &self.device
     }
 
-    /// The same by value.
+    /// The device, by value.
     pub fn into_device(self) -> D
         ensures value { result ≡ self.device }
         ensures settled { self.is_stopped ≡ false → IsSettled D.content D.may_leave self }
@@ -243,14 +243,14 @@ fn has_spelling(object: &Entries) -> bool
     entries.len() <= MAX_ENTRIES && have_few_values(entries)
 }
 
-/// Why no record of the object is put behind this gate.
+/// Why no record of the object is put after this gate.
 #[tactic(auto, using(crate::proofs::Limits::of_refusals))]
 fn refusal_of(gate: usize, key: &MetaKey, object: &Entries) -> Option<FileFault>
     requires shows { has_value object.now ≡ true }
     ensures first { result ≡ refusal_of_append false gate key.now object.now }
     ensures lawful { result ≡ None → IsRecord (Object key.now object.now) }
 {
-    // Read for what they tell: the key and the object are lawful.
+    // Read for their contracts, which say that the key and the object are lawful.
     let _ = key.key();
     let _ = object.entries();
     if has_spelling(object) {

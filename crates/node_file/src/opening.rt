@@ -40,8 +40,8 @@ pub fn create<D: Device>(device: D, node: NodeId) -> Result<NodeFile<D>, (D, Fil
     }
 }
 
-/// Opens a file that a crash may have left: the file, its table, and the number of its last life, 0
-/// for none. Nothing is written, and a file that is opened so takes no object.
+/// Opens a file that a crash may have left. Returns the file, its table, and the number of its last
+/// life, 0 for none. Nothing is written, and a file opened in this way takes no object.
 ///
 /// Refused in this order: 31 `Damaged` for bytes that are no file; 32 `OtherNode`; 31 for the first
 /// record that isn't whole, that doesn't say one thing, or whose life doesn't rise; 25 `StoreFull`.
@@ -89,12 +89,12 @@ pub fn open_node<D: Device>(
     }
 }
 
-/// Opens a file and begins the node's next life in it: the file, its table, and the number of that
-/// life, which is greater than each before it in the file. After `Ok` it is durable.
+/// Opens a file and begins the node's next life in it. Returns the file, its table, and the number
+/// of that life, which is greater than each before it in the file. After `Ok` it is durable.
 ///
 /// Refused as `open_node` refuses, and then in this order: 36 `OldVersion`; 35
-/// `IncarnationSpent`, where the last life is 4,294,967,295; 33 `FileFull`; 30 `Device`. Where it
-/// is refused with one of these but 30 nothing was written, and the device can be opened again.
+/// `IncarnationSpent`, where the last life is 4,294,967,295; 33 `FileFull`; 30 `Device`. With any
+/// of these but 30 nothing was written, and the device can be opened again.
 ///
 /// Besides reading it makes four calls of the device, as `append` does.
 pub fn serve<D: Device>(
@@ -155,8 +155,8 @@ pub fn serve<D: Device>(
     }
 }
 
-/// Puts the record of the life after `before` behind the closed gate, and answers where the gate
-/// stands then.
+/// Puts the record of the life that follows `before` after the closed gate, and returns where the
+/// gate stands then.
 #[tactic(auto, using(crate::proofs::Appending::life_size))]
 fn begin_life<D: Device>(
     alloc: Global,
@@ -218,7 +218,7 @@ fn find<D: Device>(alloc: Global, device: &mut D, asked: Option<NodeId>) -> Resu
     stands_for(alloc, &bytes, asked)
 }
 
-/// The same of the bytes.
+/// What the bytes of a file stand for.
 fn stands_for(alloc: Global, bytes: &[u8], asked: Option<NodeId>) -> Result<Found, FileFault>
     ensures asked { IfOk result (λ f. opened asked bytes.now ≡ Ok (file_state bytes.now, f.gate)) }
     ensures stands { IfOk result (λ f. file_state bytes.now

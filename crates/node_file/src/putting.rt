@@ -1,5 +1,5 @@
-//! Putting a record behind the others, so that a crash at any moment leaves a file with it or
-//! without it: it is written behind the closed gate and synced, and then the gate is opened and
+//! Putting a record after the others, so that a crash at any moment leaves a file with it or
+//! without it: it is written after the closed gate and synced, and then the gate is opened and
 //! synced.
 
 ghost use Rattle.std.specs.Prelude.{◌≡◌, ◌+◌, ◌<◌, ◌≤◌, ◌^◌, ◌++◌, [], ◌∷◌, true, length, None, Ok, OnOk, IsErrOf};
@@ -67,8 +67,8 @@ fn write_synced<D: Device>(device: &mut D, at: usize, bytes: &[u8]) -> Result<()
     }
 }
 
-/// Puts a record behind the closed gate, and opens the gate. `spelled` are the record's bytes
-/// behind its gate, with the closed gate that follows.
+/// Puts a record after the closed gate, and opens the gate. `spelled` are the record's bytes after
+/// its gate, with the closed gate that follows.
 pub(crate) fn put_record<D: Device>(
     device: &mut D,
     gate: usize,

@@ -11,10 +11,10 @@ use frame_readers::reading::{read_key, read_object};
 use sha2::{Digest, Sha256};
 use std::alloc::Global;
 
-/// The bytes around a payload behind its gate: its length and its digest.
+/// How many bytes stand around a payload after its gate: its length and its digest.
 const LENGTH_AND_DIGEST: usize = 36;
 
-/// The life that a payload tells behind its kind.
+/// The life that a payload says after its kind.
 fn read_life(bytes: &[u8]) -> Result<Record, FieldFault>
     ensures value { ReadsRecord result (life_in bytes.now) }
     ensures lawful { IfOk result IsRecord }
@@ -42,7 +42,7 @@ fn read_held(alloc: Global, bytes: &[u8]) -> Result<Record, FieldFault>
     }
 }
 
-/// The same in the form of version 1.
+/// A key and an object to the last byte, in the form of version 1.
 fn read_old_held(alloc: Global, bytes: &[u8]) -> Result<Record, FieldFault>
     ensures value { ReadsRecord result (old_object_in bytes.now) }
     ensures lawful { IfOk result IsRecord }
@@ -74,8 +74,8 @@ fn read_payload(alloc: Global, version: u8, bytes: &[u8]) -> Result<Record, Fiel
     }
 }
 
-/// What the record in front of the bytes says, which stands behind its gate, and how many bytes it
-/// takes; none where it isn't whole. Fails only when memory runs out.
+/// What the first record of these bytes says, which begin after its gate, and how many bytes it
+/// takes; `None` where it isn't whole. Fails only when memory runs out.
 #[tactic(auto, unfolding(crate::specs::Record::record_in, crate::specs::Record::record_of_length))]
 pub(crate) fn read_record(
     alloc: Global,
@@ -101,7 +101,7 @@ pub(crate) fn read_record(
     read_whole(alloc, version, len, &bytes[..LENGTH_AND_DIGEST + len])
 }
 
-/// The same of the bytes of one record, whose payload has so many.
+/// What the bytes of one record say, whose payload has `len` bytes, and how many they are.
 #[tactic(auto, unfolding(crate::specs::Record::whole_record))]
 fn read_whole(
     alloc: Global,

@@ -13,7 +13,7 @@ use sha2::{Digest, Sha256};
 use std::alloc::{AllocError, Global};
 
 /// How many bytes stand around a payload: an open gate, the payload's length, its digest, and the
-/// closed gate behind.
+/// closed gate after it.
 pub(crate) const AROUND_PAYLOAD: usize = 38;
 
 /// How many bytes the payload of a life has: its kind, and a number.
@@ -25,7 +25,7 @@ pub(crate) const MAX_PAYLOAD_LEN: usize = 16_777_216;
 /// The gate in front of a record. Any other byte ends the records.
 pub(crate) const OPEN_GATE: u8 = 1;
 
-/// The gate that is written behind the last record.
+/// The gate that is written after the last record.
 pub(crate) const CLOSED_GATE: u8 = 0;
 
 /// The kind of a record of a life.
@@ -70,7 +70,7 @@ pub(crate) fn record_if_held(key: MetaKey, object: Entries) -> Option<Record>
     ensures value { result ≡ record_if_held key object }
     ensures lawful { IfSome result IsRecord }
 {
-    // Read for what they tell: the key and the object are lawful.
+    // Read for their contracts, which say that the key and the object are lawful.
     let _ = key.key();
     let _ = object.entries();
     if may_be_held(&object) {
@@ -100,7 +100,7 @@ fn write_payload(out: &mut Vec<u8>, given: NewRecord<'_>) -> Result<(), AllocErr
     }
 }
 
-/// The bytes of a record between an open gate and a closed one, both with them. Fails only when
+/// The bytes of a record, with the open gate before and the closed gate after them. Fails only when
 /// memory runs out.
 #[tactic(auto, unfolding(crate::specs::Record::record_bytes))]
 pub(crate) fn spell_record(alloc: Global, given: NewRecord<'_>) -> Result<Vec<u8>, AllocError>

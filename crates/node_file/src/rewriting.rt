@@ -47,7 +47,7 @@ impl<D: Device> NodeFile<D> {
         ensures still { OnOk result (E.failed target.new ≡ E.failed target.old) }
     {
         let node = self.node();
-        // What it holds isn't asked for any more.
+        // What it holds isn't needed any more.
         target.seal();
         write_front(target, node)?;
         let gate = match write_life(alloc, target, node, life) {
@@ -65,7 +65,7 @@ impl<D: Device> NodeFile<D> {
     }
 }
 
-/// Writes a record and its gate over the closed gate, without a sync, and answers where the closed
+/// Writes a record and its gate over the closed gate, without a sync, and returns where the closed
 /// gate stands then.
 fn write_record<D: Device>(
     alloc: Global,
@@ -95,7 +95,7 @@ fn write_record<D: Device>(
     Ok(gate + (bytes.len() - 1))
 }
 
-/// Writes the record of a life, unless it is 0, behind the front of a file.
+/// Writes the record of a life, unless it is 0, after the front of a file.
 fn write_life<D: Device>(
     alloc: Global,
     device: &mut D,
@@ -116,7 +116,7 @@ fn write_life<D: Device>(
     write_record(alloc, device, FRONT_LEN, NewRecord::Life(life))
 }
 
-/// Writes the records of a table behind the closed gate of a file that has none.
+/// Writes the records of a table after the closed gate of a file that has no objects.
 fn write_table<D: Device>(
     alloc: Global,
     device: &mut D,
@@ -207,7 +207,7 @@ fn write_object<D: Device>(
         IsOfDevice fault (D.failed device.old) (D.failed device.new)) }
     ensures still { OnOk result (D.failed device.new ≡ D.failed device.old) }
 {
-    // Read for what it tells: the key is lawful.
+    // Read for its contract, which says that the key is lawful.
     let _ = key.key();
     write_record(alloc, device, gate, NewRecord::Object(key, object))
 }

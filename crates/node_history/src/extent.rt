@@ -42,7 +42,7 @@ impl Extent {
         self.number
     }
 
-    /// The same one more time. It takes no memory.
+    /// Returns a copy of it. It takes no memory.
     pub fn again(&self) -> Self
         ensures { result ≡ self.now }
     {
@@ -65,7 +65,7 @@ impl Extent {
     }
 
     /// Adds a change to all that it has, and returns whether it did. It did not where the history
-    /// went on beyond it; then it has all of that.
+    /// had gone on beyond it; then it has all that there was.
     pub(crate) fn add(&mut self, word: &Word<Published, u64, Law>, change: &Published) -> bool
         requires word { word.now ≡ word_of self.old.book }
         requires room { length self.old.list < most_changes }

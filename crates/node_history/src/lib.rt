@@ -1,5 +1,5 @@
 //! The history of what one node publishes: a list of changes that only grows, each a key with the
-//! object under it from then on. The list exists in proofs alone. What threads share is one word,
+//! object under it from then on. The list exists only in proofs. What threads share is one word,
 //! its length; and what each of them carries is a `Revision`, how far the history went when it
 //! looked.
 //!

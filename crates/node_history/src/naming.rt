@@ -2,7 +2,7 @@ use std::marker::Brand;
 use std::sync::ledger::Ledger;
 
 /// Which node it is, in which of its lives: what all parts of one running node agree on. It exists
-/// in proofs alone; a call that starts a node picks it.
+/// only in proofs; a call that starts a node picks it.
 pub trait Naming: Ledger {
     ghost use Rattle.std.specs.Prelude.{ℕ};
     ghost use Rattle.logbook.specs.Pages.{Book};

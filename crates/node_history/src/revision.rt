@@ -42,7 +42,7 @@ impl<J: Naming> Revision<J> {
         }
     }
 
-    /// The same without the name of the node.
+    /// The history up to it, without the name of the node.
     pub fn extent(&self) -> &Extent
         ensures book { result.now.book ≡ J.book }
         ensures list { result.now.list ≡ self.now }
@@ -57,7 +57,7 @@ impl<J: Naming> Revision<J> {
         self.extent.number()
     }
 
-    /// The same one more time. It takes no memory.
+    /// Returns a copy of it. It takes no memory.
     pub fn again(&self) -> Self
         ensures { result ≡ self.now }
     {
@@ -95,8 +95,8 @@ impl<J: Naming> Revision<J> {
     }
 
     /// Adds a change to all that it has, and returns whether it did. It did not where the history
-    /// went on beyond it, as when two threads add at once; then nothing was added, and it has all
-    /// that there was. It takes no memory and never waits.
+    /// had gone on beyond it, as when two threads add at once; then nothing was added, and it has
+    /// all that there was. It takes no memory and never waits.
     pub fn add(&mut self, tail: &Tail<J>, change: &Published) -> bool
         requires room { length self.old < most_changes }
         ensures { MatchBool result

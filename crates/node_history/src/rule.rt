@@ -25,7 +25,7 @@ impl Rule<Published, u64> for Law {
     ghost moves = { λ ask before after answer. Unit {0} };
 }
 
-/// Who adds a change gains nothing beside it.
+/// Adding a change gains nothing beside it.
 pub struct Nothing;
 
 impl Gain<Published, u64> for Nothing {

@@ -1,6 +1,6 @@
 -- Where a node stands after a history: its table, its images and its standing image have what the
--- object machine has, and it is in the life that the machine says. What a world keeps to cites it.
--- The rule is our own.
+-- object machine has, and it is in the life that the machine says. The invariant of a world cites
+-- it. The rule is our own.
 use Rattle.std.specs.Prelude.{◌≡◌, ℕ, ◌≤◌, List, length}
 use Rattle.meta_types.specs.Name.{Key}
 use Rattle.meta_store.specs.Table.{object_at}

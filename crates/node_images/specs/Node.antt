@@ -68,8 +68,8 @@ arrived state key n =
 abbrev pub stepped_of : ImagedStep → Stepped
 stepped_of given = record { reply = given.reply; outbox = given.outbox }
 
--- the step of the node, by which it makes an image where the event leaves one; its reply stands
--- twice, beside the context of its read
+-- the node makes its step, and an image where the event leaves one; the step gives its reply twice,
+-- and the context of its read
 pub record IsImagedStep (old : ImagedNode) (event : NodeEvent) (new : ImagedNode)
     (given : ImagedStep) : Type 0 where
   pub state : NodeParts

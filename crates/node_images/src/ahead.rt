@@ -33,7 +33,7 @@ pub(crate) struct Ahead {
 
 impl Ahead {
     /// What is made ready for the step of an event. It is refused as the step is, but for causes
-    /// that the step alone finds.
+    /// that only the step finds.
     pub(crate) fn of(alloc: Global, state: &NodeState, event: &NodeEvent) -> Result<Self, StepFault>
         ensures ready { IfOk result (IsAhead state.now event.now) }
         ensures held { IfOk result (λ ahead. IfSome ahead.change IsChange) }
@@ -92,7 +92,7 @@ impl Ahead {
         Ok(Ahead::of_object(alloc, key, object)?)
     }
 
-    /// Of a write that leaves this object.
+    /// What is made ready for a write that leaves this object.
     fn of_object(alloc: Global, key: &MetaKey, object: Entries) -> Result<Self, AllocError>
         ensures { IfOk result (λ ahead. ahead ≡ record {
           change = Some (Some (key.now, object));
@@ -159,7 +159,7 @@ fn change_at(store: &Store, key: &MetaKey) -> Result<Option<(MetaKey, Entries)>,
     ensures value { IfOk result (λ change. change ≡ change_at store.now key.now) }
     ensures held { IfOk result IsChange }
 {
-    // Read for what it tells: this is a table.
+    // Read for what its type says: this is a table.
     let _ = store.len();
     match store.object(key) {
         Some(object) => Ok(Some((key.copy()?, object.copy()?))),

@@ -30,7 +30,7 @@ pub struct ImagedStep {
 }
 
 /// A node with its images, and the number of the standing one, which the next image changes: the
-/// one that was made last, or from which the node was restarted if that came later.
+/// one that was made last, or the one from which the node was restarted if that came later.
 #[derive(Drop)]
 pub struct ImagedNode {
     state: NodeState,
@@ -77,8 +77,9 @@ impl ImagedNode {
         &self.images
     }
 
-    /// The step of an event, as the node itself makes it, with its refusals; a write and a keeping
-    /// leave an image of what is then held under their key. A refused event changes nothing.
+    /// Makes the step of an event, as the node itself does, with its refusals; a write and a
+    /// keeping leave an image of what is then held under their key. A refused event changes
+    /// nothing.
     pub fn step(&mut self, event: NodeEvent) -> Result<ImagedStep, StepFault>
         ensures step { IfOk result (IsImagedStep self.old event self.new) }
         ensures held { OnOk result (IsTable self.new.state.table) }
@@ -92,7 +93,7 @@ impl ImagedNode {
         let (event, (ahead, standing)) = both(Ok(event), ready)?;
         match self.state.step(event) {
             Ok(stepped) => {
-                // Read for what it tells: what is held now is a table.
+                // Read for what its type says: what is held now is a table.
                 let _few = self.state.store().len();
                 self.standing = standing;
                 Ok(given(ahead, stepped))
@@ -115,7 +116,7 @@ impl ImagedNode {
     {
         let alloc = self.images.alloc();
         let store = restore(alloc, &self.images, number)?;
-        // Read for what it tells: this is a table.
+        // Read for what its type says: this is a table.
         let _few = store.len();
         let life = self.state.incarnation() + 1;
         let state = NodeState::from_store(alloc, self.state.node(), life, store)?;
@@ -145,7 +146,7 @@ fn given(ahead: Ahead, stepped: Stepped) -> ImagedStep
 }
 
 /// Makes ready what the step of an event leaves beside the node's state, and adds the image, if
-/// there is one: it changes the standing one. Answers which one stands then, too.
+/// there is one: it changes the standing one. Returns both that and which one stands then.
 fn prepare(
     images: &mut Images,
     standing: usize,
@@ -170,7 +171,7 @@ fn prepare(
     }
 }
 
-/// Adds an image, if a change is left: it changes the standing one. Answers which one stands then.
+/// Adds an image, if a change is left: it changes the standing one. Returns which one stands then.
 fn add(
     images: &mut Images,
     standing: usize,

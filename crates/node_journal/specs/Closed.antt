@@ -18,11 +18,11 @@ pub record ClosedNode : Type 0 where
 abbrev pub number_of : ClosedNode → ℕ
 number_of c = c.base.node
 
--- the other node that the event names, if it names one, is one of the first so many
+-- the other node that the event names, if it names one, is below `count`
 abbrev pub NamesBelow : ℕ → NodeEvent → Type 0
 NamesBelow count event = ForSome (other_of event) (λ n. n < count)
 
--- a whole first life among so many nodes: it began as a new node, and names none but those
+-- a whole first life among `count` nodes: it began as a new node, and names none but those
 pub record IsWhole (count : ℕ) (c : ClosedNode) : Type 0 where
   pub base : c.base ≡ opening (number_of c) 1 []
   pub within : All (λ e. NamesBelow count e.event) c.journal

@@ -70,7 +70,7 @@ impl Closed {
         &self.table
     }
 
-    /// Returns whether this is a whole first life among so many nodes: it began as a new node, and
+    /// Returns whether this is a whole first life among `count` nodes: it began as a new node, and
     /// each contact and peer that an event of it names is one of the nodes 0 to `count` - 1.
     pub fn is_whole(&self, count: usize) -> bool
         ensures { IsTrue result ↔ IsWhole count self.now }
@@ -79,7 +79,7 @@ impl Closed {
     }
 }
 
-/// Returns whether a node begins its first life so, holding nothing.
+/// Returns whether this is a node at the beginning of its first life, which holds nothing.
 fn is_new(state: &NodeState) -> bool
     ensures { IsTrue result ↔ (state.now ≡ opening state.now.node 1 []) }
 {
@@ -111,7 +111,7 @@ fn has_twin(one: &Closed, others: &[Closed]) -> bool
     others.iter().any(|other| node == other.node())
 }
 
-/// Those behind this place. A call of its own, so that a proof can name what it answers.
+/// The items after this place. It is a function so that a proof can name what it returns.
 fn behind(closed: &[Closed], place: usize) -> &[Closed]
     requires { place < length closed.now }
     ensures { result.now ≡ drop (place + 1) closed.now }

@@ -1,8 +1,8 @@
 //! What a node leaves of a life: the entries of its journal, one for each event that it accepted,
-//! and what its calls handed to who made them.
+//! and what its calls handed to their callers.
 //!
 //! ```
-//! let given = state.step(alloc, event.copy()?)?;
+//! let given = state.step(event.copy()?)?;
 //! journal.push(Entry { event, reply: given.reply, outbox: given.outbox })?;
 //! // .. once the node is closed
 //! let closed = Closed::from_parts(base, journal, table);

@@ -4,7 +4,7 @@ use crate::entry::Entry;
 use meta_types::NodeId;
 use std::alloc::AllocError;
 
-/// What a call of a node that was accepted hands to who made it: where its entry stands.
+/// What an accepted call of a node hands to its caller: where its entry stands.
 #[derive(Debug, Drop)]
 pub struct Receipt {
     pub node: NodeId,

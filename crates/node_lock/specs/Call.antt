@@ -20,7 +20,7 @@ use Rattle.desk_parts.specs.Ready.{CanStep}
 use Rattle.node_desk.specs.Desk.{BeganWith, IsReceiptOf}
 
 -- from some state that a node comes to which opens with this table in this life, the event makes
--- the step that the receipt tells, at its place
+-- the step of the receipt, at its place
 pub record AnswersCall (node incarnation : ℕ) (opened : Table) (event : NodeEvent)
     (a : Acknowledged) : Type 0 where
   pub old : NodeParts
@@ -33,7 +33,7 @@ pub record AnswersCall (node incarnation : ℕ) (opened : Table) (event : NodeEv
 abbrev pub Counts : {A : Type 0} → Result A LockFault → ℕ → ℕ → Type 0
 Counts result old new = MatchResult result (λ _. new ≡ old + 1) (λ _. new ≡ old)
 
--- some such state refuses the event so
+-- some such state refuses the event with this fault
 pub record CanRefuse (node incarnation : ℕ) (opened : Table) (event : NodeEvent) (fault : StepFault)
     : Type 0 where
   pub old : NodeParts
@@ -52,8 +52,8 @@ CanStore node incarnation opened event =
     CanMake node incarnation opened event × (stored_key event ≢ None)
 
 -- the step is refused; or it can be made, and the journal has no room for it; or it stores what the
--- file has no room for, or at which the device fails; or the node is stopped, or memory is wanting.
--- What is answered to who asks for a seat, or closes or starts a node, is no answer to a call
+-- file has no room for, or at which the device fails; or the node is stopped, or memory runs out.
+-- What refuses only a new seat, the closing or the starting of a node, refuses no call
 abbrev pub RefusesCall : ℕ → ℕ → Table → NodeEvent → LockFault → Type 0
 RefusesCall node incarnation opened event (Step fault) =
     (fault ≢ OfStep.Memory) × CanRefuse node incarnation opened event fault
@@ -77,8 +77,8 @@ pub record EndsList (opened : Table) (c : ClosedNode) (readers : List SeatView) 
   pub makes : with_all opened list ≡ c.table
   pub within : All (IsWithin list) readers
 
--- of so many seats that were handed in, with these readers, it may be refused so: of some number of
--- seats that are out, and over some list of what was published
+-- closing with `given` seats handed in and these readers may be refused with this fault: for some
+-- number of seats that are out, and some list of what was published
 pub record CanRefuseClosing (given : ℕ) (readers : List SeatView) (fault : LockFault) : Type 0 where
   pub out : ℕ
   pub list : List Published

@@ -1,2 +1,2 @@
--- what a call of a node answers
+-- what a call of a node returns
 pub mod Call

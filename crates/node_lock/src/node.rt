@@ -24,7 +24,7 @@ use std::sync::{Mutex, Wait};
 
 /// A node under its lock. Threads share it by reference; each call but those of readers takes the
 /// lock, and may wait for it. What is under the lock is a [`Desk`], whose contracts say what a call
-/// does; through a lock it is only known what always holds.
+/// does; through a lock only what always holds is known.
 #[derive(Drop)]
 pub struct Node<D: Device + Drop, J: Naming, H: Wait + Drop> {
     desk: Mutex<Desk<D, J, H>>,
@@ -245,7 +245,7 @@ impl<D: Device + Drop, J: Naming, H: Wait + Drop> Node<D, J, H> {
         self.act(rt, seat, NodeEvent::Leave)
     }
 
-    /// Watches the keys under a prefix: the last changes, so many at most.
+    /// Watches the keys under a prefix: the last changes, `capacity` at most.
     pub fn watch<R: Wait>(
         &self,
         rt: &R,
@@ -278,8 +278,8 @@ impl<D: Device + Drop, J: Naming, H: Wait + Drop> Node<D, J, H> {
         self.act(rt, seat, NodeEvent::Changes { number })
     }
 
-    /// Moves the whole journal into the base, and answers how many entries it had. Who makes calls
-    /// may cut, by a seat of theirs. Refused as `Desk::cut` is: 34 `Stopped`, 99 `Memory`.
+    /// Moves the whole journal into the base, and returns how many entries it had. Whoever has a
+    /// seat may cut. Refused as `Desk::cut` is: 34 `Stopped`, 99 `Memory`.
     pub fn cut<R: Wait>(&self, rt: &R, _seat: &WriteSeat<J>) -> Result<usize, LockFault>
         ensures refused { IfErr result (λ fault. (fault ≡ Memory) ⊎ (fault ≡ Stopped)) }
     {
@@ -330,12 +330,12 @@ impl<D: Device + Drop, J: Naming, H: Wait + Drop> Node<D, J, H> {
         }
     }
 
-    /// Ends the node, where all seats that are out are handed in: what is left of it, and its
-    /// file's device. No other thread has it any more. It takes no memory, and waits for readers
-    /// that are inside a `peek`.
+    /// Ends the node, where all seats that are out are handed in, and returns what is left of it,
+    /// and its file's device. No other thread has it any more. It takes no memory, and waits for
+    /// readers that are inside a `peek`.
     ///
     /// Refused, and then node and seats come back: 54 `SeatsMissing`; then 34 `Stopped`, where a
-    /// reader saw more than was published, which has no cause that can come.
+    /// reader was shown more than was published, which no reader is.
     pub fn close(
         self,
         seats: Vec<WriteSeat<J>>,

@@ -3,9 +3,9 @@
 pub mod Overlay
 -- the frames of its messages
 pub mod Outbox
--- what the broadcast is told of a change, and what it gives out
+-- which call of the broadcast a change makes, and what it gives out
 pub mod Origin
--- a change that is to be told
+-- a change that watches are to note
 pub mod News
 -- who watches it
 pub mod Watches

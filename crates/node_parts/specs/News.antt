@@ -1,4 +1,4 @@
--- A change that is to be told.
+-- A change that watches are to note.
 use Rattle.std.specs.Prelude.{ℕ, ◌-◌}
 use Rattle.subscriptions.specs.declared.change.Change.{Change}
 

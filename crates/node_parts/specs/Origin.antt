@@ -1,5 +1,5 @@
--- What the broadcast is told of a change, by where it comes from, and what it gives out then and at
--- a tick, as messages.
+-- Which call of the broadcast a change makes, by where it comes from, and what the broadcast gives
+-- out then and at a tick, as messages.
 use Rattle.std.specs.Prelude.{ℕ, ◌≢◌, ◌%◌, ◌==◌, Bool, List, [], ◌∷◌, ◌++◌, if◌then◌else◌}
 use Rattle.meta_types.specs.Name.{Key}
 use Rattle.dvvset.specs.Object.{Counter, Entry}
@@ -38,7 +38,7 @@ whole_messages (OfCast.Send to message ∷ outs) = envelope to message ∷ whole
 
 -- ---- a tick: first the broadcast's, and then a shuffle, if it is due
 
--- every so many ticks the views are shuffled
+-- how many ticks there are from one shuffle of the views to the next
 abbrev pub ticks_of_a_shuffle : ℕ
 ticks_of_a_shuffle = 10
 

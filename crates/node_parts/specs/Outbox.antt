@@ -9,7 +9,7 @@ use Rattle.meta_frame.specs.Frame.{Spells, spelling}
 use Rattle.meta_store.specs.Table.{IsHeld}
 use Rattle.node_parts.specs.declared.envelope.Envelope.{Envelope}
 
--- counts go as far as 64 bits do, and stay there
+-- a count goes up to the greatest number of 64 bits, and stays there
 abbrev pub count_on : ℕ → ℕ → ℕ
 count_on so_far more = min (so_far + more) (2 ^ 64 - 1)
 
@@ -26,8 +26,8 @@ frames_from node number (e ∷ es) =
 abbrev pub IsSpelledVector : List Counter → Type 0
 IsSpelledVector = vector_form.Fits
 
--- what the types of a message's fields leave open, so that it has a spelling: its object may be
--- held, its vector is spelled, its inner node is one of sixteen, and its life is one
+-- what a message needs to have a spelling, beside what the types of its fields say: its object may
+-- be held, its vector is spelled, its inner node is one of sixteen, and its life is one
 abbrev pub IsSendable : Message → Type 0
 IsSendable (Gossip round key object) = IsHeld object
 IsSendable (IHave round key vector) = IsSpelledVector vector
@@ -42,7 +42,7 @@ pub record MaySend (node : ℕ) (e : Envelope) : Type 0 where
   pub apart : e.to ≢ node
   pub sendable : IsSendable e.message
 
--- the frame is lawful, and so one to another node, and its bytes are no more than a frame may have
+-- the frame is lawful, so it goes to another node, and has no more bytes than a frame may have
 abbrev pub HasSpelling : Frame → Type 0
 HasSpelling frame = Spells frame (spelling frame)
 

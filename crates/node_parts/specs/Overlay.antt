@@ -33,7 +33,7 @@ empty_overlay node = record { views = views.empty node; cast = broadcast.empty }
 abbrev pub envelope : ℕ → Message → Envelope
 envelope to message = record { to = to; message = message }
 
--- ---- an event of the views, of which the broadcast hears who came and who went
+-- ---- an event of the views; the broadcast hears who came and who went
 
 -- who came and who went, in order
 abbrev pub peer_changes : List ViewOut → List PeerChange
@@ -55,7 +55,7 @@ messages_of (OfViews.Send to message ∷ outs) = envelope to message ∷ message
 messages_of (OfViews.Up node ∷ outs) = messages_of outs
 messages_of (OfViews.Down node ∷ outs) = messages_of outs
 
--- those that are sent for an event
+-- the messages that are sent for an event
 abbrev pub sent_by_view : ViewEvent → ℕ → Overlay → List Envelope
 sent_by_view event word o = messages_of (draft_after event word o.views).out
 
@@ -77,7 +77,7 @@ pub record ArePeers (o : Overlay) : Type 0 where
   pub links : HasLinks o.cast
   pub same : (x : ℕ) → is_peer x o.cast ≡ has o.views.active x
 
--- so it is of a node's overlay, which never names the node itself
+-- what holds of a node's overlay: its peers are the active view, and it never names the node itself
 pub record IsOverlay (o : Overlay) : Type 0 where
   pub peers : ArePeers o
   pub names_others : NamesOthers o.views.node o.cast

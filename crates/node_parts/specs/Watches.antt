@@ -13,7 +13,7 @@ use Rattle.node_events.specs.declared.reply.Reply.TheVariants.{Done, Changed}
 abbrev pub most_watches : ℕ
 most_watches = 16
 
--- the one of that number, if there is one
+-- the item of that number, from 1, if there is one
 abbrev pub at_number : {A : Type 0} → List A → ℕ → Option A
 at_number xs number = if nat_eq number 0 then None else slice_get xs (number - 1)
 
@@ -21,7 +21,7 @@ at_number xs number = if nat_eq number 0 then None else slice_get xs (number - 1
 abbrev pub hearing_count : Key → List Watching → ℕ
 hearing_count key watches = length (filter (λ w. hears w key) watches)
 
--- ---- one more
+-- ---- one more watch
 
 -- there is room for no change, or for too many
 abbrev pub is_no_capacity : ℕ → Bool
@@ -32,7 +32,7 @@ refusal_of_watch capacity watches =
     let has_all = nat_le most_watches (length watches) in
     first_that_applies ((is_no_capacity capacity || has_all, BadWatch) ∷ [])
 
--- ---- what one has noted is handed out
+-- ---- a watch hands out what it has noted
 
 abbrev pub with_emptied : Option Watching → ℕ → List Watching → List Watching
 with_emptied None number watches = watches

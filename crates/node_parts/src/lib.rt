@@ -1,7 +1,7 @@
 //! The parts of a node, each of which keeps what must always hold of it.
 //!
 //! Read `overlay` (the views with the broadcast), `talking` and `ticking` (what the overlay does),
-//! `watches` with `news`; then `messages` and `sending`, by which what a node says becomes frames.
+//! `watches` with `news`; then `messages` and `sending`, which turn what a node says into frames.
 //! `laws` has what always holds of an overlay.
 #![tactic(auto)]
 

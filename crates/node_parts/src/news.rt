@@ -27,7 +27,7 @@ impl Model for News {
 }
 
 impl News {
-    /// Fails only when memory runs out.
+    /// The change, with `count` notes of it. Fails only when memory runs out.
     pub fn new(alloc: Global, change: Change, count: usize) -> Result<Self, AllocError>
         ensures { IfOk result (λ news. news ≡ record { change = change; notes = count }) }
     {

@@ -73,10 +73,9 @@ impl Overlay {
         Ok(Overlay { views, cast })
     }
 
-    /// An event of the views, of which the broadcast hears who came and who went. Answers the
-    /// frames of what is to be sent, numbered from the one after `number` on. Fails only when
-    /// memory runs out, and then all is as before. The broadcast is changed in place, and never
-    /// copied.
+    /// Takes an event of the views, and the broadcast hears who came and who went. Returns the
+    /// frames to send, numbered from the one after `number` on. Fails only when memory runs out,
+    /// and then all is as before. The broadcast is changed in place, and never copied.
     pub fn on_view_event(
         &mut self,
         alloc: Global,

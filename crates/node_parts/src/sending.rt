@@ -52,7 +52,7 @@ fn spelled(
         number,
         message: envelope.message,
     };
-    // Read for what they tell: both are nodes.
+    // Read for what their type says: both are nodes.
     let _nodes = (frame.from.number(), frame.to.number());
     reveal_message(&frame.message);
     bytes_of(alloc, &frame)

@@ -1,5 +1,4 @@
-//! What the broadcast of a node is told, call by call. Each changes nothing where it fails, which
-//! is for want of memory alone.
+//! The calls of a node's broadcast. Each fails only when memory runs out, and then changes nothing.
 
 ghost use Rattle.std.specs.Prelude.{◌≡◌, ◌≢◌, true, false, map, All, IfOk, OnOk, OnErr};
 ghost use Rattle.meta_store.specs.Table.{IsHeld};
@@ -22,7 +21,7 @@ use plumtree::{Cast, CastOut, Savepoint};
 use std::alloc::{AllocError, Global};
 
 impl Overlay {
-    /// The object under the key changed, and is broadcast. Answers what goes to whom.
+    /// The object under the key changed, and is broadcast. Returns what goes to whom.
     pub fn spread(
         &mut self,
         origin: Origin,
@@ -50,7 +49,7 @@ impl Overlay {
         self.cast.savepoint()
     }
 
-    /// What a write or a GOSSIP told the broadcast since then is taken back.
+    /// Takes back what a write or a GOSSIP changed of the broadcast since the savepoint.
     pub fn roll_back(&mut self, savepoint: Savepoint)
         requires { IsOverlay (overlay_of self.old.views (rolled_back savepoint self.old.cast)) }
         ensures { self.new ≡ overlay_of self.old.views (rolled_back savepoint self.old.cast) }
@@ -65,7 +64,7 @@ impl Overlay {
         self.cast.on_change(key, vector);
     }
 
-    /// A GOSSIP was stale: its sender becomes lazy, and is sent PRUNE. Answers the frames, numbered
+    /// A GOSSIP was stale: its sender becomes lazy, and is sent PRUNE. Returns the frames, numbered
     /// from the one after `number` on.
     pub fn on_stale(
         &mut self,
@@ -111,13 +110,13 @@ impl Overlay {
             ≡ overlay_after_call (TakesIHave from round key.now vector.now stale) self.old) }
         ensures unchanged { OnErr result (self.new ≡ self.old) }
     {
-        // Read for what it tells: the key is in range.
+        // Read for what its type says: the key is in range.
         let _ = key.key();
         self.cast.on_ihave(from, round, key, vector, stale)?;
         Ok(())
     }
 
-    /// GRAFT of what is held: its sender becomes eager, and is sent the object. Answers the frames,
+    /// GRAFT of what is held: its sender becomes eager, and is sent the object. Returns the frames,
     /// numbered from the one after `number` on.
     pub fn on_graft(
         &mut self,
@@ -174,7 +173,7 @@ fn whole_outbox(
     outbox(alloc, node, number, sent)
 }
 
-/// The frames of messages, of which each GOSSIP has this object.
+/// The frames of messages; each GOSSIP carries this object.
 fn object_outbox(
     alloc: Global,
     node: NodeId,

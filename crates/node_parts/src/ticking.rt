@@ -21,12 +21,12 @@ use node_events::Outbox;
 use plumtree::Cast;
 use std::alloc::{AllocError, Global};
 
-/// Every so many ticks the views are shuffled.
+/// How many ticks there are from one shuffle of the views to the next.
 const TICKS_OF_A_SHUFFLE: u64 = 10;
 
 impl Overlay {
-    /// The tick of this number. Answers the frames of what is to be sent, numbered from the one
-    /// after `number` on. Fails only when memory runs out, and then all is as before.
+    /// Makes the tick of this number. Returns the frames to send, numbered from the one after
+    /// `number` on. Fails only when memory runs out, and then all is as before.
     pub fn on_tick(
         &mut self,
         alloc: Global,
@@ -124,7 +124,7 @@ fn joined_outbox(
     outbox(alloc, node, number, sent)
 }
 
-/// The one after the other.
+/// The items of `front`, then those of `back`.
 fn joined<T: Drop>(front: Vec<T>, back: Vec<T>) -> Result<Vec<T>, AllocError>
     ensures { IfOk result (λ all. all.items ≡ front.items ++ back.items) }
 {

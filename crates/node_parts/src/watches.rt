@@ -52,7 +52,7 @@ impl Watches {
         self.list.as_slice()
     }
 
-    /// One more watch. Answers its number.
+    /// Adds a watch. Returns its number.
     pub fn add(&mut self, prefix: &FullPrefix, capacity: usize) -> Result<u64, StepFault>
         ensures value { OnOk result (self.new ≡ self.old ++ empty prefix.now capacity ∷ []) }
         ensures number { IfOk result (λ number. number ≡ length self.old + 1) }
@@ -78,7 +78,7 @@ impl Watches {
         Ok(Watch::new(self.alloc, prefix, capacity)?)
     }
 
-    /// What the watch of this number has noted is handed out.
+    /// Hands out what the watch of this number has noted.
     pub fn hand_out(&mut self, number: u64) -> Result<Reply, StepFault>
         ensures value { OnOk result (self.new ≡ hand_out number self.old) }
         ensures reply { IfOk result
@@ -99,7 +99,7 @@ impl Watches {
         })
     }
 
-    /// What there is to tell of a change: a note for each watch that hears the key. Fails only when
+    /// Returns the news of a change: a note for each watch that hears the key. Fails only when
     /// memory runs out.
     pub fn news(&self, key: &MetaKey, vector: Vector) -> Result<News, AllocError>
         ensures { IfOk result (λ news. news ≡ record {

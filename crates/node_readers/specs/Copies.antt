@@ -1,4 +1,4 @@
--- The copies of the table of which readers take one, and what is added to them.
+-- The copies of the table, one of which readers take, and what is added to them.
 use Rattle.std.specs.Prelude.{◌≡◌, List, length}
 use Rattle.logbook.specs.Pages.{Book}
 use Rattle.meta_store.specs.Table.{Table}

@@ -13,14 +13,14 @@ pub record GrowsBy (table : Table) (change : Published) : Type 0 where
   pub is_table : IsTable (with_published table change)
   pub descends : Descends table (with_published table change)
 
--- after each first so many of the changes there is a table, and what all of them leave knows all
--- that was known there
+-- after each beginning of the changes there is a table, and what all of them leave knows all that
+-- was known there
 pub record Grows (opening : Table) (list : List Published) : Type 0 where
   pub tables : (first : List Published) → IsPrefix first list → IsTable (with_all opening first)
   pub descends : (first : List Published) → IsPrefix first list
       → Descends (with_all opening first) (with_all opening list)
 
--- the vector knows all that was known under the key after each first so many of the changes
+-- the vector knows all that was known under the key after each beginning of the changes
 abbrev pub DescendsEach : Table → List Published → Key → List Counter → Type 0
 DescendsEach opening list key vector = (first : List Published) → IsPrefix first list
     → descends vector (join (object_at (with_all opening first) key)) ≡ true

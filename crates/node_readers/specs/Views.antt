@@ -7,7 +7,7 @@ use Rattle.node_history.specs.Published.{Published, with_all}
 use Rattle.node_readers.specs.Growth.{DescendsEach}
 use Rattle.node_readers.specs.declared.shown.Shown.{Shown}
 
--- the changes that the seat was shown, and those of what it learnt
+-- the changes that the seat was shown, and those that it learnt of
 pub record SeatView : Type 0 where
   pub shown : List Published
   pub learnt : List Published

@@ -1,4 +1,4 @@
-//! The two copies of the table, of which readers take one, and what is added to both.
+//! The two copies of the table, one of which readers take, and what is added to both.
 
 ghost use Rattle.std.specs.Prelude.{◌≡◌, length, IfOk};
 ghost use Rattle.dvvset.specs.Clock.{join, values_of};
@@ -109,7 +109,7 @@ impl Addition {
     }
 }
 
-/// A copy takes a change in. It is refused only for want of memory.
+/// A copy takes a change in. Fails only when memory runs out.
 impl Absorb<Addition> for PublishedTable {
     ghost use Rattle.node_readers.specs.Copies.{taken_in};
 

@@ -9,7 +9,7 @@ use thiserror::Error;
 #[derive(Debug, Drop, Error, PartialEq, Eq)]
 #[error("{}", self.name())]
 pub enum PeekFault {
-    /// 34: nothing is published any more. While the publisher is there it isn't expected.
+    /// 34: nothing is published any more, or the seat learnt of a change that never was.
     Stopped,
     /// 99: an allocation was refused.
     Memory,

@@ -1,8 +1,8 @@
 //! A node's table, as readers take it: without a lock, and without ever waiting.
 //!
 //! One thread publishes changes of the table, one after the other. Each reader has a `ReadSeat`,
-//! and sees the table after the first so many of them: never fewer than it was shown before, and
-//! never fewer than it learnt of.
+//! and sees the table after some number of them: never fewer than it was shown before, and never
+//! fewer than it learnt of.
 //!
 //! ```
 //! let mut publisher = Publisher::new(alloc, &table, revision, readers, &rt)?;

@@ -16,8 +16,8 @@ use std::alloc::{AllocError, Global};
 use std::marker::Model;
 use std::sync::Wait;
 
-/// Who publishes a node's changes. It keeps a handle, since its drop waits for the readers that are
-/// inside a `peek`, which never wait themselves.
+/// The publisher of a node's changes. It keeps a handle, since its drop waits for the readers that
+/// are inside a `peek`, which never wait themselves.
 pub struct Publisher<J: Naming, H: Wait + Drop> {
     // None only inside of a call
     writer: Option<Writer<PublishedTable, Addition, Known, CopiesOf<J>>>,
@@ -63,8 +63,8 @@ impl<J: Naming, H: Wait + Drop> Model for Publisher<J, H> {
 }
 
 impl<J: Naming, H: Wait + Drop> Publisher<J, H> {
-    /// A publisher of two copies of the opening table, with places for so many readers at a time.
-    /// Fails only when memory runs out.
+    /// A publisher of two copies of the opening table, with places for `readers` readers at a
+    /// time. Fails only when memory runs out.
     pub fn new(
         alloc: Global,
         table: &Store,
@@ -77,7 +77,7 @@ impl<J: Naming, H: Wait + Drop> Publisher<J, H> {
         requires first { revision ≡ [] }
         ensures { IfOk result (λ p. p ≡ record { list = []; stopped = false }) }
     {
-        // Read for what it tells: what the store holds is a table.
+        // Read for its contract, which says that what the store holds is a table.
         let _ = table.len();
         let spread = SpreadTable::of(alloc, table)?;
         let one = PublishedTable::new(alloc, spread.copy(alloc)?, &revision);
@@ -91,8 +91,8 @@ impl<J: Naming, H: Wait + Drop> Publisher<J, H> {
         })
     }
 
-    /// A seat that was shown nothing and learnt nothing. Fails where as many readers are there as
-    /// there are places, and when memory runs out.
+    /// A seat that was shown nothing and learnt nothing. Fails when all places are taken, and when
+    /// memory runs out.
     pub fn seat(&self) -> Result<ReadSeat<J>, AllocError>
         ensures { IfOk result (λ seat. seat ≡ record { shown = []; learnt = [] }) }
     {
@@ -102,10 +102,12 @@ impl<J: Naming, H: Wait + Drop> Publisher<J, H> {
         }
     }
 
-    /// Adds the change to the history and shows readers a copy that has it. Answers how far the
+    /// Adds the change to the history and shows readers a copy that has it. Returns how far the
     /// history goes then, for a seat to learn. It waits for readers that are still inside a `peek`
-    /// of the copy before. Where memory runs out, readers see what they saw, and from then on every
-    /// call fails.
+    /// of the copy before.
+    ///
+    /// Refused where memory runs out, where the tail isn't at the end of the history, and where
+    /// that has 2^62 changes. Then readers see what they saw, and every later `publish` is refused.
     pub fn publish<R: Wait>(
         &mut self,
         rt: &R,

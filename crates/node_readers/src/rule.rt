@@ -24,7 +24,7 @@ impl<J: Naming> Protocol<PublishedTable, Known> for CopiesOf<J> {
     ghost first = { [] };
 }
 
-/// Who takes the copy that is published then knows its changes; so does who publishes it.
+/// Whoever takes the published copy then knows its changes; so does whoever publishes it.
 impl<J: Naming> Outcome<PublishedTable, Known> for CopiesOf<J> {
     ghost use Rattle.node_readers.specs.Rule.{TakesCopy};
 

@@ -18,8 +18,8 @@ use node_history::{Naming, Revision};
 use std::alloc::AllocError;
 use std::marker::Model;
 
-/// Who looks at a node's table. It knows the changes that it was shown, and those of what it
-/// learnt. It may go to another thread.
+/// The seat of a reader of a node's table. It knows the changes that it was shown, and those that
+/// it learnt of. It may go to another thread.
 #[derive(Drop)]
 pub struct ReadSeat<J: Naming> {
     // None only inside of a call
@@ -71,7 +71,7 @@ impl<J: Naming> ReadSeat<J> {
     }
 
     /// From now on this seat shows nothing that lacks a change of the revision, which a call that
-    /// published has answered. It takes no memory, never waits and never fails.
+    /// published has returned. It takes no memory, never waits and never fails.
     pub fn learn(&mut self, revision: &Revision<J>)
         ensures shown { self.new.shown ≡ self.old.shown }
         ensures before { IsPrefix self.old.learnt self.new.learnt }
@@ -81,12 +81,13 @@ impl<J: Naming> ReadSeat<J> {
     }
 
     /// What stands under the key in the table that is published: the opening table with the first
-    /// so many changes put in, never fewer than this seat was shown before or learnt of. Values and
-    /// vector are copies, for which alone it takes memory. It never waits, also where a change is
-    /// being published.
+    /// changes put in, never fewer than this seat was shown before or learnt of. It takes memory
+    /// only for values and vector, which are copies. It never waits, even while a change is being
+    /// published.
     ///
-    /// Refused with 34 `Stopped` where the publisher is gone, and with 99 `Memory`. A refused look
-    /// may have found that the history went on, and then that counts as shown.
+    /// Refused with 34 `Stopped` where the publisher is gone, or where the seat learnt of a change
+    /// that the published copy lacks, which no revision of a publisher names; and with 99 `Memory`.
+    /// A refused look may have found that the history went on, and then that counts as shown.
     pub fn peek(&mut self, key: &MetaKey) -> Result<Shown, PeekFault>
         ensures later { IsPrefix self.old.shown self.new.shown }
         ensures learnt { self.new.learnt ≡ self.old.learnt }

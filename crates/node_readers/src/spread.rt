@@ -58,7 +58,7 @@ impl SpreadTable {
         Ok(SpreadTable { buckets })
     }
 
-    /// What a store holds. They are copies. Fails only when memory runs out.
+    /// Copies of what a store holds. Fails only when memory runs out.
     pub(crate) fn of(alloc: Global, store: &Store) -> Result<Self, AllocError>
         ensures { IfOk result (IsSpreadOf store.now) }
     {

@@ -25,7 +25,7 @@ pub record IsBelow (hs : List Happening) (k : Key) (lower upper : List Entry) : 
   pub of_greater : IsObjectOf (writes hs) k greater upper
   pub within : IsSubset lesser greater
 
--- above both, and below every arisen object that is
+-- above both, and below every arisen object that is above both
 pub record IsLeastUpperBound (hs : List Happening) (k : Key) (a b bound : List Entry) : Type 0 where
   pub first : IsBelow hs k a bound
   pub second : IsBelow hs k b bound
@@ -58,8 +58,7 @@ IsObjectKnown hs n k es = IsObjectOf (writes hs) k (known hs n k) es
 abbrev pub IsObjectRead : List Happening → Option ℕ → Key → List Entry → Type 0
 IsObjectRead hs r k es = IsObjectOf (writes hs) k (read hs k r) es
 
--- the object that a node with the first one has once it wrote the value with the context of the
--- second
+-- the object of a node with object `a` once it wrote the value with the context of object `b`
 abbrev pub object_after_write :
     List Happening → ℕ → ValueParts → List Entry → List Entry → List Entry
 object_after_write before n v a b = update (join b) a (writer_after before n) v

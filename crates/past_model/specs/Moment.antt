@@ -123,19 +123,21 @@ pub record IsAccount (hs : List Happening) (ms : List Marks) : Type 0 where
   pub whole : length ms ≡ length hs + 1
   pub moments : AreMoments hs ms
 
--- the moment whose knowledge a write has read: that of its Looked, or the first
+-- the moment whose knowledge a write has read: the moment of its Looked, or the first
 abbrev pub moment_read : Option ℕ → ℕ
 moment_read None = 0
 moment_read (Some r) = r + 1
 
--- after so many happenings, what the node knows and its standing image are those of the moment
+-- after the first `places` happenings, what the node knows and its standing image are those of the
+-- moment
 pub record IsLatest (hs : List Happening) (places n moment : ℕ) : Type 0 where
   pub within : moment ≤ places
   pub of_node : (p : ℕ) (h : Happening) → moment ≡ p + 1 → slice_get hs p ≡ Some h → node_of h ≡ n
   pub known : (past (take places hs)).known n ≡ (past (take moment hs)).known n
   pub standing : (past (take places hs)).standing n ≡ (past (take moment hs)).standing n
 
--- after so many happenings, the node's image of that number is the standing one of the moment
+-- after the first `places` happenings, the node's image number `j` is the standing image of the
+-- moment
 pub record IsImage (hs : List Happening) (places n j moment : ℕ) : Type 0 where
   pub within : moment ≤ places
   pub of_node : (p : ℕ) (h : Happening) → moment ≡ p + 1 → slice_get hs p ≡ Some h → node_of h ≡ n

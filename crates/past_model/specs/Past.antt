@@ -22,9 +22,9 @@ abbrev pub In : Write → List Write → Type 0
 In x [] = ⊥
 In x (y ∷ ys) = (x ≡ y) ⊎ In x ys
 
--- `seen` has, at the place of a Looked, what its node knew under its key; `load` at that of a Sent.
--- Images are numbered from 0, which is the empty one; a node's standing image is what its next
--- image starts from: its newest, or that of its last restart if that came later.
+-- `seen` has, at the place of a Looked, what its node knew under its key; `load` has it at the
+-- place of a Sent. Images are numbered from 0, which is the empty one; a node's standing image is
+-- what its next image starts from: its newest, or the image of its last restart if that came later.
 pub record Past : Type 0 where
   pub next : ℕ  -- the place of the next happening
   pub writes : List Write  -- the later first
@@ -134,7 +134,7 @@ seen hs p k = (past hs).seen p k
 abbrev pub load : List Happening → ℕ → Key → Places
 load hs p k = (past hs).load p k
 
--- what a write under the key would have read, were it made now and named r
+-- what a write under the key that names r would have read, were it made now
 abbrev pub read : List Happening → Key → Option ℕ → Places
 read hs k r = read_of (past hs) k r
 

@@ -31,7 +31,7 @@ pub enum Happening {
         node: NodeId,
         key: MetaKey,
     },
-    /// The node began its next life from its image of that number; image 0 is the empty one.
+    /// The node began its next life from its image of this number; image 0 is the empty one.
     Restarted {
         node: NodeId,
         image: usize,
@@ -60,7 +60,7 @@ impl Happening {
         node
     }
 
-    /// Returns whether it makes an image of the node: a write, or keeping what is known.
+    /// Returns whether it makes an image of the node, as a `Wrote` and a `Kept` do.
     pub(crate) fn makes_image(&self, of: NodeId) -> bool
         ensures { result ≡ makes_image of self.now }
     {

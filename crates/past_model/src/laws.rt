@@ -15,8 +15,8 @@ ghost use Rattle.past_model.specs.History.{IsHistory, NoRestart};
 ghost use Rattle.past_model.specs.Shown.{IsClosed, IsContext, IsObjectOf, Shows};
 ghost use Rattle.past_model.specs.Arisen.{HasWriteAfter, IsArisen, IsBelow, IsLeastUpperBound, IsObjectKnown, IsObjectRead, ReachesClosed, counter_of, object_after_write, writer_after};
 
-/// What a node knows, what a read saw, what was sent, what a write had read, and what an image
-/// holds is a closed set of writes.
+/// Each of these is a closed set of writes: what a node knows, what a read saw, what was sent, what
+/// a write had read, and what an image holds.
 pub fn what_the_past_reaches_is_closed()
     ensures { (hs : List H) → IsHistory hs → (k : Key) → ReachesClosed hs k }
 {}
@@ -45,8 +45,8 @@ pub fn an_object_shows_the_siblings()
         → IsContext (writes hs) S cs → IsContext (writes hs) S ds → cs ≡ ds }
 {}
 
-/// The object of a set with a write in it shows a value: of the set's writes the last was read by
-/// none.
+/// The object of a set with a write in it shows a value, since no write of the set had read the
+/// last one.
 pub fn an_object_with_a_write_shows_a_value()
     ensures of_a_set { (hs : List H) (k : Key) (S : Places) (a : List Entry) (p : ℕ)
         → IsObjectOf (writes hs) k S a → S p ≡ true → values_of a ≢ [] }
@@ -61,7 +61,8 @@ pub fn merging_is_union()
         → IsObjectOf (writes hs) k (union S T) (sync a b) }
 {}
 
-/// On the objects that arise in one history under one key.
+/// Merging the objects that arise in one history under one key gives such an object, and is
+/// commutative, associative and idempotent.
 pub fn merging_is_commutative_associative_and_idempotent()
     ensures arisen { (hs : List H) (k : Key) (a b : List Entry) → IsArisen hs k a → IsArisen hs k b
         → IsArisen hs k (sync a b) }
@@ -73,7 +74,7 @@ pub fn merging_is_commutative_associative_and_idempotent()
     ensures idempotent { (hs : List H) (k : Key) (a : List Entry) → IsArisen hs k a → sync a a ≡ a }
 {}
 
-/// The merge is above both, and below each arisen object that is.
+/// The merge is above both objects, and below each arisen object that is above both.
 pub fn merging_is_the_least_upper_bound()
     ensures { (hs : List H) (k : Key) (a b : List Entry) → IsArisen hs k a → IsArisen hs k b
         → IsLeastUpperBound hs k a b (sync a b) }
@@ -100,7 +101,8 @@ pub fn the_context_determines_the_set()
         → join a ≡ join b → a ≡ b }
 {}
 
-/// Once a node got what was sent, it knows that too, and its object is the merge of both.
+/// Once a node got what was sent, it knows that too, and its object is its former one merged with
+/// the one that was sent.
 pub fn a_delivery_adds_what_was_sent()
     ensures known { (hs : List H) (n i : ℕ) (k : Key)
         → known (hs ++ Got n i ∷ []) n k ≡ union (known hs n k) (load hs i k) }

@@ -88,7 +88,7 @@ pub fn under(
     Ok(found)
 }
 
-/// The marks of either, over the first `places` places.
+/// The marks that `a` or `b` has, over the first `places` places.
 fn either(alloc: Global, places: usize, a: &[bool], b: &[bool]) -> Result<Vec<bool>, AllocError>
     ensures marks { IfOk result (λ both. (p : ℕ) → p < places
         → marked_places both.items p ≡ (marked_places a.now p || marked_places b.now p)) }
@@ -211,7 +211,7 @@ fn next(
     }
 }
 
-/// The moment whose knowledge a write has read: that of its `Looked`, or the first.
+/// The moment whose knowledge a write has read: the moment of its `Looked`, or the first.
 pub fn moment_read(seen: Option<usize>) -> usize
     requires { IfSome seen (λ r. r + 1 < 2 ^ 64) }
     ensures { result ≡ moment_read seen }

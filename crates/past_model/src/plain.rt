@@ -80,7 +80,8 @@ impl<'a> Plain<'a> {
         siblings(alloc, self.history, moments, marks.as_slice(), key)
     }
 
-    /// For each writer of whom the node knows a write under the key, how many it knows.
+    /// For each writer with a write that the node knows under the key, how many such writes there
+    /// are.
     pub fn context(&self, alloc: Global, node: NodeId, key: &MetaKey) -> Result<Vector, AllocError>
         ensures { IfOk result (λ vector. IsContext (writes self.now)
             (known self.now node key.now) vector) }
@@ -154,7 +155,7 @@ fn writers(alloc: Global, history: &[Happening]) -> Result<Vec<Actor>, AllocErro
     Ok(writers)
 }
 
-/// A node in each of its lives, rising.
+/// Adds a node in each of its lives, rising.
 fn push_lives(
     writers: &mut Vec<Actor>,
     history: &[Happening],
@@ -173,7 +174,7 @@ fn push_lives(
     Ok(())
 }
 
-/// The values of one writer's siblings, the later first.
+/// Adds the values of one writer's siblings, the later first.
 fn push_siblings(
     values: &mut Vec<Value>,
     history: &[Happening],
@@ -197,7 +198,7 @@ fn push_siblings(
     Ok(())
 }
 
-/// The value of a write by that writer.
+/// Adds the value of the happening, if it is a write by that writer.
 fn push_by(
     values: &mut Vec<Value>,
     before: &[Happening],
@@ -303,7 +304,7 @@ fn context(alloc: Global, history: &[Happening], marks: &[bool]) -> Result<Vecto
     Ok(Vector::new(counters))
 }
 
-/// A counter, where there is something to count.
+/// Adds a counter, if there is something to count.
 fn push_counter(counters: &mut Vec<Counter>, writer: Actor, count: u64) -> Result<(), AllocError>
     ensures { OnOk result (counters.new.items ≡ counters.old.items
         ++ (if count == 0 then [] else (record { id = writer; count = count }) ∷ [])) }

@@ -28,9 +28,9 @@ with_held t k object l = if key_eq l k then object else t l
 abbrev pub sync_by_key : Holding → Holding → Holding
 sync_by_key t u k = sync (t k) (u k)
 
--- `seen` has, at the place of a Looked, what its node held under its key; `load` at that of a Sent.
--- Images are numbered from 0, which is the empty one; a node's standing image is what its next
--- image starts from: its newest, or that of its last restart if that came later.
+-- `seen` has, at the place of a Looked, what its node held under its key; `load` has it at the
+-- place of a Sent. Images are numbered from 0, which is the empty one; a node's standing image is
+-- what its next image starts from: its newest, or the image of its last restart if that came later.
 pub record Objects : Type 0 where
   pub next : ℕ  -- the place of the next happening
   pub held : ℕ → Holding  -- of each node
@@ -130,7 +130,7 @@ seen_object hs p k = (objects hs).seen p k
 abbrev pub sent_object : List Happening → ℕ → Key → List Entry
 sent_object hs p k = (objects hs).load p k
 
--- the object that a write under the key would have read, were it made now and named r
+-- the object that a write under the key that names r would have read, were it made now
 abbrev pub object_of_read : List Happening → Key → Option ℕ → List Entry
 object_of_read hs k r = read_in_objects (objects hs) k r
 

@@ -31,7 +31,7 @@ pub fn each_object_is_that_of_its_set()
 {}
 
 /// The machine starts with nothing and goes on with each happening: what that changes, and that all
-/// else stays. The place of the next happening is their number.
+/// else stays. The place of the next happening is the number of those before it.
 pub fn the_machine_goes_on_with_each_happening()
     ensures first { objects [] ≡ first_objects }
     ensures step { (hs : List H) (h : H) → objects (hs ++ h ∷ []) ≡ next_objects (objects hs) h }
@@ -56,7 +56,8 @@ pub fn a_delivery_is_stale_where_it_is_known()
         → sync (held_object hs n k) (sent_object hs i k) ≡ held_object hs n k }
 {}
 
-/// What is held, what was sent, and the merge of both show a value, but for the absent object.
+/// What is held, what was sent, and the merge of both show a value, unless they are the absent
+/// object.
 pub fn what_is_held_shows_a_value()
     ensures held { (hs : List H) → IsHistory hs → (n : ℕ) (k : Key)
         → held_object hs n k ≢ [] → values_of (held_object hs n k) ≢ [] }

@@ -17,7 +17,7 @@ without x xs = remove_key (nat_eq x) xs
 abbrev pub put_last : ℕ → List ℕ → List ℕ
 put_last x xs = if has xs x then xs else xs ++ x ∷ []
 
--- without all of these
+-- the members without those excluded
 abbrev pub without_all : List ℕ → List ℕ → List ℕ
 without_all excluded xs = filter (λ x. not (has excluded x)) xs
 

@@ -11,7 +11,7 @@ pub fn has(members: &[NodeId], node: NodeId) -> bool
     members.iter().any(|member| node == *member)
 }
 
-/// The members without those excluded, in their order. Fails only when memory runs out.
+/// Returns the members that aren't excluded, in their order. Fails only when memory runs out.
 pub fn without_all(
     alloc: Global,
     members: &[NodeId],
@@ -28,7 +28,7 @@ pub fn without_all(
     Ok(left)
 }
 
-/// The random choice among the members: the one at place `word` modulo the length, counted from 0.
+/// The random choice among the members: the one at place `word` modulo their number, from 0.
 pub fn choose(word: u64, members: &[NodeId]) -> NodeId
     requires { 0 < length members.now }
     ensures { result ≡ choose word members.now }
@@ -37,8 +37,8 @@ pub fn choose(word: u64, members: &[NodeId]) -> NodeId
     members[place as usize]
 }
 
-/// The first `count` members from the random place on, going round; all of them, also from that
-/// place on, if there are no more. Fails only when memory runs out.
+/// Returns the first `count` members from the random place on, going round, or all members from
+/// that place on if there are fewer. Fails only when memory runs out.
 pub fn pick(
     alloc: Global,
     word: u64,

@@ -14,11 +14,11 @@ use streams::{StreamFault, write_fault};
 pub enum Asked<'a> {
     /// Nothing more, and this exit status: help or a usage fault was printed.
     Nothing(u8),
-    /// What lines of digits spell, of the file of this path, or of standard input.
+    /// The frames that lines of digits spell, in the file of this path or standard input.
     Frame {
         file: Option<&'a str>,
     },
-    /// A scenario, of the file of this path, or of standard input.
+    /// A run of the scenario in the file of this path or standard input.
     Run {
         file: Option<&'a str>,
         /// Whether each command is explained.
@@ -256,7 +256,7 @@ fn command<'a>(alloc: Global) -> Result<Command<'a>, AllocError> {
         .subcommand(live_command(alloc)?)
 }
 
-/// The arguments of the program, its name among them; `None` where one is no text.
+/// Returns the arguments of the program, its name among them; `None` where one is no text.
 pub fn read_words(rt: &HostRuntime) -> Result<Option<Vec<String>>, StreamFault> {
     match std::env::args(rt) {
         Ok(args) => Ok(Some(args.collect(rt.alloc())?)),
@@ -278,7 +278,7 @@ fn print(rt: &HostRuntime, error: &Error) -> Result<u8, StreamFault> {
     }
 }
 
-/// The path of a file that isn't `-`, which stands for standard input.
+/// Returns the path of a file; none for `-`, which stands for standard input.
 fn path(file: Option<&str>) -> Option<&str> {
     match file {
         Some("-") => None,

@@ -13,7 +13,7 @@ use streams::{MayFail, Sink, Source, StreamFault};
 /// The most bytes of one write.
 pub const OUTPUT_LEN: usize = 65_536;
 
-/// Opens the file at a path, to be read. A folder, of which no read would succeed, isn't opened.
+/// Opens the file at a path, to be read. A folder isn't opened, since no read of it would succeed.
 fn open(rt: &HostRuntime, path: &str) -> Result<File, ErrorKind> {
     let file = match fs::open(rt, path) {
         Ok(file) => file,
@@ -25,8 +25,9 @@ fn open(rt: &HostRuntime, path: &str) -> Result<File, ErrorKind> {
     }
 }
 
-/// `frame`, of the file of this path, or of standard input, to standard output. Returns the exit
-/// status, which is never that of wrong arguments: a file that can't be opened can't be read.
+/// Does `frame` for the file of this path, or for standard input, to standard output. Returns the
+/// exit status, which is never 2, the status of wrong arguments: a file that can't be opened can't
+/// be read.
 pub fn frame(rt: &HostRuntime, file: Option<&str>) -> u8
     ensures { result ≢ 2 }
 {
@@ -50,8 +51,8 @@ fn frame_from<R: Source>(rt: &HostRuntime, reader: &mut R) -> u8
     run_frame(rt.alloc(), reader, &mut MayFail(buffered), &mut errors)
 }
 
-/// `run`, told of at a terminal where it takes its time, but not where the scenario is typed.
-/// Returns the exit status.
+/// Does `run`, and reports at a terminal that it takes its time, but not where the scenario is
+/// typed. Returns the exit status.
 pub fn run<R: Threads + Wait + Sync>(
     rt: &HostRuntime,
     handle: &R,
@@ -65,8 +66,8 @@ pub fn run<R: Threads + Wait + Sync>(
 }
 
 /// Runs the scenario of the file of this path, or of standard input, to standard output; explained,
-/// if that is asked for. Returns the exit status, which is never that of wrong arguments: a file
-/// that can't be opened can't be read.
+/// if that is asked for. Returns the exit status, which is never 2, the status of wrong arguments:
+/// a file that can't be opened can't be read.
 fn run_input(rt: &HostRuntime, file: Option<&str>, explain: bool) -> u8
     ensures { result ≢ 2 }
 {

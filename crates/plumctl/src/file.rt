@@ -11,7 +11,7 @@ use std::sync::Wait;
 use std::thread::Threads;
 use streams::{MayFail, StreamFault};
 
-/// `file`, told of at a terminal where it takes its time. Returns the exit status.
+/// Does `file`, and reports at a terminal that it takes its time. Returns the exit status.
 pub fn file<R: Threads + Wait + Sync>(
     rt: &HostRuntime,
     handle: &R,
@@ -21,8 +21,8 @@ pub fn file<R: Threads + Wait + Sync>(
     told(rt, handle, None, || report(rt, path, rewrite))
 }
 
-/// The report of the file at a path, and a clean copy at another, where that is asked for and a
-/// file was shown. Returns the exit status, which is never that of wrong arguments.
+/// Reports the file at a path, and makes a clean copy at another, where that is asked for and a
+/// file was shown. Returns the exit status, which is never 2, the status of wrong arguments.
 fn report(rt: &HostRuntime, path: &str, rewrite: Option<&str>) -> u8
     ensures { result ≢ 2 }
 {

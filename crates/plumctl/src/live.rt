@@ -26,7 +26,7 @@ pub struct LiveArguments<'a> {
     pub files: Option<&'a str>,
 }
 
-/// `live`, told of at a terminal. Returns the exit status.
+/// Does `live`, and reports at a terminal how far it is. Returns the exit status.
 pub fn live<R: Threads + Wait + Sync>(
     rt: &HostRuntime,
     handle: &R,
@@ -36,9 +36,9 @@ pub fn live<R: Threads + Wait + Sync>(
     told(rt, handle, Some(&turns), || run(rt, handle, asked, &turns))
 }
 
-/// Makes the file of the recording and the folder of the nodes first, so that no run is lost for
-/// them, and then runs the threads. Returns the exit status, which is never that of wrong
-/// arguments.
+/// Makes the file of the recording and the folder of the nodes first, so that no run is lost
+/// because they can't be made, and then runs the threads. Returns the exit status, which is never
+/// 2, the status of wrong arguments.
 fn run<R: Threads + Wait + Sync>(
     rt: &HostRuntime,
     handle: &R,
@@ -127,8 +127,8 @@ fn run_on<R: Threads + Wait + Sync, W: Sink, E: Sink>(
     live
 }
 
-/// Writes down a run that was told of, if it is one of the world; or else removes the file. Returns
-/// the exit status.
+/// Writes down a run that was reported, if it is one of the world and its status is 0. Removes the
+/// file unless all of it was written. Returns the exit status.
 fn record<E: Sink>(
     rt: &HostRuntime,
     asked: LiveArguments<'_>,

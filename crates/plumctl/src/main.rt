@@ -1,5 +1,6 @@
 //! The commands of the store, at the command line. Each exit status, and each line at standard
-//! error but those about arguments, is that of a call of `plumctl_core`.
+//! error, comes from a call of `plumctl_core`, `plumctl_file` or `plumctl_live`, except those about
+//! arguments and progress.
 #![tactic(auto)]
 
 mod arguments;

@@ -1,4 +1,4 @@
-//! Telling at a terminal that work takes its time.
+//! Reporting at a terminal that work takes its time.
 
 use cluster::{ClusterPlan, Gate};
 use meta_types::NodeId;
@@ -9,8 +9,8 @@ use std::sync::atomic::{AtomicBool, AtomicU64, Ordering};
 use std::thread::{self, Parker, Threads};
 use std::time::{Duration, Instant};
 
-/// How many turns the nodes of a cluster have made, of how many; and, once its run is over, what is
-/// counted of it.
+/// How many turns the nodes of a cluster have made, and how many they make in all; and, once the
+/// run is over, its counts.
 #[derive(Drop)]
 pub struct Turns {
     made: AtomicU64,
@@ -20,7 +20,7 @@ pub struct Turns {
 }
 
 impl Turns {
-    /// None yet.
+    /// Makes the record of a run whose nodes have made no turn yet.
     pub fn new(plan: ClusterPlan) -> Turns {
         Turns {
             made: AtomicU64::new(0),
@@ -30,7 +30,7 @@ impl Turns {
         }
     }
 
-    /// Notes what is counted of the run.
+    /// Notes the counts of the run.
     pub fn count(&self, counts: Counts) {
         self.calls.store(counts.calls, Ordering::Relaxed);
         self.lost.store(counts.lost, Ordering::Relaxed);
@@ -50,9 +50,9 @@ impl Gate for Turns {
     }
 }
 
-/// Does the work. Where standard error is a terminal, it is told there that it is at work, once
-/// that is more than a second, and again after 2, 4, 8 seconds and so on, and of a cluster how many
-/// turns were made; and, if that was told, at last how many calls it made in a second.
+/// Does the work. Where standard error is a terminal, prints there that it is at work, after a
+/// second, and again after 2, 4, 8 seconds and so on, and for a cluster how many turns were made;
+/// and, if that was printed, at last how many calls it made in a second.
 pub fn told<R: Threads + Wait + Sync, T: Send, F: FnOnce() -> T + Send>(
     rt: &HostRuntime,
     handle: &R,
@@ -79,8 +79,8 @@ pub fn told<R: Threads + Wait + Sync, T: Send, F: FnOnce() -> T + Send>(
     result
 }
 
-/// Tells how many seconds it has been, until the work is over; then, if that was told, of a cluster
-/// how many calls it made in a second, by the time in which its turns were made.
+/// Prints how many seconds it has been, until the work is over; then, if that was printed, for a
+/// cluster how many calls it made in a second, by the time in which its turns were made.
 fn tell<R: Wait>(
     rt: &HostRuntime,
     handle: &R,
@@ -113,8 +113,7 @@ fn tell<R: Wait>(
     }
 }
 
-/// Tells what is counted of a run whose turns took this time, and how many calls it made in a
-/// second.
+/// Prints the counts of a run whose turns took this time, and how many calls it made in a second.
 fn tell_last(rt: &HostRuntime, turns: &Turns, time: Duration) {
     let calls = turns.calls.load(Ordering::Relaxed);
     let lost = turns.lost.load(Ordering::Relaxed);
@@ -123,8 +122,8 @@ fn tell_last(rt: &HostRuntime, turns: &Turns, time: Duration) {
     let _ = eprintln!(rt; "{calls} calls, {lost} frames lost, {rate} calls a second");
 }
 
-/// Tells it once: of a cluster how many turns were made, each of which is a call, and how many in a
-/// second; once all were made, that they are judged.
+/// Prints once that the work goes on: for a cluster how many turns were made, each of which is a
+/// call, and how many in a second; once all were made, that they are judged.
 fn tell_once(rt: &HostRuntime, seconds: u64, turns: Option<&Turns>) {
     let _ = match turns {
         Some(turns) => {

@@ -8,9 +8,9 @@ pub use Rattle.printing.specs.Frame
 pub mod Output
 -- how a run ends
 pub mod Run
--- the exit status of a program, and what it tells at standard error
+-- the exit status of a program, and what it prints at standard error
 pub mod Status
--- what is told of a file that can't be opened
+-- what is printed about a file that can't be opened
 pub mod Opening
 -- what a scenario prints, and how its run ends
 pub use Rattle.scenario.specs.Output as ScenarioOutput

@@ -1,5 +1,5 @@
--- What is told of a file that can't be opened: what is told of input that can't be read, and then
--- the name of the file and the cause.
+-- What is printed about a file that can't be opened: the line for input that can't be read, and
+-- then the name of the file and the cause.
 use Rattle.std.specs.Prelude.{◌≡◌, ◌≢◌, ◌⊎◌, ℕ, List, [], ◌∷◌, ◌++◌, map, codes}
 use Rattle.std.specs.Io.KnownBytes.{Appends}
 use Rattle.std.specs.declared.io.ErrorKind.{ErrorKind}
@@ -19,18 +19,18 @@ cause_of_kind kinds.FilesystemLoop = codes "is a link that leads in a circle"
 cause_of_kind kinds.InvalidFilename = codes "the name is too long, or none of a file"
 cause_of_kind kind = codes "could not be opened"
 
--- the two lines that are told
+-- the two lines that are printed
 abbrev pub unopened_text : List ℕ → ErrorKind → List ℕ
 unopened_text name kind = line_of_fault Read ++ (codes "cause: " ++ (map shown_byte name
     ++ (codes ": " ++ (cause_of_kind kind ++ 10 ∷ []))))
 
--- a text was told at standard error, as far as that takes it
+-- a text was printed at standard error, as far as that takes it
 abbrev pub TellsText : (errors_old errors_new : SinkAt) → List ℕ → Type 0
 TellsText errors_old errors_new text =
     Appends errors_old.contents errors_new.contents text ⊎ TellsFront errors_old errors_new text
 
--- how a command ends whose file of this name can't be opened: the two lines were told, with 3; or
--- want of memory, with 4, for an error of memory, or where there is none for the lines
+-- how a command ends whose file of this name can't be opened: the two lines were printed, with 3;
+-- or 99 `Memory`, with 4, where the error is one of memory, or memory ran out for the lines
 abbrev pub EndsAtOpening : List ℕ → ErrorKind → (errors_old errors_new : SinkAt) → ℕ → Type 0
 EndsAtOpening name kind errors_old errors_new status =
     ((kind ≢ kinds.OutOfMemory) × (status ≡ status_of_fault Read)

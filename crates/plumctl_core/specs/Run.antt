@@ -29,8 +29,8 @@ pub record PrintsFrames (reader_old reader_new : SourceAt) (writer_old writer_ne
 
 -- what was read until the fault: whole lines, and what was read after them. For the whole lines a
 -- front of the output was written. A last line without a line feed is whole where the reader is at
--- its end. The fault has its cause; memory was wanting only where the reader has not failed anew
--- and gave no more than the limit, and the writer has not failed anew, or for want of memory.
+-- its end. The fault has its cause; memory ran out only where the reader has not failed anew and
+-- gave no more than the limit, and the writer has not failed anew, or was itself out of memory.
 pub record Stops (reader_old reader_new : SourceAt) (writer_old writer_new : SinkAt)
     (fault : StreamFault) : Type 0 where
   pub lines : List ℕ
@@ -54,7 +54,7 @@ pub record WritesLine (line : List ℕ) (writer_old writer_new : SinkAt) (is_fra
   pub appended : Appends writer_old.contents writer_new.contents (text ++ 10 ∷ [])
   pub frame : IsTrue is_frame ↔ IsFrameLine line
 
--- a front of it was written
+-- a front of that was written
 pub record StopsLine (line : List ℕ) (writer_old writer_new : SinkAt) (fault : StreamFault)
     : Type 0 where
   pub text : List ℕ

@@ -1,6 +1,6 @@
 -- How a run of a scenario ends for who started the program. The output has the number of a bad
--- line, and that a settling passes its limit; standard error is told of other faults, and of a bad
--- line what it is and what it wants.
+-- line, and that a settling passes its limit; standard error has other faults, and for a bad line
+-- what it is and what it wants.
 use Rattle.std.specs.Prelude.{◌≡◌, ◌⊎◌, ℕ, Bool, true, false, List, [], ◌∷◌, length, slice_get, Some, None}
 use Rattle.std.specs.Io.KnownBytes.{Keeps}
 use Rattle.streams.specs.Moment.{SinkAt, SourceAt}
@@ -40,28 +40,28 @@ status_of_scenario (BadLine line) = 1
 status_of_scenario Limit = 1
 status_of_scenario (Stream fault) = status_of_fault fault
 
--- what the line of this number is and wants was told, as far as standard error takes it; or memory
--- was wanting for that
+-- what the line of this number is and wants was printed, as far as standard error takes it; or
+-- memory ran out for that
 abbrev pub TellsBadLine : (errors_old errors_new : SinkAt) → List ℕ → ℕ → Type 0
 TellsBadLine errors_old errors_new text number =
     Keeps errors_old.contents errors_new.contents
     ⊎ ((told : List ℕ) × IsTold text number told × TellsText errors_old errors_new told)
 
--- what standard error is told of a fault of the run of this text
+-- what is printed at standard error for a fault of the run of this text
 abbrev pub TellsScenario : (errors_old errors_new : SinkAt) → List ℕ → ScenarioFault → Type 0
 TellsScenario errors_old errors_new text (BadLine line) =
     TellsBadLine errors_old errors_new text line
 TellsScenario errors_old errors_new text Limit = Keeps errors_old.contents errors_new.contents
 TellsScenario errors_old errors_new text (Stream fault) = TellsFault errors_old errors_new fault
 
--- a text was run to its end, and standard error was told nothing
+-- a text was run to its end, and nothing was printed at standard error
 pub record FinishesText (manner : Manner) (text : List ℕ)
     (writer_old writer_new errors_old errors_new : SinkAt) (status : ℕ) : Type 0 where
   pub status_is : status ≡ 0
   pub kept : Keeps errors_old.contents errors_new.contents
   pub prints : Prints manner text writer_old writer_new None
 
--- or it ended early by a fault, of which standard error was told
+-- or it ended early by a fault, which was reported at standard error
 pub record StopsText (manner : Manner) (text : List ℕ)
     (writer_old writer_new errors_old errors_new : SinkAt) (status : ℕ) : Type 0 where
   pub fault : ScenarioFault
@@ -83,7 +83,7 @@ pub record EndsInput (manner : Manner) (reader_old reader_new : SourceAt)
   pub reads : ReadsAll reader_old reader_new text
   pub ends : EndsAndTells manner text writer_old writer_new errors_old errors_new status
 
--- or the reading was stopped, which was told, and nothing was written
+-- or the reading was stopped, which was reported, and nothing was written
 pub record StopsInput (reader_old reader_new : SourceAt)
     (writer_old writer_new errors_old errors_new : SinkAt) (status : ℕ) : Type 0 where
   pub fault : StreamFault

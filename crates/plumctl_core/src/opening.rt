@@ -1,4 +1,4 @@
-//! What is told of a file that can't be opened.
+//! What is printed about a file that can't be opened.
 
 ghost use Rattle.std.specs.Prelude.{◌≡◌, ◌≢◌, IfOk};
 ghost use Rattle.plumctl_core.specs.Opening.{EndsAtOpening, TellsText, cause_of_kind, unopened_text};
@@ -24,7 +24,8 @@ fn cause_of_kind(kind: ErrorKind) -> &'static str
     }
 }
 
-/// The two lines that are told: that of input that can't be read, and the name with the cause.
+/// Returns the two lines to print: the line for input that can't be read, and the name with the
+/// cause.
 fn unopened_text(alloc: Global, name: &str, kind: ErrorKind) -> Result<Vec<u8>, AllocError>
     ensures { IfOk result (λ text. text.items ≡ unopened_text name.now kind) }
 {
@@ -38,17 +39,17 @@ fn unopened_text(alloc: Global, name: &str, kind: ErrorKind) -> Result<Vec<u8>, 
     Ok(text)
 }
 
-/// Tells a text at standard error, as far as that takes it.
+/// Prints a text at standard error, as far as that takes it.
 pub(crate) fn tell_text<E: Sink>(errors: &mut E, text: &[u8])
     ensures { TellsText (E.at errors.old) (E.at errors.new) text.now }
 {
     let _ = write_whole(errors, text);
 }
 
-/// Tells at standard error that the file of this name can't be opened, by the kind of the error,
+/// Prints at standard error that the file of this name can't be opened, by the kind of the error,
 /// and returns the exit status: `error 7 Read`, then a line with the name and the cause, and 3; or
-/// `error 99 Memory`, and 4, where memory was wanting, here too. A byte of the name other than
-/// printable is told as `?`. The status is never 2, which tells wrong arguments.
+/// `error 99 Memory`, and 4, where memory ran out, in this call too. A byte of the name that can't
+/// be printed is shown as `?`. The status is never 2, which stands for wrong arguments.
 pub fn tell_unopened<E: Sink>(alloc: Global, errors: &mut E, name: &str, kind: ErrorKind) -> u8
     ensures run { result ≢ 2 }
     ensures ends { EndsAtOpening name.now kind (E.at errors.old) (E.at errors.new) result }

@@ -15,7 +15,7 @@ use scenario_hint::told_of_line;
 use std::alloc::Global;
 use streams::{Sink, Source, StreamFault};
 
-/// Tells what is wrong with a line.
+/// Prints what is wrong with a line at standard error.
 fn tell_line<E: Sink>(alloc: Global, errors: &mut E, text: &[u8], line: u64)
     ensures { TellsBadLine (E.at errors.old) (E.at errors.new) text.now line }
 {
@@ -24,7 +24,7 @@ fn tell_line<E: Sink>(alloc: Global, errors: &mut E, text: &[u8], line: u64)
     }
 }
 
-/// Tells how the run of a text ended at `errors`, and returns the exit status.
+/// Prints at `errors` how the run of a text ended, and returns the exit status.
 fn end_status<E: Sink>(
     alloc: Global,
     errors: &mut E,
@@ -48,7 +48,7 @@ fn end_status<E: Sink>(
     }
 }
 
-/// Runs a text in the manner of the runner, tells how that ended, and returns the exit status.
+/// Runs a text in the manner of the runner, reports how that ended, and returns the exit status.
 fn run_as<P: Runner, W: Sink, E: Sink>(
     alloc: Global,
     runner: &mut P,
@@ -66,8 +66,8 @@ fn run_as<P: Runner, W: Sink, E: Sink>(
     end_status(alloc, errors, text, ended)
 }
 
-/// Runs a scenario of a reader by these resolvers, the results alone, tells how that ended, and
-/// returns the exit status.
+/// Runs a scenario of a reader with these resolvers, prints the results alone, reports how that
+/// ended, and returns the exit status.
 fn run_plain<R: Source, W: Sink, E: Sink>(
     alloc: Global,
     reader: &mut R,
@@ -93,7 +93,7 @@ fn run_plain<R: Source, W: Sink, E: Sink>(
     }
 }
 
-/// The same, explained.
+/// Does what `run_plain` does, explained.
 fn run_explained<R: Source, W: Sink, E: Sink>(
     alloc: Global,
     reader: &mut R,
@@ -122,7 +122,8 @@ fn run_explained<R: Source, W: Sink, E: Sink>(
     }
 }
 
-/// The same by the resolvers that `lww` and `largest` name, explained or with the results alone.
+/// Runs a scenario of a reader with the resolvers that `lww` and `largest` name, explained or with
+/// the results alone, and returns the exit status.
 fn run_by<R: Source, W: Sink, E: Sink>(
     alloc: Global,
     reader: &mut R,
@@ -145,8 +146,8 @@ fn run_by<R: Source, W: Sink, E: Sink>(
 }
 
 /// Runs a scenario as `run_over` does, or explains it as `explain_over` does, with the resolvers
-/// that the words `lww` and `largest` name. Tells a fault of reading, writing or memory at
-/// `errors`, and of the first bad line what it is and what it wants, and returns the exit status: 0
+/// that the words `lww` and `largest` name. Prints at `errors` a fault of reading, writing or
+/// memory, and for the first bad line what it is and what it wants, and returns the exit status: 0
 /// where it was run to its end, 1 where a line breaks a rule, a settling would go on past its limit
 /// or the input is too long, 3 where reading or writing failed, 4 where memory was refused.
 pub fn run_scenario<R: Source, W: Sink, E: Sink>(

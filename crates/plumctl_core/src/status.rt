@@ -1,4 +1,5 @@
-//! How a run ends for who started the program: the exit status, and what is told at standard error.
+//! How a run ends for who started the program: the exit status, and what is printed at standard
+//! error.
 
 ghost use Rattle.std.specs.Prelude.{◌≡◌, ◌≢◌};
 ghost use Rattle.plumctl_core.specs.Status.{status_of_end, status_of_fault, line_of_fault, EndsFrames, TellsFault};
@@ -8,7 +9,7 @@ use std::alloc::Global;
 use streams::{Sink, Source, StreamFault, write_whole};
 
 impl Ended {
-    /// 0 where each line was printed as a frame, 1 where one was refused.
+    /// Returns the exit status: 0 where each line was printed as a frame, 1 where one was refused.
     pub fn status(self) -> u8
         ensures { result ≡ status_of_end self }
     {
@@ -19,7 +20,8 @@ impl Ended {
     }
 }
 
-/// 1 for 8 `InputTooLong`, 3 for a fault of reading or writing, 4 for 99 `Memory`.
+/// Returns the exit status of a fault: 1 for 8 `InputTooLong`, 3 for a fault of reading or writing,
+/// 4 for 99 `Memory`.
 pub fn status_of_fault(fault: StreamFault) -> u8
     ensures { result ≡ status_of_fault fault }
 {
@@ -30,8 +32,8 @@ pub fn status_of_fault(fault: StreamFault) -> u8
     }
 }
 
-/// The line that tells a fault, with its line feed. Nothing tells a broken pipe: who closed it
-/// knows.
+/// Returns the line that reports a fault, with its line feed. It is empty for a broken pipe: who
+/// closed it knows.
 pub(crate) fn line_of_fault(fault: StreamFault) -> &'static str
     ensures { result.now ≡ line_of_fault fault }
 {
@@ -44,9 +46,9 @@ pub(crate) fn line_of_fault(fault: StreamFault) -> &'static str
     }
 }
 
-/// Tells a fault at standard error, on a line of its own, and returns the exit status. Where
+/// Prints a fault at standard error, on a line of its own, and returns the exit status. Where
 /// standard error fails nothing more is done, and what it holds back is not passed on: it is to
-/// hold nothing back. The status is never 2, which tells wrong arguments.
+/// hold nothing back. The status is never 2, which stands for wrong arguments.
 pub fn tell<E: Sink>(errors: &mut E, fault: StreamFault) -> u8
     ensures status { result ≡ status_of_fault fault }
     ensures told { TellsFault (E.at errors.old) (E.at errors.new) fault }
@@ -56,7 +58,7 @@ pub fn tell<E: Sink>(errors: &mut E, fault: StreamFault) -> u8
     status_of_fault(fault)
 }
 
-/// Runs `frame` as `frame_lines` does, tells a fault at `errors`, and returns the exit status: 0
+/// Runs `frame` as `frame_lines` does, prints a fault at `errors`, and returns the exit status: 0
 /// where each line was a frame, 1 where one was refused or the input is too long, 3 where reading
 /// or writing failed, 4 where memory was refused.
 pub fn run_frame<R: Source, W: Sink, E: Sink>(

@@ -1,7 +1,8 @@
--- How `plumctl file` ends for who started it: its exit status, and what standard error is told.
+-- How `plumctl file` ends for who started it: its exit status, and what is printed at standard
+-- error.
 --
 -- The statuses: 0 done, 1 the bytes are no file, or one with too many keys, 3 a path couldn't be
--- opened, or a device or a writer failed, 4 want of memory. Wrong arguments, with status 2, start
+-- opened, or a device or a writer failed, 4 memory ran out. Wrong arguments, with status 2, start
 -- nothing.
 use Rattle.std.specs.Prelude.{◌≡◌, ◌⊎◌, ℕ, List, [], Option, Some, None, Result, Ok, Err, Bool, true, false, MatchBool, codes}
 use Rattle.std.specs.Io.KnownBytes.{Appends}
@@ -28,9 +29,9 @@ pub record Outputs : Type 1 where
   pub writer : SinkAt
   pub errors : SinkAt
 
--- ---- what standard error is told of a path
+-- ---- what is printed at standard error about a path
 
--- (want of memory has a line of its own; and what is to be read can't be there already)
+-- (99 `Memory` has a line of its own; and a reading is never refused because PATH is there already)
 abbrev pub cause_of_path : OpenFault → List ℕ
 cause_of_path opening.Memory = []
 cause_of_path opening.Missing = line (codes "cause: PATH is not there")
@@ -56,12 +57,13 @@ read_failed = line (codes "cause: PATH could not be read")
 abbrev pub write_failed : List ℕ
 write_failed = line (codes "cause: OUT could not be written")
 
--- of a refusal: that of a device has a cause
+-- the cause of a refusal: only a device that failed has one
 abbrev pub cause_of : FileFault → List ℕ
 cause_of files.Device = read_failed
 cause_of fault = []
 
--- the text was told at standard error, which has not failed anew; or a front of it, and it failed
+-- the text was printed at standard error, which has not failed anew; or a front of the text was,
+-- and standard error failed
 abbrev pub TellsLine : (old new : SinkAt) → List ℕ → Type 0
 TellsLine old new text =
     (Appends old.contents new.contents text × FailsNoMore old.failed new.failed)
@@ -69,13 +71,13 @@ TellsLine old new text =
 
 -- ---- a device that failed, or couldn't be opened
 
--- its line was printed, and the cause told
+-- its line was printed, and the cause at standard error
 pub record PrintsDevice (cause : List ℕ) (old new : Outputs) (status : ℕ) : Type 0 where
   pub status_is : status ≡ 3
   pub prints : WritesOut old.writer new.writer (refusal_line files.Device)
   pub told : TellsLine old.errors new.errors cause
 
--- or the writer failed behind a front of the line, which was told
+-- or the writer failed after a front of the line, which was reported
 pub record StopsAtDevice (old new : Outputs) (status : ℕ) : Type 0 where
   pub fault : StreamFault
   pub status_is : status ≡ status_of_fault fault
@@ -86,7 +88,7 @@ abbrev pub EndsWithDevice : List ℕ → (old new : Outputs) → ℕ → Type 0
 EndsWithDevice cause old new status =
     PrintsDevice cause old new status ⊎ StopsAtDevice old new status
 
--- nothing was printed, and want of memory was told
+-- nothing was printed, and 99 `Memory` was reported
 pub record EndsWithMemory (old new : Outputs) (status : ℕ) : Type 0 where
   pub status_is : status ≡ 4
   pub quiet : IsQuiet old.writer new.writer
@@ -109,8 +111,8 @@ status_of (Shown shown) = 0
 status_of (Refused back fault) = status_of_refusal fault
 status_of (Stopped back fault) = status_of_fault fault
 
--- standard error is told nothing of a file that was shown, the cause of a refusal, if it has one,
--- and a fault that stopped the report
+-- what is printed at standard error: nothing for a file that was shown, the cause of a refusal, if
+-- it has one, and a fault that stopped the report
 abbrev pub TellsReport : {D : Type 0} → (old new : SinkAt) → Reported D → Type 0
 TellsReport old new (Shown shown) = IsQuiet old new
 TellsReport old new (Refused back fault) = TellsLine old new (cause_of fault)
@@ -143,14 +145,14 @@ abbrev pub is_memory : FileFault → Bool
 is_memory files.Memory = true
 is_memory fault = false
 
--- what is printed and told of a copy, by how it was made
+-- what is printed about a copy, by how making it ended
 abbrev pub EndsCopy : Result Unit FileFault → (old new : Outputs) → ℕ → Type 0
 EndsCopy (Ok made) old new status = (status ≡ 0)
     × (IsQuiet old.writer new.writer × IsQuiet old.errors new.errors)
 EndsCopy (Err fault) old new status = MatchBool (is_memory fault)
     (EndsWithMemory old new status) (EndsWithDevice write_failed old new status)
 
--- the target failed, or memory was wanting
+-- the target failed, or memory ran out
 abbrev pub FailsRewrite : (before now : ℕ) → (old new : Outputs) → ℕ → Type 0
 FailsRewrite before now old new status =
     (HasFailed before now × EndsWithDevice write_failed old new status)

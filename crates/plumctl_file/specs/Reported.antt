@@ -67,8 +67,8 @@ abbrev pub IsRefusalOf : {D : Type 0} → (D → List ℕ) → (D → ℕ) → D
 IsRefusalOf content failed device back fault = (opened None (content device) ≡ Err fault)
     ⊎ ((fault ≡ Device) × HasFailed (failed device) (failed back))
 
--- memory was wanting before anything was written; or the writer failed behind a front of what is
--- printed of these bytes, or of the line of a device that failed
+-- memory ran out before anything was written; or the writer failed after a front of what is printed
+-- of these bytes, or of the line of a device that failed
 pub data StopsReport {D : Type 0} (content : D → List ℕ) (failed : D → ℕ) (device back : D)
     (old new : SinkAt) (fault : StreamFault) : Type 0 where
   Unprinted : fault ≡ Memory → IsQuiet old new

@@ -8,13 +8,13 @@ use devices::OpenFault;
 use plumctl_core::tell;
 use streams::{Sink, write_whole};
 
-/// What is told of a file that failed to be read.
+/// Printed at standard error where a file failed to be read.
 pub(crate) const READ_FAILED: &str = "cause: PATH could not be read\n";
 
-/// What is told of a file that failed to be written.
+/// Printed at standard error where a file failed to be written.
 pub(crate) const WRITE_FAILED: &str = "cause: OUT could not be written\n";
 
-/// What is told of the path of a file that couldn't be opened to be read.
+/// Returns what is printed about the path of a file that couldn't be opened to be read.
 pub(crate) fn cause_of_path(fault: OpenFault) -> &'static str
     ensures { result.now ≡ cause_of_path fault }
 {
@@ -28,7 +28,7 @@ pub(crate) fn cause_of_path(fault: OpenFault) -> &'static str
     }
 }
 
-/// What is told of the path of a file that couldn't be made.
+/// Returns what is printed about the path of a file that couldn't be made.
 pub(crate) fn cause_of_out(fault: OpenFault) -> &'static str
     ensures { result.now ≡ cause_of_out fault }
 {
@@ -42,8 +42,8 @@ pub(crate) fn cause_of_out(fault: OpenFault) -> &'static str
     }
 }
 
-/// Prints the line of a device that failed, tells its cause at standard error, and returns the exit
-/// status.
+/// Prints the line of a device that failed, prints its cause at standard error, and returns the
+/// exit status.
 pub(crate) fn tell_device<W: Sink, E: Sink>(writer: &mut W, errors: &mut E, cause: &str) -> u8
     ensures { EndsWithDevice cause.now
         (record { writer = W.at writer.old; errors = E.at errors.old })

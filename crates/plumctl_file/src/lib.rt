@@ -10,8 +10,8 @@
 //! ```
 //!
 //! Read `report` (`file_report`), then `run` (`run_file`, `run_rewrite`) and `paths`
-//! (`report_path`, `copy_to_path`); `text` has the lines, and `cause` what standard error is told
-//! of a path. Their rows are the program `rows_file`.
+//! (`report_path`, `copy_to_path`); `text` has the lines, and `cause` what is printed at standard
+//! error about a path. Their rows are the program `rows_file`.
 #![tactic(auto)]
 
 mod cause;

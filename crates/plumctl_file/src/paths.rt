@@ -10,9 +10,9 @@ use node_file::{MIN_FILE_LEN, is_refused_by_front};
 use std::fs;
 use streams::Sink;
 
-/// Reports the file at a path, by `run_file`, and returns the exit status, which is never that of
-/// wrong arguments, with what was reported. Of a file that is refused for its front no more is
-/// read: opening the front alone answers the same.
+/// Reports the file at a path, by `run_file`, and returns the exit status, which is never 2, the
+/// status of wrong arguments, with what was reported. Where a file is refused for its front, no
+/// more of it is read: opening the front alone gives the same refusal.
 pub fn report_path<W: Sink, E: Sink>(
     rt: &HostRuntime,
     path: &str,
@@ -53,9 +53,9 @@ fn front_device(rt: &HostRuntime, front: &[u8]) -> Result<MemoryDevice, OpenFaul
     }
 }
 
-/// Makes a clean copy of a file that was shown at a path, where nothing is, by `run_rewrite`, and
-/// returns the exit status, which is never that of wrong arguments. What was made is removed where
-/// it isn't whole.
+/// Makes a clean copy of a file that was shown, by `run_rewrite`, at a path where nothing is, and
+/// returns the exit status, which is never 2, the status of wrong arguments. What was made is
+/// removed where it isn't whole.
 pub fn copy_to_path<W: Sink, E: Sink>(
     rt: &HostRuntime,
     shown: &ShownFile<FileDevice>,

@@ -26,7 +26,7 @@ pub enum Reported<D: Device> {
     Shown(ShownFile<D>),
     /// It holds none, or failed. The device comes back.
     Refused(D, FileFault),
-    /// The report could not be written, or memory was wanting. The device comes back.
+    /// The report could not be written, or memory ran out. The device comes back.
     Stopped(D, StreamFault),
 }
 

@@ -13,7 +13,7 @@ use plumctl_core::tell;
 use std::alloc::Global;
 use streams::{Sink, StreamFault, write_whole};
 
-/// What standard error is told of a refusal.
+/// Returns what is printed at standard error for a refusal.
 fn cause_of(fault: &FileFault) -> &'static str
     ensures { result.now ≡ cause_of fault.now }
 {
@@ -33,7 +33,7 @@ fn status_of_refusal(fault: &FileFault) -> u8
     }
 }
 
-/// Tells the cause of a refusal that was printed, and returns the exit status.
+/// Prints at `errors` the cause of a refusal whose line was printed, and returns the exit status.
 fn refused<E: Sink>(errors: &mut E, fault: &FileFault) -> u8
     ensures status { result ≡ status_of_refusal fault.now }
     ensures told { TellsLine (E.at errors.old) (E.at errors.new) (cause_of fault.now) }
@@ -43,11 +43,11 @@ fn refused<E: Sink>(errors: &mut E, fault: &FileFault) -> u8
 }
 
 /// Reports what is at a path, by how it was opened, and returns the exit status with what was
-/// reported, if the path was opened: 0 where a file was shown, 1 where the bytes are none, or one
-/// with too many keys, 3 where the path couldn't be opened, the device failed or the report
-/// couldn't be written, 4 where memory was refused. What is printed is that of `file_report`, or
-/// `error 30 Device`; why a path couldn't be opened or read is told at `errors`, and so is a fault
-/// of the writer, or of memory.
+/// reported, if the path was opened: 0 where a file was shown, 1 where the bytes are no file, or
+/// one with too many keys, 3 where the path couldn't be opened, the device failed or the report
+/// couldn't be written, 4 where memory was refused. Prints what `file_report` prints, or
+/// `error 30 Device`; and at `errors` why a path couldn't be opened or read, and a fault of the
+/// writer, or of memory.
 pub fn run_file<D: Device + Drop, W: Sink, E: Sink>(
     alloc: Global,
     found: Result<D, OpenFault>,
@@ -77,11 +77,11 @@ pub fn run_file<D: Device + Drop, W: Sink, E: Sink>(
     (status, Some(reported))
 }
 
-/// Writes a clean copy of a file that was shown to a target, by how that was opened: a file of the
-/// same node, last life and table. Returns the exit status, with the target where it was opened: 0
-/// where every crash leaves the copy there, 3 where it couldn't be made or failed, which prints
-/// `error 30 Device`, 4 where memory was refused. After 3 and 4 the target may hold anything. The
-/// report was printed before.
+/// Writes a clean copy of a file that was shown, with the same node, last life and table, to a
+/// target, by how the target was opened. Returns the exit status, with the target where it was
+/// opened: 0 where every crash leaves the copy there, 3 where it couldn't be made or failed, which
+/// prints `error 30 Device`, 4 where memory was refused. After 3 and 4 the target may hold
+/// anything. The report was printed before.
 pub fn run_rewrite<D: Device, T: Device, W: Sink, E: Sink>(
     alloc: Global,
     shown: &ShownFile<D>,
@@ -104,7 +104,7 @@ pub fn run_rewrite<D: Device, T: Device, W: Sink, E: Sink>(
     (copied(made, writer, errors), Some(target))
 }
 
-/// Tells how the making of a copy ended, and returns the exit status.
+/// Prints how the making of a copy ended, if it failed, and returns the exit status.
 fn copied<W: Sink, E: Sink>(made: Result<(), FileFault>, writer: &mut W, errors: &mut E) -> u8
     ensures not_usage { result ≢ 2 }
     ensures ends { EndsCopy made

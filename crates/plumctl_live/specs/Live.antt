@@ -1,8 +1,8 @@
 -- What is printed of a cluster of threads, and the exit status.
 --
 -- The statuses: 0 what the threads did is a run of the world, 1 it isn't, or that can't be said, or
--- the cluster gives no run, 3 a device failed before the run, or the writer failed, 4 want of
--- memory; of several the greatest. Wrong arguments, with status 2, start nothing.
+-- the cluster gives no run, 3 a device failed before the run, or the writer failed, 4 memory ran
+-- out; where several apply, the greatest of them. Wrong arguments, with status 2, start nothing.
 use Rattle.std.specs.Prelude.{◌≡◌, ◌⊎◌, ℕ, max, nat_eq, if◌then◌else◌, List, [], ◌∷◌, ◌++◌, length, map, All, Option, Some, None, Result, Ok, Err, IfOk, IfErr, OnOk, codes, decimal}
 use Rattle.node_journal.specs.Closed.{AreWhole}
 use Rattle.run_record.specs.Fault as records
@@ -104,7 +104,7 @@ calls_line (Some counts) = line (codes "calls " ++ decimal counts.calls
 abbrev pub fault_line : ℕ → List ℕ → List ℕ
 fault_line code name = line (codes "fault " ++ decimal code ++ codes " " ++ name)
 
--- 99, and what has no number, is told at standard error alone
+-- 99, and what has no number, is reported at standard error alone
 abbrev pub line_of_number : Option ℕ → List ℕ → List ℕ
 line_of_number None name = []
 line_of_number (Some code) name = if nat_eq code 99 then [] else fault_line code name
@@ -141,19 +141,20 @@ note_of_stopped None = []
 note_of_stopped (Some counts) = if nat_eq counts.stopped 0 then []
     else line (codes "note: a device failed, and its node made no more turns")
 
--- what standard error is told of what became of a run
+-- what is printed at standard error about what became of a run
 abbrev pub told_of : Option Counts → Result World LiveFault → List ℕ
 told_of counts (Ok w) = note_of_stopped counts
 told_of counts (Err fault) = told_of_fault fault
 
--- the text was printed, and told what it doesn't say
+-- the text was printed, and at standard error what it doesn't say
 pub record PrintsLive (plan : ClusterPlan) (counts : Option Counts)
     (judged : Result World LiveFault) (old new : Outputs) (status : ℕ) : Type 0 where
   pub status_is : status ≡ status_of_verdict judged
   pub prints : WritesOut old.writer new.writer (live_text plan counts judged)
   pub told : TellsLine old.errors new.errors (told_of counts judged)
 
--- a fault of the writer is told where no fault of the run is to be told; the note isn't told then
+-- a fault of the writer is printed at standard error where no fault of the run is; the note isn't
+-- printed then
 abbrev pub TellsUnless : List ℕ → StreamFault → (old new : SinkAt) → Type 0
 TellsUnless [] fault old new = TellsFault old new fault
 TellsUnless (byte ∷ bytes) fault old new = TellsLine old new (byte ∷ bytes)
@@ -162,7 +163,7 @@ abbrev pub TellsStop : Result World LiveFault → StreamFault → (old new : Sin
 TellsStop (Ok w) fault old new = TellsFault old new fault
 TellsStop (Err by_run) fault old new = TellsUnless (told_of_fault by_run) fault old new
 
--- or the writer failed behind a front of it, which was told
+-- or the writer failed after a front of it, which was reported unless a fault of the run was
 pub record StopsLive (plan : ClusterPlan) (counts : Option Counts)
     (judged : Result World LiveFault) (old new : Outputs) (status : ℕ) : Type 0 where
   pub fault : StreamFault
@@ -170,14 +171,14 @@ pub record StopsLive (plan : ClusterPlan) (counts : Option Counts)
   pub stops : WritesFront old.writer new.writer (live_text plan counts judged) fault
   pub told : TellsStop judged fault old.errors new.errors
 
--- what was judged was printed, as far as the writer takes it; or memory was wanting, and nothing
--- was printed
+-- what was judged was printed, as far as the writer takes it; or memory ran out, and nothing was
+-- printed
 abbrev pub EndsLive : ClusterPlan → Option Counts → Result World LiveFault → (old new : Outputs)
     → ℕ → Type 0
 EndsLive plan counts judged old new status = PrintsLive plan counts judged old new status
     ⊎ (StopsLive plan counts judged old new status ⊎ EndsWithMemory old new status)
 
--- a run that came about so was judged, and told of
+-- a run that came about so was judged and reported
 pub record IsJudgedAndTold (Came : Result ClusterRun ClusterFault → Type 0) (plan : ClusterPlan)
     (old new : Outputs) (live : LiveRun) : Type 0 where
   pub run : Result ClusterRun ClusterFault

@@ -20,8 +20,8 @@ use Rattle.plumctl_file.specs.Ends.{TellsLine}
 
 -- ---- the scenario
 
--- the whole output of the text is what obeying its commands prints, in a world of so many new
--- nodes, and this is the world that they lead to: with these events, replies and frames
+-- the whole output of the text is what obeying its commands prints, in a world of this number of
+-- new nodes, and this is the world that they lead to: with these events, replies and frames
 pub record MakesAgain (choices : Choices) (nodes : ℕ) (w : World) (text output : List ℕ)
     (ended : Option ScenarioFault) : Type 0 where
   pub whole : ended ≡ None
@@ -50,7 +50,7 @@ pub record IsStored {D : Type 0} (content : D → List ℕ) (may_leave : D → L
   pub written : Overwrites (content old) 0 text (content new)
   pub durable : IsDurable (content new) (may_leave new)
 
--- a recording that is longer than what is run is told so
+-- the note about a recording that is longer than what is run
 abbrev pub note_of : ℕ → List ℕ
 note_of len = if nat_lt input_limit len
     then line (codes "note: FILE is longer than 67108864 bytes, so 'plumctl run' refuses it")
@@ -71,7 +71,7 @@ device_line = line (codes "error 30 Device")
 abbrev pub device_failed : List ℕ
 device_failed = device_line ++ line (codes "cause: FILE could not be written")
 
--- the device failed; memory was wanting; or no text reads back as the run
+-- the device failed; memory ran out; or no text reads back as the run
 abbrev pub FailsRecording : {D : Type 0} → (D → ℕ) → (old new : D)
     → (errors_old errors_new : SinkAt) → ℕ → Type 0
 FailsRecording failed old new errors_old errors_new status =
@@ -92,7 +92,8 @@ abbrev pub status_of_unmade : OpenFault → ℕ
 status_of_unmade opening.Memory = 4
 status_of_unmade fault = 3
 
--- what standard error is told of the path of a recording, or of a folder with the nodes' files
+-- what is printed at standard error about the path of a recording, or of a folder with the nodes'
+-- files
 abbrev pub told_of_unmade : OpenFault → List ℕ
 told_of_unmade opening.Memory = line (codes "error 99 Memory")
 told_of_unmade opening.Missing =

@@ -1,11 +1,11 @@
-//! What is counted of a run.
+//! The counts of a run.
 
 ghost use Rattle.std.specs.Prelude.{◌≡◌};
 ghost use Rattle.plumctl_live.specs.Live.{counts_in};
 
 use cluster::ClusterRun;
 
-/// What is counted of a run.
+/// The counts of a run.
 #[derive(Clone, Copy, Debug, PartialEq, Eq)]
 pub struct Counts {
     /// How many calls the nodes accepted.
@@ -17,7 +17,7 @@ pub struct Counts {
 }
 
 impl Counts {
-    /// Those of a run.
+    /// Returns the counts of a run.
     pub(crate) fn of(run: &ClusterRun) -> Counts
         ensures { result ≡ counts_in run.now }
     {

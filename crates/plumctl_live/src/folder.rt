@@ -1,4 +1,5 @@
-//! A folder with a new file for each node, and what is told of a path where nothing could be made.
+//! A folder with a new file for each node, and what is printed about a path where nothing could be
+//! made.
 
 ghost use Rattle.std.specs.Prelude.{◌≡◌, ◌≢◌, length, All, IfOk};
 ghost use Rattle.devices.specs.Device.{IsDurable};
@@ -26,7 +27,7 @@ fn new_file(rt: &HostRuntime, folder: &str, node: u64) -> Result<FileDevice, Ope
     }
 }
 
-/// Makes a folder, where nothing is, and in it an empty file for each of so many nodes: `node-0`,
+/// Makes a folder, where nothing is, and in it an empty file for each of `nodes` nodes: `node-0`,
 /// `node-1` and so on. Where one can't be made, what was made stays.
 pub fn new_files(rt: &HostRuntime, folder: &str, nodes: u64) -> Result<Vec<FileDevice>, OpenFault>
     ensures many { IfOk result (λ devices. length devices.items ≡ nodes) }
@@ -45,7 +46,7 @@ pub fn new_files(rt: &HostRuntime, folder: &str, nodes: u64) -> Result<Vec<FileD
     Ok(devices)
 }
 
-/// What standard error is told of a path where nothing could be made.
+/// Returns what is printed at standard error about a path where nothing could be made.
 fn told_of(fault: OpenFault) -> &'static str
     ensures { result.now ≡ told_of_unmade fault }
 {
@@ -61,8 +62,8 @@ fn told_of(fault: OpenFault) -> &'static str
     }
 }
 
-/// Tells why the file of a recording, or the folder of the nodes, couldn't be made, and returns the
-/// exit status: 4 where memory was refused, 3 otherwise.
+/// Prints at standard error why the file of a recording, or the folder of the nodes, couldn't be
+/// made, and returns the exit status: 4 where memory was refused, 3 otherwise.
 pub fn tell_unmade<E: Sink>(errors: &mut E, fault: OpenFault) -> u8
     ensures told { TellsLine (E.at errors.old) (E.at errors.new) (told_of_unmade fault) }
     ensures status { result ≡ status_of_unmade fault }

@@ -9,12 +9,12 @@ use run_record::{RecordFault, assemble};
 use std::alloc::Global;
 use world_core::World;
 
-/// Why a run of a cluster isn't told as one of the world.
+/// Why a cluster's run isn't reported as a run of the world.
 #[derive(Debug, Drop)]
 pub enum LiveFault {
-    /// There is none.
+    /// There is no run.
     Cluster(ClusterFault),
-    /// What it left isn't one.
+    /// What the run left isn't a run of the world.
     Record(RecordFault),
     /// A journal isn't whole: it was cut, or its node isn't in its first life. So nobody can say.
     /// On new devices, with the greatest limits and as many turns as the program takes, all are.

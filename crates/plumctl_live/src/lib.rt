@@ -1,5 +1,5 @@
-//! What `plumctl live` does: a cluster of threads is run, judged and told of, and written down as a
-//! scenario that makes its events again; over any writer, any standard error, any devices. The
+//! What `plumctl live` does: a cluster of threads is run, judged and reported, and written down as
+//! a scenario that makes its events again; over any writer, any standard error, any devices. The
 //! program itself reads its arguments, opens paths, and removes a recording that isn't whole.
 //!
 //! ```

@@ -28,12 +28,12 @@ fn about(alloc: Global, plan: ClusterPlan) -> Result<Vec<u8>, AllocError> {
     Ok(text)
 }
 
-/// The run of the world as a scenario, whose comment on top names this plan. A run of it to its
-/// end, with two resolvers at hand as `plumctl run` has them, makes the same events, and comes to
-/// the same world: with the same replies and frames.
+/// Returns the run of the world as a scenario, whose comment on top names this plan. A run of it to
+/// its end, with two resolvers at hand as `plumctl run` has them, makes the same events, and comes
+/// to the same world: with the same replies and frames.
 ///
-/// None where no text reads back as this run. Each event that the workers of a cluster make has a
-/// command: a join, a write over what is there, a delivery, a tick. No contract says so.
+/// Returns `None` where no text reads back as this run. Each event that the workers of a cluster
+/// make has a command: a join, a write over what is there, a delivery, a tick. No contract says so.
 ///
 /// It takes memory for the text, and for each event once more.
 pub fn recording_of(
@@ -59,7 +59,7 @@ fn store<T: Device>(target: &mut T, text: &[u8]) -> Result<(), DeviceFault>
     target.sync()
 }
 
-/// What standard error is told of a recording of so many bytes.
+/// Returns what is printed at standard error about a recording of `len` bytes.
 fn note_of(len: usize) -> &'static str
     ensures { result.now ≡ note_of len }
 {
@@ -72,8 +72,9 @@ fn note_of(len: usize) -> &'static str
 
 /// Writes the run down at the front of a device, which is to be empty, and returns the exit status:
 /// 0 where every crash leaves the recording there, 1 where the run has none, 3 where the device
-/// failed, 4 where memory was refused. All but the first is told at `errors`, and after them the
-/// device may hold anything; of a recording that is too long to be run a note is.
+/// failed, 4 where memory was refused. Prints at `errors` why, where the status isn't 0; the device
+/// may hold anything then. Where it is 0, prints a note there if the recording is too long to be
+/// run.
 pub fn write_recording<T: Device, E: Sink>(
     alloc: Global,
     plan: ClusterPlan,

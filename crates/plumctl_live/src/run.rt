@@ -21,23 +21,23 @@ use world_core::World;
 /// What became of a run of a cluster.
 #[derive(Drop)]
 pub struct LiveRun {
-    /// The exit status: 0 where it is a run of the world; 1 where it isn't, or there is none; 3
-    /// where a device failed before there was one, or the writer failed; 4 where memory was
-    /// refused. Of several the greatest.
+    /// The exit status: 0 where the run is one of the world; 1 where it isn't, or there is no run;
+    /// 3 where a device failed before there was one, or the writer failed; 4 where memory was
+    /// refused. Where several apply, the greatest of them.
     pub status: u8,
-    /// What is counted of it, where there is a run.
+    /// The counts of the run, where there is one.
     pub counts: Option<Counts>,
-    /// The run of the world that it is, or why there is none.
+    /// The run of the world that the run is, or why there is none.
     pub judged: Result<World, LiveFault>,
 }
 
-/// What standard error is told of a journal that isn't whole.
+/// Printed at standard error where a journal isn't whole.
 const NOT_WHOLE: &str = "error: a journal isn't whole, so nobody can say whether this is a run\n";
 
-/// What it is told of nodes that stopped.
+/// Printed at standard error where nodes stopped.
 const STOPPED: &str = "note: a device failed, and its node made no more turns\n";
 
-/// The exit status of what was judged.
+/// Returns the exit status of what was judged.
 fn status_of_verdict(judged: &Result<World, LiveFault>) -> u8
     ensures { result ≡ status_of_verdict judged.now }
 {
@@ -51,7 +51,7 @@ fn status_of_verdict(judged: &Result<World, LiveFault>) -> u8
     }
 }
 
-/// What standard error is told of a fault of a run.
+/// Returns what is printed at standard error for a fault of a run.
 fn told_of_fault(fault: &LiveFault) -> &'static str
     ensures { result.now ≡ told_of_fault fault.now }
 {
@@ -62,7 +62,7 @@ fn told_of_fault(fault: &LiveFault) -> &'static str
     }
 }
 
-/// What standard error is told of what became of a run.
+/// Returns what is printed at standard error about what became of a run.
 fn told_of(counts: Option<Counts>, judged: &Result<World, LiveFault>) -> &'static str
     ensures { result.now ≡ told_of counts judged.now }
 {
@@ -75,8 +75,8 @@ fn told_of(counts: Option<Counts>, judged: &Result<World, LiveFault>) -> &'stati
     }
 }
 
-/// Tells at standard error that the writer failed, but where a fault of the run has to be told,
-/// that one.
+/// Prints at standard error that the writer failed; where a fault of the run has a line there,
+/// prints that line instead.
 fn tell_stop<E: Sink>(judged: &Result<World, LiveFault>, fault: StreamFault, errors: &mut E)
     ensures { TellsStop judged.now fault (E.at errors.old) (E.at errors.new) }
 {
@@ -138,9 +138,10 @@ fn judge_run(
 /// is a run, one of calls and lost frames; and then `assembled`, or `fault` with the number and the
 /// name of the refusal.
 ///
-/// Standard error is told of want of memory, of a journal that isn't whole, and, where the run is
-/// one of the world, that a node stopped; and if nothing of that, of a fault of the writer. It
-/// takes memory for the world.
+/// Prints at standard error that memory ran out, that a journal isn't whole, or, where the run is
+/// one of the world, that a node stopped. Where the writer fails, its fault is printed there unless
+/// one of the first two is; the note about a node isn't printed then. It takes memory for the
+/// world.
 pub fn tell_run<W: Sink, E: Sink>(
     alloc: Global,
     plan: ClusterPlan,
@@ -164,7 +165,7 @@ pub fn tell_run<W: Sink, E: Sink>(
     }
 }
 
-/// Runs a cluster on new devices in memory, and tells what became of it as [`tell_run`] does.
+/// Runs a cluster on new devices in memory, and reports what became of it as [`tell_run`] does.
 pub fn run_live<R: Threads + Wait + Sync, G: Gate + Sync, W: Sink, E: Sink>(
     rt: &R,
     alloc: Global,
@@ -183,9 +184,9 @@ pub fn run_live<R: Threads + Wait + Sync, G: Gate + Sync, W: Sink, E: Sink>(
     tell_run(alloc, plan, run, writer, errors)
 }
 
-/// Runs a cluster on these devices, that of node 0 first, with the greatest limits, and tells what
-/// became of it as [`tell_run`] does. A device that isn't new is in a later life, whose run isn't
-/// judged.
+/// Runs a cluster on these devices, the device of node 0 first, with the greatest limits, and
+/// reports what became of it as [`tell_run`] does. A device that isn't new is in a later life,
+/// whose run isn't judged.
 pub fn run_live_on<
     D: Device + Drop + Send,
     R: Threads + Wait + Sync,

@@ -48,7 +48,7 @@ fn add_fault(text: &mut Vec<u8>, code: u16, name: &str) -> Result<(), AllocError
     Ok(())
 }
 
-/// Adds the line of the verdict, where it has one.
+/// Adds the line of the verdict, if the verdict has one.
 fn add_verdict(text: &mut Vec<u8>, judged: &Result<World, LiveFault>) -> Result<(), AllocError>
     ensures { OnOk result (text.new.items ≡ text.old.items ++ verdict_line judged.now) }
 {
@@ -61,7 +61,7 @@ fn add_verdict(text: &mut Vec<u8>, judged: &Result<World, LiveFault>) -> Result<
     }
 }
 
-/// All that is printed of a run of this plan.
+/// Returns all that is printed of a run of this plan.
 #[tactic(auto, unfolding(crate::specs::Live::live_text))]
 pub(crate) fn text_of(
     alloc: Global,

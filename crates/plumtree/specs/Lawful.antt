@@ -21,7 +21,7 @@ pub record AreLinks (eager lazy : List ℕ) : Type 0 where
 abbrev pub HasLinks : Broadcast → Type 0
 HasLinks b = AreLinks b.eager b.lazy
 
--- the broadcast after a call, and after these calls in turn
+-- the broadcast after a call, and after these calls, one after the other
 abbrev pub after_call : Broadcast → CastCall → Broadcast
 after_call b call = broadcast_of (row call (draft_of b))
 
@@ -29,7 +29,8 @@ abbrev pub broadcast_after : Broadcast → List CastCall → Broadcast
 broadcast_after b [] = b
 broadcast_after b (call ∷ calls) = broadcast_after (after_call b call) calls
 
--- where each peer stands so, each does after every call; and so each does whatever calls are made
+-- where each peer stands so, each does after every call; and so each does after any calls of a new
+-- broadcast
 pub record StayLinks : Type 0 where
   pub each_call : (b : Broadcast) (call : CastCall) → HasLinks b → HasLinks (after_call b call)
   pub every_list : (calls : List CastCall) → HasLinks (broadcast_after empty calls)
@@ -80,8 +81,8 @@ pub record NamesOthers (node : ℕ) (b : Broadcast) : Type 0 where
   pub queue : All (λ a. MayBeSent node (ihave_of a)) b.queue
   pub missing : All (MayBeAsked node) b.missing
 
--- a call whose new peer, or the sender that it may lead to a message to, is another node; and what
--- it may announce or wait for, a frame can spell
+-- a call whose new peer is another node, and whose sender is, if the call may lead to a message to
+-- it; and a frame can spell what the call may announce or wait for
 abbrev pub MayCome : ℕ → CastCall → Type 0
 MayCome node (Up peer) = peer ≢ node
 MayCome node (Down peer) = Unit {0}
@@ -101,7 +102,7 @@ pub record TellsOthers (node : ℕ) (b : Broadcast) (call : CastCall) : Type 0 w
   pub out : All (MayBeSent node) (row call (draft_of b)).out
   pub broadcast : NamesOthers node (after_call b call)
 
--- a new broadcast names no node, and where a broadcast names others, such a call tells others:
+-- a new broadcast names no node; where a broadcast names others, such a call names others too:
 -- nothing goes to the node itself, what is sent whole is IHAVE, GRAFT or PRUNE, and it has a
 -- spelling
 pub record SendsToOthers : Type 0 where

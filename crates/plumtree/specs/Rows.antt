@@ -49,14 +49,14 @@ down x t =
 unfoldable pub on_broadcast : Key → List Counter → Draft → Draft
 on_broadcast key vector t = t ▷ gossip_to t.eager 0 key ▷ announce_to t.lazy 0 key vector
 
--- ---- GOSSIP: a fresh object is passed on to all but its sender, a stale one to nobody; a fresh
--- one's sender becomes eager, a stale one's lazy, and is sent PRUNE
+-- ---- GOSSIP: a fresh object is passed on to all but its sender, which becomes eager; a stale one
+-- is passed on to nobody, and its sender becomes lazy and is sent PRUNE
 
 -- the greatest round, which is the greatest number of its field
 abbrev pub greatest_round : ℕ
 greatest_round = 65535
 
--- a round stays there
+-- the round after this one; the greatest stays
 abbrev pub next_round : ℕ → ℕ
 next_round round = min (round + 1) greatest_round
 
@@ -149,7 +149,7 @@ ihave_of a = Send a.peer (IHave a.round a.key a.vector)
 abbrev pub send_announcements : Draft → Draft
 send_announcements t = record t { queue = []; out = t.out ++ map ihave_of t.queue }
 
--- the list is made anew, in order
+-- the list is made anew, in order: first it is empty
 abbrev pub none_missing : Draft → Draft
 none_missing t = record t { missing = [] }
 
@@ -161,7 +161,7 @@ keep m t = record t { missing = t.missing ++ m ∷ [] }
 abbrev pub asked_patience : ℕ
 asked_patience = 1
 
--- the first of these announcers is asked, and the object is kept; without one it isn't
+-- the first of these announcers is asked, and the object is kept; without one it isn't kept
 abbrev pub ask_first : MissingObject → List Announcer → Draft → Draft
 ask_first m [] t = t
 ask_first m (a ∷ others) t =

@@ -12,7 +12,8 @@ pub record Standing : Type 0 where
 abbrev pub savepoint_of : Broadcast → Standing
 savepoint_of b = record { eager = b.eager; lazy = b.lazy; waiting = length b.queue }
 
--- the peers are those again, and what waits is what waited then
+-- the peers are those of the savepoint, and of the announcements only the first stay, as many as
+-- waited then
 abbrev pub rolled_back : Standing → Broadcast → Broadcast
 rolled_back s b = record {
   eager = s.eager;

@@ -69,8 +69,7 @@ impl Cast {
         }
     }
 
-    /// Returns whether it has no peer, nothing to announce and nothing that it waits for, as a new
-    /// one.
+    /// Returns whether it has no peer and nothing to announce, and waits for nothing, as a new one.
     pub fn is_new(&self) -> bool
         ensures { IsTrue result ↔ (self.now ≡ empty) }
     {

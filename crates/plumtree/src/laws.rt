@@ -1,8 +1,8 @@
 ghost use Rattle.plumtree.specs.Lawful.{PeersComeAndGo, SendsToOthers, StayLinks};
 ghost use Rattle.plumtree.specs.Savepoint.{AreTakenBack};
 
-/// Where each peer stands once, and is either eager or lazy, it does and is so after each call; and
-/// so it is whatever calls are made.
+/// If each peer stands once, and is either eager or lazy, that holds after each call too; and so it
+/// holds in a new broadcast after any calls.
 pub fn peers_are_eager_or_lazy()
     ensures { StayLinks }
 {}
@@ -13,16 +13,16 @@ pub fn peers_come_up_and_go_down()
     ensures { PeersComeAndGo }
 {}
 
-/// A new broadcast names no node. Where a call names other nodes, and what it may announce or wait
-/// for can be spelled, all that it gives out goes to other nodes, what it sends whole is IHAVE,
-/// GRAFT or PRUNE, and each of these can be spelled; and so it goes on, from any broadcast that
-/// names other nodes alone.
+/// A new broadcast names no node. In a broadcast that names only other nodes, where a call names
+/// other nodes, and what it may announce or wait for can be spelled, all that it gives out goes to
+/// other nodes, what it sends whole is IHAVE, GRAFT or PRUNE, each of these can be spelled, and the
+/// broadcast still names only other nodes.
 pub fn what_is_sent_goes_to_others()
     ensures { SendsToOthers }
 {}
 
-/// Whoever rolls a broadcast back to where it stood before a write was broadcast, or a GOSSIP,
-/// PRUNE or GRAFT was taken, has it as it was.
+/// A broadcast that is rolled back to where it stood before a write was broadcast, or a GOSSIP,
+/// PRUNE or GRAFT was taken, is as it was.
 pub fn calls_are_taken_back()
     ensures { AreTakenBack }
 {}

@@ -5,7 +5,7 @@
 //! which an object came that was known already becomes lazy (PRUNE), which is meant to make a tree
 //! of the eager links; one over which an object had to be asked for becomes eager again.
 //!
-//! Each call is one row of a table. [`Cast`] holds no objects: whoever does says whether one was
+//! Each call is one row of a table. [`Cast`] holds no objects: its caller says whether one was
 //! fresh, and adds it to the [`CastOut::Gossip`] that a call gives out.
 //!
 //! ```

@@ -107,7 +107,7 @@ fn place_of(missing: &[MissingObject], key: &MetaKey, vector: &Vector) -> Option
     missing.iter().position(|object| object.is_of(key, vector))
 }
 
-/// An announcement came of an object that isn't here.
+/// Notes an announcement of an object that isn't here.
 pub(crate) fn note(
     alloc: Global,
     missing: &mut Vec<MissingObject>,
@@ -181,7 +181,7 @@ pub(crate) fn gossips(
     Ok(out)
 }
 
-/// It is announced to each of these at the next tick.
+/// The object under the key is announced to each of these at the next tick.
 pub(crate) fn announcements(
     alloc: Global,
     peers: &[NodeId],

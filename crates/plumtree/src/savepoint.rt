@@ -38,9 +38,9 @@ impl Cast {
         })
     }
 
-    /// The peers are as they were, and what waited since for the next tick doesn't. That takes back
-    /// whatever `on_broadcast`, `on_gossip`, `on_prune` and `on_graft` did. It never fails, and
-    /// takes no memory.
+    /// The peers are those of the savepoint again, and announcements that were added since then
+    /// wait no longer. That takes back whatever `on_broadcast`, `on_gossip`, `on_prune` and
+    /// `on_graft` did. It never fails, and takes no memory.
     pub fn roll_back(&mut self, savepoint: Savepoint)
         ensures { self.new ≡ rolled_back savepoint self.old }
     {

@@ -23,7 +23,7 @@ pub(crate) fn add_node(out: &mut Vec<u8>, node: NodeId) -> Result<(), AllocError
     add_number(out, u64::from(node.number()))
 }
 
-/// Adds who counts writes: its node and its incarnation, as `0.1`.
+/// Adds an actor, who counts writes: its node and its incarnation, as `0.1`.
 #[tactic(auto, unfolding(crate::specs::Field::actor_text))]
 pub(crate) fn add_actor(out: &mut Vec<u8>, actor: Actor) -> Result<(), AllocError>
     ensures { OnOk result (out.new.items ≡ out.old.items ++ actor_text actor) }

@@ -31,7 +31,7 @@ fn add_counter(out: &mut Vec<u8>, counter: Counter) -> Result<(), AllocError>
     add_number(out, counter.count())
 }
 
-/// Adds counters, a comma before each but for one that stands first.
+/// Adds counters, with a comma before each but the first.
 fn add_counters(out: &mut Vec<u8>, counters: &[Counter]) -> Result<(), AllocError>
     ensures { OnOk result (out.new.items ≡ out.old.items
         ++ separated true (map counter_text counters.now)) }
@@ -45,7 +45,7 @@ fn add_counters(out: &mut Vec<u8>, counters: &[Counter]) -> Result<(), AllocErro
     Ok(())
 }
 
-/// Adds a context, as `0.1:2,1.1:1`, or `-` for the one that has read nothing.
+/// Adds a context, as `0.1:2,1.1:1`, or `-` for the context that has read nothing.
 pub(crate) fn add_vector(out: &mut Vec<u8>, vector: &Vector) -> Result<(), AllocError>
     ensures { OnOk result (out.new.items ≡ out.old.items ++ vector_text vector.now) }
 {
@@ -55,8 +55,8 @@ pub(crate) fn add_vector(out: &mut Vec<u8>, vector: &Vector) -> Result<(), Alloc
     add_counters(out, vector.counters())
 }
 
-/// Adds values, a comma before each but for one that stands first, and returns whether the next one
-/// stands first.
+/// Adds values, with a comma before each; the first has none where `first` is true. Returns whether
+/// the next value would stand first.
 fn add_values(out: &mut Vec<u8>, values: &[Value], first: bool) -> Result<bool, AllocError>
     ensures { IfOk result (λ next. AddsTexts first
         (map value_text values.now) out.old.items out.new.items next) }

@@ -18,7 +18,7 @@ use meta_frame::{Frame, FrameFault};
 use meta_types::{MetaKey, NodeId, Value};
 use std::alloc::AllocError;
 
-/// A line of text in most cases has no more bytes.
+/// The bytes reserved for a line of text. Most lines have no more.
 const LINE_LEN: usize = 128;
 
 /// Adds a number in decimal digits.
@@ -51,8 +51,8 @@ pub fn print_key(out: &mut Vec<u8>, key: &MetaKey) -> Result<(), AllocError>
     out.extend_from_slice(text.as_slice())
 }
 
-/// Adds a value: its bytes as those of a key, or `~` for a tombstone, and then its stamp, as `@5`,
-/// unless that is 0.
+/// Adds a value: its bytes in the form of a part of a key, or `~` for a tombstone, and then its
+/// stamp, as `@5`, unless that is 0.
 pub fn print_value(out: &mut Vec<u8>, value: &Value) -> Result<(), AllocError>
     ensures ok { OnOk result (out.new.items ≡ out.old.items ++ value_text value.now) }
     ensures err { OnErr result (out.new.items ≡ out.old.items) }
@@ -91,7 +91,7 @@ pub fn print_digest(out: &mut Vec<u8>, digest: &Digest) -> Result<(), AllocError
     add_digest(out, digest)
 }
 
-/// Adds a context, as `0.1:2,1.1:1`, or `-` for the one that has read nothing.
+/// Adds a context, as `0.1:2,1.1:1`, or `-` for the context that has read nothing.
 pub fn print_vector(out: &mut Vec<u8>, vector: &Vector) -> Result<(), AllocError>
     ensures ok { OnOk result (out.new.items ≡ out.old.items ++ vector_text vector.now) }
     ensures err { OnErr result (out.new.items ≡ out.old.items) }

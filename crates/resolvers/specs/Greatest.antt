@@ -8,11 +8,11 @@ use Rattle.std.specs.Option.{option_cmp}
 use Rattle.meta_types.specs.Value.{ValueParts}
 use Rattle.meta_types.specs.Order.{bytes_cmp, value_cmp}
 
--- the stamps decide, or at equal ones the bodies: a tombstone is least, then byte order
+-- the stamps decide; at equal stamps the bodies: a tombstone is least, then byte order
 abbrev pub by_stamp : ValueParts → ValueParts → Ordering
 by_stamp = value_cmp
 
--- the bodies decide, of which a tombstone is least, then byte order; or at equal ones the stamps
+-- the bodies decide: a tombstone is least, then byte order; at equal bodies the stamps
 abbrev pub by_body : ValueParts → ValueParts → Ordering
 by_body = then_cmp (on (λ v. v.body) (option_cmp bytes_cmp)) (on (λ v. v.stamp) nat_cmp)
 

@@ -13,8 +13,8 @@ pub trait Resolver: Drop {
 
     ghost choice: { Self → List ValueParts → ℕ };
 
-    /// The place, counted from 0, of the value that is chosen. There is at least one sibling. It
-    /// can't fail, and is to take no memory.
+    /// Returns the place, from 0, of the value that is chosen. There is at least one sibling. It
+    /// can't fail, and must take no memory.
     fn resolve(&self, siblings: &[Value]) -> usize
         requires { 0 < length siblings.now }
         ensures place { result < length siblings.now }
@@ -51,7 +51,7 @@ impl Resolver for Largest {
     }
 }
 
-/// By what values are compared.
+/// What decides first when values are compared.
 #[derive(Clone, Copy)]
 enum Rank {
     ByStamp,

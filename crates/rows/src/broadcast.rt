@@ -7,7 +7,7 @@ use meta_types::{MetaKey, NodeId};
 use plumtree::{Cast, CastOut};
 use std::alloc::AllocError;
 
-/// Makes the call of a row, and answers what it gave out.
+/// Makes the call of a row, and returns what it gives out.
 pub fn call(
     cast: &mut Cast,
     command: &str,
@@ -87,7 +87,7 @@ impl Told {
     }
 }
 
-/// What a call gives out, which want of memory alone refuses.
+/// Returns what a call gives out. The call fails only when memory runs out.
 fn given(outs: Result<Vec<CastOut>, AllocError>) -> Result<Vec<CastOut>, RowFault> {
     Ok(outs?)
 }

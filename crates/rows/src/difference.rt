@@ -3,7 +3,7 @@
 use crate::rows::print_line;
 use std::alloc::AllocError;
 
-/// How many lines both texts begin with.
+/// Returns how many lines both texts begin with.
 fn common_lines(wanted: &str, output: &str) -> usize {
     wanted
         .lines()
@@ -12,7 +12,7 @@ fn common_lines(wanted: &str, output: &str) -> usize {
         .count()
 }
 
-/// Adds each line of a text but for the first ones, behind a sign.
+/// Adds each line of a text after a sign, without the first `first` lines.
 fn print_lines(out: &mut Vec<u8>, sign: &str, text: &str, first: usize) -> Result<(), AllocError> {
     for line in text.lines().skip(first) {
         print_line(out, sign, line)?;
@@ -20,8 +20,8 @@ fn print_lines(out: &mut Vec<u8>, sign: &str, text: &str, first: usize) -> Resul
     Ok(())
 }
 
-/// Adds the lines that are wanted after `- `, and those that came after `+ `, from the first one
-/// that differs.
+/// Adds the wanted lines after `- `, and the lines that came after `+ `, from the first line that
+/// differs.
 pub fn print_difference(out: &mut Vec<u8>, wanted: &str, output: &str) -> Result<(), AllocError> {
     let common = common_lines(wanted, output);
     print_lines(out, "- ", wanted, common)?;

@@ -3,7 +3,7 @@ use std::alloc::{AllocError, AllocFailed};
 /// Why a row was not done.
 #[derive(Clone, Copy)]
 pub enum RowFault {
-    /// It is no command, or has words too few or too many.
+    /// It is no command, or has too few or too many words.
     NoCommand,
     Memory,
 }

@@ -1,6 +1,6 @@
-//! Tries rows: at standard input a text of rows, each a scenario, or events of the overlay, and the
-//! output that is wanted of it, and at standard output what differs, and how many rows there were.
-//! The gate compares that with the stored text, so rows cost no proof.
+//! Tries rows. Standard input is a text of rows: each is a scenario, or events of the overlay, and
+//! the output that is wanted of it. At standard output stands what differs, and how many rows there
+//! were. The gate compares that with the stored text, so rows cost no proof.
 //!
 //! Read `rows`, `row` and `report` with `difference`; then `scenarios`, `schedule` and `past`; and
 //! `overlay`, `node`, `views`, `broadcast`, `words` and `print`.
@@ -51,7 +51,7 @@ fn read_rows(rt: &HostRuntime) -> Result<String, StreamFault> {
     }
 }
 
-/// Tells a fault at standard error, and returns the exit status.
+/// Prints a fault at standard error, and returns the exit status.
 fn told_fault(rt: &HostRuntime, fault: StreamFault) -> u8 {
     let _ = match fault.code() {
         Some(code) => eprintln!(rt; "error {code} {fault}"),

@@ -26,7 +26,7 @@ impl Node {
         }
     }
 
-    /// Does what a row says, and adds what that gives out, a line each.
+    /// Does what a row says, and adds what that gives out, one item on each line.
     pub fn obey(
         &mut self,
         command: &str,

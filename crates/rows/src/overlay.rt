@@ -1,4 +1,4 @@
-//! Events of nodes' views and calls of their broadcasts, a line each, and what they give out.
+//! Events of nodes' views and calls of their broadcasts, one on each line, and what they give out.
 
 use crate::fault::RowFault;
 use crate::node::Node;
@@ -9,8 +9,8 @@ use meta_types::NodeId;
 use std::alloc::{AllocError, Global};
 use std::collections::BTreeMap;
 
-/// What the lines of a row give out. A line that begins with `#` stands as it is, and one that is
-/// no command after `error`.
+/// What the lines of a row give out. A line that begins with `#` is copied, and a line that is no
+/// command is printed after `error`.
 pub fn output_of_events(alloc: Global, lines: &[u8]) -> Result<Vec<u8>, AllocError> {
     let mut text = Vec::new(alloc);
     let mut nodes = Nodes::new(alloc);
@@ -20,7 +20,7 @@ pub fn output_of_events(alloc: Global, lines: &[u8]) -> Result<Vec<u8>, AllocErr
     Ok(text)
 }
 
-/// The nodes of the lines so far, and the one that the next line is of.
+/// The nodes of the lines so far, and the node of the next line.
 #[derive(Drop)]
 struct Nodes {
     by_number: BTreeMap<NodeId, Node>,
@@ -47,7 +47,7 @@ impl Nodes {
         }
     }
 
-    /// Does what a line says. Where words are left over it is done, and yet no command.
+    /// Does what a line says. A line with words left over is done, and is yet no command.
     fn obey(&mut self, alloc: Global, line: &str, text: &mut Vec<u8>) -> Result<(), RowFault> {
         let mut words = Words::of(alloc, line)?;
         match words.next()? {
@@ -65,7 +65,7 @@ impl Nodes {
         Ok(())
     }
 
-    /// The node that the line is of.
+    /// The node of the line.
     fn node(&mut self) -> Result<&mut Node, RowFault> {
         let at = self.at.ok_or(RowFault::NoCommand)?;
         self.by_number.get_mut(&at).ok_or(RowFault::NoCommand)

@@ -27,7 +27,7 @@ fn key(alloc: Global, sub: u8, letter: u8) -> Result<MetaKey, AllocError> {
     Ok(MetaKey::new(prefix, own).unwrap())
 }
 
-/// Whether each node shows under each key what the past by sets does.
+/// Returns whether each node shows under each key what the past by sets does.
 pub fn is_right(alloc: Global, world: &World, keys: &[MetaKey]) -> Result<bool, AllocError> {
     let history = world.history(alloc)?;
     let plain = Plain::replay(alloc, history.as_slice())?;
@@ -41,7 +41,8 @@ pub fn is_right(alloc: Global, world: &World, keys: &[MetaKey]) -> Result<bool, 
     Ok(true)
 }
 
-/// The same, of one node and one key. The world says too what the node knows.
+/// Returns whether `is_right` holds of one node and one key. The world says too what the node
+/// knows.
 fn is_right_under(
     alloc: Global,
     plain: &Plain<'_>,
@@ -58,7 +59,7 @@ fn is_right_under(
     Ok(is_known && shows(alloc, plain, state, key)?)
 }
 
-/// Whether the node shows the siblings and the context that it has by the past.
+/// Returns whether the node shows the siblings and the context that it has by the past.
 fn shows(
     alloc: Global,
     plain: &Plain<'_>,
@@ -111,7 +112,7 @@ pub fn add_alike(world: &World, keys: &[MetaKey], log: &mut Vec<u8>) -> Result<b
     Ok(true)
 }
 
-/// Whether two nodes hold the same under these keys, and nothing else.
+/// Returns whether two nodes hold the same under these keys, and nothing else.
 fn hold_alike(one: &NodeState, other: &NodeState, keys: &[MetaKey]) -> bool {
     one.store().len() == other.store().len()
         && keys

@@ -1,4 +1,4 @@
-//! What steps and calls give out, a line each.
+//! What steps and calls give out, one item on each line.
 
 use hyparview::ViewOut;
 use meta_frame::{Frame, Message};

@@ -1,4 +1,4 @@
-//! What is told of rows: where they differ, and how many there were.
+//! The report on rows: where they differ, and how many there were.
 
 use crate::difference::print_difference;
 use crate::row::{Row, text_of};
@@ -6,7 +6,7 @@ use crate::rows::print_line;
 use printing::print_number;
 use std::alloc::{AllocError, Global};
 
-/// What was told so far.
+/// The report so far.
 #[derive(Drop)]
 pub struct Report {
     text: Vec<u8>,
@@ -35,7 +35,7 @@ impl Report {
         self.lines = self.lines.saturating_add(1);
     }
 
-    /// Adds that something differs, and this of it.
+    /// Adds that `name` differs, and `told` after it.
     pub fn add_different(&mut self, name: &str, told: &[u8]) -> Result<(), AllocError> {
         self.different = self.different.saturating_add(1);
         print_line(&mut self.text, "different ", name)?;
@@ -52,7 +52,8 @@ impl Report {
         self.add_different(text_of(row.name()), told.as_slice())
     }
 
-    /// What was told, and in the last line how many rows and lines there were, and how many differ.
+    /// Returns the report. Its last line says how many rows and lines there were, and how many
+    /// differ.
     pub fn end(mut self) -> Result<Vec<u8>, AllocError> {
         print_number(&mut self.text, self.rows)?;
         self.text.extend_from_slice(b" rows and ")?;
@@ -64,8 +65,8 @@ impl Report {
     }
 }
 
-/// Whether the output is what is wanted. Where that begins with a line `..` only its last lines are
-/// wanted.
+/// Returns whether the output is what is wanted. Where `wanted` begins with a line `..`, only the
+/// last lines of the output are compared.
 fn is_wanted(wanted: &[u8], output: &[u8]) -> bool {
     match wanted.strip_prefix(b"..\n") {
         Some(last) => output.ends_with(last),

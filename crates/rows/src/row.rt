@@ -3,7 +3,7 @@
 use crate::rows::{Part, print_line};
 use std::alloc::{AllocError, Global};
 
-/// What a row is, by what its name begins with.
+/// The kind of a row, by what its name begins with.
 #[derive(Clone, Copy, PartialEq, Eq)]
 pub enum Kind {
     /// A scenario.
@@ -70,12 +70,12 @@ impl Row {
         self.wanted.as_slice()
     }
 
-    /// Whether the line ends the row: it is an empty one behind what is wanted.
+    /// Returns whether the line ends the row: an empty line after what is wanted.
     pub fn ends(&self, part: Part, line: &str) -> bool {
         part == Part::Wanted && line.is_empty()
     }
 
-    /// Begins a row in place of the one before.
+    /// Begins a row in place of the row before.
     pub fn begin(&mut self, name: &str) -> Result<(), AllocError> {
         self.name.clear();
         self.text.clear();
@@ -98,7 +98,7 @@ impl Row {
     }
 }
 
-/// How often a line stands, and the line.
+/// Returns how often a line stands, and the line.
 fn repeated(line: &str) -> (u32, &str) {
     let Some((front, rest)) = line.split_once(' ') else {
         return (1, line);
@@ -109,7 +109,7 @@ fn repeated(line: &str) -> (u32, &str) {
     }
 }
 
-/// The text that bytes are; all that rows print is one.
+/// Returns bytes as a text; all that rows print is text.
 pub fn text_of(bytes: &[u8]) -> &str {
     std::str::from_utf8(bytes).unwrap_or("bytes that are no text")
 }

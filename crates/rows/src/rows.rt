@@ -1,4 +1,4 @@
-//! A text of rows, and what is told of them.
+//! A text of rows, and the report on them.
 
 use crate::overlay::output_of_events;
 use crate::report::Report;
@@ -10,8 +10,8 @@ use std::alloc::AllocError;
 use std::fs;
 use std::io::ErrorKind;
 
-/// Tries the rows of a text. Returns where they print something else than they want, and how many
-/// they are.
+/// Tries the rows of a text. Returns where they print something other than they want, and how many
+/// rows there are.
 pub fn report_of(
     rt: &HostRuntime,
     rows: &str,
@@ -92,7 +92,7 @@ pub enum Part {
     Wanted,
 }
 
-/// Whether a line between rows is a line of a scenario to be tried.
+/// Returns whether a line between rows is a line of a scenario to be tried.
 fn is_tried(line: &str) -> bool {
     line.starts_with("! ") || line.starts_with("= ")
 }
@@ -114,7 +114,7 @@ fn take(row: &mut Row, part: Part, line: &str) -> Result<Part, AllocError> {
     }
 }
 
-/// Takes a line between rows: one begins a row where it says so, and any other is skipped.
+/// Takes a line between rows: a line that begins a row does so, and any other is skipped.
 fn between(row: &mut Row, line: &str) -> Result<Part, AllocError> {
     match line.strip_prefix("== ") {
         Some(name) => {

@@ -43,8 +43,8 @@ pub fn try_explained(
 /// its length.
 const MAX_EXPLAINED: usize = 4_000;
 
-/// Adds where a scenario, explained, prints something else besides its indented lines than
-/// `output`.
+/// Compares what an explained scenario prints, without its indented lines, with `output`. Adds
+/// where they differ.
 fn compare_explained(
     alloc: Global,
     row: &Row,
@@ -75,8 +75,8 @@ fn without_indented(alloc: Global, text: &str) -> Result<Vec<u8>, AllocError> {
 /// What is printed where the second line breaks a rule.
 const BAD_LINE: &[u8] = b"error 70 BadLine 2\n";
 
-/// Tries a line behind `nodes 2`: one after `!` is to be a bad one, and one after `=` isn't. Adds
-/// where it is otherwise.
+/// Tries a line after `nodes 2`: a line after `!` should be a bad one, and a line after `=`
+/// shouldn't. Adds where it is otherwise.
 pub fn try_line(
     alloc: Global,
     tried: &str,

@@ -1,4 +1,4 @@
-//! A schedule: commands to four nodes, which are compared with the past by sets meanwhile.
+//! A schedule: commands to four nodes, which are now and then compared with the past by sets.
 
 use crate::past::{add_alike, is_right, keys};
 use crate::report::Report;
@@ -15,7 +15,7 @@ use std::alloc::{AllocError, Global};
 pub const NODES: u64 = 4;
 
 /// Runs the schedule of a row. Adds where a node didn't show what the past does when it was
-/// compared, and what there was less of than the row wants.
+/// compared, and which lines the log has less often than the row wants.
 pub fn try_schedule(
     alloc: Global,
     row: &Row,
@@ -35,8 +35,8 @@ pub fn try_schedule(
     report.add_different(text_of(row.name()), told.as_slice())
 }
 
-/// Adds the lines of what is wanted, as `least 25 deliver fresh`, of which the log has less, and
-/// `ends alike`, where it doesn't.
+/// Adds the wanted lines, as `least 25 deliver fresh`, that the log has less often, and
+/// `ends alike` where it doesn't end so.
 fn add_lacking(log: &str, wanted: &str, lacking: &mut Vec<u8>) -> Result<(), AllocError> {
     for line in wanted.lines() {
         if !has_least(log, line) {
@@ -46,10 +46,10 @@ fn add_lacking(log: &str, wanted: &str, lacking: &mut Vec<u8>) -> Result<(), All
     Ok(())
 }
 
-/// How the log ends where after the last command each two of four nodes hold the same.
+/// How the log ends where after the last command all four nodes hold the same.
 const ALL_ALIKE: &str = "settle done\nalike\nalike\nalike\nalike\nalike\nalike\n";
 
-/// Whether the log has a line so often, or ends as is wanted.
+/// Returns whether the log has a line as often as is wanted, or ends as is wanted.
 fn has_least(log: &str, wanted: &str) -> bool {
     if wanted == "ends alike" {
         return log.ends_with(ALL_ALIKE);
@@ -82,7 +82,8 @@ fn follow(
     is_right
 }
 
-/// The same, with the stage that obeys the commands and the keys under which nodes are compared.
+/// Does `follow`, with the stage that obeys the commands and the keys under which nodes are
+/// compared.
 fn follow_all(
     alloc: Global,
     stage: &mut Stage,
@@ -100,14 +101,14 @@ fn follow_all(
     compare(alloc, stage, "the last", keys, log)
 }
 
-/// Whether all is compared after the command of this place: after each of the first, and then, as
-/// the past by sets takes the square of its length, after each fiftieth.
+/// Returns whether all is compared after the command at this place: after each of the first 50, and
+/// then after each fiftieth, as the past by sets takes the square of its length.
 fn is_compared(place: usize) -> bool {
     place < 50 || place % 50 == 0
 }
 
-/// Compares all nodes with the past, and with one another. Where one isn't right the log ends with
-/// the command after which it was so.
+/// Compares all nodes with the past, and with one another. Returns whether all are right; otherwise
+/// the log ends with the command after which they weren't.
 fn compare(
     alloc: Global,
     stage: &Stage,
@@ -138,7 +139,7 @@ fn take_line(
     print_line(log, " ", outcome(output.as_slice()))
 }
 
-/// What a command printed, in a word.
+/// Returns in a word what a command printed.
 fn outcome(output: &[u8]) -> &'static str {
     if output.starts_with(b"refused ") {
         "refused"
@@ -163,7 +164,7 @@ fn command_text(alloc: Global, line: &str, frames: u64) -> Result<Vec<u8>, Alloc
     Ok(text)
 }
 
-/// Adds a delivery of a frame that is told by how late it was sent: `deliver -1` is of the last.
+/// Adds a delivery of a frame that is named by how late it was sent: `deliver -1` is of the last.
 fn add_delivery(text: &mut Vec<u8>, rest: &str, frames: u64) -> Result<(), AllocError> {
     let (back, more) = rest.split_once(' ').unwrap_or((rest, ""));
     let back = back.parse::<u64>().unwrap_or(1);

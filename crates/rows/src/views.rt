@@ -43,7 +43,7 @@ fn message(kind: &str, words: &mut Words<'_>) -> Result<Message, RowFault> {
     }
 }
 
-/// A message of another part, which changes no view.
+/// A message for another part, which changes no view.
 fn message_of_others(kind: &str) -> Result<Message, RowFault> {
     match kind {
         "prune" => Ok(Message::Prune),

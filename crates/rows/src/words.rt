@@ -7,7 +7,7 @@ use meta_types::{Actor, FullPrefix, MetaKey, NodeId};
 use std::alloc::Global;
 use std::str::SplitWhitespace;
 
-/// The words of a row that were not read yet, and the random word that it ends with.
+/// The words of a row that were not read yet, and the random word at its end.
 #[derive(Drop)]
 pub struct Words<'a> {
     alloc: Global,
@@ -42,7 +42,7 @@ impl<'a> Words<'a> {
         self.left.next().ok_or(RowFault::NoCommand)
     }
 
-    /// No word is left.
+    /// Refuses where a word is left.
     pub fn end(&mut self) -> Result<(), RowFault> {
         match self.left.next() {
             Some(_) => Err(RowFault::NoCommand),
@@ -59,7 +59,7 @@ impl<'a> Words<'a> {
         }
     }
 
-    /// Whether the next word is the one; otherwise it is the other.
+    /// Returns whether the next word is `one`. Refuses where it is neither `one` nor `other`.
     pub fn is_first_of(&mut self, one: &str, other: &str) -> Result<bool, RowFault> {
         let word = self.next()?;
         if word == one || word == other {
@@ -104,7 +104,7 @@ pub fn key(alloc: Global, word: &str) -> Result<MetaKey, RowFault> {
     MetaKey::new(prefix, own).map_err(|_| RowFault::NoCommand)
 }
 
-/// The vector of so many events of node 0 in its first life, of one at least.
+/// The vector of `events` events of node 0 in its first life; one at least.
 pub fn vector(alloc: Global, events: u64) -> Result<Vector, RowFault> {
     let writer = Actor::new(node("0")?, 1);
     let mut counters = Vec::new(alloc);

@@ -1,6 +1,6 @@
 //! Reports the node files of `data/` as `plumctl file` does. Each line of standard input is a path;
-//! for each it prints the path, what is reported, what standard error would be told, and the exit
-//! status; and of a file that was shown, the bytes of its clean copy in digits.
+//! for each it prints the path, what is reported, what would be printed at standard error, and the
+//! exit status; and for a file that was shown, the bytes of its clean copy in digits.
 #![tactic(auto)]
 
 use devices::{FileDevice, MemoryDevice};
@@ -26,7 +26,7 @@ fn print_text(rt: &HostRuntime, before: &str, bytes: &[u8]) -> io::Result<()> {
     }
 }
 
-/// Prints what is reported of a path.
+/// Prints the report on a path.
 fn show(rt: &HostRuntime, path: &str) -> io::Result<()> {
     let mut printed = Vec::new(rt.alloc());
     let mut told = Vec::new(rt.alloc());

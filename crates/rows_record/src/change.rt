@@ -1,4 +1,4 @@
-//! What is done to a journal.
+//! Changes of a journal.
 
 use meta_types::{ByteString, NodeId};
 use node_events::{NodeEvent, Outbox, Reply};
@@ -31,7 +31,7 @@ pub enum Kind {
     Take(usize),
     /// Its write has read nothing.
     Unread,
-    /// Before it the node was told that this peer is down, which gave nothing.
+    /// Before it stands an entry in which this peer went down, which gave nothing.
     Down(usize),
     /// Not of the journal, but of the table: its first object is left out.
     Untable,
@@ -93,7 +93,7 @@ fn double(entries: &mut Vec<Entry>, at: usize) -> Result<(), AllocError> {
     }
 }
 
-/// Changes what an entry tells.
+/// Changes what an entry holds.
 fn alter(alloc: Global, entry: &mut Entry, kind: Kind) -> Result<(), AllocError> {
     match kind {
         Kind::Reply => entry.reply = other_reply(&entry.reply),
@@ -106,7 +106,8 @@ fn alter(alloc: Global, entry: &mut Entry, kind: Kind) -> Result<(), AllocError>
     Ok(())
 }
 
-/// The entry of a peer that is down, which gave nothing. A node that is no node's is node 0.
+/// The entry of a peer that is down, which gave nothing. A number that is no node's stands for node
+/// 0.
 fn peer_down(alloc: Global, peer: usize) -> Entry {
     let number = u16::try_from(peer).unwrap_or(0);
     let peer = match NodeId::new(number) {
@@ -128,7 +129,7 @@ fn other_reply(reply: &Reply) -> Reply {
     }
 }
 
-/// A copy of the frame with one bit of the byte at the place another.
+/// A copy of the frame with one bit of the byte at the place changed.
 fn flipped(frame: &ByteString, byte: usize) -> Result<ByteString, AllocError> {
     let mut bytes = frame.copy()?.into_vec();
     if byte < bytes.len() {
@@ -137,7 +138,7 @@ fn flipped(frame: &ByteString, byte: usize) -> Result<ByteString, AllocError> {
     Ok(ByteString::new(bytes))
 }
 
-/// The frames with a bit of the first one another, or without it.
+/// The frames with a bit of the first one changed, or without the first one.
 fn with_first(alloc: Global, outbox: &Outbox, byte: Option<usize>) -> Result<Outbox, AllocError> {
     let mut frames = Vec::new(alloc);
     for (place, frame) in outbox.as_slice().iter().enumerate() {
@@ -158,7 +159,7 @@ fn flip_taken(event: &mut NodeEvent, byte: usize) -> Result<(), AllocError> {
     Ok(())
 }
 
-/// Lets a write have read nothing.
+/// Makes a write one that has read nothing.
 fn forget_context(event: &mut NodeEvent) {
     if let NodeEvent::Write { context, .. } = event {
         *context = None;

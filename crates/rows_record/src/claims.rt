@@ -1,4 +1,4 @@
-//! Whether what `assemble` answered is so, by plain code that is not its own.
+//! Whether what `assemble` returned is so, checked by plain code of its own.
 
 use meta_store::Context;
 use meta_types::ByteString;
@@ -32,7 +32,7 @@ fn has_read(entry: &Entry, context: &Context) -> bool {
     }
 }
 
-/// Whether the entry gives what the event needs; nothing does where it needs nothing.
+/// Returns whether the entry gives what the event needs; nothing does where it needs nothing.
 fn gives(entry: &Entry, event: &NodeEvent) -> bool {
     match event {
         NodeEvent::Take { frame, .. } => has_sent(entry, frame),
@@ -52,8 +52,8 @@ fn needs_something(event: &NodeEvent) -> bool {
     }
 }
 
-/// Whether the entry there needs something, and each entry that gives it stands at a place that is
-/// listed of its node, or behind it; with no place listed, whether none gives it.
+/// Returns whether the entry at `at` needs something, and each entry that gives it stands at a
+/// listed place of its node, or after one; with no place listed, whether none gives it.
 fn waits(closed: &[Closed], at: Place, places: &[Place]) -> bool {
     let Some(entry) = entry_of(closed, at) else {
         return false;
@@ -71,7 +71,7 @@ fn waits(closed: &[Closed], at: Place, places: &[Place]) -> bool {
         })
 }
 
-/// Whether the node makes the journal from here on.
+/// Returns whether the node makes the journal from here on.
 fn makes(state: &mut NodeState, journal: &[Entry]) -> bool {
     for entry in journal {
         match state.step_on(&entry.event) {
@@ -82,7 +82,7 @@ fn makes(state: &mut NodeState, journal: &[Entry]) -> bool {
     true
 }
 
-/// Whether the node makes its journal again by itself, and then holds its table.
+/// Returns whether the node makes its journal again by itself, and then holds its table.
 fn ran_as_told(alloc: Global, one: &Closed) -> Result<bool, AllocError> {
     let mut state = NodeState::new(alloc, one.node(), 1)?;
     let is_so = makes(&mut state, one.journal()) && state.store() == one.table();
@@ -108,7 +108,7 @@ fn is_kept(closed: &[Closed], receipt: &Receipt) -> bool {
     entry_of(closed, at).is_some_and(|entry| *entry == receipt.entry)
 }
 
-/// Whether the world holds as many entries as the journals, and each node its table.
+/// Returns whether the world holds as many entries as the journals, and each node its table.
 fn holds_all(closed: &[Closed], world: &World) -> bool {
     let mut count = 0usize;
     for one in closed {
@@ -121,7 +121,7 @@ fn holds_all(closed: &[Closed], world: &World) -> bool {
     count == world.accepted().len()
 }
 
-/// Whether what was answered is so.
+/// Returns whether what `assemble` returned is so.
 pub fn is_so(
     alloc: Global,
     closed: &[Closed],

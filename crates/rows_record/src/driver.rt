@@ -32,7 +32,7 @@ fn node_id(number: u64) -> Option<NodeId> {
     NodeId::new(u16::try_from(number).ok()?).ok()
 }
 
-/// The numbered of a list, where the first has number 1.
+/// The item with this number in a list, where the first has number 1.
 fn numbered<T>(list: &[T], number: u64) -> Option<&T> {
     list.get(usize::try_from(number.checked_sub(1)?).ok()?)
 }
@@ -59,7 +59,7 @@ impl Nodes {
         Ok(())
     }
 
-    /// Obeys the commands of a script, of so many new nodes.
+    /// Makes the nodes of a script, and obeys its commands.
     fn follow(&mut self, script: Script<'_>) -> Result<(), AllocError> {
         let mut script = script;
         for number in 0..script.nodes() {
@@ -87,7 +87,7 @@ impl Nodes {
         }
     }
 
-    /// The node makes the step that the command is. Nothing is done with one that is no step, or
+    /// Makes the step of the command on its node. Does nothing with a command that is no step, or
     /// that the node refuses.
     fn obey(&mut self, command: &Command<'_>) -> Result<(), AllocError> {
         if command.fault().is_some() {
@@ -123,7 +123,7 @@ impl Nodes {
         }
     }
 
-    /// Puts an entry behind the others of its node.
+    /// Puts an entry after the others of its node.
     fn journal(&mut self, at: usize, entry: Entry) -> Result<(), AllocError> {
         let kept = self.keep(&entry);
         match (kept, self.journals.get_mut(at)) {
@@ -143,7 +143,7 @@ impl Nodes {
         Ok(())
     }
 
-    /// The step that a command is, and whose it is.
+    /// The step that a command makes, and the number of its node.
     fn event_of(&self, command: &Command<'_>) -> Result<Option<(u64, NodeEvent)>, AllocError>
         requires { fault_in (command_word command.now) ≡ None }
     {
@@ -239,7 +239,7 @@ impl Nodes {
         }
     }
 
-    /// The frame of this number goes to the node, or to its addressee.
+    /// The event by which the frame of this number comes to the node, or to its addressee.
     fn take(
         &self,
         number: u64,
@@ -258,7 +258,7 @@ impl Nodes {
         Ok(Some((node, NodeEvent::Take { frame, word })))
     }
 
-    /// A receipt that tells the entry of the node `of` at `at` as that of another.
+    /// A receipt of `node` and `place` with the entry that stands at `at` of the node `of`.
     pub fn receipt(
         &self,
         node: usize,
@@ -283,7 +283,7 @@ impl Nodes {
         Ok(Some(copy?))
     }
 
-    /// The nodes, closed, with these changes, at most one of a node.
+    /// The nodes, closed, with these changes, at most one for each node.
     pub fn closed(&self, changes: &[(usize, Change)]) -> Result<Vec<Closed>, AllocError> {
         let mut closed = Vec::new(self.alloc);
         self.close_all(changes, &mut closed)?;
@@ -320,7 +320,7 @@ impl Nodes {
     }
 }
 
-/// A copy of a table, without its first object where that is the change.
+/// A copy of a table, without its first object where the change asks for that.
 fn table_of(store: &Store, change: Option<Change>) -> Result<Store, AllocError> {
     let mut table = store.copy()?;
     if change.is_some_and(|change| change.kind == Kind::Untable) {
@@ -339,7 +339,7 @@ fn forget_first(table: &mut Store, store: &Store) -> Result<(), AllocError> {
     Ok(())
 }
 
-/// The step that a command is which is made of numbers alone.
+/// The step that a command makes, where it is made of numbers alone.
 fn event_of_numbers(command: &Command<'_>) -> Option<(u64, NodeEvent)> {
     Some(match *command {
         Command::Tick { node, word } => (node, NodeEvent::Tick { word }),

@@ -1,9 +1,9 @@
-//! Tries records: at standard input a text of rows, each a scenario by which nodes are driven, each
-//! node by itself, and then what is changed in their journals and what is put together. What comes
-//! of it is printed, and the gate compares that with the stored text.
+//! Tries records. Standard input is a text of rows: each is a scenario by which nodes are driven,
+//! each node by itself, and then what is changed in their journals and what is put together. What
+//! comes of it is printed, and the gate compares that with the stored text.
 //!
 //! Read `rows`, then `driver` (nodes without a world), `change` (what is done to a journal), and
-//! `claims` (whether what `assemble` answers is so, looked at by plain code).
+//! `claims` (whether what `assemble` returns is so, checked by plain code).
 #![tactic(auto)]
 
 mod change;

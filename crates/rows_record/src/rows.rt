@@ -1,7 +1,7 @@
-//! The text of rows, and what is printed of it.
+//! The text of rows, and what is printed for it.
 //!
-//! A line `== NAME` begins a row. The lines behind it are a scenario, up to the first line that
-//! begins with `:`, each of which is tried on the journals that the scenario left:
+//! A line `== NAME` begins a row. The lines after it are a scenario, up to the first line that
+//! begins with `:`. Each line that begins so is tried on the journals that the scenario left:
 //!
 //! - `: as told` puts the journals together; `: CHANGE` or `: CHANGE; CHANGE` does so with changes
 //!   of the entries of nodes at their places, at most one of a node: `leave out N P`, `double N P`,
@@ -15,8 +15,8 @@
 //! - `: pace` says how many microseconds it took to put the journals together, so it stands in no
 //!   stored text.
 //!
-//! Of each is printed what came of it; where the claim of an answer isn't so, ` NOT SO` behind it;
-//! and of a refusal what `explain_fault` says, indented.
+//! For each, what came of it is printed; where an answer's claim isn't so, ` NOT SO` after it; and
+//! for a refusal what `explain_fault` says, indented.
 
 ghost use Rattle.node_journal.specs.Closed.{AreWhole};
 
@@ -85,7 +85,7 @@ fn closed_of(alloc: Global, nodes: &Nodes, line: &str) -> Result<Vec<Closed>, Al
     nodes.closed(changes.as_slice())
 }
 
-/// The order of the nodes that a line asks for, and how many of them.
+/// Puts the nodes in the order that a line asks for, and keeps as many as it asks for.
 fn arrange(alloc: Global, closed: &mut Vec<Closed>, line: &str) -> Result<(), AllocError> {
     if line == "backwards" {
         return turn(alloc, closed);
@@ -110,7 +110,7 @@ fn number(word: Option<&str>) -> usize {
         .unwrap_or(0)
 }
 
-/// The changes that a line names.
+/// The changes that a line names, each with its node.
 fn changes_of(alloc: Global, line: &str) -> Result<Vec<(usize, Change)>, AllocError> {
     let mut changes = Vec::new(alloc);
     for part in line.split("; ") {
@@ -121,7 +121,7 @@ fn changes_of(alloc: Global, line: &str) -> Result<Vec<(usize, Change)>, AllocEr
     Ok(changes)
 }
 
-/// The change that a line names, and of which node.
+/// The change that a line names, and the node that it is of.
 fn change_of(line: &str) -> Option<(usize, Change)> {
     let line = line.strip_prefix("leave out").unwrap_or(line);
     let mut words = line.split(' ');
@@ -145,7 +145,7 @@ fn change_of(line: &str) -> Option<(usize, Change)> {
     Some((node, Change { kind, place }))
 }
 
-/// Puts the last first.
+/// Turns the order of the nodes round.
 fn turn(alloc: Global, closed: &mut Vec<Closed>) -> Result<(), AllocError> {
     let mut turned = Vec::new(alloc);
     for _place in 0..closed.len() {
@@ -157,8 +157,8 @@ fn turn(alloc: Global, closed: &mut Vec<Closed>) -> Result<(), AllocError> {
     Ok(())
 }
 
-/// The receipt that a line asks for: that of the entry of a node at a place, told as that of
-/// another. None where it asks for none.
+/// The receipt that a line asks for: it has the entry of a node at a place, and may name another
+/// node and place. None where the line asks for none.
 fn receipt_of(nodes: &Nodes, line: &str) -> Result<Option<Receipt>, AllocError> {
     let Some(line) = line.strip_prefix("receipt ") else {
         return Ok(None);
@@ -172,7 +172,7 @@ fn receipt_of(nodes: &Nodes, line: &str) -> Result<Option<Receipt>, AllocError> 
     nodes.receipt(node, place, of, at)
 }
 
-/// The list of one or none. Its parameter hides what is dropped where memory is wanting.
+/// The list of one item or none. Its type parameter hides what is dropped where memory runs out.
 fn listed<T: Drop>(alloc: Global, item: Option<T>) -> Result<Vec<T>, AllocError> {
     let mut list = Vec::new(alloc);
     if let Some(item) = item {
@@ -200,7 +200,7 @@ fn add_record(
     done
 }
 
-/// Adds what is told of journals and receipts.
+/// Adds what comes of assembling journals and receipts.
 fn add_told(
     alloc: Global,
     closed: &[Closed],
@@ -285,7 +285,7 @@ fn add_words(
     Ok(())
 }
 
-/// The changes of an entry, by number.
+/// The kind of change with this number.
 fn nth_kind(number: usize) -> Kind {
     match number {
         0 => Kind::LeaveOut,
@@ -313,7 +313,7 @@ const NAMES: [&str; 9] = [
 ];
 
 /// Tries each change of each entry that changes something, and prints how many were tried, and that
-/// what was answered is so, or of how many it isn't.
+/// each answer is so, or how many aren't.
 fn try_each(rt: &HostRuntime, nodes: &Nodes) -> io::Result<()> {
     for (number, name) in NAMES.iter().enumerate() {
         let (mut tried, mut wrong) = (0usize, 0usize);
@@ -341,7 +341,7 @@ fn try_each(rt: &HostRuntime, nodes: &Nodes) -> io::Result<()> {
     Ok(())
 }
 
-/// Returns whether the node's journal is another than the one that it left.
+/// Returns whether the node's journal differs from the one that it left.
 fn is_changed(nodes: &Nodes, closed: &[Closed], node: usize) -> bool {
     match (nodes.journals.get(node), closed.get(node)) {
         (Some(journal), Some(one)) => journal.as_slice() != one.journal(),
@@ -361,8 +361,8 @@ fn try_pace(rt: &HostRuntime, nodes: &Nodes) -> io::Result<()> {
     )
 }
 
-/// Whether what is answered is so, with the change of an entry of the node, if that changes
-/// something.
+/// Returns whether the answer is so with the change of an entry of the node; none where that
+/// changes nothing, or the journals aren't whole.
 fn try_change(
     alloc: Global,
     nodes: &Nodes,
@@ -376,7 +376,7 @@ fn try_change(
     Ok(Some(is_answer_so(alloc, closed.as_slice())?))
 }
 
-/// Whether what is answered is so.
+/// Returns whether the answer for these journals is so.
 fn is_answer_so(alloc: Global, closed: &[Closed]) -> Result<bool, AllocError>
     requires { AreWhole closed.now }
 {

@@ -1,4 +1,4 @@
-//! Where a node does otherwise than its journal tells.
+//! Where a node does otherwise than its journal says.
 
 use crate::explain::add_call;
 use crate::needed::add_frame;
@@ -11,8 +11,8 @@ use printing::print_number;
 use run_order::Place;
 use std::alloc::{AllocError, Global};
 
-/// Adds the first call of the node that differs from what a node does, with both sides; or that its
-/// table does.
+/// Adds the first call of the node that differs from what a node does, with both sides; or says
+/// that its table differs.
 pub(crate) fn add_difference(
     alloc: Global,
     text: &mut Vec<u8>,
@@ -42,7 +42,7 @@ fn first_difference(
     None
 }
 
-/// Returns whether the step gave what the entry tells.
+/// Returns whether the step gave what the entry says.
 fn is_told(outcome: &Result<Stepped, StepFault>, entry: &Entry) -> bool {
     match outcome {
         Ok(given) => given.reply == entry.reply && given.outbox == entry.outbox,
@@ -55,7 +55,7 @@ fn add_first(alloc: Global, text: &mut Vec<u8>, one: &Closed) -> Result<(), Allo
     let mut state = NodeState::new(alloc, one.node(), 1)?;
     let difference = first_difference(&mut state, one.journal());
     let has_table = state.store() == one.table();
-    // Dropped on its one way out, where the proof has one case for it.
+    // The state is dropped at the only way out, so that the proof has one case for it.
     drop(state);
     match difference {
         Some((place, outcome)) => add_outcome(text, Place { node, place }, one.journal(), outcome),
@@ -68,7 +68,7 @@ fn add_first(alloc: Global, text: &mut Vec<u8>, one: &Closed) -> Result<(), Allo
     }
 }
 
-/// Adds what the journal tells of the call at the place, and what a node does.
+/// Adds what the journal says of the call at the place, and what a node does.
 fn add_outcome(
     text: &mut Vec<u8>,
     at: Place,
@@ -83,7 +83,7 @@ fn add_outcome(
     added
 }
 
-/// Adds what the journal tells of a call, and what a node does.
+/// Adds what the journal says of a call, and what a node does.
 fn add_both(
     text: &mut Vec<u8>,
     at: Place,

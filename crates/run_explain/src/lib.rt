@@ -1,5 +1,5 @@
-//! Why journals are no run of the world, in words: what `assemble` refused is looked at again, and
-//! it is said what waits for what, or where a journal and the node differ.
+//! Why journals are no run of the world, in words: looks again at what `assemble` refused, and says
+//! what waits for what, or where a journal and the node differ.
 //!
 //! ```
 //! if let Err(fault) = assemble(alloc, &closed, &receipts) {

@@ -8,7 +8,7 @@ use Rattle.node_events.specs.declared.reply.Reply.{Reply}
 use Rattle.node_events.specs.declared.reply.Reply.TheVariants.{Looked}
 use Rattle.node_journal.specs.declared.entry.Entry.{Entry}
 
--- the reply hands the context out, whatever the event: what looks does, and no other
+-- the reply hands the context out, whatever the event: only a Looked does
 abbrev pub IsHandedOut : Reading → Reply → Type 0
 IsHandedOut c (Looked values context) = context ≡ c
 IsHandedOut c reply = ⊥

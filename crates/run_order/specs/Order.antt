@@ -1,5 +1,5 @@
--- An order of all entries, in which each comes after one that gives what it needs. How far the
--- journals have been gone through is told by the place of the next entry of each node.
+-- An order of all entries, in which each comes after one that gives what it needs. The place of the
+-- next entry of each node says how far its journal has been gone through.
 use Rattle.std.specs.Prelude.{ℕ, ◌≡◌, ◌+◌, ◌<◌, ◌≤◌, ◌^◌, List, [], ◌∷◌, length, slice_index, slice_set, Option, Some, None}
 use Rattle.node_events.specs.declared.event.NodeEvent.{NodeEvent}
 use Rattle.node_journal.specs.declared.entry.Entry.{Entry}
@@ -17,7 +17,7 @@ pub record IsPassedGiver (closed : List ClosedNode) (next : List ℕ) (event : N
   pub there : entry_at closed g.node g.place ≡ Some entry
   pub gives : SuppliesAt g.at entry event
 
--- what the event needs, if it needs something, this entry gives
+-- this entry gives what the event needs, if it needs something
 abbrev pub IsGivenBy : List ClosedNode → List ℕ → NodeEvent → Option Giver → Type 0
 IsGivenBy closed next event None = Needs event → ⊥
 IsGivenBy closed next event (Some g) = IsPassedGiver closed next event g
@@ -48,7 +48,7 @@ pub record AreFirst (closed : List ClosedNode) (next : List ℕ) : Type 0 where
   pub number : length next ≡ length closed
   pub zero : (n : ℕ) → slice_index next n ≡ 0
 
--- of all entries
+-- an order of all entries
 pub record IsOrder (closed : List ClosedNode) (order : List Turn) : Type 0 where
   pub first : List ℕ
   pub are_first : AreFirst closed first

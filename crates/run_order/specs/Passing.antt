@@ -34,12 +34,12 @@ IsHead closed next n OfHead.Blocked = IsBlocked closed next n
 IsHead closed next n (OfHead.Ready giver) =
     IsReady closed next (record { node = n; giver = giver })
 
--- of the first so many nodes none can go on
+-- of the first `all` nodes, each has ended or is blocked
 abbrev pub AllWait : List ClosedNode → List ℕ → ℕ → Type 0
 AllWait closed next all =
     (n : ℕ) → n < all → HasEnded closed next n ⊎ IsBlocked closed next n
 
--- the places of the next entries of those that haven't ended, of the first so many nodes
+-- of the first `all` nodes, the places of the next entries of those that haven't ended
 pub record AreHeads (closed : List ClosedNode) (next : List ℕ) (all : ℕ) (places : List Place)
     : Type 0 where
   pub rise : RiseFrom 0 places
@@ -48,12 +48,12 @@ pub record AreHeads (closed : List ClosedNode) (next : List ℕ) (all : ℕ) (pl
   pub only : (n p : ℕ) → Lists places n p
       → (n < all) × ((p ≡ slice_index next n) × (p < length (journal_of closed n)))
 
--- where some places are stuck, nobody was gone past them
+-- where places are stuck, no journal has been gone through past its place
 abbrev pub NoneIsPast : List ClosedNode → List ℕ → Type 0
 NoneIsPast closed next = (places : List Place) → IsStuck closed places
     → (n r : ℕ) → Lists places n r → slice_index next n ≤ r
 
--- the places behind all entries
+-- the places after all entries
 pub record AreEnds (closed : List ClosedNode) (ends : List ℕ) : Type 0 where
   pub number : length ends ≡ length closed
   pub behind : (n : ℕ) → slice_index ends n ≡ length (journal_of closed n)

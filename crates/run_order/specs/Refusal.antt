@@ -30,7 +30,7 @@ pub record Lists (places : List Place) (n p : ℕ) : Type 0 where
   pub at : ℕ
   pub there : slice_get places at ≡ Some (record { node = n; place = p })
 
--- each entry that gives what this one needs stands at the listed place of its node, or behind it
+-- each entry that gives what this one needs stands at the listed place of its node, or after it
 pub record IsStuckAt (closed : List ClosedNode) (places : List Place) (at : Place) : Type 0 where
   pub node : at.node < length closed
   pub entry : Entry
@@ -67,7 +67,7 @@ RefusesOrder closed Memory = Unit {0}
 
 -- ---- laws
 
--- where entries wait for one another, no order has each behind one that gives what it needs
+-- where entries wait for one another, no order has each after one that gives what it needs
 abbrev pub AStuckRunHasNoOrder : Type 0
 AStuckRunHasNoOrder = (closed : List ClosedNode) (places : List Place) (order : List Turn)
     → IsStuck closed places → IsOrder closed order → ⊥

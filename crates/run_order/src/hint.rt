@@ -1,4 +1,4 @@
-//! Where a giver has to be, where the journals are those of nodes: by the numbers that frames and
+//! Where a giver has to be if the journals are those of nodes, by the numbers that frames and
 //! contexts carry. What is found there is compared whole, so nothing is asked of a hint; a wrong
 //! one costs time.
 

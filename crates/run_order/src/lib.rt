@@ -1,7 +1,6 @@
 //! An order of the entries of many journals, in which each comes after one that gives what it
 //! needs: the bytes that it takes were sent, and what its write has read was handed out. Or why
-//! there is no such order. Journals alone are looked at; whether a node would do what they tell is
-//! not asked.
+//! there is no such order. Only journals are looked at, not whether a node would do what they say.
 //!
 //! ```
 //! find_all_sent(alloc, &closed)?;           // 60: something was taken that nobody sent

@@ -14,7 +14,7 @@ use node_events::NodeEvent;
 use node_journal::{Closed, Entry};
 use std::alloc::{AllocError, Global};
 
-/// The places behind the last entries.
+/// The places after the last entries.
 fn last_places(alloc: Global, closed: &[Closed]) -> Result<Vec<usize>, AllocError>
     requires { HaveNodes closed.now }
     ensures { IfOk result (λ ends. AreEnds closed.now ends.items) }
@@ -56,7 +56,7 @@ fn unsent_in(closed: &[Closed], hints: &Hints, ends: &[usize], journal: &[Entry]
     None
 }
 
-/// Looks whether all that entries need is given by some entry, before or after them.
+/// Checks that all that entries need is given by some entry, before or after them.
 ///
 /// Refused with 60 `Unsent`, for one such entry, and with 99 `Memory`.
 pub fn find_all_sent(alloc: Global, closed: &[Closed]) -> Result<(), OrderFault>

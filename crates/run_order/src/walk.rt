@@ -12,7 +12,7 @@ use crate::order::Turn;
 use node_journal::Closed;
 use std::alloc::{AllocError, Global};
 
-/// How it stands with the next entry of a node.
+/// The state of the next entry of a node.
 #[derive(Clone, Copy, Debug, PartialEq, Eq)]
 pub(crate) enum Head {
     /// There is none.
@@ -23,7 +23,7 @@ pub(crate) enum Head {
     Ready(Option<Giver>),
 }
 
-/// How it stands with the next entry of the node.
+/// The state of the next entry of the node.
 fn head_of(closed: &[Closed], next: &[usize], node: usize) -> Head
     requires places { AreNextPlaces closed.now next.now }
     requires node { node < length next.now }
@@ -93,8 +93,8 @@ fn first_turn(closed: &[Closed], next: &[usize]) -> Option<Turn>
     None
 }
 
-/// A turn: of the node that went on last, if the hints find that it can go on; of the first for
-/// which they do; or of the first of all.
+/// A turn: of the node that went on last, if the hints find that it can go on; else of the first
+/// node for which they do; else of the first node that can go on at all.
 pub(crate) fn next_turn(
     closed: &[Closed],
     hints: &Hints,

@@ -19,7 +19,7 @@ fault_name (Unequal n) = codes "Unequal"
 fault_name StrangeReceipt = codes "StrangeReceipt"
 fault_name Memory = codes "Memory"
 
--- that of an order
+-- the refusal of an order
 abbrev pub of_order : OrderFault → RecordFault
 of_order (order.Unsent at) = Unsent at
 of_order (order.Stuck places) = Stuck places

@@ -31,7 +31,7 @@ event_of a = a.event
 abbrev pub outcome_of : Accepted → Result Answer WorldFault
 outcome_of a = Ok a.answer
 
--- it is what a run of events makes of so many new nodes, each of which was accepted
+-- it is what a run of accepted events makes of `count` new nodes
 abbrev pub IsOfARun : ℕ → World → Type 0
 IsOfARun count w =
     Outcomes (new_world count) (map event_of w.accepted) (map outcome_of w.accepted) w

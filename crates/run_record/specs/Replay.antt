@@ -89,7 +89,7 @@ RefusesReplay closed (Unequal n) = IsUnequal closed n
 RefusesReplay closed Memory = Unit {0}
 RefusesReplay closed fault = ⊥
 
--- memory was wanting, or the next entry of the node is unequal
+-- memory ran out, or the next entry of the node is unequal
 abbrev pub IsRefusal : WorldFault → ℕ → RecordFault → Type 0
 IsRefusal OfWorld.Memory n fault = fault ≡ Memory
 IsRefusal refused n fault = fault ≡ Unequal n

@@ -32,9 +32,9 @@ fn replayed(alloc: Global, closed: &[Closed], order: &[Turn]) -> Result<World, R
 /// events, node by node, are the journals, with all replies and frames. Each node of it holds the
 /// table that the node was closed with, which shows what the node knows by the one history of all.
 ///
-/// Refused in this order: 60 `Unsent`, 61 `Stuck`, 62 `Unequal`, 63 `StrangeReceipt`, with what is
-/// said of each in `RecordFault`. 99 `Memory` may come at any time. Journals that real nodes left,
-/// and receipts of their calls, are refused only for want of memory; no contract can say so.
+/// Refused in this order: 60 `Unsent`, 61 `Stuck`, 62 `Unequal`, 63 `StrangeReceipt`, as
+/// `RecordFault` says of each. 99 `Memory` may come at any time. Journals that real nodes left, and
+/// receipts of their calls, are refused only when memory runs out; no contract can say so.
 ///
 /// It takes memory for the world, which holds a copy of each event and frame, for a turn and a mark
 /// of each entry, and time for each entry once, as long as the journals are those of nodes.

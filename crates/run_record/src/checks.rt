@@ -1,4 +1,4 @@
-//! Whether tables and receipts are as told.
+//! Checks of tables and receipts.
 
 ghost use Rattle.std.specs.Prelude.{◌≡◌, ◌↔◌, length, All, IfErr, IsTrue, OnOk};
 ghost use Rattle.node_journal.specs.Closed.{AreWhole};
@@ -20,7 +20,7 @@ fn are_same(one: &Store, other: &Store) -> bool
     one == other
 }
 
-/// Returns whether this is the table that is told of the node.
+/// Returns whether this is the table that the node was closed with.
 fn is_table_of(closed: &[Closed], node: usize, held: &Store) -> bool
     ensures { IsTrue result ↔ (held.now ≡ last_table closed.now node) }
 {
@@ -30,7 +30,7 @@ fn is_table_of(closed: &[Closed], node: usize, held: &Store) -> bool
     }
 }
 
-/// Refused where a node of the world doesn't hold the table that is told of it.
+/// Refused where a node of the world doesn't hold the table that it was closed with.
 pub(crate) fn check_tables(closed: &[Closed], world: &World) -> Result<(), RecordFault>
     requires journals { HoldsJournals closed.now world.now }
     requires nodes { length world.now.nodes ≡ length closed.now }

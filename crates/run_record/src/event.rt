@@ -92,7 +92,7 @@ impl Replay {
         requires given { IsGivenBy closed.now self.now.next.items (Take frame.now word) giver }
         ensures { numbered self.now.world.frames result ≡ Some frame.now }
     {
-        // Read for what it tells: so many frames can be counted.
+        // Read for what its type says: the frames can be counted.
         let _ = self.world.frame_count();
         match giver {
             Some(giver) => mark_of(self.marks.as_slice(), giver).first + giver.at as u64,

@@ -16,7 +16,7 @@ pub enum RecordFault {
     /// 61: these entries wait for one another, of a node at most one.
     Stuck { places: Vec<Place> },
     /// 62: the journal of the node of this number, with its replies and frames, is no run of a node
-    /// that ends with the table that is told of it.
+    /// that ends with the table that it was closed with.
     Unequal { node: usize },
     /// 63: a receipt is of no entry of a journal.
     StrangeReceipt,

@@ -56,7 +56,7 @@ fn are_few(closed: &[Closed])
     ensures { length closed.now ≤ 16 }
 {
     for one in closed {
-        // Read for what it tells: the number is below 16.
+        // Read for what its type says: the number is below 16.
         let _ = one.node().number();
     }
 }
@@ -73,7 +73,7 @@ fn has_lived(world: &World, node: usize)
 }
 
 impl Replay {
-    /// New nodes, of which nothing was made yet.
+    /// A world of new nodes, in which no entry was made yet.
     pub(crate) fn begin(alloc: Global, closed: &[Closed]) -> Result<Replay, RecordFault>
         requires { AreWhole closed.now }
         ensures ok { IfOk result (IsReplay closed.now) }
@@ -155,7 +155,7 @@ impl Replay {
     }
 }
 
-/// Why the next entry of the node can't be made: memory was wanting, or it is unequal.
+/// Why the next entry of the node can't be made: memory ran out, or it is unequal.
 fn refusal(fault: WorldFault, node: usize) -> RecordFault
     ensures { IsRefusal fault node result }
 {
@@ -191,7 +191,7 @@ fn is_as_told(world: &World, answer: &Answer, entry: &Entry) -> Result<bool, All
     Ok(are_frames(sent.as_slice(), entry.outbox.as_slice()))
 }
 
-/// The mark of an entry, if the answer is as it tells. Fails only when memory runs out.
+/// The mark of an entry, if the answer has its reply and frames. Fails only when memory runs out.
 fn told_mark(world: &World, answer: Answer, entry: &Entry) -> Result<Option<Mark>, AllocError>
     ensures some { IfOk result (λ mark. IfSome mark
         (λ m. AsTold world.now answer entry.now × IsMarkOf answer m)) }

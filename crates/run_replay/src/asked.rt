@@ -13,8 +13,8 @@ use world_core::{Accepted, Event};
 /// How many resolvers `plumctl run` has at hand.
 const RESOLVERS: usize = 2;
 
-/// The event that a delivery is in every world. One that names no node is none: its addressee
-/// depends on the frame that has that number in a world.
+/// The event that a delivery is in every world. A delivery that names no node has none: its
+/// addressee depends on the frame that has that number in a world.
 fn delivery_in_all(frame: u64, node: Option<u64>, word: u64) -> Option<Event>
     ensures { IfSome result (λ event. Asks event (Deliver frame node word)) }
 {
@@ -81,7 +81,7 @@ fn asks_for_roots(script: &mut Script<'_>) -> bool
     script.next().is_none()
 }
 
-/// Returns whether the text replays these events of so many nodes.
+/// Returns whether the text replays these events of `nodes` nodes.
 pub(crate) fn is_replay(
     alloc: Global,
     text: &[u8],

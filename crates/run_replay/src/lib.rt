@@ -3,7 +3,7 @@
 //!
 //! ```
 //! let world = assemble(alloc, &closed, &receipts)?;
-//! if let Some(text) = replay_of(alloc, &world, b"four nodes, 200 turns each")? {
+//! if let Some(text) = replay_of(alloc, b"200 turns each", 4, world.accepted())? {
 //!     // the commands of the text are the accepted events of the world
 //! }
 //! ```

@@ -18,7 +18,7 @@ fn add_number(text: &mut Vec<u8>, number: u64) -> Result<(), AllocError> {
     print_number(text, number)
 }
 
-/// Adds the name of a command and the numbers behind it.
+/// Adds the name of a command and the numbers after it.
 pub(crate) fn add_command(
     text: &mut Vec<u8>,
     name: &[u8],
@@ -31,7 +31,7 @@ pub(crate) fn add_command(
     Ok(())
 }
 
-/// Adds a number behind its label, unless it is 0.
+/// Adds a label and a number after it, unless the number is 0.
 fn add_labelled(text: &mut Vec<u8>, label: &[u8], number: u64) -> Result<(), AllocError> {
     if number > 0 {
         add_word(text, label)?;

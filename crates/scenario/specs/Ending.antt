@@ -12,7 +12,7 @@ bad_line number = line (codes "error 70 BadLine " ++ decimal number)
 abbrev pub limit_line : List ℕ
 limit_line = line (codes "error 71 Limit")
 
--- a fault of reading or writing has none, nor has want of memory
+-- a fault of reading or writing has no line, nor has 99 `Memory`
 abbrev pub end_line : ScenarioFault → List ℕ
 end_line (BadLine number) = bad_line number
 end_line Limit = limit_line

@@ -16,7 +16,7 @@ use Rattle.scenario_text.specs.Script.{Scenario, commands_of, first_bad, scenari
 abbrev pub PlaysCommand : Type 1
 PlaysCommand = Stage → Command → List ℕ → Stage → Type 0
 
--- how many resolvers are at hand, what is printed of `nodes`, and of each command behind it
+-- how many resolvers are at hand, what is printed of `nodes`, and of each command after it
 pub record Manner : Type 1 where
   pub resolvers : ℕ
   pub opens : List ℕ → Type 0
@@ -71,7 +71,7 @@ abbrev pub PlaysOrNothing : Manner → Option Scenario → List ℕ → Option S
 PlaysOrNothing manner None output ended = (output ≡ []) × (ended ≡ None)
 PlaysOrNothing manner (Some scenario) output ended = Plays manner scenario output ended
 
--- the line that tells the first bad line is all that is printed, or the scenario is played
+-- the line about the first bad line is all that is printed, or the scenario is played
 abbrev pub PlaysUnless : Option ℕ → Manner → List ℕ → List ℕ → Option ScenarioFault → Type 0
 PlaysUnless (Some number) manner text output ended =
     (output ≡ bad_line number) × (ended ≡ Some (BadLine number))
@@ -83,7 +83,7 @@ abbrev pub IsOutput : Manner → List ℕ → List ℕ → Option ScenarioFault 
 IsOutput manner text output ended =
     PlaysUnless (first_bad manner.resolvers text) manner text output ended
 
--- ---- a run that a fault of writing or want of memory ends
+-- ---- a run that ends at a fault of writing, or when memory runs out
 
 -- a front of what the next command prints, or of the line of the limit that it passes; or nothing
 abbrev pub BeginsNext : Manner → Stage → List Command → List ℕ → Type 0
@@ -93,7 +93,7 @@ BeginsNext manner stage (next ∷ later) begun = (begun ≡ [])
     × manner.does stage next text new × (text ≡ begun ++ more))
     ⊎ ((more : List ℕ) × PassesLimit stage next × (limit_line ≡ begun ++ more))
 
--- what was printed: all of some of the commands, and a front of it of the next
+-- what was printed: all that the first commands print, and a front of what the next one prints
 pub record RunsFront (manner : Manner) (old : Stage) (commands : List Command) (text : List ℕ)
     : Type 0 where
   pub done : List Command

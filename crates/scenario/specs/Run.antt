@@ -50,8 +50,8 @@ pub record ReadsAll (reader_old reader_new : SourceAt) (text : List ℕ) : Type 
   pub within : length text ≤ input_limit
   pub sound : reader_new.failed → reader_old.failed
 
--- the cause of a fault of reading, where so many bytes were read: the reader failed within the
--- limit, or gave more without failing anew, or memory was wanting before either
+-- the cause of a fault of reading, where `count` bytes were read: the reader failed within the
+-- limit, or gave more without failing anew, or memory ran out before either
 abbrev pub StopsAfter : (failed_old failed_new : Type 0) → ℕ → StreamFault → Type 0
 StopsAfter failed_old failed_new count fault =
     IsReadFault (failed_new × (count ≤ input_limit))
@@ -115,8 +115,8 @@ pub record Opens (opens : List ℕ → Type 0) (text_old text_new : List ℕ) : 
   pub is : opens opened
   pub added : text_new ≡ text_old ++ opened
 
--- a command was obeyed, and what is printed of it was added; or it passes the limit, or memory was
--- wanting, and then nothing is said of text and stage
+-- a command was obeyed, and what is printed of it was added; or it passes the limit, or memory ran
+-- out, and then nothing is said of text and stage
 abbrev pub DoesOrEnds : PlaysCommand → Stage → Command → (text_old text_new : List ℕ) → Stage
     → Result Unit StageFault → Type 0
 DoesOrEnds does old command text_old text_new new (Ok done) = (added : List ℕ)
@@ -132,7 +132,7 @@ pub record WritesOpening (opens : List ℕ → Type 0) (writer_old writer_new : 
   pub is : opens opened
   pub appended : Appends writer_old.contents writer_new.contents opened
 
--- or a front of it, or nothing
+-- or a front of it was written, or nothing
 pub record EndsOpening (opens : List ℕ → Type 0) (writer_old writer_new : SinkAt)
     (fault : StreamFault) : Type 0 where
   pub front : List ℕ
@@ -150,7 +150,7 @@ pub record AddsPiece (reader_old reader_new : SourceAt) (text_old text_new : Lis
   pub within : length text_new ≤ input_limit
   pub answer : MatchBool more (0 < length bytes) ((bytes ≡ []) × IsAtEnd reader_new.remaining)
 
--- one read failed, or gave more than there is room for, or memory was wanting
+-- one read failed, or gave more than there is room for, or memory ran out
 pub record StopsPiece (reader_old reader_new : SourceAt) (text_old : List ℕ)
     (fault : StreamFault) : Type 0 where
   pub bytes : List ℕ

@@ -15,8 +15,8 @@ pub fn one_output_for_a_text()
         → (one ≡ other) × (ended ≡ ending) }
 {}
 
-/// The output of a text begins with what was printed of it until a fault of writing or want of
-/// memory ended the run.
+/// The output of a text begins with what was printed of it until a fault of writing ended the run,
+/// or memory ran out.
 pub fn the_output_begins_with_its_front()
     ensures { (choices : Choices) (text front output : List ℕ) (ended : Option Fault)
         → IsFrontOfOutput (plain choices) text front → IsOutput (plain choices) text output ended

@@ -18,7 +18,7 @@ use scenario_text::{Command, Script, parse};
 use std::alloc::{AllocError, Global};
 use streams::{Sink, Source, StreamFault, flush, write_whole};
 
-/// Does what a command says, and writes what is printed of it. `text` is where that is put first.
+/// Does what a command says, and writes what is printed of it. That is put into `text` first.
 fn play_command<P: Runner, W: Sink>(
     runner: &mut P,
     stage: &mut Stage,
@@ -155,7 +155,7 @@ fn write_end<W: Sink>(
 }
 
 /// Writes the line of the fault that ends a scenario, if it has one, and passes on what was
-/// written. Answers that fault, or the one that the writing meets.
+/// written. Returns that fault, or the one that the writing meets.
 fn end_run<W: Sink>(alloc: Global, writer: &mut W, fault: ScenarioFault) -> ScenarioFault
     ensures { ((result ≡ fault) × WritesEnd (end_line fault) (W.at writer.old) (W.at writer.new))
         ⊎ ((by_stream : ByStream) × (result ≡ Stream by_stream)

@@ -19,7 +19,7 @@ pub trait Runner {
     // what is printed of a command, by what the resolvers choose
     ghost does: { Choices → PlaysCommand };
 
-    // that what the runner remembers is so of this stage
+    // that what the runner remembers is true of this stage
     ghost follows: { Self → StageParts → Type 0 };
 
     /// Adds what is printed of `nodes`, once the nodes are there, and follows the stage from then

@@ -3,17 +3,17 @@ use Rattle.std.specs.Prelude.{◌≡◌, ℕ, ◌≤◌, Bool, List, length, tak
 use Rattle.scenario_text.specs.Commands.{Command}
 use Rattle.scenario_stage.specs.Marking.{SetsMarks, all_waiting}
 
--- these frames wait, and so many marks were looked at, which are all
+-- these frames wait, and `seen` marks were looked at, which are all
 pub record NotesAll (frames : List ℕ) (seen : ℕ) (given : List Bool) : Type 0 where
   pub all_seen : seen ≡ length given
   pub frames_are : frames ≡ all_waiting 1 given
 
--- these wait among so many at the front
+-- these frames wait among the first `seen`
 pub record NotesFront (frames : List ℕ) (seen : ℕ) (given : List Bool) : Type 0 where
   pub within : seen ≤ length given
   pub frames_are : frames ≡ all_waiting 1 (take seen given)
 
--- these waited before a command, which has led to these marks
+-- these frames waited before a command, which has led to these marks
 pub record NotedBefore (frames : List ℕ) (seen : ℕ) (command : Command) (given : List Bool)
     : Type 0 where
   pub before : List Bool

@@ -2,16 +2,16 @@
 -- first sixteen by their numbers, and how many more there are.
 use Rattle.std.specs.Prelude.{ℕ, zero, suc, ◌-◌, List, [], ◌∷◌, ◌++◌, codes, decimal, flat_map, length, take}
 
--- each number behind a space
+-- each number after a space
 abbrev pub spaced : List ℕ → List ℕ
 spaced numbers = flat_map (λ number. codes " " ++ decimal number) numbers
 
--- as ` and 3 more`; none are not told
+-- as ` and 3 more`; nothing where there are no more
 abbrev pub and_more : ℕ → List ℕ
 and_more zero = []
 and_more (suc more) = codes " and " ++ decimal (suc more) ++ codes " more"
 
--- the first so many numbers, and how many more there are
+-- the first `most` numbers, and how many more there are
 abbrev pub first_of : ℕ → List ℕ → List ℕ
 first_of most numbers = spaced (take most numbers) ++ and_more (length numbers - most)
 

@@ -1,6 +1,6 @@
 -- What an explained run prints: the results of each command, and lines that tell more before them
--- and after them. These begin with two spaces. Before them stands the line of the command, behind
--- them the frames that are on their way then, and lines of nodes.
+-- and after them. These begin with two spaces. Before the results stands the line of the command,
+-- after them the frames that are on their way then, and lines of nodes.
 use Rattle.std.specs.Prelude.{◌≡◌, ◌⊎◌, ℕ, List, [], ◌∷◌, ◌++◌, map, codes, decimal}
 use Rattle.scenario_text.specs.Commands.{Command}
 use Rattle.scenario_hint.specs.Hint.{shown_byte}
@@ -10,7 +10,7 @@ use Rattle.scenario_stage.specs.Printed.{line}
 use Rattle.scenario.specs.Output.{Manner, manner_of}
 use Rattle.scenario_explain.specs.OnTheWay.{way_lines}
 
--- a line that is told: what can be printed of it, behind two spaces
+-- a line that is told: two spaces, and then its bytes, with `?` for what can't be printed
 unfoldable pub told_line : List ℕ → List ℕ
 told_line text = codes "  " ++ (map shown_byte text ++ 10 ∷ [])
 
@@ -23,7 +23,7 @@ pub record AreTold (text : List ℕ) : Type 0 where
   pub lines : List (List ℕ)
   pub text_is : text ≡ told_lines lines
 
--- the line of a command, as `3: join 1 0`: a number, and what is shown behind it; or nothing
+-- the line of a command, as `3: join 1 0`: a number, and what is shown after it; or nothing
 abbrev pub IsOfCommand : List ℕ → Type 0
 IsOfCommand text = (text ≡ [])
     ⊎ ((number : ℕ) × (shown : List ℕ)
@@ -61,7 +61,7 @@ explained choices = manner_of OpensExplained Explains choices
 
 -- ---- without what is told
 
--- lines that are told, and what is printed of results behind them
+-- lines that are told, and what is printed of results after them
 pub record Piece : Type 0 where
   pub told : List ℕ
   pub results : List ℕ

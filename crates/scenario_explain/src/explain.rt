@@ -17,8 +17,7 @@ use scenario_text::{Command, Lines};
 use std::alloc::{AllocError, Global};
 use streams::{Sink, Source};
 
-/// Who runs a scenario and tells, besides the results of each command, its line, and what came of
-/// it.
+/// Runs a scenario, and prints besides the results of each command its line, and what came of it.
 #[derive(Drop)]
 pub struct Explainer<'a> {
     alloc: Global,
@@ -41,7 +40,7 @@ impl<'a> Explainer<'a> {
         }
     }
 
-    /// Tells the line of the next command, and its number.
+    /// Adds the line of the next command, and its number.
     #[tactic(auto, using(crate::proofs::Adding::no_command))]
     fn tell_line(&mut self, text: &mut Vec<u8>) -> Result<(), AllocError>
         ensures told { OnOk result (AddsCommand text.old.items text.new.items) }
@@ -105,7 +104,7 @@ impl<'a> Runner for Explainer<'a> {
 /// of the first sixteen frames that are on their way, which are those that were never given to
 /// their addressees, and how many more there are; and a line for each key under which a node shows
 /// other siblings or another context than before, `ctx - values -` where a restart has taken them
-/// away. Which frames are named the contract says, what is told of lines and of nodes it doesn't.
+/// away. The contract says which frames are named, but not what is told of lines and of nodes.
 /// Where two tables have the same root they are taken to show the same. Where it comes to its end,
 /// or to 70 or 71, so does `run_over`. It takes memory besides for a copy of what each node holds.
 pub fn explain_over<R: Source, W: Sink>(

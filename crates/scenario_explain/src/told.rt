@@ -21,7 +21,7 @@ const MOST_NODES: u64 = 16;
 #[derive(Drop)]
 struct Shown {
     store: Store,
-    /// The root of its table when all of that was looked at last.
+    /// The root of the node's table when the whole table was looked at last.
     root: Digest,
 }
 
@@ -64,7 +64,7 @@ fn key_of(alloc: Global, key: KeyWord<'_>) -> Result<Option<MetaKey>, AllocError
 }
 
 impl Told {
-    /// Nothing, of no node.
+    /// Makes what was told where there are no nodes yet: nothing.
     pub(crate) fn new(alloc: Global) -> Self {
         Told {
             alloc,
@@ -72,7 +72,7 @@ impl Told {
         }
     }
 
-    /// The nodes of a new world are there. Of them nothing has to be told.
+    /// Notes the nodes of a new world. Nothing has to be told of them.
     pub(crate) fn open(&mut self, world: &World) -> Result<(), AllocError> {
         for number in 0..MOST_NODES {
             if let Some(state) = world.state(number) {
@@ -140,7 +140,8 @@ impl Told {
 }
 
 impl Shown {
-    /// Adds a line for each key of a node's table of which something else was told last.
+    /// Adds a line for each key under which the node's table holds something else than was told
+    /// last.
     #[tactic(auto, using(crate::proofs::Adding::adds_none, crate::proofs::Adding::adds_then))]
     fn add_table(
         &mut self,
@@ -168,7 +169,8 @@ impl Shown {
         self.add_changes(alloc, node, before, state.store(), text)
     }
 
-    /// Adds a line for each of the keys of which something else was told last.
+    /// Adds a line for each of these keys under which the store holds something else than was told
+    /// last.
     #[tactic(auto, using(crate::proofs::Adding::adds_none, crate::proofs::Adding::adds_then))]
     fn add_changes(
         &mut self,
@@ -205,7 +207,7 @@ impl Shown {
         self.hold(key, store)
     }
 
-    /// What the store holds under the key was told.
+    /// Notes that what the store holds under the key was told.
     fn hold(&mut self, key: MetaKey, store: &Store) -> Result<(), AllocError> {
         match store.object(&key) {
             Some(object) if self.store.has_room_for(&key) => {

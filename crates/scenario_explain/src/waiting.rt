@@ -30,7 +30,7 @@ pub(crate) struct Waiting {
 }
 
 impl Waiting {
-    /// None, of a world without frames.
+    /// Makes the list of a world without frames.
     pub(crate) fn new(alloc: Global) -> Self {
         Waiting {
             alloc,
@@ -59,7 +59,7 @@ impl Waiting {
         self.add_sent(stage)
     }
 
-    /// What the command has given is on its way no more.
+    /// Drops the frames that the command has given.
     fn drop_given(&mut self, stage: &Stage, command: &Command<'_>)
         requires { NotedBefore self.old.frames.items self.old.seen (command_word command.now)
             stage.now.given }
@@ -72,7 +72,7 @@ impl Waiting {
         }
     }
 
-    /// The frame that was delivered was given, or it is on its way still.
+    /// Drops the frame that was delivered, if it was given.
     fn drop_delivered(&mut self, stage: &Stage, frame: u64)
         requires { NotedBefore self.old.frames.items self.old.seen (Deliver frame None 0)
             stage.now.given }
@@ -83,7 +83,7 @@ impl Waiting {
         }
     }
 
-    /// All were given.
+    /// Drops all frames: all were given.
     fn drop_all(&mut self, stage: &Stage)
         requires { all_waiting 1 stage.now.given ≡ [] }
         ensures { NotesFront self.new.frames.items self.new.seen stage.now.given }
@@ -92,7 +92,7 @@ impl Waiting {
         self.seen = stage.world().frame_count();
     }
 
-    /// The frame is on its way no more.
+    /// Drops the frame, if it is noted.
     fn drop_frame(&mut self, frame: u64)
         ensures seen { self.new.seen ≡ self.old.seen }
         ensures frames { (given : List Bool) → 1 ≤ frame
@@ -145,7 +145,7 @@ fn add_spaced(line: &mut Vec<u8>, numbers: &[u64]) -> Result<(), AllocError>
     Ok(())
 }
 
-/// Adds so many numbers at most, and how many more there are.
+/// Adds the first `most` numbers, and how many more there are.
 fn add_first(line: &mut Vec<u8>, numbers: &[u64], most: usize) -> Result<(), AllocError>
     ensures { OnOk result (line.new.items ≡ line.old.items ++ first_of most numbers.now) }
 {

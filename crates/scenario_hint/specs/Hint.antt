@@ -1,6 +1,6 @@
--- What is told of the first line of a text that breaks a rule, beside its number: the line as it
--- stands, and what it wants. It is told at standard error; the output of a run has the number
--- alone. The texts are this project's own.
+-- What is printed about the first line of a text that breaks a rule, beside its number: the line as
+-- it stands, and what it wants. This is printed at standard error; the output of a run has the
+-- number alone. The texts are this project's own.
 use Rattle.std.specs.Prelude.{◌≡◌, ◌≢◌, ◌-◌, ℕ, zero, suc, ◌==◌, nat_le, Bool, true, false, not, ◌||◌, ◌&&◌, if◌then◌else◌, MatchBool, List, [], ◌∷◌, ◌++◌, length, take, map, slice_get, Option, Some, None, bytes_eq, codes, decimal}
 use Rattle.streams.specs.Line.{lines_of}
 use Rattle.scenario_text.specs.declared.verb.Verb.{Verb}
@@ -26,7 +26,7 @@ pub record Found : Type 0 where
   pub begun : Bool
   pub line : List ℕ
 
--- behind so many lines, and whether a command stood before these
+-- the line after `count` lines; `begun` says whether a command stood before these
 abbrev pub found_behind : ℕ → Bool → List (List ℕ) → Found
 found_behind count begun [] = record { begun = begun; line = [] }
 found_behind zero begun (line ∷ lines) = record { begun = begun; line = line }
@@ -53,7 +53,7 @@ shown_line line =
 
 -- ---- what it wants
 
--- a command, with the words behind it
+-- the form of a command: its verb, and the words after it
 abbrev pub form_of : Verb → List ℕ
 form_of verbs.Nodes = codes "nodes COUNT, once, as the first command; COUNT is 1 to 16"
 form_of verbs.Put =
@@ -81,7 +81,7 @@ form_of verbs.Images = codes "images N"
 form_of verbs.Views = codes "views N"
 form_of verbs.Settle = codes "settle"
 
--- the same word, or the same but for one byte, which is another one, missing or too many
+-- the words are equal, or differ in one byte, which is another one, missing or too many
 unfoldable pub is_near : Word → Word → Bool
 is_near [] other = nat_le (length other) 1
 is_near (a ∷ word) [] = nat_le (length (a ∷ word)) 1
@@ -127,7 +127,7 @@ is_return (Some b) = b == 13
 abbrev pub ends_returned : List ℕ → Bool
 ends_returned line = is_return (slice_get line (length line - 1))
 
--- the first of these that is so of a line that breaks a rule
+-- what is wrong with a line that breaks a rule: the first of these that is true of it
 abbrev pub IsHint : Found → Hint → Type 0
 IsHint found hint =
     MatchBool (starts_marked found.line) (hint ≡ ByteOrderMark)
@@ -154,7 +154,7 @@ unfoldable pub hint_lines : ℕ → List ℕ → Hint → List ℕ
 hint_lines number line hint = codes "line " ++ decimal number ++ codes ": " ++ shown_line line
     ++ 10 ∷ (hint_text hint ++ 10 ∷ [])
 
--- what is told of the line of this number, which breaks a rule
+-- what is printed about the line of this number, which breaks a rule
 abbrev pub IsTold : List ℕ → ℕ → List ℕ → Type 0
 IsTold text number told = (hint : Hint) × IsHint (found_at number text) hint
     × (told ≡ hint_lines number (found_at number text).line hint)

@@ -1,2 +1,2 @@
--- what is told of a line that breaks a rule
+-- what is printed about a line that breaks a rule
 pub mod Hint

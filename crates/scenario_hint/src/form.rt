@@ -5,7 +5,7 @@ ghost use Rattle.scenario_hint.specs.Hint.{form_of};
 
 use scenario_text::Verb;
 
-/// A command, with the words behind it.
+/// Returns the form of a command: its verb, and the words after it.
 pub(crate) fn form_of(verb: Verb) -> &'static str
     ensures { result.now ≡ form_of verb }
 {

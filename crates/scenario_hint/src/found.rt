@@ -33,7 +33,7 @@ pub fn is_skipped(line: &[u8]) -> bool
     }
 }
 
-/// The line behind so many of the text; where there is none, an empty one.
+/// Returns the line after the first `count` lines of the text; where there is none, an empty one.
 pub(crate) fn found_behind(text: &[u8], count: u64) -> FoundLine<'_>
     ensures { result ≡ found_behind count false (lines_of text.now) }
 {

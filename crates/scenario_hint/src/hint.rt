@@ -53,7 +53,8 @@ fn hint_of_words(line: &[u8]) -> Hint
     }
 }
 
-/// What is wrong with a line that breaks a rule, and before which a command stands or not.
+/// Returns what is wrong with a line that breaks a rule; `begun` says whether a command stands
+/// before it.
 pub(crate) fn hint_of(begun: bool, line: &[u8]) -> Hint
     ensures { IsHint (record { begun = begun; line = line.now }) result }
 {

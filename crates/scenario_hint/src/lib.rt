@@ -1,4 +1,4 @@
-//! What is told of a line of a scenario that breaks a rule, beside its number: the line as it
+//! What is printed about a line of a scenario that breaks a rule, beside its number: the line as it
 //! stands, and what it wants.
 //!
 //! ```

@@ -5,7 +5,7 @@ ghost use Rattle.scenario_hint.specs.Hint.{all_verbs, is_near, near_of};
 
 use scenario_text::{VERBS, Verb, word_of};
 
-/// Whether words are the same, or the same but for one byte, which is another one, missing or too
+/// Returns whether words are equal, or differ in one byte, which is another one, missing or too
 /// many.
 fn is_near(word: &[u8], other: &[u8]) -> bool
     ensures { result ≡ is_near word.now other.now }

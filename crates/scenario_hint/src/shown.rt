@@ -29,8 +29,8 @@ pub fn add_printable(out: &mut Vec<u8>, bytes: &[u8]) -> Result<(), AllocError>
     Ok(())
 }
 
-/// Adds the line as it stands, with `?` for what can't be printed; of one of more than 80 bytes its
-/// front, and two dots.
+/// Adds the line as it stands, with `?` for what can't be printed; where it has more than 80 bytes,
+/// only the first 80, and two dots.
 #[tactic(auto, unfolding(crate::specs::Hint::shown_line))]
 pub fn add_shown(out: &mut Vec<u8>, line: &[u8]) -> Result<(), AllocError>
     ensures { OnOk result (out.new.items ≡ out.old.items ++ shown_line line.now) }

@@ -1,4 +1,4 @@
-//! What is told of a line.
+//! The two lines about a line that breaks a rule.
 
 ghost use Rattle.std.specs.Prelude.{◌≡◌, ◌++◌, OnOk, IfOk, Some};
 ghost use Rattle.scenario_hint.specs.Hint.{IsTold, hint_lines, hint_text};
@@ -61,8 +61,8 @@ fn add_lines(out: &mut Vec<u8>, number: u64, line: &[u8], hint: Hint) -> Result<
     Ok(())
 }
 
-/// What is told of the line of this number, counted from 1, which breaks a rule: the line as it
-/// stands, and what it wants, each with a line feed. Fails only when memory runs out.
+/// Returns two lines about the line of this number, counted from 1, which breaks a rule: the line
+/// as it stands, and what it wants, each with a line feed. Fails only when memory runs out.
 pub fn told_of_line(alloc: Global, text: &[u8], number: u64) -> Result<Vec<u8>, AllocError>
     ensures { IfOk result (λ told. IsTold text.now number told.items) }
 {

@@ -27,7 +27,7 @@ abbrev pub IsEventOf : Command → Option Event → Type 0
 IsEventOf (spoken.Deliver frame to word) event = Unit {0}
 IsEventOf command event = (w : World) → event_of w command ≡ event
 
--- the same, of a command that is made of numbers alone; of the others that are events nothing is
+-- the event of a command that is made of numbers alone, if it is one; of other events nothing is
 -- said
 abbrev pub IsEventOfNumbers : Command → Option Event → Type 0
 IsEventOfNumbers (spoken.Put n k v s r) event = Unit {0}
@@ -88,7 +88,7 @@ ActsOrLooksAs old command text_old text_new new = (added : List ℕ)
     × ActsOrLooks old (event_of old.world command) (report_of old.world command) added new
     × (text_new ≡ text_old ++ added)
 
--- so many waiting frames are handed on: all of them, or as many as may be
+-- `delivered` waiting frames are handed on: all of them, or the most that may be
 pub record HandsOnUpTo (old : Stage) (delivered : ℕ) (new : Stage) : Type 0 where
   pub within : delivered ≤ most_deliveries
   pub hands_on : HandsOnEach old delivered new
@@ -121,7 +121,7 @@ IsActOrLook command = Unit {0}
 abbrev pub AreThere : World → FrameNumbers → Type 0
 AreThere w sent = (1 ≤ sent.first) × (sent.first + sent.count ≤ length w.frames + 1)
 
--- the outcome of an event was added, and what it sent; it isn't want of memory
+-- the outcome of an event was added, and what it sent; memory didn't run out
 pub record PrintsOutcome (w : World) (outcome : Result Answer WorldFault)
     (text_old text_new : List ℕ) : Type 0 where
   pub had_memory : outcome ≢ Err worlds.Memory

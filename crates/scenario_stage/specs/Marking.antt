@@ -10,17 +10,17 @@ all_waiting number [] = []
 all_waiting number (true ∷ given) = all_waiting (number + 1) given
 all_waiting number (false ∷ given) = number ∷ all_waiting (number + 1) given
 
--- the marks are those that were there, and behind them those of frames that were sent, not set
+-- the marks are those that were there, and after them unset marks of frames that were sent
 pub record AddsUnset (old new : List Bool) : Type 0 where
   pub sent : ℕ
   pub new_is : new ≡ old ++ replicate sent false
 
--- besides, the mark of this frame is set
+-- unset marks were added, and the mark of this frame is set
 abbrev pub SetsOne : ℕ → (old new : List Bool) → Type 0
 SetsOne frame old new = (1 ≤ frame) × AddsUnset (with_given frame old) new
 
--- which marks a command sets: that of the frame that it delivers, or none; a settling all of them,
--- those of frames that it sent meanwhile too
+-- which marks a command sets: the mark of the frame that it delivers, or none; a settling sets all
+-- of them, those of frames that it sent meanwhile too
 abbrev pub SetsMarks : Command → (old new : List Bool) → Type 0
 SetsMarks (Deliver frame to word) old new = SetsOne frame old new ⊎ AddsUnset old new
 SetsMarks Settle old new = (length old ≤ length new) × (all_waiting 1 new ≡ [])

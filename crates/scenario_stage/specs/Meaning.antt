@@ -54,7 +54,7 @@ event_of w (Watch n p capacity) = Some (events.Watch n p capacity)
 event_of w (Changes n number) = Some (events.Changes n number)
 event_of w command = None
 
--- what a command reports that only looks: of which node, and the text
+-- what a command that only looks reports: of which node, and the text
 pub record Report : Type 0 where
   pub node : ℕ
   pub text : List ℕ

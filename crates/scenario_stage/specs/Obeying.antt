@@ -1,5 +1,5 @@
 -- What a command prints and what it leaves: a relation between the stage before it, the text, and
--- the stage after it. Want of memory is no outcome here; it ends the run.
+-- the stage after it. That memory runs out is no outcome here; it ends the run.
 use Rattle.std.specs.Prelude.{◌≡◌, ◌≢◌, ℕ, zero, suc, ◌+◌, ◌-◌, ◌≤◌, ◌<◌, nat_le, Bool, true, false, not, ◌⊎◌, if◌then◌else◌, List, [], ◌∷◌, ◌++◌, length, map, replicate, slice_get, slice_set, Option, Some, None, Result, Ok, Err, codes, decimal}
 use Rattle.std.specs.Option.{unwrap_or}
 use Rattle.meta_types.specs.Name.{Key}
@@ -29,7 +29,7 @@ pub record Stage : Type 0 where
   pub world : World
   pub given : List Bool
 
--- a new world of so many nodes, none of whose frames was given
+-- a new world of this number of nodes, none of whose frames was given
 abbrev pub new_stage : ℕ → Stage
 new_stage nodes = record { world = new_world nodes; given = [] }
 
@@ -55,7 +55,7 @@ changes_no_mark NoSuchFrame = true
 changes_no_mark (Step OfStep.NotAddressed) = true
 changes_no_mark fault = false
 
--- the marks of so many frames; a new one was not given
+-- the marks of this number of frames; a new frame was not given
 abbrev pub with_new : ℕ → List Bool → List Bool
 with_new frames given = given ++ replicate (frames - length given) false
 
@@ -116,7 +116,7 @@ KeepsAll old node [] new = new ≡ old
 KeepsAll old node (key ∷ keys) new = (answer : Answer) × (between : Stage)
     × Comes old (events.Keep node key) (Ok answer) between × KeepsAll between node keys new
 
--- all that it holds
+-- the world keeps all that the node holds
 pub record KeepsHeld (old : Stage) (node : ℕ) (text : List ℕ) (new : Stage) : Type 0 where
   pub there : node < length old.world.nodes
   pub keeps : KeepsAll old node (map (λ row. row.0) (table_at old.world node)) new
@@ -127,11 +127,11 @@ abbrev pub chosen_as : Option (List ValueParts → ℕ) → List ValueParts → 
 chosen_as None siblings = None
 chosen_as (Some choice) siblings = chosen choice siblings
 
--- that of the resolver at this place
+-- the sibling that the resolver at this place chooses
 abbrev pub chosen_by : Choices → ℕ → List ValueParts → Option ValueParts
 chosen_by choices by siblings = chosen_as (slice_get choices by) siblings
 
--- it is written over all of them; where there is none nothing changes
+-- the chosen sibling is written over all of them; where there is none nothing changes
 abbrev pub Resolves : Stage → ℕ → Key → Option ValueParts → (text : List ℕ) → Stage → Type 0
 Resolves old node key None text new = Answers old node (codes "ok") text new
 Resolves old node key (Some value) text new = Happens old (events.PutOver node key value) text new
@@ -155,14 +155,14 @@ pub record HandsOn (old : Stage) (frame : ℕ) (new : Stage) : Type 0 where
   pub comes : Comes old (events.Deliver frame (addressee old.world frame) 0) outcome between
   pub new_is : new ≡ record between { given = with_given frame between.given }
 
--- so many frames are handed on, one after the other, each the first that waits then, those sent
--- meanwhile too (one word, into which proofs do not look by themselves)
+-- this number of frames is handed on, one after the other, each the first that waits then, those
+-- sent meanwhile too (one word, into which proofs do not look by themselves)
 unfoldable pub HandsOnEach : Stage → ℕ → Stage → Type 0
 HandsOnEach old zero new = new ≡ old
 HandsOnEach old (suc more) new = (frame : ℕ) × (between : Stage) × (waiting old ≡ Some frame)
     × HandsOn old frame between × HandsOnEach between more new
 
--- until none waits, and they are no more than may be
+-- frames are handed on until none waits, and no more than may be
 pub record Settles (old : Stage) (text : List ℕ) (new : Stage) : Type 0 where
   pub delivered : ℕ
   pub within : delivered ≤ most_deliveries
@@ -170,7 +170,7 @@ pub record Settles (old : Stage) (text : List ℕ) (new : Stage) : Type 0 where
   pub none_waits : waiting new ≡ None
   pub text_is : text ≡ line (codes "delivered " ++ decimal delivered)
 
--- as many are handed on as may be, and yet one waits
+-- the most frames are handed on that may be, and yet one waits
 pub record GoesOn (old : Stage) : Type 0 where
   pub delivered : ℕ
   pub most : delivered ≡ most_deliveries
@@ -202,7 +202,7 @@ abbrev pub ActsUnless : Option TypeFault → Choices → Stage → Command → (
 ActsUnless (Some fault) choices old command text new = (text ≡ name_refused fault) × (new ≡ old)
 ActsUnless None choices old command text new = Acts choices old command text new
 
--- the command prints this text, and leaves this
+-- the command prints this text, and leaves this stage
 abbrev pub Obeys : Choices → Stage → Command → (text : List ℕ) → Stage → Type 0
 Obeys choices old command text new = ActsUnless (fault_in command) choices old command text new
 
@@ -211,8 +211,8 @@ abbrev pub PassesLimit : Stage → Command → Type 0
 PassesLimit old Settle = GoesOn old
 PassesLimit old command = ⊥
 
--- a command was obeyed, and the text that it prints was added behind what stood there; or it
--- passes the limit, or memory was wanting, and then nothing is said of text and stage
+-- a command was obeyed, and the text that it prints was added after what stood there; or it passes
+-- the limit, or memory ran out, and then nothing is said of text and stage
 abbrev pub ObeysOrEnds : Choices → Stage → Command → (text_old text_new : List ℕ) → Stage
     → Result Unit StageFault → Type 0
 ObeysOrEnds choices old command text_old text_new new (Ok done) = (added : List ℕ)

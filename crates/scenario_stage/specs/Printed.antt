@@ -30,7 +30,7 @@ abbrev pub frame_line : ℕ → Frame → List ℕ
 frame_line number frame = line (codes "frame " ++ decimal number ++ codes " "
     ++ name_of frame.message ++ codes " " ++ decimal frame.from ++ codes " " ++ decimal frame.to)
 
--- a line for each of so many frames of the world, from this number on
+-- a line for each of a number of frames of the world, from this frame number on
 abbrev pub AreFrameLines : World → ℕ → ℕ → List ℕ → Type 0
 AreFrameLines w number zero text = text ≡ []
 AreFrameLines w number (suc more) text = (frame : Frame) × (rest : List ℕ)

@@ -1,4 +1,4 @@
-//! Frames that are delivered: one of them, or all that were not given yet.
+//! Delivering frames: one of them, or all that were not given yet.
 
 ghost use Rattle.std.specs.Prelude.{◌≡◌, ◌<◌, ◌≤◌, Some, length, replicate, slice_get, take, true, false, if◌then◌else◌, IfOk, OnOk, OnErr};
 ghost use Rattle.meta_frame.specs.Frame.{to_in};
@@ -16,8 +16,8 @@ use world_core::{Answer, Event, WorldFault};
 /// The most deliveries of one settling.
 const MAX_DELIVERIES: u64 = 100_000;
 
-/// Whether a frame that was refused so stays one that was not given: no node, or no frame, or
-/// another node was named.
+/// Returns whether a delivery that was refused with this fault leaves the frame's mark as it was:
+/// the node isn't there, or the frame isn't, or it is addressed to another node.
 fn changes_no_mark(fault: &WorldFault) -> bool
     ensures { result ≡ changes_no_mark fault.now }
 {
@@ -37,7 +37,7 @@ fn counts_as_given(outcome: &Result<Answer, WorldFault>) -> bool
     }
 }
 
-/// Sets the mark of a frame, and makes room for it by marks that are not set.
+/// Sets the mark of a frame. Marks that are missing before it are added, not set.
 fn set_mark(marks: &mut Vec<bool>, frame: usize) -> Result<(), AllocError>
     requires { 1 ≤ frame }
     ensures set { OnOk result
@@ -50,7 +50,7 @@ fn set_mark(marks: &mut Vec<bool>, frame: usize) -> Result<(), AllocError>
     Ok(())
 }
 
-/// How many marks at the front are all set; so many are known to be.
+/// Returns how many marks at the front are set, of which `known` are known to be.
 fn count_set(marks: &[bool], known: usize) -> usize
     requires within { known ≤ length marks.now }
     requires set { take known marks.now ≡ replicate known true }
@@ -85,7 +85,7 @@ impl Stage {
         }
     }
 
-    /// The frame of that number, which is there, was given.
+    /// Sets the mark of the frame of that number, which is there.
     fn mark(&mut self, frame: u64) -> Result<(), AllocError>
         requires { (1 ≤ frame) × (frame ≤ length self.old.world.frames) }
         ensures world { self.new.world ≡ self.old.world }
@@ -94,8 +94,8 @@ impl Stage {
         set_mark(&mut self.given, frame as usize)
     }
 
-    /// Delivers a frame to the node, or to its addressee, and adds what that prints. Unless it
-    /// stays waiting it was given then.
+    /// Delivers a frame to the node, or to its addressee, and adds what that prints. Sets the
+    /// frame's mark, unless the refusal leaves it as it was.
     pub(crate) fn deliver(
         &mut self,
         frame: u64,
@@ -116,7 +116,8 @@ impl Stage {
         done
     }
 
-    /// Adds the outcome of the delivery of a frame, which was given then unless it stays waiting.
+    /// Adds the outcome of the delivery of a frame. Sets the frame's mark, unless the refusal
+    /// leaves it as it was.
     fn tell_delivery(
         &mut self,
         frame: u64,
@@ -152,8 +153,8 @@ impl Stage {
         }
     }
 
-    /// Delivers the frame that waits first to its addressee, with word 0. It was given then,
-    /// whatever came of that.
+    /// Delivers the frame that waits first to its addressee, with word 0, and sets its mark,
+    /// whatever came of that. Fails only when memory runs out.
     fn hand_on(&mut self, frame: u64) -> Result<(), AllocError>
         requires { waiting self.old ≡ Some frame }
         ensures { OnOk result (HandsOn self.old frame self.new) }
@@ -172,8 +173,8 @@ impl Stage {
         self.mark(frame)
     }
 
-    /// Delivers each frame that was not given, in the order of their numbers and those sent
-    /// meanwhile too, but no more than 100,000. Returns how many.
+    /// Delivers the frames that were not given, those sent meanwhile too, in the order of their
+    /// numbers, but no more than 100,000. Returns how many were delivered.
     fn hand_on_all(&mut self) -> Result<u64, AllocError>
         ensures { IfOk result (λ delivered. HandsOnUpTo self.old delivered self.new) }
     {

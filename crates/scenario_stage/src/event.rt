@@ -14,8 +14,8 @@ use scenario_text::{BytesWord, Command, KeyWord, PrefixWord};
 use std::alloc::{AllocError, Global};
 use world_core::Event;
 
-/// The event that a command is, if it is one but a delivery, for which the world has to be asked.
-/// Fails only when memory runs out.
+/// Returns the event that a command is, if it is one; none for a delivery too, for which the world
+/// has to be asked. Fails only when memory runs out.
 pub fn event_of(alloc: Global, command: &Command<'_>) -> Result<Option<Event>, AllocError>
     requires { fault_in (command_word command.now) ≡ None }
     ensures { IfOk result (λ event. IsEventOf (command_word command.now) event) }
@@ -51,7 +51,7 @@ pub fn event_of(alloc: Global, command: &Command<'_>) -> Result<Option<Event>, A
     }
 }
 
-/// The event that a command is which is made of numbers alone.
+/// Returns the event that a command made of numbers alone is, if it is one other than a delivery.
 fn event_of_numbers(command: &Command<'_>) -> Option<Event>
     ensures { IsEventOfNumbers (command_word command.now) result }
 {

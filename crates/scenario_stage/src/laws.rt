@@ -20,7 +20,7 @@ pub fn one_text_and_one_stage_left()
 {}
 
 /// A command sets the mark of the frame that it delivers, or none, and a settling those of all
-/// frames; the frames that it sends stand behind those that were there, and were not given. So a
+/// frames; the frames that it sends stand after those that were there, and were not given. So a
 /// frame that was given stays so.
 pub fn each_command_sets_its_marks()
     ensures sets { (choices : Choices) (old new : Stage) (command : Command) (text : List ℕ)

@@ -4,7 +4,7 @@
 //! ```
 //! let mut stage = Stage::new(alloc, 2)?;
 //! let mut text = Vec::new(alloc);
-//! // (`command` is that of a line `put 0 a/b/k x`)
+//! // (`command` was read from a line `put 0 a/b/k x`)
 //! stage.obey(&command, &[], &mut text)?; // the text: wrote ctx 0.1:1
 //! stage.world().state(0); // what node 0 is now
 //! ```

@@ -1,5 +1,5 @@
-//! Printed lines. Each call adds its text at the end of bytes; want of memory may leave a front of
-//! it.
+//! Printed lines. Each call adds its text at the end of bytes; where memory runs out, a front of it
+//! may have been added.
 
 ghost use Rattle.std.specs.Prelude.{◌≡◌, ◌↔◌, ◌≤◌, ◌++◌, ◌∷◌, [], ℕ, List, Err, IsTrue, OnOk, length, map, true, decimal, codes, if◌then◌else◌};
 ghost use Rattle.meta_frame.specs.Frame.{Spells};
@@ -55,7 +55,7 @@ pub(crate) fn print_name_fault(out: &mut Vec<u8>, fault: &TypeFault) -> Result<(
     print_code(out, fault.code(), fault.name())
 }
 
-/// Adds why the world refused an event, but for want of memory.
+/// Adds why the world refused an event. `Memory` is never printed.
 pub(crate) fn print_fault(out: &mut Vec<u8>, fault: &WorldFault) -> Result<(), AllocError>
     ensures { OnOk result (out.new.items ≡ out.old.items ++ world_refused fault.now) }
 {
@@ -249,7 +249,7 @@ fn print_frames(
     ensures { OnOk result ((text : List ℕ) × (AreLinesOf world.now sent text
         × (out.new.items ≡ out.old.items ++ text))) }
 {
-    // Read for what it tells: a number of a frame fits.
+    // Called for what its contract says: a number of a frame fits.
     let _count = world.frame_count();
     for offset in 0..sent.count {
         print_frame_of(alloc, out, world, sent.first + offset)?;
@@ -272,14 +272,15 @@ fn print_answer(
     print_frames(alloc, out, world, answer.sent)
 }
 
-/// Whether memory was wanting for an event.
+/// Returns whether memory ran out for an event.
 pub(crate) fn lacks_memory(outcome: &Result<Answer, WorldFault>) -> bool
     ensures { IsTrue result ↔ (outcome.now ≡ Err Memory) }
 {
     matches!(outcome, Err(WorldFault::Memory))
 }
 
-/// Adds the outcome of an event, and what it sent. Want of memory isn't printed, and ends the run.
+/// Adds the outcome of an event, and what it sent. Where memory ran out nothing is printed, and the
+/// run ends.
 pub(crate) fn print_outcome(
     alloc: Global,
     out: &mut Vec<u8>,

@@ -16,9 +16,9 @@ use std::alloc::{AllocError, Global};
 use std::marker::Model;
 use world_core::{Answer, Event, World, WorldFault};
 
-/// A world, and which of its frames were given to their addressee: there are marks for a front of
-/// them, and those behind were not given. The first `settled` marks all say so: a settling begins
-/// behind them, and looks at no frame twice.
+/// A world, and marks that say which of its frames were given to their addressee: the first frames
+/// have marks, and those after them were not given. The first `settled` marks are all set: a
+/// settling begins after them, and looks at no frame twice.
 #[derive(Drop)]
 pub struct Stage {
     pub(crate) alloc: Global,
@@ -43,7 +43,7 @@ impl Model for Stage {
 }
 
 impl Stage {
-    /// A new world of so many nodes: 1 to 16. Fails only when memory runs out.
+    /// Makes a stage with a new world of `nodes` nodes: 1 to 16. Fails only when memory runs out.
     pub fn new(alloc: Global, nodes: u64) -> Result<Self, AllocError>
         requires { (1 ≤ nodes) × (nodes ≤ 16) }
         ensures { IfOk result (λ stage. stage ≡ new_stage nodes) }
@@ -67,8 +67,8 @@ impl Stage {
         &self.world
     }
 
-    /// Whether the frame of that number was given to its addressee, as `settle` asks: not where
-    /// the world has no such frame.
+    /// Returns whether the frame of that number was given to its addressee, as `settle` asks: not
+    /// where the world has no such frame.
     pub fn was_given(&self, frame: u64) -> bool
         ensures { result ≡ was_given frame self.now.given }
     {
@@ -78,9 +78,9 @@ impl Stage {
         }
     }
 
-    /// Does what a command says, and adds what that prints to `text`. Ends with 71 `Limit`
-    /// where a settling would deliver more than 100,000 frames, and with 99 `Memory`; of the stage
-    /// and of what was added nothing is said then.
+    /// Does what a command says, and adds what that prints to `text`. Ends with 71 `Limit` where a
+    /// settling would deliver more than 100,000 frames, and with 99 `Memory`; nothing is said then
+    /// of the stage and of what was added.
     pub fn obey(
         &mut self,
         command: &Command<'_>,
@@ -96,7 +96,7 @@ impl Stage {
         }
     }
 
-    /// The same, of a command no name and no value of which is too long.
+    /// Does what `obey` does, for a command whose names and value aren't too long.
     fn act(
         &mut self,
         command: &Command<'_>,
@@ -113,7 +113,7 @@ impl Stage {
         }
     }
 
-    /// The same, of a command that is no settling.
+    /// Does what `act` does, for a command that is no settling.
     fn act_at_once(
         &mut self,
         command: &Command<'_>,
@@ -136,7 +136,8 @@ impl Stage {
         }
     }
 
-    /// The same, of a command that is an event other than a delivery, or only looks.
+    /// Does what `act_at_once` does, for a command that is an event other than a delivery, or only
+    /// looks.
     fn act_or_look(&mut self, command: &Command<'_>, text: &mut Vec<u8>) -> Result<(), AllocError>
         requires lawful { fault_in (command_word command.now) ≡ None }
         requires here { IsActOrLook (command_word command.now) }

@@ -48,7 +48,7 @@ impl Stage {
         Ok(())
     }
 
-    /// The node keeps what it holds under a key. It refuses this only for want of memory.
+    /// The node keeps what it holds under a key. Fails only when memory runs out.
     fn keep_one(&mut self, node: u64, key: &MetaKey) -> Result<(), AllocError>
         requires { node < length self.old.world.nodes }
         ensures keeps { OnOk result (KeepsAll self.old node (key.now ∷ []) self.new) }
@@ -65,7 +65,8 @@ impl Stage {
         }
     }
 
-    /// Of two or more siblings the node writes over all of them the one that the resolver chooses.
+    /// Where there are two or more siblings, the node writes over all of them the one that the
+    /// resolver chooses.
     pub(crate) fn resolve(
         &mut self,
         node: u64,
@@ -106,8 +107,8 @@ impl Stage {
     }
 }
 
-/// The sibling under a key that the resolver chooses, where there is a resolver, and two siblings
-/// or more.
+/// Returns the sibling under a key that the resolver chooses, where there is a resolver, and two
+/// siblings or more.
 fn chosen_under(
     alloc: Global,
     store: &Store,
@@ -155,7 +156,7 @@ fn key_under(prefix: &FullPrefix, key: &ByteString) -> Result<MetaKey, AllocErro
     Ok(MetaKey::under(prefix, key))
 }
 
-/// The same, under the key itself.
+/// Returns what `chosen_under` does, for a key that is made already.
 fn chosen(
     store: &Store,
     key: &MetaKey,
@@ -174,7 +175,7 @@ fn chosen(
     }
 }
 
-/// The same, of these siblings.
+/// Returns the sibling that the resolver chooses, where there are two or more.
 fn chosen_of(resolver: &Box<dyn Resolver>, siblings: &[Value]) -> Result<Option<Value>, AllocError>
     ensures { IfOk result (λ value. value ≡ chosen (choice resolver.now) siblings.now) }
 {

@@ -106,7 +106,7 @@ abbrev pub BeginsNoSpace : List ℕ → Type 0
 BeginsNoSpace [] = Unit {0}
 BeginsNoSpace (b ∷ bytes) = b ≢ 32
 
--- the first word of a line and what stands behind it, or there is none
+-- the first word of a line and what stands after it, or there is none
 abbrev pub SplitsWord : List ℕ → Option (Bor (List ℕ) × Bor (List ℕ)) → Type 0
 SplitsWord line None = words_of line ≡ []
 SplitsWord line (Some halves) = words_of line ≡ halves.0.now ∷ words_of halves.1.now
@@ -139,7 +139,8 @@ Parses resolvers text (Ok scenario) =
 Parses resolvers text (Err fault) =
     (number : ℕ) × (first_bad resolvers text ≡ Some number) × (fault ≡ record { line = number })
 
--- the lines behind `nodes`, before which so many stand, break no rule, or this is the first
+-- the lines after `nodes`, before which `before` lines stand, break no rule; or this is the first
+-- that breaks one
 abbrev pub ParsesRest : {A : Type 0} → ℕ → ℕ → List (List ℕ) → Result A BadLine → Type 0
 ParsesRest resolvers before lines (Ok done) =
     first_bad_from resolvers true (before + 1) lines ≡ None

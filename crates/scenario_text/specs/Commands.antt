@@ -7,7 +7,7 @@ use Rattle.scenario_text.specs.Word.{Word, number_of, full_prefix_of, key_of, va
 use Rattle.scenario_text.specs.Reading.{WordReader, just, one, number_or_none, labelled, labelled_or_zero, exactly, ◌and◌}
 
 pub data Command : Type 0 where
-  -- so many nodes: the first command, and only that
+  -- the number of nodes: the first command, and only the first
   Nodes : ℕ → Command
   -- writes, of a node: the key, the value, its stamp, and the number of the read that it has read
   Put : ℕ → Key → List ℕ → ℕ → Option ℕ → Command
@@ -72,12 +72,12 @@ read = labelled (codes "read")
 abbrev pub random : WordReader ℕ
 random = labelled_or_zero (codes "word")
 
--- `lww` or `largest`, where there are as many resolvers
+-- the place of `lww` or `largest`, where it is below the number of resolvers
 abbrev pub resolver : ℕ → WordReader ℕ
 resolver resolvers =
     one (λ word. below resolvers (choice_of (codes "lww") (codes "largest") word))
 
--- the table: the name of a command, and what stands behind it, in this order
+-- the table: the name of a command, and what stands after it, in this order
 abbrev pub rows : ℕ → List (Word × WordReader Command)
 rows resolvers =
     (codes "nodes", just Nodes and node_count)
@@ -106,12 +106,12 @@ rows resolvers =
     ∷ (codes "settle", just Settle)
     ∷ []
 
--- what stands behind this name, by these rows
+-- what stands after this name, by these rows
 abbrev pub reads_behind : Word → List (Word × WordReader Command) → WordReader Command
 reads_behind name [] = λ words. None
 reads_behind name (row ∷ rows) = if bytes_eq name row.0 then row.1 else reads_behind name rows
 
--- the command that words are, if they are one, where there are so many resolvers
+-- the command that words are, if they are one, where this number of resolvers is at hand
 abbrev pub command_of : ℕ → List Word → Option Command
 command_of resolvers [] = None
 command_of resolvers (name ∷ words) = exactly (reads_behind name (rows resolvers)) words

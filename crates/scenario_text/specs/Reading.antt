@@ -8,7 +8,7 @@ abbrev pub WordReader : Type 0 → Type 0
 WordReader A = List Word → Option (A × List Word)
 
 infixl 10 ◌and◌
--- what needs no word
+-- a value that needs no word
 abbrev pub just : {A : Type 0} → A → WordReader A
 just x words = Some (x, words)
 
@@ -30,19 +30,19 @@ number_or_none (word ∷ words) = elim (number_of word) [
   | Some n ↦ Some (Some n, words)
 ]
 
--- what a number is behind its label
+-- a number that was read after its label
 abbrev pub some_of : Option (ℕ × List Word) → Option (Option ℕ × List Word)
 some_of None = None
 some_of (Some read) = Some (Some read.0, read.1)
 
--- a number behind this label, where it stands, as `stamp 5`; otherwise none, for which no word is
--- read
+-- a number after this label, where the label stands, as `stamp 5`; otherwise none, for which no
+-- word is read
 abbrev pub labelled : Word → WordReader (Option ℕ)
 labelled label [] = Some (None, [])
 labelled label (word ∷ words) =
     if bytes_eq word label then some_of (one number_of words) else Some (None, word ∷ words)
 
--- the same, where none is 0
+-- a number after a label, where none counts as 0
 abbrev pub or_zero : Option (Option ℕ × List Word) → Option (ℕ × List Word)
 or_zero None = None
 or_zero (Some (None, words)) = Some (0, words)
@@ -62,7 +62,8 @@ abbrev pub and_then : {A B : Type 0} → WordReader A → Option ((A → B) × L
 and_then next None = None
 and_then next (Some read) = applied read.0 (next read.1)
 
--- what the first reading gives, of what the second gives from the words that the first left
+-- the first reading gives a function; it is applied to what the second reads from the words that
+-- the first left
 abbrev pub ◌and◌ : {A B : Type 0} → WordReader (A → B) → WordReader A → WordReader B
 first and second = λ words. and_then second (first words)
 

@@ -24,7 +24,7 @@ line_of_words resolvers [] = Skipped
 line_of_words resolvers (first ∷ words) =
     if starts_comment first then Skipped else asked_of (command_of resolvers (first ∷ words))
 
--- what a line is, where there are so many resolvers
+-- what a line is, where this number of resolvers is at hand
 abbrev pub line_of : ℕ → List ℕ → Line
 line_of resolvers line = line_of_words resolvers (words_of line)
 
@@ -32,8 +32,8 @@ abbrev is_nodes : Command → Bool
 is_nodes (Nodes count) = true
 is_nodes command = false
 
--- `nodes` stands first and only there: whether a line breaks a rule, where it did or didn't stand
--- yet
+-- whether a line breaks a rule: `nodes` stands first and only there; `begun` says whether it stood
+-- already
 abbrev pub breaks : Bool → Line → Bool
 breaks begun Skipped = false
 breaks begun (Asks command) = if begun then is_nodes command else not (is_nodes command)
@@ -70,7 +70,7 @@ commands_of_lines resolvers (line ∷ lines) =
 abbrev pub commands_of : ℕ → List ℕ → List Command
 commands_of resolvers text = commands_of_lines resolvers (lines_of text)
 
--- so many nodes, and what they and who drives them are to do
+-- how many nodes there are, and what they and who drives them are to do
 pub record Scenario : Type 0 where
   pub nodes : ℕ
   pub commands : List Command

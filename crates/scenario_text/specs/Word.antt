@@ -33,7 +33,7 @@ words_of line = filter (λ part. not (is_empty part)) (parts_of 32 line)
 abbrev pub is_digit : ℕ → Bool
 is_digit b = nat_le 48 b && nat_le b 57
 
--- the value of decimal digits, behind those that were read
+-- the value of decimal digits, after digits that were read and have this value
 abbrev pub digits_onto : ℕ → List ℕ → ℕ
 digits_onto value [] = value
 digits_onto value (b ∷ digits) = digits_onto (value * 10 + (b - 48)) digits

@@ -17,7 +17,7 @@ pub struct BytesWord<'a> {
     ghost stands: { IsTrue digits → IsSome (bytes_of_digits text.now) },
 }
 
-/// Whether digits stand for bytes: an even number of them.
+/// Returns whether a text is digits that stand for bytes: an even number of them.
 fn are_digits(text: &[u8]) -> bool
     ensures { IsTrue result ↔ IsSome (bytes_of_digits text.now) }
 {
@@ -58,7 +58,7 @@ impl<'a> BytesWord<'a> {
         })
     }
 
-    /// How many bytes they are.
+    /// How many bytes there are.
     pub fn len(&self) -> usize
         ensures { result ≡ length (bytes_word self.now) }
     {
@@ -69,7 +69,7 @@ impl<'a> BytesWord<'a> {
         }
     }
 
-    /// Whether they are few enough for a value.
+    /// Whether the bytes are few enough for a value.
     pub(crate) fn is_value(&self) -> bool
         ensures { IsTrue result ↔ (length (bytes_word self.now) ≤ 1024) }
     {

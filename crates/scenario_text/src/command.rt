@@ -10,11 +10,12 @@ use meta_types::TypeFault;
 /// A command, with what its words stand for. It borrows names and bytes from the text.
 #[derive(Clone, Copy)]
 pub enum Command<'a> {
-    /// There are so many nodes.
+    /// There are `count` nodes.
     Nodes {
         count: u64,
     },
-    /// The node writes a value, which has read what the read of that number showed, or nothing.
+    /// The node writes a value. The write has read what the read numbered `read` showed, or
+    /// nothing.
     Put {
         node: u64,
         key: KeyWord<'a>,
@@ -46,19 +47,20 @@ pub enum Command<'a> {
         node: u64,
         key: KeyWord<'a>,
     },
-    /// Of two or more siblings the node writes over them what the resolver at this place chooses.
+    /// Where there are two or more siblings, the node writes over them the one that the resolver at
+    /// this place chooses.
     Resolve {
         node: u64,
         key: KeyWord<'a>,
         by: usize,
     },
-    /// The frame is handed to the node, or to its addressee.
+    /// The frame is handed to the node; where none is named, to the frame's addressee.
     Deliver {
         frame: u64,
         node: Option<u64>,
         word: u64,
     },
-    /// Bytes are handed to the node that should be no frame.
+    /// Bytes that should be no frame are handed to the node.
     Junk {
         node: u64,
         bytes: BytesWord<'a>,
@@ -124,7 +126,8 @@ pub enum Command<'a> {
 }
 
 impl<'a> Command<'a> {
-    /// What no world takes: 1 `BadName` where a part of a name is too long, then 2 `ValueTooLong`.
+    /// Returns why no world takes the command: 1 `BadName` where a part of a name is too long, then
+    /// 2 `ValueTooLong`.
     pub fn fault(&self) -> Option<TypeFault>
         ensures { result ≡ fault_in (command_word self.now) }
     {

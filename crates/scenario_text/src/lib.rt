@@ -1,5 +1,5 @@
-//! The language of scenarios: texts of commands to the nodes of a world. A text is read whole; the
-//! first line that breaks a rule is all that is told of it.
+//! The language of scenarios: texts of commands to the nodes of a world. A text is read whole;
+//! where lines break a rule, the number of the first one is all that is returned.
 //!
 //! ```
 //! let text = b"nodes 2\nput 0 a/b/k x\n";

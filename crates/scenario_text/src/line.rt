@@ -22,7 +22,7 @@ pub(crate) enum Line<'a> {
 }
 
 impl<'a> Line<'a> {
-    /// What the line is, where there are so many resolvers.
+    /// Returns what the line is, where `resolvers` resolvers are at hand.
     pub(crate) fn of(line: &'a [u8], resolvers: usize) -> Self
         ensures { line_word result ≡ line_of resolvers line.now }
     {
@@ -37,7 +37,7 @@ impl<'a> Line<'a> {
     }
 }
 
-/// The lines of a text that were not read yet. A last line feed starts none.
+/// The lines of a text that were not read yet. A line feed at the end starts no further line.
 #[derive(Drop)]
 pub struct Lines<'a> {
     left: &'a [u8],
@@ -80,7 +80,7 @@ impl<'a> Lines<'a> {
     }
 }
 
-/// The first line of bytes, of which there are some, and what stands behind its line feed.
+/// Returns the first line of bytes, which aren't empty, and what follows its line feed.
 fn split_line(bytes: &[u8]) -> (&[u8], &[u8])
     requires { 0 < length bytes.now }
     ensures { lines_of bytes.now ≡ result.0.now ∷ lines_of result.1.now }

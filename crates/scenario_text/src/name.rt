@@ -1,5 +1,5 @@
 //! Names as they stand in a line: parts of letters, digits, `.`, `_` and `-`, joined by `/`. A part
-//! may be longer than a name may be: that is refused when the command is run.
+//! may be too long for a name: that is refused when the command is run.
 
 ghost use Rattle.std.specs.Prelude.{◌≡◌, IfOk, IsTrue, ◌↔◌};
 ghost use Rattle.std.specs.Option.{option_map};
@@ -28,14 +28,14 @@ pub struct KeyWord<'a> {
     pub key: &'a [u8],
 }
 
-/// Whether a part is one of a name: it isn't empty, and has no more bytes than this.
+/// Returns whether bytes can be a part of a name: there is at least one, and no more than `most`.
 fn is_part(bytes: &[u8], most: usize) -> bool
     ensures { IsTrue result ↔ IsName most bytes.now }
 {
     !bytes.is_empty() && bytes.len() <= most
 }
 
-/// The full prefix that a word is.
+/// Returns the full prefix that a word is, if it is one.
 pub(crate) fn prefix_word(word: &[u8]) -> Option<PrefixWord<'_>>
     ensures { option_map prefix_word result ≡ full_prefix_of word.now }
 {
@@ -47,7 +47,7 @@ pub(crate) fn prefix_word(word: &[u8]) -> Option<PrefixWord<'_>>
     }
 }
 
-/// The key that a word is.
+/// Returns the key that a word is, if it is one.
 pub(crate) fn key_word(word: &[u8]) -> Option<KeyWord<'_>>
     ensures { option_map key_word result ≡ key_of word.now }
 {

@@ -3,8 +3,8 @@
 ghost use Rattle.std.specs.Prelude.{◌≡◌};
 ghost use Rattle.scenario_text.specs.Word.{number_of};
 
-/// The most digits of a number. The greatest value has as many, so more are zeros in front or too
-/// much.
+/// The most digits of a number. The greatest value has 20, so a longer number has zeros in front or
+/// is too great.
 const MAX_DIGITS: usize = 20;
 
 /// The number that a word is, if it is one.

@@ -8,7 +8,8 @@ use crate::fault::BadLine;
 use crate::line::{Line, Lines};
 use std::marker::Model;
 
-/// A text that breaks no rule and has a command: how many nodes there are, and the lines behind.
+/// A text that breaks no rule and has a command: how many nodes there are, and the lines after
+/// `nodes`.
 #[derive(Drop)]
 pub struct Script<'a> {
     nodes: u64,
@@ -39,7 +40,7 @@ impl<'a> Script<'a> {
         self.nodes
     }
 
-    /// The next command, which is read from its line. A line that is none was refused before.
+    /// Returns the next command, read from its line. Bad lines were refused before, by `parse`.
     pub fn next(&mut self) -> Option<Command<'a>>
         ensures commands { TakesCommand self.old.commands result self.new.commands }
         ensures nodes { self.new.nodes ≡ self.old.nodes }
@@ -53,9 +54,9 @@ impl<'a> Script<'a> {
     }
 }
 
-/// The scenario that a text is, where so many resolvers are at hand; none for a text without a
-/// command. Refused with 70 `BadLine`, of the first line that breaks a rule, and only so. It takes
-/// no memory.
+/// Reads a text as a scenario, where `resolvers` resolvers are at hand. Returns `None` for a text
+/// without a command. Refused only with 70 `BadLine`, of the first line that breaks a rule. It
+/// takes no memory.
 pub fn parse(text: &[u8], resolvers: usize) -> Result<Option<Script<'_>>, BadLine>
     ensures { Parses resolvers text.now result }
 {
@@ -79,7 +80,7 @@ pub fn parse(text: &[u8], resolvers: usize) -> Result<Option<Script<'_>>, BadLin
     Ok(None)
 }
 
-/// Refuses the first of the lines behind `nodes` that breaks a rule. So many lines stand before
+/// Refuses the first of the lines after `nodes` that breaks a rule. `before` lines stand before
 /// them.
 fn test_lines(lines: &Lines<'_>, resolvers: usize, before: u64) -> Result<(), BadLine>
     requires { before + length lines.now < 2 ^ 64 }

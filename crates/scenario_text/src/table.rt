@@ -1,4 +1,4 @@
-//! The table of commands: which words are which. A function for each row.
+//! The table of commands: which words are which command. A function for each row.
 
 ghost use Rattle.std.specs.Prelude.{◌≡◌};
 ghost use Rattle.std.specs.Option.{option_map};
@@ -11,7 +11,7 @@ use crate::command::Command;
 use crate::verb::{Verb, verb_of};
 use crate::words::Words;
 
-/// The command that words are, if they are one, where there are so many resolvers.
+/// Reads the command that words are, if they are one, where `resolvers` resolvers are at hand.
 pub(crate) fn read_command<'a>(words: &mut Words<'a>, resolvers: usize) -> Option<Command<'a>>
     ensures { option_map command_word result ≡ command_of resolvers words.old }
 {
@@ -24,7 +24,7 @@ pub(crate) fn read_command<'a>(words: &mut Words<'a>, resolvers: usize) -> Optio
     }
 }
 
-/// What stands behind the verb.
+/// Reads what follows the verb.
 fn read_row<'a>(verb: Verb, words: &mut Words<'a>, resolvers: usize) -> Option<Command<'a>>
     ensures { ReadsWords (reads_behind (verb_word verb) (rows resolvers))
         words.old (option_map command_word result) words.new }

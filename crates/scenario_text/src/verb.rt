@@ -90,7 +90,7 @@ pub fn word_of(verb: Verb) -> &'static [u8]
     }
 }
 
-/// The verb that a word is.
+/// Returns the verb that a word is, if it is one.
 pub fn verb_of(word: &[u8]) -> Option<Verb>
     ensures { IsVerbOf word.now result }
 {

@@ -40,7 +40,7 @@ fn without_spaces(bytes: &[u8]) -> &[u8]
     rest
 }
 
-/// The first word of a line and what stands behind it, if there is a word.
+/// Returns the first word of a line and what stands after it, if there is a word.
 fn split_word(line: &[u8]) -> Option<(&[u8], &[u8])>
     ensures { SplitsWord line.now result }
 {
@@ -62,7 +62,7 @@ impl<'a> Words<'a> {
         Words { left: line }
     }
 
-    /// The next word, which stays.
+    /// Returns the next word without reading it.
     pub fn peek(&self) -> Option<&'a [u8]>
         ensures { option_copied result ≡ slice_get self.now 0 }
     {
@@ -128,7 +128,7 @@ impl<'a> Words<'a> {
         }
     }
 
-    /// The place of the resolver that the next word names, if there are so many.
+    /// Reads the next word, a resolver's name, and returns its place, if that is below `resolvers`.
     pub(crate) fn resolver(&mut self, resolvers: usize) -> Option<usize>
         ensures { ReadsWords (forms.resolver resolvers) self.old result self.new }
     {
@@ -140,7 +140,8 @@ impl<'a> Words<'a> {
         if place < resolvers { Some(place) } else { None }
     }
 
-    /// The number that the next word is, or none, and then no word is read.
+    /// Reads the number that the next word is. Where it is no number, returns none and reads no
+    /// word.
     pub(crate) fn number_or_none(&mut self) -> Option<u64>
         ensures { ReadsWords number_or_none self.old (Some result) self.new }
     {
@@ -149,8 +150,8 @@ impl<'a> Words<'a> {
         Some(found)
     }
 
-    /// The number behind this label, where the next word is the label; none where it isn't, and
-    /// then no word is read.
+    /// Reads the number after this label, where the next word is the label. Where it isn't, returns
+    /// `Some(None)` and reads no word.
     pub(crate) fn labelled(&mut self, label: &[u8]) -> Option<Option<u64>>
         ensures { ReadsWords (labelled label.now) self.old result self.new }
     {
@@ -162,7 +163,7 @@ impl<'a> Words<'a> {
         Some(Some(self.number()?))
     }
 
-    /// The same, where none is 0.
+    /// Reads as `labelled` does, and returns 0 where the label isn't there.
     pub(crate) fn labelled_or_zero(&mut self, label: &[u8]) -> Option<u64>
         ensures { ReadsWords (labelled_or_zero label.now) self.old result self.new }
     {

@@ -18,7 +18,7 @@ abbrev pub onto_first : ℕ → List (List ℕ) → List (List ℕ)
 onto_first b [] = (b ∷ []) ∷ []
 onto_first b (line ∷ lines) = (b ∷ line) ∷ lines
 
--- the lines of a text; a last line feed starts none
+-- the lines of a text; a line feed at the end starts no further line
 unfoldable pub lines_of : List ℕ → List (List ℕ)
 lines_of [] = []
 lines_of (b ∷ bytes) = if b == 10 then [] ∷ lines_of bytes else onto_first b (lines_of bytes)
@@ -43,8 +43,8 @@ pub record TakesLine (old new : Pending) (reader_old reader_new : Option (List �
       (old.bytes ++ reads.bytes ≡ line ++ 10 ∷ new.bytes)
       ((old.bytes ++ reads.bytes ≡ line) × (new.bytes ≡ []) × IsAtEnd reader_new)
 
--- a fault of reading: what was read until then, and the fault's cause. Memory was wanting only
--- where `memory` holds and what was read is within what may still be read.
+-- a fault of reading: what was read until then, and the fault's cause. Memory ran out only where
+-- `memory` holds and what was read is within what may still be read.
 pub record StopsReading (read_failed memory : Type 0) (old : Pending)
     (reader_old reader_new : Option (List ℕ)) (fault : StreamFault) : Type 0 where
   pub bytes : List ℕ
@@ -54,15 +54,15 @@ pub record StopsReading (read_failed memory : Type 0) (old : Pending)
 
 -- ---- what private functions cite
 
--- something is pending, of what was pending and what was read; or nothing is, and the reader is at
--- its end
+-- what was pending and what was read is pending, and isn't empty; or nothing is pending, and the
+-- reader is at its end
 pub record Fills (old new : Pending) (reader_old reader_new : Option (List ℕ))
     (more : Bool) : Type 0 where
   pub reads : Reads reader_old reader_new old.left new.left
   pub pending : new.bytes ≡ old.bytes ++ reads.bytes
   pub answer : MatchBool more (0 < length new.bytes) ((new.bytes ≡ []) × IsAtEnd reader_new)
 
--- what was pending up to the first line feed was moved after the line, or all of it
+-- what was pending was moved to the end of the line: up to the first line feed, or all of it
 pub record Moves (old new : Pending) (line_old line_new : List ℕ) (ended : Bool) : Type 0 where
   pub part : List ℕ
   pub line : line_new ≡ line_old ++ part

@@ -7,7 +7,7 @@ pub record SourceAt : Type 1 where
   pub failed : Type 0
   pub remaining : Option (List ℕ)
 
--- a writer at a moment: the kinds of error that its calls have answered, whether it holds nothing
+-- a writer at a moment: the kinds of error that its calls have returned, whether it holds nothing
 -- back, and what it holds, if that is known
 pub record SinkAt : Type 1 where
   pub failed : Failed

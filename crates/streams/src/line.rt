@@ -15,7 +15,7 @@ pub const MAX_INPUT_LEN: usize = 67_108_864;
 /// The most bytes of one read.
 const PIECE_LEN: usize = 65_536;
 
-/// What was read of an input and belongs to no line yet.
+/// The bytes of an input that were read and belong to no line yet.
 #[derive(Drop)]
 pub struct LineBuffer {
     piece: Vec<u8>,
@@ -37,8 +37,8 @@ impl Model for LineBuffer {
 }
 
 impl LineBuffer {
-    /// The buffer of an input of which nothing was read. It takes memory for one read, 65,536
-    /// bytes.
+    /// Makes the buffer of an input from which nothing was read yet. It takes memory for one read,
+    /// 65,536 bytes.
     pub fn new(alloc: Global) -> Result<Self, AllocError>
         ensures { IfOk result (λ buffer. buffer ≡ record { bytes = []; left = input_limit }) }
     {
@@ -85,7 +85,7 @@ impl LineBuffer {
     }
 
     /// Moves what is pending to the end of the line, up to the first line feed, which is dropped.
-    /// Tells whether there was one.
+    /// Returns whether there was one.
     fn take(&mut self, line: &mut Vec<u8>) -> Result<bool, AllocError>
         ensures { IfOk result (λ ended. Moves self.old self.new line.old.items
             line.new.items ended) }

@@ -12,10 +12,11 @@ use crate::fault::StreamFault;
 use crate::source::MayFail;
 use std::io::{self, ErrorKind, Write};
 
-/// A writer that says when a write of it may fail. A `Vec` fails for want of memory alone, so a run
-/// over it can't answer that its writer failed.
+/// A writer that says when a write of it may fail. A `Vec` fails only when memory runs out, so a
+/// run over it can't return that its writer failed.
 pub trait Sink: Write {
-    // The writer at a moment. A write that took no byte of some counts as an error `WriteZero`.
+    // The writer at a moment. A write that is given bytes and takes none counts as an error
+    // `WriteZero`.
     ghost at: { Self → SinkAt };
 
     /// One write.
@@ -88,7 +89,7 @@ impl<W: Write> Sink for MayFail<W> {
     }
 }
 
-/// The fault of a writer that answered an error of this kind.
+/// Returns the fault of a writer whose call returned an error of this kind.
 pub fn write_fault(kind: ErrorKind) -> StreamFault
     ensures { result ≡ fault_of_kind kind }
 {
@@ -99,8 +100,8 @@ pub fn write_fault(kind: ErrorKind) -> StreamFault
     }
 }
 
-/// Writes all the bytes, or after a fault a front of them. The first error ends it, an interruption
-/// too.
+/// Writes all the bytes; after a fault a front of them was written. The first error ends it, an
+/// interruption too.
 pub fn write_whole<W: Sink>(writer: &mut W, bytes: &[u8]) -> Result<(), StreamFault>
     ensures ok { OnOk result
         (Appends (W.at writer.old).contents (W.at writer.new).contents bytes.now) }

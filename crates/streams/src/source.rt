@@ -7,8 +7,8 @@ ghost use Rattle.streams.specs.Moment.{SourceAt};
 
 use std::io::{self, Read, Write};
 
-/// A reader that says when a read of it may fail. Bytes in memory never do, so a run over them
-/// can't answer that its reader failed.
+/// A reader that says when a read of it may fail. A read of bytes in memory never fails, so a run
+/// over them can't return 7 `Read`.
 pub trait Source: Read {
     // The reader at a moment.
     ghost at: { Self → SourceAt };

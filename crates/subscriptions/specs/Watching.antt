@@ -4,8 +4,8 @@ use Rattle.meta_types.specs.Name.{Prefix, Key}
 use Rattle.meta_types.specs.Order.{prefix_eq}
 use Rattle.subscriptions.specs.declared.change.Change.{Change}
 
--- whose changes are heard of, how many are held at most, those that are held, oldest first, and how
--- many left without having been taken since the last were taken
+-- the full prefix whose changes it notes, how many it holds at most, those that it holds, oldest
+-- first, and how many have left without being taken since the last were taken
 pub record Watching : Type 0 where
   pub prefix : Prefix
   pub capacity : ℕ
@@ -32,11 +32,11 @@ hears w key = prefix_eq w.prefix key.prefix
 abbrev pub is_full : Watching → Bool
 is_full w = nat_eq (length w.changes) w.capacity
 
--- the oldest leaves, and is counted as far as 64 bits count
+-- the oldest leaves and is counted; the count stays at the greatest number of 64 bits
 abbrev pub without_oldest : Watching → Watching
 without_oldest w = record w { changes = drop 1 w.changes; missed = min (w.missed + 1) (2 ^ 64 - 1) }
 
--- where there is no room the oldest makes some
+-- where there is no room, the oldest change leaves
 abbrev pub with_room : Watching → Watching
 with_room w = if is_full w then without_oldest w else w
 

@@ -1,4 +1,4 @@
-//! The last changes under a full prefix, for who wants to hear of them: [`Watch`].
+//! The last changes under a full prefix, for those who want to hear of them: [`Watch`].
 //!
 //! A watch holds at most as many changes as it has room for. Where one more comes the oldest
 //! leaves, and the watch counts that it was missed.

@@ -41,8 +41,8 @@ impl Model for Watch {
 }
 
 impl Watch {
-    /// A watch of what changes under the prefix, with room for so many changes. It takes the memory
-    /// for their places; each change brings its own.
+    /// Returns a watch of what changes under the prefix, with room for `capacity` changes. It takes
+    /// the memory for their places; each change brings its own.
     ///
     /// Refused with 28 `BadWatch` where the capacity is 0 or more than 1,024, and only there, and
     /// otherwise only with 99 `Memory`.
@@ -103,8 +103,8 @@ impl Watch {
         self.missed
     }
 
-    /// The changes that are held, oldest first; none is held afterwards, and none was missed. Fails
-    /// only when memory runs out, and then all is as before.
+    /// Takes the changes that are held, oldest first; afterwards none is held, and none counts as
+    /// missed. Fails only when memory runs out, and then all is as before.
     pub fn take(&mut self) -> Result<Vec<Change>, AllocError>
         ensures changes { IfOk result (λ changes. changes.items ≡ self.old.changes) }
         ensures emptied { OnOk result (self.new ≡ emptied self.old) }

@@ -8,7 +8,7 @@ use std::sync::Wait;
 use std::sync::atomic::{AtomicBool, Ordering};
 use std::thread::{self, Threads};
 
-/// How often it is looked whether the other came.
+/// How many times a turn that is held looks whether the other was made.
 const LOOKS: u32 = 1_000_000;
 
 /// A turn of a node.
@@ -84,7 +84,7 @@ fn seventeen() -> Result<Came, u16> {
     })
 }
 
-// Where the second assertion alone fails, the wait came to its end: the other worker was too slow
+// Where only the second assertion fails, the wait ended by itself: the other worker was too slow
 // for it, or didn't run meanwhile.
 #[test]
 fn node_1_makes_all_turns_while_node_0_waits(rt: HostRuntime) {
@@ -100,8 +100,8 @@ fn node_0_makes_all_turns_while_node_1_waits(rt: HostRuntime) {
     assert!(rt; has_come);
 }
 
-/// An inbox of one frame is full of the JOIN while node 0 waits, so what node 1 tells of its two
-/// writes is lost; and then of what node 0 tells of its two, the second.
+/// An inbox of one frame is full of the JOIN while node 0 waits, so the frames of node 1's two
+/// writes are lost; and then the frame of the second of node 0's two writes.
 #[test]
 fn what_finds_no_room_is_lost_and_counted(rt: HostRuntime) {
     let gate = Holds::new((0, 1), (1, 8));

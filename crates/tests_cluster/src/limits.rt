@@ -9,8 +9,8 @@ use std::process::Abort;
 use std::sync::Wait;
 use std::thread::Threads;
 
-/// The number by which a run of so many nodes with these limits is refused, 0 where it isn't, on as
-/// many devices as there are numbers, each of which fails after so many calls.
+/// Returns the number by which a run of `nodes` nodes with these limits is refused, 0 where it
+/// isn't. There is a device for each number of `passed`, which fails after that number of calls.
 fn code<R: Threads + Wait + Abort + Sync>(
     rt: &R,
     alloc: Global,
@@ -48,7 +48,7 @@ fn refusals_come_in_their_order(rt: HostRuntime) {
     assert!(rt; code(&rt, alloc, 2, (1_024, 1_048_576), &[MOST, MOST]) == 0);
 }
 
-/// The number by which a run of one node on a device with these bytes is refused, 0 where it isn't.
+/// Returns the number by which a run of one node on a device with these bytes is refused, or 0.
 fn code_on<R: Threads + Wait + Abort + Sync>(rt: &R, alloc: Global, bytes: &[u8]) -> u16 {
     let devices = failing(rt, alloc, bytes, &[MOST]);
     match run_cluster_on(
@@ -64,7 +64,7 @@ fn code_on<R: Threads + Wait + Abort + Sync>(rt: &R, alloc: Global, bytes: &[u8]
     }
 }
 
-/// What is no file, the file of another node, and one of the first version.
+/// Bytes that are no file, the file of another node, and a file of the first version.
 #[test]
 fn what_a_device_holds_may_be_refused(rt: HostRuntime) {
     assert!(rt; code_on(&rt, rt.alloc(), b"") == 0);
@@ -82,8 +82,8 @@ fn no_cluster_has_seventeen_nodes(rt: HostRuntime) {
     }
 }
 
-/// With journals of one entry each call but the first of a node cuts. All calls are accepted, and
-/// of each node the last stands in its journal.
+/// With journals of one entry, each call of a node but the first cuts its journal. All calls are
+/// accepted, and the last of each node stands in its journal.
 fn run_least<R: Threads + Wait + Abort + Sync>(
     rt: &R,
     alloc: Global,
@@ -110,7 +110,7 @@ fn journals_and_inboxes_of_one(rt: HostRuntime) {
     assert!(rt; run_least(&rt, rt.alloc(), plan(4, 40, 2), 1) == Ok(wanted));
 }
 
-/// What is lost on the way leaves a run of the world all the same.
+/// A run with lost frames is a run of the world all the same.
 #[test]
 fn inboxes_of_one(rt: HostRuntime) {
     let wanted = Came {

@@ -20,7 +20,7 @@ const FOLDER: &str = "files_of_a_cluster";
 
 const NODES: u64 = 3;
 
-/// The files of the nodes, opened, or made where nothing is.
+/// The files of the nodes, opened, or made where there are none.
 fn devices(files: &HostRuntime, rt: &impl Abort) -> Vec<FileDevice>
     ensures { All (λ d. IsDurable (⟦<FileDevice as Device>⟧.content d)
         (⟦<FileDevice as Device>⟧.may_leave d)) result.items }
@@ -56,7 +56,7 @@ fn live<R: Threads + Wait + Abort + Sync>(files: &HostRuntime, rt: &R, turns: u6
     run.ok().expect(rt, "a run")
 }
 
-/// Whether what was acknowledged by the receipt, if it is of a write, is in the table.
+/// Returns whether the table has the write that the receipt acknowledges, if it is of a write.
 fn has_written(rt: &impl Abort, alloc: Global, table: &Store, receipt: &Receipt) -> bool {
     match (&receipt.entry.event, &receipt.entry.reply) {
         (NodeEvent::PutOver { key, .. }, Reply::Wrote { vector }) => match table.object(key) {
@@ -70,7 +70,7 @@ fn has_written(rt: &impl Abort, alloc: Global, table: &Store, receipt: &Receipt)
     }
 }
 
-/// Whether each node of the later life began with all that an earlier one acknowledged.
+/// Returns whether each node of the later life began with all that an earlier one acknowledged.
 fn begin_with(rt: &impl Abort, alloc: Global, later: &[Closed], receipts: &[Receipt]) -> bool {
     for receipt in receipts {
         let Some(node) = later.get(usize::from(receipt.node.number())) else {
@@ -140,7 +140,7 @@ fn turns_of_one<R: Threads + Wait + Sync>(files: &HostRuntime, rt: &R) -> Result
     }
 }
 
-/// The same, once more where memory was refused, or with it a thread.
+/// Runs `turns_of_one`, and once more where memory or a thread was refused.
 fn turns_again<R: Threads + Wait + Abort + Sync>(files: &HostRuntime, rt: &R) -> ClusterRun {
     let run = match turns_of_one(files, rt) {
         Err(56 | 99) => turns_of_one(files, rt),
@@ -149,7 +149,7 @@ fn turns_again<R: Threads + Wait + Abort + Sync>(files: &HostRuntime, rt: &R) ->
     run.ok().expect(rt, "a run")
 }
 
-/// Whether the node began with all that the receipts acknowledge.
+/// Returns whether the node began with all that the receipts acknowledge.
 fn has_all(rt: &impl Abort, alloc: Global, later: &ClusterRun, receipts: &[Receipt]) -> bool {
     let Some(node) = later.closed.as_slice().first() else {
         return false;

@@ -1,4 +1,4 @@
-//! What is looked at of a run, and what it is made on.
+//! What tests look at in a run, and the devices and plans that it is made on.
 
 ghost use Rattle.std.specs.Prelude.{All};
 ghost use Rattle.devices.specs.Device.{IsDurable};
@@ -11,7 +11,7 @@ use run_record::assemble;
 use std::alloc::Global;
 use std::process::Abort;
 
-/// A plan of so many nodes and turns.
+/// A plan of `nodes` nodes, each with `turns` turns.
 pub(crate) fn plan(nodes: u64, turns: u64, seed: u64) -> ClusterPlan {
     ClusterPlan { nodes, turns, seed }
 }
@@ -34,8 +34,8 @@ fn device(rt: &impl Abort, alloc: Global, bytes: &[u8]) -> MemoryDevice
     MemoryDevice::new(alloc, content).expect(rt, "memory")
 }
 
-/// As many devices as there are numbers, each of which holds these bytes, and fails after so many
-/// of its calls.
+/// A device for each number of `passed`: it holds these bytes, and fails after that number of
+/// calls.
 pub(crate) fn failing(
     rt: &impl Abort,
     alloc: Global,
@@ -67,14 +67,14 @@ pub(crate) struct Came {
     pub closed: usize,
     /// How many receipts there are.
     pub receipts: usize,
-    /// How many of them are those of entries.
+    /// How many of the receipts have their entry in a journal.
     pub kept: usize,
     /// The number by which the journals with all receipts aren't assembled, 0 where they are, 1
     /// where they aren't whole.
     pub code: u16,
 }
 
-/// What came of it, or the number of the refusal.
+/// Returns what came of the run, or the number of the refusal.
 pub(crate) fn told(alloc: Global, run: Result<ClusterRun, ClusterFault>) -> Result<Came, u16> {
     match run {
         Ok(run) => Ok(Came {
@@ -89,7 +89,8 @@ pub(crate) fn told(alloc: Global, run: Result<ClusterRun, ClusterFault>) -> Resu
     }
 }
 
-/// The number by which a run isn't assembled; 0 where it is, 1 where its journals aren't whole.
+/// Returns the number by which a run isn't assembled: 0 where it is, 1 where its journals aren't
+/// whole.
 fn code_of_assembly(alloc: Global, run: &ClusterRun) -> u16 {
     if !are_whole(run.closed.as_slice()) {
         return 1;
@@ -100,7 +101,8 @@ fn code_of_assembly(alloc: Global, run: &ClusterRun) -> u16 {
     }
 }
 
-/// The same, asked for once more where memory was refused: journals and receipts are as they were.
+/// Returns `code_of_assembly`, asked once more where memory was refused: journals and receipts are
+/// as they were.
 fn code_in_the_end(alloc: Global, run: &ClusterRun) -> u16 {
     match code_of_assembly(alloc, run) {
         99 => code_of_assembly(alloc, run),
@@ -108,7 +110,7 @@ fn code_in_the_end(alloc: Global, run: &ClusterRun) -> u16 {
     }
 }
 
-/// Whether the entry of the receipt stands in the journal, at its place.
+/// Returns whether the entry of the receipt stands in the journal, at its place.
 fn is_kept(closed: &[Closed], receipt: &Receipt) -> bool {
     let Some(node) = closed.get(usize::from(receipt.node.number())) else {
         return false;
@@ -119,7 +121,7 @@ fn is_kept(closed: &[Closed], receipt: &Receipt) -> bool {
     node.journal().get(place as usize) == Some(&receipt.entry)
 }
 
-/// How many receipts are those of entries.
+/// Returns how many receipts have their entry in a journal.
 fn kept(run: &ClusterRun) -> usize {
     let mut count = 0usize;
     for receipt in run.receipts.iter() {
@@ -130,8 +132,8 @@ fn kept(run: &ClusterRun) -> usize {
     count
 }
 
-/// Whether the receipts are those of node 0, then of node 1 and so on, each node's by their places
-/// from 0.
+/// Returns whether the receipts are those of node 0, then of node 1 and so on, each node's by their
+/// places from 0.
 pub(crate) fn are_in_order(receipts: &[Receipt]) -> bool {
     let mut next = (0u16, 0u64);
     for receipt in receipts {

@@ -10,7 +10,7 @@ fn run<R: Threads + Wait + Sync>(rt: &R, alloc: Global, plan: ClusterPlan) -> Re
     told(alloc, run_cluster(rt, alloc, plan, &NoGate))
 }
 
-/// What comes of a run that has so many calls and loses no frame.
+/// What comes of a run that has `calls` calls and loses no frame.
 fn whole(closed: usize, calls: u64) -> Result<Came, u16> {
     Ok(Came {
         calls,
@@ -30,7 +30,7 @@ fn two_nodes_make_seventeen_calls_in_eight_turns(rt: HostRuntime) {
     }
 }
 
-/// Each receipt is that of its entry, and the journals are one run of the world.
+/// Each receipt names its entry, and the journals are one run of the world.
 #[test]
 fn four_nodes_make_two_hundred_turns(rt: HostRuntime) {
     assert!(rt; run(&rt, rt.alloc(), plan(4, 200, 3)) == whole(4, 803));
@@ -65,8 +65,8 @@ fn run_again<R: Threads + Wait + Sync>(
     }
 }
 
-// Both pass whichever single allocation is refused: what was refused memory is done again, be it a
-// run or what is put together of it.
+// Both pass whichever single allocation is refused: what was refused memory, a run or its assembly,
+// is done again.
 #[test]
 fn a_cluster_is_run_again_under_refused_memory(rt: HostRuntime) {
     assert!(rt; run_again(&rt, rt.alloc(), plan(1, 5, 0)) == whole(1, 5));

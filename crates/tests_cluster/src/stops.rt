@@ -7,11 +7,12 @@ use std::process::Abort;
 use std::sync::Wait;
 use std::thread::Threads;
 
-/// How many calls of its device begin a node's first life: three make the file, and four begin the
-/// life.
+/// How many calls of its device it takes to begin a node's first life: three make the file, and
+/// four begin the life.
 const SERVED: u64 = 7;
 
-/// The numbers of the nodes that were stopped, or that of the refusal; and what came of the run.
+/// Returns the numbers of the stopped nodes, or the number of the refusal; and what came of the
+/// run.
 fn stopped<R: Threads + Wait + Abort + Sync>(
     rt: &R,
     alloc: Global,
@@ -25,7 +26,7 @@ fn stopped<R: Threads + Wait + Abort + Sync>(
     (numbers, told(alloc, run))
 }
 
-/// The numbers of the nodes that were stopped.
+/// Returns the numbers of the stopped nodes.
 fn numbers(rt: &impl Abort, alloc: Global, run: Option<&ClusterRun>) -> Vec<u16> {
     let mut numbers = Vec::new(alloc);
     if let Some(run) = run {
@@ -53,8 +54,8 @@ fn a_node_whose_device_fails_stops_alone(rt: HostRuntime) {
     assert!(rt; numbers.as_slice() == [1u16].as_slice() && run == Ok(wanted));
 }
 
-/// Each write makes four calls of the device: node 0 stops at its second one, in turn 8, and node 2
-/// at its first.
+/// Each write makes four calls of the device: node 0 stops at its second write, in turn 8, and node
+/// 2 at its first.
 #[test]
 fn two_nodes_stop_each_at_its_own_turn(rt: HostRuntime) {
     let passed = [SERVED + 4, u64::MAX, SERVED + 3];

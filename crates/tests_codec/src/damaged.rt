@@ -5,16 +5,16 @@ use crate::kinds::{BODIES, GOSSIP};
 use meta_frame::{Frame, decode};
 use std::alloc::Global;
 
-/// Returns whether the frame is spelled by just these bytes. To drop it by a call is proved sooner
-/// than to let it go.
+/// Returns whether the frame is spelled by just these bytes. Dropping it by a call is proved sooner
+/// than letting it go.
 fn is_spelled_by(alloc: Global, frame: Frame, bytes: &[u8]) -> bool {
     let is_spelled = is_spelled(alloc, &frame, bytes);
     drop(frame);
     is_spelled
 }
 
-/// The number of the refusal of the bytes; 0 where they are read as a frame that is spelled by just
-/// them, and 1 where as another one.
+/// Returns the number of the refusal of the bytes; 0 where they are read as a frame that is spelled
+/// by just them, and 1 where they are read as another frame.
 fn answer(alloc: Global, bytes: &[u8]) -> u16 {
     match decode(alloc, bytes) {
         Ok(frame) => if is_spelled_by(alloc, frame, bytes) {
@@ -26,7 +26,8 @@ fn answer(alloc: Global, bytes: &[u8]) -> u16 {
     }
 }
 
-/// How many fronts of the bytes, the empty one and the whole among them, are refused with 10.
+/// Returns how many fronts of the bytes, the empty one and the whole among them, are refused with
+/// 10.
 fn short_fronts(alloc: Global, bytes: &[u8]) -> usize {
     let mut count = 0usize;
     for len in 0..=bytes.len() {
@@ -38,7 +39,7 @@ fn short_fronts(alloc: Global, bytes: &[u8]) -> usize {
 }
 
 /// Returns whether each front of the frame of this kind and body is refused with 10, but the whole
-/// isn't.
+/// frame isn't.
 fn is_short_where_cut(alloc: Global, kind: u8, body: &[u8]) -> bool {
     let mut bytes = Vec::new(alloc);
     put_frame(&mut bytes, kind, body).is_ok() && short_fronts(alloc, &bytes) == bytes.len()
@@ -51,7 +52,7 @@ fn a_frame_of_each_kind_that_is_cut_at_any_byte_is_short(rt: HostRuntime) {
     }
 }
 
-/// Makes each other byte of the one in this place, and counts how often each answer comes.
+/// Changes the byte at this place to each other value, and counts how often each answer comes.
 fn count_in_place(alloc: Global, frame: &mut Vec<u8>, at: usize, counts: &mut [usize; 17]) {
     for change in 1u8..=255 {
         if let Some(byte) = frame.get_mut(at) {
@@ -67,7 +68,8 @@ fn count_in_place(alloc: Global, frame: &mut Vec<u8>, at: usize, counts: &mut [u
     }
 }
 
-/// How often each answer comes, by its number, when each byte of the frame is made each other one.
+/// Returns how often each answer comes, by its number, when each byte of the frame is changed to
+/// each other value.
 fn counts(alloc: Global, frame: &mut Vec<u8>) -> [usize; 17] {
     let mut counts = [0; 17];
     for at in 0..frame.len() {
@@ -77,7 +79,7 @@ fn counts(alloc: Global, frame: &mut Vec<u8>) -> [usize; 17] {
 }
 
 /// How many of the changes of one byte of the frame have each answer. They were counted by a
-/// program of another language that knows the format and nothing of this repository. What is still
+/// program in another language that knows the format and nothing of this repository. What is still
 /// a frame is changed in its nodes, its number, its round, its names, its incarnation, its counter,
 /// its stamp or its value.
 static ANSWERS: [usize; 17] = [

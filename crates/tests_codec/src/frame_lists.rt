@@ -5,9 +5,8 @@ use meta_types::ByteString;
 use std::alloc::{AllocError, Global};
 use std::process::Abort;
 
-/// What each frame begins with, and how many bytes `e` come after that. Those that are long enough
-/// to share an end all end in the same sixteen bytes; two are the same, and one is the end of
-/// another.
+/// What each frame begins with, and the number of `e` bytes after that. Those that are long enough
+/// to share an end all end in the same sixteen bytes; two are equal, and one is the end of another.
 static FRAMES: [(&str, usize); 9] = [
     ("first", 150),
     ("second", 150),
@@ -20,7 +19,7 @@ static FRAMES: [(&str, usize); 9] = [
     ("short", 20),
 ];
 
-/// The frame that is told so.
+/// The frame of an item of `FRAMES`.
 fn made(alloc: Global, told: (&str, usize)) -> Result<ByteString, AllocError> {
     let mut bytes = told.0.as_bytes().to_vec(alloc)?;
     for _ in 0..told.1 {
@@ -29,7 +28,7 @@ fn made(alloc: Global, told: (&str, usize)) -> Result<ByteString, AllocError> {
     Ok(ByteString::new(bytes))
 }
 
-/// The frame at the place of the list, read once more where memory is refused.
+/// The frame at this place of the list, read once more where memory is refused.
 fn bytes(rt: &impl Abort, frames: &Frames, place: usize) -> Vec<u8> {
     assert!(rt; place < frames.len());
     match frames.bytes(place) {

@@ -1,9 +1,9 @@
-//! What is asked of the bytes of a frame.
+//! Checks of the bytes of a frame.
 
 use meta_frame::{Frame, decode, encode, is_lawful};
 use std::alloc::{AllocError, Global};
 
-/// Adds the bytes of a frame from 0 to 1, number 1, of this kind and body.
+/// Adds the bytes of the frame number 1 from node 0 to node 1, of this kind and body.
 pub(crate) fn put_frame(out: &mut Vec<u8>, kind: u8, body: &[u8]) -> Result<(), AllocError> {
     let len = u32::try_from(body.len()).unwrap_or(u32::MAX);
     out.extend_from_slice(&[b'P', b'T', 2, kind, 0, 0, 0, 1, 0, 0, 0, 0, 0, 0, 0, 1])?;
@@ -29,8 +29,8 @@ pub(crate) fn is_spelled(alloc: Global, frame: &Frame, bytes: &[u8]) -> bool {
     is_lawful(frame) && matches!(encode(alloc, frame), Ok(found) if found.as_slice() == bytes)
 }
 
-/// Returns whether the frame is spelled by just these bytes, and copied. To drop it by a call is
-/// proved sooner than to let it go.
+/// Returns whether the frame is spelled by just these bytes, and copied. Dropping it by a call is
+/// proved sooner than letting it go.
 fn is_whole(alloc: Global, frame: Frame, bytes: &[u8]) -> bool {
     let is_whole = is_spelled(alloc, &frame, bytes) && is_copied(&frame);
     drop(frame);

@@ -82,7 +82,7 @@ pub(crate) static BODIES: [(u8, &[u8]); 21] = [
     (20, b""),
 ];
 
-/// As `is_body_kept`, made once more where it failed, as it does where memory was refused.
+/// Calls `is_body_kept`, and once more where it failed, as it does where memory is refused.
 fn is_kept_again(alloc: Global, kind: u8, body: &[u8]) -> bool {
     is_body_kept(alloc, kind, body) || is_body_kept(alloc, kind, body)
 }

@@ -10,13 +10,13 @@ use std::alloc::{AllocError, Global};
 /// A piece of a row of bytes.
 #[derive(Clone, Copy)]
 enum Piece {
-    /// Bytes, so many times.
+    /// Bytes, repeated this number of times.
     Bytes(u16, &'static [u8]),
-    /// The number of the row, from 0 up, in two bytes.
+    /// The number of the row, counted from 0, in two bytes.
     Number,
 }
 
-/// Pieces, and how often they stand one after another.
+/// How many rows stand one after another, and the pieces of each.
 type Rows = (u16, &'static [Piece]);
 
 fn put_bytes(out: &mut Vec<u8>, times: u16, bytes: &[u8]) -> Result<(), AllocError> {
@@ -153,8 +153,9 @@ const VALUES: Rows = (
     ],
 );
 
-// The front of an XOBJECT of a key with the longest names has 410 bytes, that of such an object 18,
-// and a value 11 beside its own: with 462 bytes in the last value the frame has 16,777,216.
+// The front of an XOBJECT of a key with the longest names has 410 bytes, the front of such an
+// object 18, and a value 11 beside its own: with 462 bytes in the last value the frame has
+// 16,777,216.
 const LAST: Rows = (
     1,
     &[

@@ -1,4 +1,4 @@
-//! An object in the form that node files had first, whose writers are nodes alone.
+//! An object in the first form of node files, whose writers are nodes alone.
 
 use dvvset::Entries;
 use frame_readers::old::read_old_object;
@@ -11,11 +11,11 @@ use std::process::Abort;
 static OBJECT: &[u8] = b"\0\x02\0\x03\0\0\0\0\0\0\0\x02\0\x01\x01\0\0\0\0\0\0\0\x07\0\x01x\
 \0\x05\0\0\0\0\0\0\0\x01\0\0!!";
 
-/// The same, with node 3 once more in place of node 5.
+/// The object above, with node 3 once more in place of node 5.
 static REPEATED: &[u8] = b"\0\x02\0\x03\0\0\0\0\0\0\0\x02\0\x01\x01\0\0\0\0\0\0\0\x07\0\x01x\
 \0\x03\0\0\0\0\0\0\0\x01\0\0!!";
 
-/// Whether these are the entries of the object above, of writers in life 0.
+/// Returns whether these are the entries of the object above, of writers in life 0.
 fn is_object(rt: &impl Abort, alloc: Global, object: &Entries) -> bool {
     let life_0 = |node| Actor::new(NodeId::new(node).expect(rt, "a node"), 0);
     let x = Value::new(7, Some(b"x".to_vec(alloc).expect(rt, "memory"))).expect(rt, "a value");
@@ -30,7 +30,7 @@ fn is_object(rt: &impl Abort, alloc: Global, object: &Entries) -> bool {
     }
 }
 
-/// Whether the bytes are read as that object, with two bytes left.
+/// Returns whether the bytes are read as that object, with two bytes left.
 fn is_read(rt: &impl Abort, alloc: Global, bytes: &[u8]) -> bool {
     match read_old_object(alloc, bytes) {
         Ok((object, rest)) => is_object(rt, alloc, &object) & (rest == b"!!".as_slice()),

@@ -25,7 +25,7 @@ PMNODE02\0\0\x01\0\0\0\x05\0\0\0\0\x01\x15\xf2\xf1\xa43\x9f_*1;\x95\x01\\\xad\x8
 a\0\x01b\0\x01k\0\x01\0\0\0\0\0\x01\0\0\0\0\0\0\0\x02\0\x01\x01\0\0\0\0\0\0\0\0\0\x01y\
 \xcb\x1b\xccvc3)\x05|4\x0afLz\x95\xa2\xe4\xf0B?\x11\xbdqN\xbf \x06=k\xbdf\x1f\0";
 
-/// The same, written anew: 130 bytes.
+/// The file of 207 bytes, written anew: 130 bytes.
 pub(crate) static TWO_ANEW: &[u8] = b"\
 PMNODE02\0\0\x01\0\0\0\x05\0\0\0\0\x01\x15\xf2\xf1\xa43\x9f_*1;\x95\x01\\\xad\x81$\xd0T\
 \xa1q\xac/1\xcfR\x9d\xda|\xfbj8\xb4\x01\0\0\0(\x01\0\x01a\0\x01b\0\x01k\0\x01\0\0\0\0\0\
@@ -38,7 +38,7 @@ PMNODE01\0\0\x01\0\0\0#\0\x01a\0\x01b\0\x01k\0\x01\0\0\0\0\0\0\0\0\0\x01\0\x01\x
 \0\0\0\0\0\0\x01x\xfc<U\xa1\xbd\x81\xb2R\xb5\xd3c\x9d\x017W\x88\xf4\xb9[u\xcb\x18E\xc5U\
 \xc4\x1c+\xc4\x93bP\0";
 
-/// With y after it: 155 bytes.
+/// The old file with y after x: 155 bytes.
 pub(crate) static OLD_TWO: &[u8] = b"\
 PMNODE01\0\0\x01\0\0\0#\0\x01a\0\x01b\0\x01k\0\x01\0\0\0\0\0\0\0\0\0\x01\0\x01\x01\0\0\0\
 \0\0\0\0\0\0\x01x\xfc<U\xa1\xbd\x81\xb2R\xb5\xd3c\x9d\x017W\x88\xf4\xb9[u\xcb\x18E\xc5U\
@@ -56,14 +56,14 @@ pub(crate) static SPENT: &[u8] = b"\
 PMNODE02\0\0\x01\0\0\0\x05\0\xff\xff\xff\xffDG\x85=7\xcd\xdb\xb1\xa4:\x04\x17\xef\xa5^\
 \xd6\x92\x9e\xfb\xd2j\x95N\xb6\xb9N\xf1!nVO\xa1\0";
 
-/// The one of 83 bytes, written anew: 88 bytes.
+/// The file of 83 bytes, written anew: 88 bytes.
 pub(crate) static OLD_ANEW: &[u8] = b"\
 PMNODE02\0\0\x01\0\0\0(\x01\0\x01a\0\x01b\0\x01k\0\x01\0\0\0\0\0\0\0\0\0\0\0\0\0\x01\0\
 \x01\x01\0\0\0\0\0\0\0\0\0\x01x;;\xaa#\xfb:]`\xe4\xd6\x08G\x0e\xbd\xeb\x1dm\xeeM\xaa,\
 \x08\x9d\xdf\xddc\x92\x12\x19\xb2\x86\xf9\0";
 
-/// What a file holds, its bytes, and what opening it answers: the last life and how many keys, or
-/// the number of the refusal and its offset.
+/// What a file holds, its bytes, and what opening it returns: the last life and the number of keys,
+/// or the number of the refusal and its offset.
 pub(crate) type Row = (
     &'static str,
     &'static [u8],

@@ -1,4 +1,4 @@
-//! What opening a file answers.
+//! What opening a file returns.
 
 use crate::files::{EMPTY, OLD, OLD_ANEW, OLD_TWO, ONE, ROWS, SERVED, TWO, TWO_ANEW};
 use crate::parts::{device, found_in, node, told};
@@ -43,7 +43,7 @@ fn a_file_that_is_cut_short_is_damaged_at_a_gate(rt: HostRuntime) {
     }
 }
 
-/// What the file of one record tells with this byte in that place.
+/// What opening the file of one record should return with this byte at that place.
 fn wanted_with(at: usize, byte: u8) -> Result<(u32, usize), (u16, usize)> {
     match (at, byte) {
         // The magic of version 1, in which the first payload is no key.
@@ -60,7 +60,8 @@ fn wanted_with(at: usize, byte: u8) -> Result<(u32, usize), (u16, usize)> {
     }
 }
 
-/// How often a file tells what it should when its byte in this place is made each other one.
+/// Returns how often a file opens as it should when its byte at this place is changed to each other
+/// value.
 fn right_with(alloc: Global, file: &mut Vec<u8>, at: usize) -> usize {
     let mut count = 0usize;
     for change in 1u8..=255 {

@@ -1,4 +1,4 @@
-//! Files, objects and what opening answers, in short.
+//! Files, objects and what opening returns, in short.
 
 ghost use Rattle.std.specs.Prelude.{◌≡◌, true, false, IfOk};
 ghost use Rattle.devices.specs.Device.{IsDurable};
@@ -46,8 +46,8 @@ pub(crate) fn device(alloc: Global, bytes: &[u8]) -> Result<MemoryDevice, AllocE
     MemoryDevice::new(alloc, bytes.to_vec(alloc)?)
 }
 
-/// Writes the object to the file and then to its table, as whoever holds both does: the number of
-/// the refusal, 0 for none, and 1 where the object or the key has no place in a store.
+/// Writes the object to the file and then to its table, as whoever holds both does. Returns the
+/// number of the refusal, 0 for none, and 1 where the object or the key has no place in a store.
 pub(crate) fn write<D: Device>(
     rt: &impl Abort,
     alloc: Global,
@@ -75,7 +75,7 @@ pub(crate) fn write<D: Device>(
     }
 }
 
-/// The number of a refusal, and the offset that it tells, 0 for none.
+/// The number of a refusal, and the offset that it names, 0 for none.
 pub(crate) fn told(fault: &FileFault) -> (u16, usize) {
     match fault {
         FileFault::Damaged { at } => (fault.code(), *at),
@@ -83,7 +83,8 @@ pub(crate) fn told(fault: &FileFault) -> (u16, usize) {
     }
 }
 
-/// What opening these bytes answers: the last life and how many keys, or what the refusal tells.
+/// What opening these bytes returns: the last life and the number of keys, or the number of the
+/// refusal and its offset.
 pub(crate) fn found_in(alloc: Global, bytes: &[u8]) -> Result<(u32, usize), (u16, usize)> {
     let Ok(device) = device(alloc, bytes) else {
         return Err((99, 0));

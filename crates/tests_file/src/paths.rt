@@ -60,7 +60,7 @@ fn a_path_is_held_by_one_that_writes_or_by_readers(rt: HostRuntime) {
     let _ = fs::remove_file(&rt, path);
 }
 
-/// The number of the refusal, 0 for none, of serving the device and writing x.
+/// Serves the device and writes x. Returns the number of the refusal, 0 for none.
 fn lived(rt: &impl Abort, alloc: Global, device: FileDevice) -> u16
     requires { IsDurable
         (⟦<FileDevice as Device>⟧.content device) (⟦<FileDevice as Device>⟧.may_leave device) }
@@ -73,7 +73,7 @@ fn lived(rt: &impl Abort, alloc: Global, device: FileDevice) -> u16
     }
 }
 
-/// Whether the path holds these bytes, read by other calls.
+/// Returns whether the path holds these bytes, read by other calls.
 fn holds(rt: &HostRuntime, path: &str, bytes: &[u8]) -> bool {
     match fs::read(rt, path) {
         Ok(found) => found.as_slice() == bytes,

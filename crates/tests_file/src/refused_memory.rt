@@ -1,4 +1,4 @@
-//! Node files where memory is refused: a call that was refused memory answers 99, and the file is
+//! Node files where memory is refused: a call that was refused memory returns 99, and the file is
 //! as it was or has the record.
 
 use crate::files::{EMPTY, ONE, SERVED, TWO, TWO_ANEW};
@@ -10,14 +10,14 @@ use meta_types::MetaKey;
 use node_file::{FileFault, NodeFile, open_node, serve};
 use std::alloc::Global;
 
-/// Whether the bytes open as one of the two: the last life and how many keys.
+/// Returns whether the bytes open as one of the two: the last life and the number of keys.
 fn is_one_of(alloc: Global, bytes: &[u8], states: [(u32, usize); 2]) -> bool {
     let found = found_in(alloc, bytes);
     found == Ok(states[0]) || found == Ok(states[1])
 }
 
-/// Whether serving the empty file leaves the one that was served; where memory is refused, the
-/// empty file or that one.
+/// Returns whether serving the empty file leaves the served one; `None` where memory is refused and
+/// it leaves one of these two.
 fn is_served(alloc: Global) -> Option<bool> {
     match serve(alloc, device(alloc, EMPTY).ok()?, None) {
         Ok((file, _, life)) => Some(life == 1 && file.device().content() == SERVED),
@@ -42,8 +42,8 @@ fn key_and_object(alloc: Global) -> Option<(MetaKey, Entries)> {
     Some((key, object.copy().ok()?))
 }
 
-/// What an append that ended so left of the served file: whether that is the file of one record;
-/// where memory was refused, the served file, or where the append stopped it one of the two.
+/// Returns whether an append that ended so left the file of one record; `None` where memory was
+/// refused and it left the served file, or one of the two where it stopped the file.
 fn left(
     alloc: Global,
     file: &NodeFile<MemoryDevice>,
@@ -64,7 +64,7 @@ fn left(
     }
 }
 
-/// The same, of an append of the object under the key.
+/// Appends the object under the key to the served file, and returns what `left` says of it.
 fn append_leaves(alloc: Global, key: &MetaKey, object: &Entries) -> Option<bool> {
     let (mut file, table, _) = serve(alloc, device(alloc, EMPTY).ok()?, None).ok()?;
     let fits = may_be_held(object) && table.has_room_for(key);
@@ -79,7 +79,7 @@ fn append_leaves(alloc: Global, key: &MetaKey, object: &Entries) -> Option<bool>
     left
 }
 
-/// Whether an append to the served file leaves the file of one record.
+/// Returns whether an append to the served file leaves the file of one record.
 fn is_appended(alloc: Global) -> Option<bool> {
     let (key, object) = key_and_object(alloc)?;
     let left = append_leaves(alloc, &key, &object);
@@ -88,7 +88,7 @@ fn is_appended(alloc: Global) -> Option<bool> {
     left
 }
 
-/// Whether a file with two records is written anew.
+/// Returns whether a file with two records is written anew.
 fn is_written_anew(alloc: Global) -> Option<bool> {
     let (file, table, life) = match open_node(alloc, device(alloc, TWO).ok()?, None) {
         Ok(opened) => opened,

@@ -1,4 +1,5 @@
-//! A device that fails at each of its calls in turn, and what a crash may leave of it then.
+//! A device that fails at each of its calls, one run for each, and what a crash may leave of it
+//! then.
 
 ghost use Rattle.std.specs.Prelude.{◌≡◌, true};
 ghost use Rattle.node_file.specs.File.{file_state};
@@ -17,7 +18,7 @@ use std::process::Abort;
 struct Ended {
     /// How many of the three succeeded.
     done: usize,
-    /// What the one that failed answered, and the append after it: 0 for none.
+    /// The number of the refusal of the one that failed, and of the append after it: 0 for none.
     codes: (u16, u16),
     device: FailsAfter<MemoryDevice>,
 }
@@ -46,7 +47,7 @@ fn write_twice(
     }
 }
 
-/// What came of it on a device that passes so many calls.
+/// What came of all three on a device that passes `passed` calls.
 fn after(rt: &impl Abort, alloc: Global, passed: u64) -> Ended {
     let device = FailsAfter::new(device(alloc, b"").expect(rt, "memory"), passed);
     let failed = |done, fault: FileFault, device| Ended {
@@ -118,8 +119,8 @@ enum Left {
     Cut,
 }
 
-/// How the sectors of an unsynced write were left: the first ones, the one after them, and those
-/// behind it.
+/// How the sectors of an unsynced write were left: the first ones, the one after them, and the
+/// rest.
 type Way = (Left, Left, Left);
 
 static WAYS: &[Way] = &[
@@ -134,7 +135,7 @@ static WAYS: &[Way] = &[
     (Left::Junk, Left::Cut, Left::Cut),
 ];
 
-/// The byte that was left of this one of a write, if any.
+/// The byte that was left at this place of a write, if any.
 fn byte_left(write: &LastWrite, place: usize, left: Left) -> Option<u8> {
     let old = write.before.get(write.at.wrapping_add(place)).copied();
     match left {
@@ -173,7 +174,7 @@ fn image(
     image
 }
 
-/// Whether each image of sectors of this size opens as one of the two.
+/// Returns whether each image of sectors of this size opens as one of the two.
 fn each_opens(
     rt: &impl Abort,
     alloc: Global,
@@ -206,8 +207,8 @@ fn the_call_that_fails_is_told_and_stops_the_file(rt: HostRuntime) {
     assert!(rt; ended.done == 3 && ended.codes == (0, 0));
 }
 
-/// The number of the refusal, 0 for none, of writing the file of two records anew to a device that
-/// passes so many calls, and what the device holds then.
+/// Writes the file of two records anew to a device that passes `passed` calls. Returns the number
+/// of the refusal, 0 for none, and what the device holds then.
 fn anew_after(rt: &impl Abort, alloc: Global, passed: u64) -> (u16, MemoryDevice) {
     let source = device(alloc, TWO).expect(rt, "memory");
     let (file, table, life) = open_node(alloc, source, None).ok().expect(rt, "a file");
@@ -230,8 +231,8 @@ fn a_target_that_fails_at_any_call_is_told(rt: HostRuntime) {
     assert!(rt; code == 0 && target.content() == TWO_ANEW);
 }
 
-/// Whether a crash after so many calls leaves a file as it was before the call that failed, or with
-/// its record.
+/// Returns whether a crash after `passed` calls leaves a file as it was before the call that
+/// failed, or with its record.
 fn leaves_one_of_two(rt: &impl Abort, alloc: Global, passed: u64, size: usize) -> bool {
     let ended = after(rt, alloc, passed);
     let states = if passed < 7 {

@@ -75,7 +75,7 @@ fn a_served_file_begins_the_life_after_its_last(rt: HostRuntime) {
     assert!(rt; file.device().content().len() == 95);
 }
 
-/// Whether serving the file is refused with this number, and changes nothing.
+/// Returns whether serving the file is refused with this number, and changes nothing.
 fn is_not_served(rt: &impl Abort, alloc: Global, bytes: &[u8], code: u16) -> bool {
     let device = device(alloc, bytes).expect(rt, "memory");
     match serve(alloc, device, None) {

@@ -29,7 +29,7 @@ fn status<R: Threads + Wait + Sync>(files: &HostRuntime, rt: &R, folder: &str) -
     }
 }
 
-/// What the file of a node says of itself.
+/// What `plumctl file` prints of the file of a node.
 fn front(files: &HostRuntime, path: &str) -> Vec<u8> {
     let mut printed = Vec::new(files.alloc());
     let mut told = Vec::new(files.alloc());
@@ -49,7 +49,7 @@ fn nodes_run_on_new_files(rt: HostRuntime) {
     let _ = fs::remove_dir_all(&rt, FOLDER);
 }
 
-/// What is told of a fault.
+/// What is printed of a fault.
 fn told(rt: &HostRuntime, fault: OpenFault) -> Vec<u8> {
     let mut errors = Vec::new(rt.alloc());
     let _ = tell_unmade(&mut errors, fault);

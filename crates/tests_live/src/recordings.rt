@@ -38,7 +38,7 @@ fn output(rt: &impl Abort, alloc: Global, plan: ClusterPlan, world: &World) -> V
     output
 }
 
-/// How many lines a text has.
+/// Returns how many lines a text has.
 fn lines(text: &[u8]) -> u64 {
     let mut count = 0u64;
     for byte in text {
@@ -49,8 +49,8 @@ fn lines(text: &[u8]) -> u64 {
     count
 }
 
-/// Whether running the recording of a run prints a line of `nodes`, one of each event, one of each
-/// frame, and one of the root of each node.
+/// Returns whether running the recording of a run prints a line of `nodes`, one of each event, one
+/// of each frame, and one of the root of each node.
 fn is_made_again<R: Threads + Wait + Abort + Sync>(
     rt: &R,
     alloc: Global,
@@ -88,7 +88,7 @@ tick 0 word 18133442382907303891
 root 0
 ";
 
-/// The same with the seed 7.
+/// The recording of one node with the seed 7.
 const OF_SEED_7: &[u8] = b"\
 # what the threads of 'plumctl live 1 5 7' did, call by call; at last the root of each node
 nodes 1
@@ -100,7 +100,7 @@ tick 0 word 15403274284619518961
 root 0
 ";
 
-/// Whether five turns of one node have this recording.
+/// Returns whether five turns of one node have this recording.
 fn is_recorded<R: Threads + Wait + Abort + Sync>(
     rt: &R,
     alloc: Global,
@@ -124,8 +124,8 @@ fn one_node_has_one_recording(rt: HostRuntime) {
     assert!(&rt; is_recorded(&rt, rt.alloc(), 7, OF_SEED_7));
 }
 
-/// Whether a recording is written to a device that fails after so many calls with this status, and
-/// this is told.
+/// Returns whether a recording is written to a device that fails after `passed` calls with this
+/// status, and this is printed at standard error.
 fn is_written<R: Threads + Wait + Abort + Sync>(
     rt: &R,
     alloc: Global,

@@ -32,7 +32,7 @@ fn device(rt: &impl Abort, alloc: Global) -> MemoryDevice
     MemoryDevice::new(alloc, bytes).expect(rt, "memory")
 }
 
-/// Whether the report was stopped by the writer, and the device holds what it held.
+/// Returns whether the report was stopped by the writer, and the device holds what it held.
 fn is_stopped(reported: &Reported<MemoryDevice>) -> bool {
     match reported {
         Reported::Stopped(device, StreamFault::Write) => device.content() == FILE,
@@ -40,7 +40,8 @@ fn is_stopped(reported: &Reported<MemoryDevice>) -> bool {
     }
 }
 
-/// Whether a report to a writer with so much room is stopped, and a front of it was written.
+/// Returns whether a report to a writer with room for `room` bytes is stopped, and a front of it
+/// was written.
 fn has_front(rt: &impl Abort, alloc: Global, room: usize) -> bool {
     let mut taken = [0u8; 200];
     let mut writer = MayFail(&mut taken[..room.min(200)]);
@@ -58,7 +59,7 @@ fn a_report_that_is_stopped_at_any_byte_has_a_front(rt: HostRuntime) {
     assert!(&rt; !has_front(&rt, rt.alloc(), REPORT.len()));
 }
 
-/// Whether the report of the device that comes back is whole.
+/// Returns whether the report of the device that comes back is whole.
 fn is_reported<D: Device + Drop>(alloc: Global, device: D) -> bool
     requires { IsDurable (D.content device) (D.may_leave device) }
 {

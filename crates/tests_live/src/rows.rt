@@ -1,4 +1,4 @@
-//! What is printed and told, and the exit status.
+//! What is printed at standard output and at standard error, and the exit status.
 
 ghost use Rattle.std.specs.Prelude.{All};
 ghost use Rattle.devices.specs.Device.{IsDurable};
@@ -17,7 +17,7 @@ fn plan(nodes: u64, turns: u64, seed: u64) -> ClusterPlan {
     ClusterPlan { nodes, turns, seed }
 }
 
-/// Whether a run prints and tells this, with this status.
+/// Returns whether a run prints this, and nothing at standard error, with this status.
 fn is_run<R: Threads + Wait + Sync>(
     rt: &R,
     alloc: Global,
@@ -44,7 +44,8 @@ fn runs_are_told(rt: HostRuntime) {
     assert!(&rt; is_run(&rt, alloc, plan(17, 1, 0), many, 1));
 }
 
-/// Whether a fault of a cluster prints and tells this, with this status.
+/// Returns whether a fault of a cluster prints `printed`, and `told` at standard error, with this
+/// status.
 fn is_told(alloc: Global, fault: ClusterFault, printed: &[u8], told: &[u8], status: u8) -> bool {
     let mut writer = Vec::new(alloc);
     let mut errors = Vec::new(alloc);
@@ -108,7 +109,7 @@ fn new_device(rt: &impl Abort, alloc: Global) -> Vec<MemoryDevice>
     devices
 }
 
-/// The name of the refusal of a run of one node whose journal has room for so many entries.
+/// The name of the refusal of a run of one node whose journal has room for `journal` entries.
 fn refusal<R: Threads + Wait + Abort + Sync>(
     rt: &R,
     alloc: Global,

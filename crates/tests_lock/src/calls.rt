@@ -1,4 +1,4 @@
-//! Each call's event stands in its entry, and its receipt is that of the entry.
+//! Each call's event stands in its entry, and its receipt names that entry.
 
 use crate::parts::{Left, Trial, counted, key, prefix, tried, value};
 use devices::MemoryDevice;
@@ -56,7 +56,7 @@ fn of_a_key<J: Naming, R: Wait + Abort>(
     }
 }
 
-/// Whether the event is that of the call of this number.
+/// Returns whether the event is the event of the call of this number.
 fn is_of_call(event: &NodeEvent, number: usize) -> bool {
     match (event, number) {
         (NodeEvent::Write { context: None, .. }, 0)
@@ -75,7 +75,7 @@ fn is_of_call(event: &NodeEvent, number: usize) -> bool {
     }
 }
 
-/// Whether the journal has the entry of this receipt, at this place, of its call.
+/// Returns whether the journal has the entry of this receipt, at this place, of its call.
 fn is_kept(closed: &Closed, receipt: &Receipt, number: usize) -> bool {
     closed.journal().get(number) == Some(&receipt.entry)
         && receipt.place == number as u64
@@ -105,7 +105,7 @@ impl Trial for EachCall {
     }
 }
 
-/// Whether there is an entry of each call, and its receipt.
+/// Returns whether there is an entry of each call, and its receipt.
 fn are_kept(left: &Left) -> bool {
     let mut are_kept = (left.closed.journal().len(), left.receipts.len()) == (CALLS, CALLS);
     for (number, receipt) in left.receipts.iter().enumerate() {
@@ -122,7 +122,7 @@ fn each_call_is_journaled_as_it_was_made(rt: HostRuntime) {
     assert!(rt; are_kept);
 }
 
-/// Junk is refused by what the step answers, and a refused call leaves nothing.
+/// The step refuses junk, and a refused call leaves nothing.
 struct Junk;
 
 impl Trial for Junk {

@@ -22,7 +22,7 @@ impl Trial for Nothing {
     }
 }
 
-/// Each trial ends so: it is 54 without one of the seats, and then they all come back.
+/// Each trial ends so: closing is refused with 54 without one of the seats, and then all come back.
 #[test]
 fn a_node_is_closed_once_all_its_seats_are_back(rt: HostRuntime) {
     let counted = counted::<Nothing, HostRuntime>(&rt, rt.alloc(), Capacity::new(2, 1));
@@ -40,7 +40,7 @@ fn refusal<R: Wait + Abort>(rt: &R, alloc: Global, capacity: (usize, usize, usiz
     start::<Nothing, R>(rt, alloc, capacity).err().unwrap_or(0)
 }
 
-/// The limit of the journal is looked at first.
+/// The limit of the journal is checked first.
 #[test]
 fn a_capacity_out_of_range_is_refused(rt: HostRuntime) {
     let alloc = rt.alloc();

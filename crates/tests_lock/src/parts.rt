@@ -18,7 +18,7 @@ use std::process::Abort;
 use std::sync::Wait;
 use std::sync::ledger::Blank;
 
-/// What is tried on a node, which is lent with its seats. It answers receipts that it got.
+/// What is tried on a node, which is lent with its seats. It returns the receipts that it got.
 pub(crate) trait Trial {
     fn run<J: Naming, R: Wait + Abort>(
         rt: &R,
@@ -37,7 +37,8 @@ pub(crate) struct Left {
     pub receipts: Vec<Receipt>,
 }
 
-/// Puts a letter under the key of a digit: the place of the entry, or the number of the refusal.
+/// Puts a letter under the key of the digit 1. Returns the place of the entry, or the number of the
+/// refusal.
 pub(crate) fn put<D: Device + Drop, J: Naming, R: Wait + Abort>(
     rt: &R,
     alloc: Global,
@@ -57,7 +58,7 @@ pub(crate) fn put<D: Device + Drop, J: Naming, R: Wait + Abort>(
     }
 }
 
-/// Puts a letter under the same key, and lets the reader learn of it.
+/// Puts a letter under the key of the digit 1, and lets the reader learn of it.
 pub(crate) fn put_and_learn<D: Device + Drop, J: Naming, R: Wait + Abort>(
     rt: &R,
     alloc: Global,
@@ -77,7 +78,7 @@ pub(crate) fn put_and_learn<D: Device + Drop, J: Naming, R: Wait + Abort>(
     }
 }
 
-/// What a reader is shown under the key: how many values, or the number of the refusal.
+/// Returns how many values a reader is shown under the key, or the number of the refusal.
 pub(crate) fn shown<J: Naming>(
     rt: &impl Abort,
     alloc: Global,
@@ -158,7 +159,7 @@ pub(crate) fn tried<T: Trial, R: Wait + Abort>(rt: &R, alloc: Global, capacity: 
     start::<T, R>(rt, alloc, capacity).ok().expect(rt, "a node")
 }
 
-/// How many steps the base of what a trial leaves has, and how many entries the journal.
+/// Returns how many steps the base of what a trial leaves has, and how many entries the journal.
 pub(crate) fn counted<T: Trial, R: Wait + Abort>(
     rt: &R,
     alloc: Global,
@@ -212,7 +213,7 @@ fn begun<J: Naming, T: Trial, R: Wait + Abort>(
     }
 }
 
-/// Tries it on the node, and closes that, at first without one of its seats.
+/// Tries it on the node, and closes the node, at first without one of its seats.
 fn leave<J: Naming, T: Trial, R: Wait + Abort>(
     rt: &R,
     alloc: Global,
@@ -234,7 +235,7 @@ fn leave<J: Naming, T: Trial, R: Wait + Abort>(
     Left { closed, receipts }
 }
 
-/// Whether each reader is refused with 34, as those of a node that was closed are.
+/// Returns whether each reader is refused with 34, as the readers of a closed node are.
 fn are_stopped<J: Naming>(rt: &impl Abort, alloc: Global, readers: &mut [ReadSeat<J>]) -> bool {
     let mut are_stopped = true;
     for reader in readers.iter_mut() {

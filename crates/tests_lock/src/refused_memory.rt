@@ -1,6 +1,6 @@
-//! A node of whose calls one is refused memory: it answers 99 and leaves all as it was, so that it
-//! is accepted when it is made once more; or the node is stopped, where its device was amid a
-//! write.
+//! A node of whose calls one is refused memory: that call returns 99 and leaves all as it was, so
+//! that it is accepted when it is made once more; or the node is stopped, where its device was amid
+//! a write.
 
 use crate::calls::{CALLS, call};
 use crate::parts::{Left, Trial, key, start};
@@ -34,14 +34,14 @@ fn call_again<J: Naming, R: Wait + Abort>(
     }
 }
 
-/// How many values a reader is shown, which looks once more where it was refused memory.
+/// Returns how many values a reader is shown. It looks once more where it was refused memory.
 fn shown<J: Naming>(rt: &impl Abort, alloc: Global, reader: &mut ReadSeat<J>) -> Option<usize> {
     let key = key(rt, alloc, b'1');
     let shown = reader.peek(&key).or(reader.peek(&key));
     Some(shown.ok()?.values.len())
 }
 
-/// Asserts that each reader is shown so many values at least.
+/// Asserts that each reader is shown at least this number of values.
 fn assert_shown<J: Naming>(
     rt: &impl Abort,
     alloc: Global,
@@ -53,7 +53,7 @@ fn assert_shown<J: Naming>(
     }
 }
 
-/// Each call is made; once the node is stopped, each answers 34. At last a reader looks.
+/// Each call is made; once the node is stopped, each returns 34. At last a reader looks.
 struct Again;
 
 impl Trial for Again {
@@ -88,7 +88,7 @@ fn left<R: Wait + Abort>(rt: &R, alloc: Global) -> Left {
     }
 }
 
-/// Whether the shorter one is the front of the other.
+/// Returns whether the shorter list is the front of the other.
 fn is_front(one: &[Entry], other: &[Entry]) -> bool {
     let mut is_front = true;
     for (here, there) in one.iter().zip(other) {
@@ -97,8 +97,8 @@ fn is_front(one: &[Entry], other: &[Entry]) -> bool {
     is_front
 }
 
-/// Whether one has the entry of each call and the other a front of these, and both a receipt of
-/// each entry.
+/// Returns whether one has the entry of each call and the other a front of these, and both a
+/// receipt of each entry.
 fn agree(one: &Left, other: &Left) -> bool {
     let (here, there) = (one.closed.journal(), other.closed.journal());
     let is_whole = here.len().max(there.len()) == CALLS;
@@ -106,7 +106,7 @@ fn agree(one: &Left, other: &Left) -> bool {
     is_front(here, there) & is_whole & (receipts == (here.len(), there.len()))
 }
 
-// Passes whichever single allocation is refused. Of two nodes of which the same is asked one is
+// Passes whichever single allocation is refused. Of two nodes that get the same calls, one is
 // refused no memory. The other has the same entries, with the same replies and frames, or a front
 // of them where it was stopped; and a receipt of each.
 #[test]

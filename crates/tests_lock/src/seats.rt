@@ -101,8 +101,8 @@ fn a_ninth_seat_is_refused_until_one_is_given_up(rt: HostRuntime) {
     assert!(rt; counted == (0, 2));
 }
 
-/// A new node has nothing to cut. After a write of which one reader learnt, that one is shown it,
-/// and the other one it or nothing.
+/// A new node has nothing to cut. After a write of which one reader learnt, that reader is shown
+/// it, and the other reader is shown it or nothing.
 struct OneLearnt;
 
 impl Trial for OneLearnt {

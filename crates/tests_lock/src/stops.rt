@@ -1,4 +1,4 @@
-//! A device that fails at each of its calls in turn, under a node.
+//! A device that fails at each of its calls, one run for each, under a node.
 
 ghost use Rattle.std.specs.Prelude.{◌≡◌, ◌≤◌};
 ghost use Rattle.node_desk.specs.Starting.{IsFileOf};
@@ -18,14 +18,14 @@ use std::sync::ledger::Blank;
 
 type Failing = FailsAfter<MemoryDevice>;
 
-/// What came of three writes: the answer to each, how many entries the journal had, and the device.
+/// What came of three writes: what each returned, how many entries the journal had, and the device.
 struct Came {
     answers: [Result<u64, u16>; 3],
     entries: usize,
     device: MemoryDevice,
 }
 
-/// Closes the node: how many entries the journal had, and the device.
+/// Closes the node. Returns how many entries the journal had, and the device.
 fn close<J: Naming, R: Wait + Abort>(
     rt: &R,
     node: Node<Failing, J, &R>,
@@ -107,7 +107,7 @@ fn begun<J: Naming, R: Wait + Abort>(
     }
 }
 
-/// What comes of three writes on a device that passes so many of their calls.
+/// What comes of three writes on a device that passes `passed` of their calls.
 fn after<R: Wait + Abort>(rt: &R, alloc: Global, passed: u64) -> Came {
     let device = FailsAfter::new(open_first(rt, alloc), passed.saturating_add(4));
     let (file, table) = next_life(rt, alloc, device);
@@ -115,7 +115,7 @@ fn after<R: Wait + Abort>(rt: &R, alloc: Global, passed: u64) -> Came {
     begun::<Brand, R>(rt, alloc, tokens, file, table)
 }
 
-/// How many writes stand under the key in what the device reads as.
+/// Returns how many writes stand under the key in what the device reads as.
 fn written(rt: &impl Abort, alloc: Global, device: MemoryDevice) -> u64 {
     let mut device = device;
     device.sync().ok().expect(rt, "a sync");
@@ -132,7 +132,7 @@ fn written(rt: &impl Abort, alloc: Global, device: MemoryDevice) -> u64 {
     }
 }
 
-/// What is answered to the write of this place, where so many are accepted before the device fails.
+/// What the write at `place` returns, where `accepted` writes are accepted before the device fails.
 fn wanted(place: u64, accepted: u64) -> Result<u64, u16> {
     if place < accepted {
         return Ok(place);
@@ -140,8 +140,8 @@ fn wanted(place: u64, accepted: u64) -> Result<u64, u16> {
     Err(if place == accepted { 30 } else { 34 })
 }
 
-/// Each write makes four calls: those before the failure are accepted, the next is 30, and then the
-/// node is stopped; the file has what was acknowledged, and perhaps what failed.
+/// Each write makes four calls: those before the failure are accepted, the next is refused with 30,
+/// and then the node is stopped; the file has what was acknowledged, and perhaps what failed.
 #[test]
 fn a_device_that_fails_stops_the_node(rt: HostRuntime) {
     for passed in 0..12 {

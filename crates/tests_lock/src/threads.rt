@@ -18,7 +18,7 @@ use std::thread::{self, Threads};
 /// How many writes each of two threads makes.
 const EACH: usize = 100;
 
-/// Writes so often, and answers the places.
+/// Writes `EACH` times, and returns the places.
 fn write<J: Naming, R: Wait + Abort>(
     rt: &R,
     alloc: Global,
@@ -37,7 +37,7 @@ fn write<J: Naming, R: Wait + Abort>(
     (seat, places)
 }
 
-/// Looks so often, and is never shown fewer values than before.
+/// Looks `EACH` times, and is never shown fewer values than before.
 fn look<J: Naming, R: Wait + Abort>(rt: &R, alloc: Global, reader: ReadSeat<J>) -> ReadSeat<J> {
     let mut reader = reader;
     let mut last = 0;
@@ -49,7 +49,7 @@ fn look<J: Naming, R: Wait + Abort>(rt: &R, alloc: Global, reader: ReadSeat<J>) 
     reader
 }
 
-/// Two threads write: the places of all receipts.
+/// Two threads write. Returns the places of all receipts.
 fn write_both<J: Naming + Send + Sync, R: Threads + Wait + Abort + Sync>(
     rt: &R,
     alloc: Global,
@@ -69,8 +69,8 @@ fn write_both<J: Naming + Send + Sync, R: Threads + Wait + Abort + Sync>(
     places
 }
 
-/// One thread writes while one looks: how many values the reader is shown at last, once it learnt
-/// of one more write.
+/// One thread writes while another looks. Returns how many values the reader is shown at last, once
+/// it learnt of one more write.
 fn write_and_look<J: Naming + Send + Sync, R: Threads + Wait + Abort + Sync>(
     rt: &R,
     alloc: Global,
@@ -93,8 +93,8 @@ fn write_and_look<J: Naming + Send + Sync, R: Threads + Wait + Abort + Sync>(
     seen
 }
 
-/// What came of both: the places of the receipts of two that wrote side by side, what a reader was
-/// shown at last that looked beside one, and how many entries there are.
+/// What came of both: the places of the receipts of two threads that wrote side by side, what a
+/// reader beside a writer was shown at last, and how many entries there are.
 #[derive(Drop)]
 struct Came {
     places: Vec<u64>,
@@ -154,7 +154,7 @@ fn begun<J: Naming + Send + Sync, R: Threads + Wait + Abort + Sync>(
     }
 }
 
-/// Whether these are the places from 0 on, each once.
+/// Returns whether these are the places from 0 on, each once.
 fn are_all_places(places: &[u64]) -> bool {
     let mut is_there = [false; 2 * EACH];
     for place in places {

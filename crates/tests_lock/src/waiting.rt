@@ -15,7 +15,7 @@ use std::sync::ledger::Blank;
 use std::sync::{Mutex, Wait};
 use std::thread::{self, Threads};
 
-/// How often it is looked whether a gate has moved.
+/// How many times a wait looks whether a gate has moved.
 const TURNS: u32 = 1_000_000;
 
 /// How far a device that waits and the test are.
@@ -29,7 +29,7 @@ enum Gate {
     Reached,
 }
 
-/// Waits until the gate is so: whether it came to be.
+/// Waits until the gate is in this state. Returns whether it came to be.
 fn waits_for<R: Wait>(rt: &R, gate: &Mutex<Gate>, wanted: Gate) -> bool {
     for _turn in 0..TURNS {
         if *gate.lock(rt) == wanted {
@@ -108,7 +108,8 @@ impl<'g, D: Device, R: Wait> Device for WaitsAt<'g, D, R> {
     }
 }
 
-/// Once a call waits inside the device: what the reader is shown then; and lets the call go on.
+/// Waits until a call waits inside the device, looks, and lets the call go on. Returns what the
+/// reader is shown.
 fn look_meanwhile<J: Naming, R: Wait + Abort>(
     rt: &R,
     alloc: Global,
@@ -121,8 +122,8 @@ fn look_meanwhile<J: Naming, R: Wait + Abort>(
     seen
 }
 
-/// Writes once, of which the reader learns, and once more while it looks: what it is shown then,
-/// and what at last.
+/// Writes once, lets the reader learn of it, and writes once more while the reader looks. Returns
+/// what the reader is shown meanwhile, and at last.
 fn looked<J: Naming + Send + Sync, R: Threads + Wait + Abort + Sync>(
     rt: &R,
     alloc: Global,
@@ -142,7 +143,7 @@ fn looked<J: Naming + Send + Sync, R: Threads + Wait + Abort + Sync>(
     (seen, shown(rt, alloc, reader))
 }
 
-/// Closes the node: how many entries the journal had.
+/// Closes the node. Returns how many entries the journal had.
 fn close<J: Naming, R: Wait + Abort>(
     rt: &R,
     node: Node<WaitsAt<MemoryDevice, R>, J, &R>,
@@ -206,7 +207,8 @@ fn begun<'g, J: Naming + Send + Sync, R: Threads + Wait + Abort + Sync>(
     }
 }
 
-/// What the device holds that waits, in its node's next life.
+/// Runs the trial on a device that waits. Returns what the reader is shown meanwhile and at last,
+/// and how many entries the journal had.
 fn tried<R: Threads + Wait + Abort + Sync>(
     rt: &R,
     alloc: Global,

@@ -10,8 +10,8 @@ use node_events::NodeEvent;
 use std::alloc::Global;
 use std::process::Abort;
 
-/// What a node is asked, an event with word 0 or another call. A node is told by its number, a key
-/// under p/s by its letter, and the body of a value by its letter, where `~` is a tombstone.
+/// What a node is asked: an event with word 0, or another call. A node is given by its number, a
+/// key under p/s by its letter, and the body of a value by its letter, where `~` is a tombstone.
 #[derive(Clone, Copy)]
 pub enum Act {
     Read(u8),
@@ -33,9 +33,9 @@ pub enum Act {
     Leave,
     /// The repair of a key by the last write.
     Repair(u8),
-    /// A new node 0 is there in place of the one before.
+    /// A new node 0 takes the place of the node.
     New,
-    /// A copy goes on in the place of the node.
+    /// A copy takes the place of the node.
     Copy,
     /// Writes under 8,191 keys of two bytes, none of which is refused.
     Fill,
@@ -68,7 +68,7 @@ pub fn put_over(rt: &impl Abort, alloc: Global, letters: &[u8], body: u8) -> Nod
     }
 }
 
-/// The event that is meant.
+/// The event of an act.
 pub fn event(rt: &impl Abort, alloc: Global, act: Act) -> NodeEvent {
     match act {
         Act::Read(letter) => NodeEvent::Read {
@@ -99,7 +99,7 @@ pub fn event(rt: &impl Abort, alloc: Global, act: Act) -> NodeEvent {
     }
 }
 
-/// The same, of an event that is made of numbers alone; a tick stands for any other.
+/// `event` for an act that is made of numbers alone; a tick stands for any other.
 fn small_event(rt: &impl Abort, act: Act) -> NodeEvent {
     match act {
         Act::Join(contact) => NodeEvent::Join {

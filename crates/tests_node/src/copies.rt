@@ -13,7 +13,7 @@ use std::alloc::Global;
 use std::mem::replace;
 use std::process::Abort;
 
-/// An event's copy is equal to it.
+/// Asserts that a copy of the event is equal to it.
 fn is_copied(rt: &impl Abort, event: NodeEvent) {
     let copy = event.copy().expect(rt, "memory");
     let is_same = copy == event;
@@ -22,7 +22,7 @@ fn is_copied(rt: &impl Abort, event: NodeEvent) {
     assert!(rt; is_same);
 }
 
-/// So is that of a write which has read what was shown.
+/// Does the same for a write that has read what was shown.
 fn write_is_copied(rt: &impl Abort, alloc: Global, context: &Context) {
     let context = Some(context.copy().expect(rt, "memory"));
     is_copied(
@@ -35,7 +35,7 @@ fn write_is_copied(rt: &impl Abort, alloc: Global, context: &Context) {
     );
 }
 
-/// So are those of what a step gave.
+/// Asserts that the reply and the outbox of a step are copied.
 fn given_is_copied(rt: &impl Abort, stepped: &Stepped) {
     let reply = stepped.reply.copy().expect(rt, "memory");
     let outbox = stepped.outbox.copy().expect(rt, "memory");
@@ -45,7 +45,7 @@ fn given_is_copied(rt: &impl Abort, stepped: &Stepped) {
     assert!(rt; is_same);
 }
 
-/// So are those of the lists in a reply.
+/// Asserts that the lists in a reply are copied.
 fn lists_are_copied(rt: &impl Abort, reply: &Reply) {
     let is_same = match reply {
         Reply::Looked { values, .. } => values.copy().expect(rt, "memory") == *values,
@@ -63,7 +63,7 @@ fn reply_is_copied(rt: &impl Abort, alloc: Global, stepped: &Stepped) {
     }
 }
 
-/// The node is asked, and what it gives is copied.
+/// Asks the node, and asserts that what it gives is copied.
 fn follow(rt: &impl Abort, alloc: Global, node: &mut NodeState, act: Act) {
     let outcome = asked(rt, alloc, node, act);
     if let Ok(stepped) = &outcome {
@@ -90,7 +90,7 @@ fn copies_are_equal(rt: HostRuntime) {
     play(&rt, rt.alloc(), &COMING);
 }
 
-// The name of each is its contract's; that it prints as its name is shown here.
+// Each refusal's name is its contract's; this shows that it prints as its name.
 #[test]
 fn refusals_print_their_names(rt: HostRuntime) {
     let (own, frame) = (

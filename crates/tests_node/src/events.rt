@@ -52,7 +52,7 @@ pub fn deliver(frame: u64, node: u64) -> Event {
     }
 }
 
-/// The event of that place: in a new world of two nodes they can all happen, in this order.
+/// Returns the event at this place: in a new world of two nodes all can happen, in this order.
 pub fn event(rt: &impl Abort, alloc: Global, place: usize) -> Event {
     match place {
         1 => put(rt, alloc, 2, b"x", None),
@@ -81,7 +81,7 @@ pub fn event(rt: &impl Abort, alloc: Global, place: usize) -> Event {
     }
 }
 
-/// The same, of an event that is made of numbers alone.
+/// `event` for an event that is made of numbers alone.
 fn small_event(place: usize) -> Event {
     match place {
         0 => join(),
@@ -100,7 +100,7 @@ fn small_event(place: usize) -> Event {
     }
 }
 
-/// All of them.
+/// All events, in their order.
 pub fn events(rt: &impl Abort, alloc: Global) -> Vec<Event> {
     let mut events = match Vec::with_capacity(alloc, COUNT) {
         Ok(events) => events,

@@ -7,7 +7,7 @@ use std::alloc::Global;
 use std::process::Abort;
 use world_core::{Answer, Event, World, WorldFault};
 
-/// The number of what an event gives, which is applied once more where memory was refused.
+/// Applies an event, and once more where memory was refused. Returns the number of what it gives.
 fn code_in_the_end(rt: &impl Abort, alloc: Global, world: &mut World, place: usize) -> u16 {
     match apply(world, event(rt, alloc, place)) {
         99 => apply(world, event(rt, alloc, place)),
@@ -32,7 +32,7 @@ fn each_kind_of_event_happens_again_under_refused_memory(rt: HostRuntime) {
 }
 
 /// What comes of the events. They are run once more where there was no memory for the outcomes:
-/// then none was applied, so that the world is as it was.
+/// then no event was applied, and the world is as it was.
 fn outcomes(
     rt: &impl Abort,
     alloc: Global,
@@ -45,7 +45,7 @@ fn outcomes(
     }
 }
 
-/// How many events were refused memory.
+/// Returns how many events were refused memory.
 fn refused(outcomes: &[Result<Answer, WorldFault>]) -> usize {
     let mut refused = 0_usize;
     for outcome in outcomes {

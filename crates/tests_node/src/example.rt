@@ -20,7 +20,7 @@ fn happen(rt: &impl Abort, world: &mut World, event: Event) {
 }
 
 /// Node 1 joins through node 0 by frame 1, a JOIN. Then both write, neither knowing of the other's
-/// write. Each sends what it holds to the other, as frames 2 and 3: GOSSIP. Node 1 takes frame 2.
+/// write. Each sends what it holds to the other: frames 2 and 3, both GOSSIP. Node 1 takes frame 2.
 fn write_both(rt: &impl Abort, alloc: Global, world: &mut World) {
     happen(rt, world, join());
     happen(rt, world, deliver(1, 0));
@@ -35,7 +35,7 @@ fn write_over(rt: &impl Abort, alloc: Global, world: &mut World) {
     happen(rt, world, put(rt, alloc, 1, b"green", Some(1)));
 }
 
-/// Returns whether node 1 shows both writes, and then the one that replaces them.
+/// Returns whether node 1 shows both writes, and then the write that replaces them.
 fn is_told(rt: &impl Abort, alloc: Global, world: &mut World) -> bool {
     write_both(rt, alloc, world);
     let both = b"ctx 0.1:1,1.1:1 values red,blue".as_slice();

@@ -21,7 +21,7 @@ pub const FORGED_GOSSIP: &[u8] = b"PT\x02\x01\0\x01\0\0\0\0\0\0\0\0\0\x01\0\0\0\
 \0\0\0\0\0\x01\0\0\0\0\0\0\0\x02\0\0\
 \0\x01\0\0\0\x01\0\0\0\0\0\0\0\x01\0\x01\x01\0\0\0\0\0\0\0\0\0\x01y";
 
-/// The same as XOBJECT.
+/// The forged object as XOBJECT.
 pub const FORGED_OBJECT: &[u8] = b"PT\x02\x11\0\x01\0\0\0\0\0\0\0\0\0\x01\0\0\0\x37\
 \0\x01p\0\x01s\0\x01k\0\x02\
 \0\0\0\0\0\x01\0\0\0\0\0\0\0\x02\0\0\
@@ -36,7 +36,7 @@ pub const GOSSIP_OF_THE_LAST: &[u8] = b"PT\x02\x01\0\x01\0\0\0\0\0\0\0\0\0\x01\0
 pub const IHAVE: &[u8] = b"PT\x02\x02\0\x01\0\0\0\0\0\0\0\0\0\x01\0\0\0\x1b\
 \0\x05\0\x01p\0\x01s\0\x01k\0\x01\0\x01\0\0\0\x01\0\0\0\0\0\0\0\x01";
 
-/// GRAFT of the same.
+/// GRAFT of the first write of node 1, in round 5.
 pub const GRAFT: &[u8] = b"PT\x02\x03\0\x01\0\0\0\0\0\0\0\0\0\x01\0\0\0\x1b\
 \0\x05\0\x01p\0\x01s\0\x01k\0\x01\0\x01\0\0\0\x01\0\0\0\0\0\0\0\x01";
 
@@ -51,7 +51,7 @@ pub const XOBJECT: &[u8] = b"PT\x02\x11\0\x01\0\0\0\0\0\0\0\0\0\x01\0\0\0\x27\
 pub const XROOT: &[u8] = b"PT\x02\x0c\0\x01\0\0\0\0\0\0\0\0\0\x01\0\0\0\x20\
 \0\0\0\0\0\0\0\0\0\0\0\0\0\0\0\0\0\0\0\0\0\0\0\0\0\0\0\0\0\0\0\0";
 
-/// The front of a GOSSIP of 1,048,587 bytes behind its header: an object of node 0, which counts
+/// The front of a GOSSIP of 1,048,587 bytes after its header: an object of node 0, which counts
 /// 1,014 writes and shows them all, of which the last is 92 x's.
 pub const FRONT_OF_LARGEST: &[u8] = b"PT\x02\x01\0\x01\0\0\0\0\0\0\0\0\0\x01\0\x10\0\x0b\
 \0\0\0\x01p\0\x01s\0\x01k\0\x01\

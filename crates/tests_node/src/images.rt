@@ -12,8 +12,8 @@ use std::alloc::Global;
 use std::mem::replace;
 use std::process::Abort;
 
-/// A write of this node, which has read what is there or nothing, of this body; to a new store
-/// where it starts anew.
+/// A write of `body` by the node, which has read what is there where `has_read`, or else nothing;
+/// to a new store where `anew`.
 struct Write {
     anew: bool,
     node: u16,
@@ -74,7 +74,7 @@ static WRITES: [Write; 8] = [
     },
 ];
 
-/// Makes the write; once more where memory is refused.
+/// Makes the write, once more where memory is refused.
 fn make(rt: &impl Abort, alloc: Global, store: &mut Store, write: &Write) {
     if write.anew {
         drop(replace(store, Store::new(alloc)));
@@ -112,7 +112,7 @@ fn change(rt: &impl Abort, alloc: Global, store: &Store) -> Option<(MetaKey, Ent
     Some((key, object))
 }
 
-/// Adds an image of what is in the store; once more where memory is refused.
+/// Adds an image of what is in the store, once more where memory is refused.
 fn add(rt: &impl Abort, alloc: Global, images: &mut Images, store: &Store) {
     let base = images.len();
     let change = change(rt, alloc, store);
@@ -124,7 +124,8 @@ fn add(rt: &impl Abort, alloc: Global, images: &mut Images, store: &Store) {
     drop(change);
 }
 
-/// The image at the place shows what is in the store; read once more where memory is refused.
+/// Returns whether the image at the place shows what is in the store. It is read once more where
+/// memory is refused.
 fn shows(rt: &impl Abort, images: &Images, at: usize, store: &Store) -> bool {
     assert!(rt; at < images.len());
     let change = images.at(at).change().expect(rt, "a change");

@@ -1,10 +1,10 @@
 //! The tests of nodes and of what stands in them and around them: resolvers and watches, the
-//! overlay, one node, and a world. What a text can tell is a row of `rows`. They stand apart, since
+//! overlay, one node, and a world. What a text can say is a row of `rows`. They stand apart, since
 //! a crate is proved once more with its tests. No crate uses this one.
 #![tactic(auto)]
 
 // What is proved of a function grows with the places at which it may end while it owns something.
-// So where memory is wanting a test ends on the spot, by `expect`, which drops nothing; and a node
+// So where memory runs out a test ends on the spot, by `expect`, which drops nothing; and a node
 // ends by a call of `drop`, which is proved once for each type in it, while a node that goes out of
 // scope costs more than all else here.
 

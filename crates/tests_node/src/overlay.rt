@@ -14,7 +14,7 @@ fn join(views: &mut Views, from: NodeId) -> Result<usize, AllocError> {
     Ok(views.step(ViewEvent::Taken { from, message }, 0)?.len())
 }
 
-/// How much a join gives out, which is made once more where memory was refused.
+/// Returns how much a join gives out. The join is made once more where memory was refused.
 fn joined(rt: &impl Abort, views: &mut Views, from: NodeId) -> usize {
     match join(views, from) {
         Ok(count) => count,
@@ -22,7 +22,7 @@ fn joined(rt: &impl Abort, views: &mut Views, from: NodeId) -> usize {
     }
 }
 
-/// Returns whether two nodes that join are told of as they should be.
+/// Returns whether two joins give out as much as they should, and leave both nodes active.
 fn two_join(rt: &impl Abort, views: &mut Views) -> bool {
     let first = joined(rt, views, node(rt, 1));
     let second = joined(rt, views, node(rt, 2));
@@ -58,7 +58,7 @@ fn tick(cast: &mut Cast) -> Result<usize, AllocError> {
     Ok(cast.on_tick()?.len())
 }
 
-/// How much a tick gives out, which is made once more where memory was refused.
+/// Returns how much a tick gives out. The tick is made once more where memory was refused.
 fn ticked(rt: &impl Abort, cast: &mut Cast) -> usize {
     match tick(cast) {
         Ok(count) => count,
@@ -73,8 +73,8 @@ fn is_announced(rt: &impl Abort, cast: &mut Cast, key: &MetaKey, vector: &Vector
     ticked(rt, cast) == 1
 }
 
-// As above, of calls of the broadcast: a tick that was refused memory keeps what it is to announce.
-// Allocates at most 29 times.
+// Holds whichever single allocation is refused: a tick that was refused memory keeps what it is to
+// announce. Allocates at most 29 times.
 #[test]
 fn a_broadcast_goes_on_under_refused_memory(rt: HostRuntime) {
     let key = key(&rt, rt.alloc(), b"a", b"b", b"k");

@@ -1,4 +1,4 @@
-//! A node is asked what the rows tell, with ample memory and under refused memory.
+//! A node is asked what the rows say, with ample memory and under refused memory.
 
 use crate::acts::{Act, event, key_of, put_over};
 use crate::parts::node;
@@ -18,7 +18,7 @@ pub fn new_node(rt: &impl Abort, alloc: Global) -> NodeState {
     }
 }
 
-/// A copy goes on in the place of the node.
+/// Puts a copy in the place of the node.
 fn go_on_as_copy(rt: &impl Abort, node: &mut NodeState) {
     let copy = match node.copy() {
         Ok(copy) => copy,
@@ -64,7 +64,7 @@ fn repaired(
     outcome
 }
 
-/// What a node gives.
+/// What a node gives for an act.
 pub fn asked(
     rt: &impl Abort,
     alloc: Global,
@@ -97,12 +97,12 @@ fn sent<'a>(rt: &impl Abort, outcome: &'a Result<Stepped, StepFault>) -> &'a [u8
     }
 }
 
-/// The number of want of memory.
+/// The number of a refusal for lack of memory.
 const MEMORY: u16 = 99;
 
-/// The node is asked, and gives what is told, or is refused memory where it may be. Returns whether
-/// it was. A frame that begins as is told is the frame that is told, since its header has its
-/// length, or that up to a digest at its end.
+/// Asks the node, and asserts that it gives what the row says, or is refused memory where it may
+/// be. Returns whether it was refused memory. A frame that begins as the row says is the frame of
+/// the row, since its header has its length; a row may end before the digest at a frame's end.
 fn is_refused_memory(
     rt: &impl Abort,
     alloc: Global,
@@ -123,7 +123,7 @@ fn is_refused_memory(
     is_refused
 }
 
-/// The same, once more where it was refused memory.
+/// Calls `is_refused_memory`, and once more where the node was refused memory.
 fn follow(rt: &impl Abort, alloc: Global, node: &mut NodeState, given: &Given, may_refuse: bool) {
     if is_refused_memory(rt, alloc, node, given, may_refuse) {
         is_refused_memory(rt, alloc, node, given, false);

@@ -30,7 +30,7 @@ fn read(rt: &impl Abort, alloc: Global, node: &mut NodeState) -> u64 {
     step
 }
 
-/// What a vector counts, of each writer three digits: its node, its life and its writes.
+/// What a vector counts, three digits for each writer: its node, its life and its writes.
 fn digits(vector: &Vector) -> u64 {
     let mut digits: u64 = 0;
     for counter in vector.counters() {
@@ -46,7 +46,7 @@ fn digits(vector: &Vector) -> u64 {
     digits
 }
 
-/// What two changes count, which are handed out.
+/// What the vectors of the two changes in a reply count.
 fn counted(outcome: &Result<Stepped, StepFault>) -> (u64, u64) {
     let Ok(stepped) = outcome else {
         return (0, 0);

@@ -9,7 +9,7 @@ use std::process::Abort;
 /// A body and a stamp; `~` is a tombstone.
 type Sibling = (&'static str, u64);
 
-/// Siblings, and the place of the one that is chosen.
+/// Siblings, and the place of the chosen one.
 type Row = (&'static [Sibling], usize);
 
 static LAST_WRITERS: [Row; 6] = [
@@ -31,7 +31,7 @@ static LARGEST: [Row; 5] = [
 
 static GREATEST_WRITERS: [Row; 1] = [(&[("x", 9), ("~", 1), ("y", 2)], 2)];
 
-/// The place that the resolver chooses, as a caller has it who was handed the resolver.
+/// The place that the resolver chooses, called as by a caller that was handed the resolver.
 fn place(
     rt: &impl Abort,
     alloc: Global,

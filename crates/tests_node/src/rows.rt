@@ -67,7 +67,7 @@ pub static COMING: [Given; 48] = [
     (Act::New, 0, NONE),
     (Act::Take(GOSSIP_OF_Y), 0, NONE),
     (Act::Take(GRAFT), 0, ASKED_FOR),
-    // A lazy peer is told at the next tick.
+    // A lazy peer is sent an IHAVE at the next tick.
     (Act::New, 0, NONE),
     (Act::Join(1), 0, JOIN_1),
     (Act::Take(PRUNE), 0, NONE),

@@ -1,4 +1,5 @@
-//! Frames that node 0 sends in its first life, as bytes. The number in a name is that of the frame.
+//! Frames that node 0 sends in its first life, as bytes. The number in a name is the frame's
+//! number.
 
 /// JOIN from 0 to 1 number 1.
 pub const JOIN_1: &[u8] = b"PT\x02\x05\0\0\0\x01\0\0\0\0\0\0\0\x01\0\0\0\0";

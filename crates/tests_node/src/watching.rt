@@ -35,7 +35,7 @@ fn handed_out(rt: &impl Abort, alloc: Global, watch: &mut Watch) -> Vec<u8> {
     keys
 }
 
-/// The watch has missed so many changes, and hands out changes of these keys, in this order.
+/// The watch has missed `missed` changes, and hands out changes of these keys, in this order.
 fn hands_out(rt: &impl Abort, alloc: Global, watch: &mut Watch, missed: u64, keys: &[u8]) {
     assert_eq!(rt; watch.missed(), missed);
     assert_eq!(rt; handed_out(rt, alloc, watch).as_slice(), keys);

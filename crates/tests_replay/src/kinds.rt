@@ -7,7 +7,7 @@ use std::alloc::Global;
 use std::process::Abort;
 use world_core::{Accepted, Answer, Event, FrameNumbers};
 
-/// An event that was accepted, whatever it answered: no text says that.
+/// An accepted event. Its answer doesn't matter: no text says it.
 fn accepted(event: Event) -> Accepted {
     Accepted {
         event,
@@ -124,7 +124,7 @@ root 0
 root 1
 ";
 
-/// Whether the text that is handed out is this one; without one, that there is none.
+/// Returns whether the text that is handed out is this one; without one, that there is none.
 fn is_told(
     alloc: Global,
     about: &[u8],

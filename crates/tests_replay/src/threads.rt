@@ -25,7 +25,7 @@ fn roots(rt: &impl Abort, alloc: Global, closed: &[Closed]) -> Vec<u8> {
     text
 }
 
-/// What running the text of a run prints, of which nothing was cut.
+/// What running the text of a run prints. The journals of the run are whole.
 fn output(rt: &impl Abort, alloc: Global, nodes: u64, run: &ClusterRun) -> Vec<u8> {
     if !are_whole(run.closed.as_slice()) {
         panic!(rt; "whole journals");
@@ -40,7 +40,7 @@ fn output(rt: &impl Abort, alloc: Global, nodes: u64, run: &ClusterRun) -> Vec<u
     output
 }
 
-/// Whether a run ends, made again, with the tables that its threads had.
+/// Returns whether a run that is made again ends with the tables that its threads had.
 fn is_replayed<R: Threads + Wait + Abort + Sync>(rt: &R, alloc: Global, plan: ClusterPlan) -> bool {
     let run = run_cluster(rt, alloc, plan, &NoGate)
         .ok()

@@ -11,7 +11,7 @@ use meta_types::MetaKey;
 use std::alloc::Global;
 use std::process::Abort;
 
-/// The numbers of some keys: the first of them, and the one behind the last.
+/// The numbers of some keys: the first of them, and the one after the last.
 type Numbers = (u16, u16);
 
 /// The key of the two bytes of a number, under one of five full prefixes, n/a to n/e.
@@ -38,13 +38,14 @@ fn filled(rt: &impl Abort, alloc: Global, node: u16, numbers: Numbers) -> Held {
     built(rt, alloc, store)
 }
 
-/// Returns whether an exchange ends as is wanted. It is made once more where memory was refused.
+/// Runs an exchange, once more where memory was refused. Returns whether it ends as is wanted.
 fn ends(alloc: Global, here: &mut Held, there: &mut Held, wanted: &Result<(), StoreFault>) -> bool {
     reconcile(alloc, here, there) == *wanted || reconcile(alloc, here, there) == *wanted
 }
 
-/// Returns whether an exchange, of sides whose keys node 0 wrote here and node 1 there, ends as is
-/// wanted; whether the sides then have one root, if none was refused, and hold so many keys.
+/// Returns whether an exchange ends as is wanted, of sides whose keys node 0 wrote here and node 1
+/// there; whether the sides then have one root exactly where it isn't refused; and whether they
+/// hold `lens` keys.
 fn is_exchanged(
     rt: &impl Abort,
     alloc: Global,
@@ -137,19 +138,19 @@ fn one<T: Drop>(rt: &impl Abort, alloc: Global, item: T) -> Vec<T> {
     items
 }
 
-/// What a message is answered.
+/// The answers to a message.
 fn answers(rt: &impl Abort, alloc: Global, side: &Held, message: Option<&Message>) -> Vec<Message> {
     let message = message.expect(rt, "a message");
     answer(alloc, side, message).expect(rt, "memory")
 }
 
-/// How many answers a message has of a side that holds nothing.
+/// Returns how many answers a side that holds nothing gives to a message.
 fn count(rt: &impl Abort, alloc: Global, message: Option<&Message>) -> usize {
     let side = built(rt, alloc, Store::new(alloc));
     answers(rt, alloc, &side, message).len()
 }
 
-/// The leaves that there answers, in an exchange that here began.
+/// The leaves with which `there` answers, in an exchange that `here` began.
 fn leaves(rt: &impl Abort, alloc: Global, here: &Held, there: &Held) -> Vec<Message> {
     let root = one(rt, alloc, start(here));
     let prefixes = answers(rt, alloc, there, root.first());
@@ -169,8 +170,8 @@ fn forge(messages: &mut [Message]) {
 }
 
 /// Returns whether odd messages are answered by the table. Both sides hold key 0, which stands in
-/// leaf 0x96: listed in another one it is sent and wanted as ever. There is no answer to leaves of
-/// inner node 16, to an object, and to a want of what isn't held.
+/// leaf 0x96: listed in another leaf it is sent and wanted as ever. There is no answer to leaves of
+/// inner node 16, to an object, and to a want of a key that isn't held.
 fn are_odd_answered(rt: &impl Abort, alloc: Global, here: &Held, there: &Held) -> bool {
     let mut leaves = leaves(rt, alloc, here, there);
     let mut buckets = answers(rt, alloc, here, leaves.first());

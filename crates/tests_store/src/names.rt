@@ -2,7 +2,7 @@ use dvvset::ClockFault;
 use meta_store::StoreFault;
 use meta_types::TypeFault;
 
-// The name of each is its contract's; that it prints as its name is shown here.
+// Each fault's name is its contract's; this shows that it prints as its name.
 #[test]
 fn faults_print_their_names(rt: HostRuntime) {
     let (name, entries, key) = (

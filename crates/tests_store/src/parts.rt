@@ -8,11 +8,11 @@ use meta_types::{Actor, FullPrefix, MetaKey, NodeId, Value};
 use std::alloc::{AllocError, Global};
 use std::process::Abort;
 
-/// A node, in how many lives it wrote, how many events it had in each, and the letters of the
-/// values of the newest of them, newest first.
+/// A node, the number of lives in which it wrote, the number of its events in each, and the letters
+/// of the values of the newest of them, newest first.
 pub type Part = (u16, u32, u64, &'static [u8]);
 
-/// One of two answers to one question, of which one may be a refusal.
+/// The first of two results that is no refusal.
 pub fn either<T: Drop>(
     rt: &impl Abort,
     first: Result<T, AllocError>,
@@ -21,7 +21,7 @@ pub fn either<T: Drop>(
     first.or(second).expect(rt, "memory once more")
 }
 
-/// A list with room for so many.
+/// A list with room for `many` items.
 pub fn room<T: Drop>(rt: &impl Abort, alloc: Global, many: usize) -> Vec<T> {
     let first: Result<_, _> = Vec::with_capacity(alloc, many);
     let second: Result<_, _> = Vec::with_capacity(alloc, many);
@@ -37,7 +37,7 @@ pub fn bytes(rt: &impl Abort, alloc: Global, bytes: &[u8]) -> Vec<u8> {
     either(rt, bytes.to_vec(alloc), bytes.to_vec(alloc))
 }
 
-/// The letter, so many times.
+/// The letter, `len` times.
 fn text(rt: &impl Abort, alloc: Global, letter: u8, len: usize) -> Vec<u8> {
     let first: Result<_, _> = vec![in alloc; letter; len];
     let second: Result<_, _> = vec![in alloc; letter; len];
@@ -55,18 +55,18 @@ pub fn key(rt: &impl Abort, alloc: Global, first: &[u8], sub: &[u8], own: &[u8])
     MetaKey::new(prefix, bytes(rt, alloc, own)).expect(rt, "a key")
 }
 
-/// A key of so many letters, under a full prefix of the longest names.
+/// A key of `len` letters, under a full prefix of the longest names.
 pub fn long_key(rt: &impl Abort, alloc: Global, letter: u8, len: usize) -> MetaKey {
     let own = text(rt, alloc, letter, len);
     key(rt, alloc, &[b'p'; 64], &[b's'; 64], own.as_slice())
 }
 
-/// A value of so many letters.
+/// A value of `len` letters.
 pub fn value(rt: &impl Abort, alloc: Global, letter: u8, len: usize) -> Value {
     Value::new(7, Some(text(rt, alloc, letter, len))).expect(rt, "a value")
 }
 
-/// For each letter so many values of so many of it.
+/// For each letter `many` values of `len` times that letter.
 pub fn values(
     rt: &impl Abort,
     alloc: Global,
@@ -84,7 +84,7 @@ pub fn values(
     values
 }
 
-/// The object of these parts, with so many values of so many letters for each letter.
+/// The object of these parts, with `many` values of `len` letters for each letter.
 pub fn object(rt: &impl Abort, alloc: Global, parts: &[Part], many: usize, len: usize) -> Entries {
     let mut entries = room(rt, alloc, 65_536);
     for (node, lives, count, letters) in parts {
@@ -98,7 +98,7 @@ pub fn object(rt: &impl Abort, alloc: Global, parts: &[Part], many: usize, len: 
     Entries::from_parts(entries).expect(rt, "an object")
 }
 
-/// Whether an object is that of these parts, with a value of one letter for each letter.
+/// Returns whether an object has these parts, with a value of one letter for each letter.
 pub fn is_object(rt: &impl Abort, alloc: Global, given: &Entries, parts: &[Part]) -> bool {
     *given == object(rt, alloc, parts, 1, 1)
 }

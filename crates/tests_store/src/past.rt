@@ -8,7 +8,7 @@ use std::process::Abort;
 /// A node, and the key under which it is asked.
 type At<'a> = (NodeId, &'a MetaKey);
 
-/// A write of a letter, which has read what was seen at that place, or nothing.
+/// A write of a letter, which has read what was seen at the place `seen`, or nothing.
 fn wrote(
     rt: &impl Abort,
     alloc: Global,
@@ -73,7 +73,7 @@ fn shows(rt: &impl Abort, alloc: Global, plain: &Plain, at: At, letters: &[u8]) 
     either(rt, first, second).as_slice() == values(rt, alloc, letters, 1, 1).as_slice()
 }
 
-/// Whether node 1 knows both of its writes and what they had read.
+/// Returns whether node 1 knows both of its writes and what they had read.
 fn is_told(rt: &impl Abort, alloc: Global, plain: &Plain) -> bool {
     let (node, key) = (actor(rt, 1, 1).node(), long_key(rt, alloc, b'k', 1));
     let counters = [
@@ -86,8 +86,8 @@ fn is_told(rt: &impl Abort, alloc: Global, plain: &Plain) -> bool {
         && shows(rt, alloc, plain, (node, &key), b"yz")
 }
 
-/// Whether that is told of the history; where memory was refused, whether its account can then be
-/// made.
+/// Returns whether the account of the history has what `is_told` asks for; where memory was
+/// refused, whether the account can then be made.
 fn are_told(rt: &impl Abort, alloc: Global, history: &[Happening]) -> bool {
     assert!(rt; fits(history));
     match Plain::replay(alloc, history) {

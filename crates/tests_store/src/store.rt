@@ -6,11 +6,11 @@ use std::process::Abort;
 
 /// What is done with a store under the key of 256 k's, or asked of it.
 enum Step {
-    /// An object comes, with so many values of so many letters for each letter.
+    /// An object comes, with this number of values of this number of letters for each letter.
     Take(&'static [Part], usize, usize),
-    /// The node in its first life writes so many w's, and has read nothing.
+    /// The node in its first life writes this number of w's, and has read nothing.
     Put(u16, usize),
-    /// It writes so many w's over all that a read shows.
+    /// It writes this number of w's over all that a read shows.
     Over(u16, usize),
     /// Node 0 writes under 8,192 other keys.
     Fill,
@@ -20,7 +20,7 @@ enum Step {
     Shows(&'static [Part]),
 }
 
-/// The number of want of memory.
+/// The number of a refusal for lack of memory.
 const MEMORY: u16 = 99;
 
 /// The number of the refusal, or 0.
@@ -31,7 +31,7 @@ fn number<T: Drop>(answer: Result<T, StoreFault>) -> u16 {
     }
 }
 
-/// The same of a call that want of memory alone refuses.
+/// The number of the refusal of a call that only lack of memory refuses, or 0.
 fn memory<T: Drop>(answer: Result<T, AllocError>) -> u16 {
     if answer.is_ok() { 0 } else { MEMORY }
 }
@@ -48,7 +48,7 @@ fn take(
     number(store.merge(key, object(rt, alloc, parts, many, len)))
 }
 
-/// A write of so many w's by the node.
+/// The node writes `len` w's, having read `read`.
 fn put(
     rt: &impl Abort,
     alloc: Global,
@@ -61,7 +61,7 @@ fn put(
     number(store.put(actor(rt, node, 1), key, value, read))
 }
 
-/// The same over all that a read of the key shows.
+/// The node writes `len` w's over all that a read of the key shows.
 fn put_over(
     rt: &impl Abort,
     alloc: Global,
@@ -102,7 +102,8 @@ fn shows(rt: &impl Abort, alloc: Global, store: &Store, at: &MetaKey, parts: &[P
     u16::from(!is_object(rt, alloc, held, parts))
 }
 
-/// Makes a step. Returns the number of its refusal, or 0; of `Shows` 0 where it is so.
+/// Makes a step. Returns the number of its refusal, or 0; for `Shows` 0 where the object is that
+/// one.
 fn act(rt: &impl Abort, alloc: Global, store: &mut Store, at: &MetaKey, step: &Step) -> u16 {
     match step {
         Step::Take(parts, many, len) => take(rt, alloc, store, parts, *many, *len),
@@ -114,7 +115,7 @@ fn act(rt: &impl Abort, alloc: Global, store: &mut Store, at: &MetaKey, step: &S
     }
 }
 
-/// What a row tells, and its steps, each with the number of its refusal, or 0.
+/// What a row shows, and its steps, each with the number of its refusal, or 0.
 type Row = (&'static str, &'static [(Step, u16)]);
 
 /// Makes the steps of a row over a new store, each once more where it was refused memory. Returns
@@ -306,7 +307,7 @@ fn objects_are_held_by_the_rules_and_up_to_the_limits(rt: HostRuntime) {
     are_played(&rt, rt.alloc(), &ROWS);
 }
 
-// Holds whichever single allocation is refused: a call that was refused memory answers `Memory` and
+// Holds whichever single allocation is refused: a call that was refused memory returns `Memory` and
 // leaves the store as it was, so that it succeeds when it is made again.
 #[test]
 fn writes_merges_and_reads_succeed_again_under_refused_memory(rt: HostRuntime) {

@@ -13,7 +13,7 @@ fn letter(number: u64, sides: u8) -> u8 {
     b'a'.saturating_add(((state >> 33) % sides) as u8)
 }
 
-/// Writes under the key there, and merges here what then stands there.
+/// Writes under the key in `there`, and merges what then stands there into `here`.
 fn merge(rt: &impl Abort, alloc: Global, here: &mut Store, there: &mut Store, key: &MetaKey) {
     write(rt, alloc, there, 1, key, b'm');
     let object = there.object(key).expect(rt, "an object");
@@ -46,7 +46,7 @@ fn change(
     key
 }
 
-/// Returns whether the root of the tree is that of all keys at once after each change.
+/// Returns whether after each change the root of the tree is the root of all keys at once.
 fn is_followed(
     rt: &impl Abort,
     alloc: Global,

@@ -1,4 +1,4 @@
-//! The digests of a tree, compared with those that a program in another language computed.
+//! The digests of a tree, compared with digests that a program in another language computed.
 
 use crate::parts::prefix;
 use crate::trees::{Letters, filled, tree_of};
@@ -54,8 +54,8 @@ static PREFIX_ROOTS: [PrefixRoot; 2] = [
     ),
 ];
 
-/// A full prefix, the number of a leaf of it, the digest of the inner node above the leaf, that of
-/// the leaf, and its keys in order.
+/// A full prefix, the number of a leaf of it, the digest of the inner node above the leaf, the
+/// digest of the leaf, and its keys in order.
 type Leaf = ([u8; 2], u8, &'static str, &'static str, &'static [u8]);
 
 /// Leaves of the tree of the five keys. It has no full prefix a/c.
@@ -87,7 +87,7 @@ fn five(rt: &impl Abort, alloc: Global) -> Tree {
     tree_of(rt, alloc, &filled(rt, alloc, &FIVE))
 }
 
-/// Returns whether a digest is written so in hexadecimal digits.
+/// Returns whether these hexadecimal digits spell the digest.
 fn is(rt: &impl Abort, alloc: Global, digest: &Digest, digits: &str) -> bool {
     let text = hex::encode(alloc, digest.bytes()).expect(rt, "memory");
     text.as_str() == digits

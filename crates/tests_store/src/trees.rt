@@ -97,7 +97,7 @@ fn root_of_copy(rt: &impl Abort, tree: &Tree) -> Digest {
     either(rt, tree.copy(), tree.copy()).root()
 }
 
-/// How many full prefixes the tree has.
+/// Returns how many full prefixes the tree has.
 pub fn prefixes(rt: &impl Abort, tree: &Tree) -> usize {
     either(rt, tree.prefix_roots(), tree.prefix_roots()).len()
 }
@@ -106,7 +106,7 @@ fn bucket_len(rt: &impl Abort, tree: &Tree, prefix: &FullPrefix, leaf: u8) -> us
     either(rt, tree.bucket(prefix, leaf), tree.bucket(prefix, leaf)).len()
 }
 
-/// How many keys the leaves of a full prefix have together.
+/// Returns how many keys the leaves of a full prefix have together.
 pub fn listed(rt: &impl Abort, tree: &Tree, prefix: &FullPrefix) -> usize {
     let mut listed = 0_usize;
     for leaf in 0..=u8::MAX {
@@ -115,8 +115,8 @@ pub fn listed(rt: &impl Abort, tree: &Tree, prefix: &FullPrefix) -> usize {
     listed
 }
 
-/// Returns whether the root of the tree and that of its copy are that of all keys at once, and it
-/// has so many full prefixes.
+/// Returns whether the roots of the tree and of its copy are the root of all keys at once, and the
+/// tree has `len` full prefixes.
 pub fn is_whole(rt: &impl Abort, alloc: Global, tree: &Tree, store: &Store, len: usize) -> bool {
     let root = tree.root();
     plain(rt, alloc, store) == root && root_of_copy(rt, tree) == root && prefixes(rt, tree) == len

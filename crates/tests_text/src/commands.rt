@@ -1,5 +1,5 @@
-//! Runs of the command `run`, explained or not: exit statuses, what is written, and what standard
-//! error is told; and what it is told of a file that can't be opened.
+//! Runs of the command `run`, explained or not: exit statuses, what is written, and what is printed
+//! at standard error; and what is printed there of a file that can't be opened.
 
 use crate::devices::{Device, End, Feed};
 use plumctl_core::{run_scenario, tell_unopened};
@@ -8,7 +8,8 @@ use std::io::ErrorKind;
 use streams::MayFail;
 
 /// A run: its text, and how the reader goes on after it; for how many bytes the writer has room;
-/// the exit status, what is written, what an explained run writes, and what standard error is told.
+/// the exit status, what is written, what an explained run writes, and what is printed at standard
+/// error.
 struct Run {
     text: &'static [u8],
     end: End,
@@ -134,7 +135,7 @@ wanted: nodes COUNT, once, as the first command; COUNT is 1 to 16\n",
     },
 ];
 
-/// Returns whether a run ends, writes and tells as is wanted.
+/// Returns whether a run ends, writes and reports as is wanted.
 fn is_run(alloc: Global, run: &Run, explain: bool) -> bool {
     let mut reader = MayFail(Feed {
         end: run.end,

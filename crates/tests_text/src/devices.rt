@@ -1,4 +1,4 @@
-//! A reader of a text and a writer of one, which count and fail as they are told.
+//! A reader of a text and a writer of one, which count, and fail as their fields say.
 
 use std::io::{self, ErrorKind, Read, Write};
 
@@ -13,7 +13,7 @@ pub enum End {
     FailsOnce(ErrorKind),
 }
 
-/// Gives what is left of a text, and then the whole text so many times, at most so many bytes at a
+/// Gives what is left of a text, and then the whole text `times` times, at most `most` bytes at a
 /// time.
 #[derive(Clone, Copy)]
 pub struct Feed {
@@ -36,7 +36,7 @@ impl Feed {
         }
     }
 
-    /// How it fails behind its text, if it does.
+    /// How it fails after its text, if it does.
     fn fault(&mut self) -> Option<ErrorKind> {
         match self.end {
             End::Over => None,
@@ -68,7 +68,7 @@ impl Read for Feed {
     }
 }
 
-/// Gives so many bytes, of which the last of each piece is a line feed. The others are left as they
+/// Gives `left` bytes, of which the last of each piece is a line feed. The others are left as they
 /// are.
 #[derive(Clone, Copy)]
 pub struct Lines {
@@ -87,8 +87,8 @@ impl Read for Lines {
     }
 }
 
-/// Takes so many bytes, at most so many at a time, and then none, or fails where it is told to, at
-/// a flush too. Who reads from it sees what was flushed alone.
+/// Takes `room` bytes, at most `most` at a time, and then none, or fails with `fault`, at a flush
+/// too. A reader of what it took sees only what was flushed.
 #[derive(Clone, Copy)]
 pub struct Device {
     /// The text that is still to come.
@@ -105,7 +105,7 @@ pub struct Device {
 }
 
 impl Device {
-    /// A device that takes all, of which this text is wanted.
+    /// A device that takes all, and expects this text.
     pub fn new(wanted: &'static [u8]) -> Device {
         Device {
             wanted,

@@ -2,9 +2,8 @@
 //! apart from them, since a crate is proved once more with its tests. They show what no contract
 //! says and what one run of a program over standard input and output can't: readers and writers
 //! that fail in mid-stream, when a line is answered, the limit of an input, and memory that is
-//! refused. Which line is printed how shows the stored run of the program `plumctl`, and what a
-//! scenario prints, a row of
-//! `rows`. No crate uses this one.
+//! refused. The stored run of the program `plumctl` shows how each line is printed, and the rows of
+//! `rows` show what a scenario prints. No crate uses this one.
 #![tactic(auto)]
 
 #[cfg(test)]

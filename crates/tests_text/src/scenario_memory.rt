@@ -10,7 +10,8 @@ use streams::StreamFault;
 
 const MEMORY: Done = Err(ScenarioFault::Stream(StreamFault::Memory));
 
-/// Whether a run ends with its output. It ends so, or for want of memory with a front of it.
+/// Returns whether a run ends with its whole output; else it ends for lack of memory with a front
+/// of it.
 fn is_whole(rt: &impl Abort, alloc: Global, resolvers: &[Box<dyn Resolver>]) -> bool {
     let mut output = Vec::new(alloc);
     let mut reader = TEXT;

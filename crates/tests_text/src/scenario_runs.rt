@@ -1,4 +1,4 @@
-//! Runs over a reader and a writer that do as they are told.
+//! Runs over a reader and a writer that do as their fields say.
 
 use crate::devices::{Device, Feed};
 use crate::texts::{LONG_ROWS, LongRow, ROWS, Row};
@@ -27,7 +27,7 @@ pub fn largest(rt: &impl Abort, alloc: Global) -> Box<dyn Resolver> {
     boxed
 }
 
-/// Runs a text with so many resolvers. Returns how it ends, and what became of the device.
+/// Runs a text with `count` resolvers. Returns how it ends, and what became of the device.
 pub fn run(
     rt: &impl Abort,
     alloc: Global,
@@ -43,7 +43,7 @@ pub fn run(
     (done, writer.0)
 }
 
-/// How a run ends whose first bad line is this one, or that has none.
+/// How a run ends whose first bad line is this one, 0 for none.
 fn end(bad: u64) -> Done {
     if bad == 0 {
         Ok(())
@@ -52,7 +52,7 @@ fn end(bad: u64) -> Done {
     }
 }
 
-/// A text, in pieces of so many bytes.
+/// A text, in pieces of at most `most` bytes.
 fn assert_prints(rt: &impl Abort, alloc: Global, row: Row, most: usize) {
     let (text, count, output, bad) = row;
     let (mut reader, mut writer) = (Feed::new(text), Device::new(output));

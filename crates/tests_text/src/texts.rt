@@ -101,7 +101,7 @@ pub static ROWS: [Row; 16] = [
     (b"nonsense", 2, b"error 70 BadLine 1\n", 1),
 ];
 
-/// A text that stands so many times in one line, what is printed, and the number of the bad line,
+/// A text, how many times it stands in one line, what is printed, and the number of the bad line,
 /// or 0.
 pub type LongRow = (&'static [u8], u32, &'static [u8], u64);
 
@@ -116,7 +116,7 @@ pub static LONG_ROWS: [LongRow; 7] = [
     (&[b'#'; 8_192], 8_192, b"", 0),
 ];
 
-/// So many times, that is one byte more than is read.
+/// Repeated `TIMES_TOO_LONG` times, this is one byte more than is read.
 pub const TOO_LONG: &[u8] = &[b'#'; 8_065];
 
 pub const TIMES_TOO_LONG: u32 = 8_321;

@@ -1,4 +1,4 @@
-//! Rooms, and what is answered at their ends, by one thread.
+//! Rooms, and what calls return at their ends, by one thread.
 
 ghost use Rattle.std.specs.Prelude.{◌≡◌, ◌≤◌};
 
@@ -8,8 +8,8 @@ use std::alloc::Global;
 use std::process::Abort;
 use std::sync::Wait;
 
-/// How many frames are put before one is refused, which spell 0, 1 and so on; and the number of the
-/// refusal.
+/// Returns how many frames are put before one is refused, which spell 0, 1 and so on; and the
+/// number of the refusal.
 fn fill<R: Wait + Abort>(rt: &R, alloc: Global, inbox: &Inbox, pass: &mut PutPass) -> (u32, u16)
     requires { pass.old.line ≡ inbox.now.line }
     ensures { pass.new.line ≡ inbox.now.line }
@@ -23,7 +23,7 @@ fn fill<R: Wait + Abort>(rt: &R, alloc: Global, inbox: &Inbox, pass: &mut PutPas
     (2_000, 0)
 }
 
-/// The number with which a room is refused, 0 if it isn't.
+/// Returns the number with which a room is refused, 0 if it isn't.
 fn code_of_room(alloc: Global, senders: usize, room: usize) -> u16
     requires { (1 ≤ senders) × (senders ≤ 16) }
 {
@@ -33,8 +33,8 @@ fn code_of_room(alloc: Global, senders: usize, room: usize) -> u16
     }
 }
 
-/// Whether an inbox of this room takes just so many frames, gives the oldest first, takes one more
-/// for each that it gave, and none once it is closed, when it still gives what it has.
+/// Returns whether an inbox of this room takes just `room` frames, gives the oldest first, takes
+/// one more for each that it gave, and none once it is closed, when it still gives what it has.
 fn keeps_to_its_room<R: Wait + Abort>(rt: &R, alloc: Global, room: u32) -> bool {
     let (mut inbox, mut puts, mut takes) = with_room_for(rt, alloc, room as usize);
     let was_empty = take(rt, &inbox, &mut takes) == None;

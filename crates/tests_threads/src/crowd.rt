@@ -49,7 +49,8 @@ fn put_each<R: Wait + Abort>(rt: &R, alloc: Global, inbox: &Inbox, pass: PutPass
     pass
 }
 
-/// Takes all that four senders put: whether each frame came once, and in the order of its sender.
+/// Takes all that four senders put. Returns whether each frame came once, and in the order of its
+/// sender.
 fn take_each<R: Wait>(rt: &R, inbox: &Inbox, pass: TakePass) -> (bool, TakePass)
     requires { pass.line ≡ inbox.now.line }
     ensures { result.1.line ≡ inbox.now.line }
@@ -119,7 +120,8 @@ fn hand_back_all(inbox: &Inbox, passes: Vec<PutPass>, takes: &mut TakePass)
     }
 }
 
-/// Four senders put side by side while one takes: whether all came, in order, and nothing is left.
+/// Four senders put side by side while one takes. Returns whether all came, in order, and nothing
+/// is left.
 fn cross<R: Threads + Wait + Abort + Sync>(rt: &R, alloc: Global) -> bool {
     let (inbox, puts, takes) = for_four(rt, alloc);
     let shared = &inbox;

@@ -27,8 +27,8 @@ pub(crate) fn with_room_for(
     (inbox, put, takes)
 }
 
-/// Puts a frame that spells the number: the number of the refusal, 0 for none, and 1 where another
-/// frame comes back.
+/// Puts a frame that spells the number. Returns the number of the refusal, 0 for none, and 1 where
+/// another frame comes back.
 pub(crate) fn put<R: Wait + Abort>(
     rt: &R,
     alloc: Global,

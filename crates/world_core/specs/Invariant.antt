@@ -23,7 +23,7 @@ use Rattle.world_core.specs.Knowledge.{HandsOut}
 
 -- ---- by what is told
 
--- its node and its key are those of the Looked at the place, and its vector that of what was seen
+-- its node and its key are those of the Looked at the place, and its vector is of what was seen
 -- there
 pub record IsRead (hs : List Happening) (place : ℕ) (context : Reading) : Type 0 where
   pub looked : slice_get hs place
@@ -41,7 +41,7 @@ abbrev pub IsTold : List Happening → Frame → Option ℕ → Type 0
 IsTold hs frame None = carried_object frame.message ≡ None
 IsTold hs frame (Some place) = IsSending hs frame place
 
--- the history is one; each node stands where it left it; each read's context and each frame's
+-- this is a history; each node stands where it left the node; each read's context and each frame's
 -- object is what was seen and sent there
 pub record IsState (ns : List Keeping) (contexts : List Reading) (sent : List Frame) (t : Told)
     : Type 0 where
@@ -79,6 +79,6 @@ pub record IsWorld (w : World) : Type 0 where
   pub some : 1 ≤ length w.nodes
   pub few : length w.nodes ≤ 16
 
--- the same as one word, into which proofs do not look by themselves
+-- `IsWorld` as one word, into which proofs do not look by themselves
 unfoldable pub IsWholeWorld : World → Type 0
 IsWholeWorld w = IsWorld w

@@ -59,7 +59,7 @@ HandsOut w answer = (values : List ValueParts) (context : Reading)
     → answer.reply ≡ HasLooked values context
     → (read : ℕ) × ((answer.read ≡ Some read) × (numbered w.contexts read ≡ Some context))
 
--- the object of a frame is that of what its sender knew under its key
+-- the object of a frame is of what its sender knew under its key
 pub record CarriesLoad (t : Told) (number from : ℕ) (key : Key) (object : List Entry) : Type 0 where
   pub place : ℕ
   pub told_at : sending_of t number ≡ Some place

@@ -35,7 +35,7 @@ abbrev pub list_of : {A : Type 0} → Option A → List A
 list_of None = []
 list_of (Some x) = x ∷ []
 
--- so many frames get the next numbers
+-- `count` frames get the next numbers
 abbrev pub next_frames : World → ℕ → FrameNumbers
 next_frames w count = record { first = length w.frames + 1; count = count }
 
@@ -81,7 +81,7 @@ pub record Accepts (old : World) (event : Event) (answer : Answer) (new : World)
   pub makes : Makes old (node_of_event event) (doing_in old event) answer new
   pub accepted : new.accepted ≡ old.accepted ++ (record { event = event; answer = answer }) ∷ []
 
--- an event was refused, for its first cause or for want of memory, and nothing changed
+-- an event was refused, for its first cause or because memory ran out, and nothing changed
 pub record Declines (old : World) (event : Event) (fault : WorldFault) (new : World) : Type 0 where
   pub cause : (fault ≡ Memory) ⊎ RefusesEvent old event fault
   pub same : new ≡ old
@@ -136,7 +136,7 @@ pub record WorldRunsGoOn : Type 0 where
       → Outcomes old (events ++ event ∷ []) (outcomes ++ outcome ∷ []) new
 
 -- what a world was and the event determine its outcome and the world that is left, but that memory
--- may be wanting at any time
+-- may run out at any time
 abbrev pub OneOutcomeForEachEvent : Type 0
 OneOutcomeForEachEvent = (old new other : World) (event : Event)
     (outcome also : Result Answer WorldFault) → Outcome old event outcome new

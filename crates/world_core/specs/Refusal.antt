@@ -1,5 +1,5 @@
 -- Which refusal an event meets in a world: the causes stand in their order, and the first that
--- applies gives the refusal. An event for which none applies is accepted, unless memory is wanting.
+-- applies gives the refusal. An event for which none applies is accepted, unless memory runs out.
 use Rattle.std.specs.Prelude.{◌≡◌, ℕ, ◌<◌, ◌≤◌, ◌⊎◌, List, length, get_or, Option, Some, None}
 use Rattle.meta_frame.specs.Frame.{Spells}
 use Rattle.meta_frame.specs.declared.message.Frame.{Frame}
@@ -52,7 +52,7 @@ abbrev pub NamesNoFrame : World → Event → Type 0
 NamesNoFrame w (Deliver frame n word) = numbered w.frames frame ≡ None
 NamesNoFrame w event = ⊥
 
--- a write is to have read what wasn't
+-- a write names a read that wasn't made
 abbrev pub NamesNoRead : World → Event → Type 0
 NamesNoRead w (Put n k v (Some read)) = numbered w.contexts read ≡ None
 NamesNoRead w event = ⊥

@@ -39,11 +39,11 @@ HasNamed w (Exchange n peer) = peer < length w.nodes
 HasNamed w (Hello n peer) = peer < length w.nodes
 HasNamed w event = Unit {0}
 
--- memory ended, or this is the first cause
+-- memory ran out, or this is the first cause
 abbrev pub MayRefuse : World → Event → WorldFault → Type 0
 MayRefuse w event fault = (fault ≡ Memory) ⊎ RefusesEvent w event fault
 
--- junk is refused as a frame, or as what is no frame for its first cause, or memory ended
+-- junk is refused as a frame, or as what is no frame for its first cause, or memory ran out
 abbrev pub JunkFails : List ℕ → WorldFault → Type 0
 JunkFails bytes fault = (fault ≡ Memory) ⊎ ((IsFrame bytes × (fault ≡ LooksLikeFrame))
     ⊎ ((by_bytes : FrameFault) × (RefusesBytes bytes by_bytes

@@ -91,14 +91,14 @@ tell_all frames accepted = tell_each frames accepted nothing_told
 
 -- ---- what accepted events agree to
 
--- the lists are as long, and the relation holds one by one
+-- the lists are of one length, and the relation holds one by one
 abbrev pub Pairwise : {A B : Type 0} → (A → B → Type 0) → List A → List B → Type 0
 Pairwise P [] [] = Unit {0}
 Pairwise P [] (y ∷ ys) = ⊥
 Pairwise P (x ∷ xs) [] = ⊥
 Pairwise P (x ∷ xs) (y ∷ ys) = P x y × Pairwise P xs ys
 
--- after so many frames, each event sent those with the next numbers, and these are all
+-- after `sent` frames, each event sent those with the next numbers, and in the end there are `all`
 abbrev pub SendInOrder : ℕ → List Accepted → ℕ → Type 0
 SendInOrder sent [] all = all ≡ sent
 SendInOrder sent (a ∷ later) all =
@@ -118,7 +118,7 @@ next_read t (Get n k) = Some (length t.looks + 1)
 next_read t (PutOver n k v) = Some (length t.looks + 1)
 next_read t event = None
 
--- so does each event, by what was told when it came
+-- each event names what is earlier, and has its read number, by what was told when it came
 abbrev pub EachNames : List Frame → List Accepted → Told → Type 0
 EachNames frames [] t = Unit {0}
 EachNames frames (a ∷ later) t =

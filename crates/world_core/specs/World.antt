@@ -18,7 +18,7 @@ pub record World : Type 0 where
   pub frames : List (List ℕ)
   pub contexts : List Reading
 
--- a world of so many new nodes, to which nothing has happened
+-- a world of `count` new nodes, to which nothing has happened
 abbrev pub new_world : ℕ → World
 new_world count = record {
   nodes = map new_node (range_with_len 0 count);

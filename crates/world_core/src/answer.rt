@@ -15,7 +15,7 @@ pub struct FrameNumbers {
 }
 
 /// What an accepted event gave: the reply of the node, the number of the read, if it was one, and
-/// those of the frames sent.
+/// the numbers of the frames sent.
 #[derive(Debug, Drop, PartialEq, Eq)]
 pub struct Answer {
     pub reply: Reply,

@@ -11,7 +11,7 @@ use std::alloc::{AllocError, Global};
 
 impl World {
     /// Applies an event, which then stands with its answer in `accepted`, or refuses it and changes
-    /// nothing. Of several refusals the first is answered, in this order: 44 `NoSuchNode` (of any
+    /// nothing. Of several refusals the first is returned, in this order: 44 `NoSuchNode` (of any
     /// node that it names), 42 `NoSuchFrame`, 43 `NoSuchRead`, 46 `NoSuchImage`, 35
     /// `IncarnationSpent`, 45 `LooksLikeFrame`, then those of the node's step: 3 `BadNode`, 10 to
     /// 16 of junk, 40 `NotAddressed`, 20 and 25 to 27 of the store, 28 `BadWatch`, 29
@@ -19,15 +19,15 @@ impl World {
     pub fn apply(&mut self, event: Event) -> Result<Answer, WorldFault>
         ensures { Passes self.old event result self.new }
     {
-        // Read for what it tells, before and after: this is a world.
+        // Read for what its type says, before and after: this is a world.
         let _ = self.nodes.len();
         let outcome = self.act(event);
         let _ = self.nodes.len();
         outcome
     }
 
-    /// Applies each event in turn and goes on after refusals; there is one outcome for each. Where
-    /// there is no memory for the outcomes nothing is applied.
+    /// Applies the events one after the other, and goes on after refusals. Returns one outcome for
+    /// each. Fails only when there is no memory for the outcomes, and then nothing is applied.
     pub fn run(
         &mut self,
         alloc: Global,
@@ -48,7 +48,7 @@ impl World {
     fn apply_copy(&mut self, event: &Event) -> Result<Answer, WorldFault>
         ensures { Passes self.old event.now result self.new }
     {
-        // Read for what it tells: this is a world.
+        // Read for what its type says: this is a world.
         let _ = self.nodes.len();
         match event.copy() {
             Ok(event) => self.apply(event),

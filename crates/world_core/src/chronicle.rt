@@ -168,7 +168,7 @@ impl Chronicle {
         done(sent)
     }
 
-    /// Adds the frames of a step. Answers their numbers.
+    /// Adds the frames of a step. Returns their numbers.
     fn send(&mut self, outbox: Outbox) -> FrameNumbers
         requires { HasRoomForEvent self.old }
         ensures frames { frames_in self.new ≡ frames_in self.old ++ outbox }
@@ -184,7 +184,7 @@ impl Chronicle {
         FrameNumbers { first, count }
     }
 
-    /// Adds the context of a read, if there is one. Answers the number of the read.
+    /// Adds the context of a read, if there is one. Returns the number of the read.
     fn look(&mut self, context: Option<Context>) -> Option<u64>
         requires { self.old.contexts.len + 1 ≤ self.old.contexts.cap }
         ensures contexts { self.new.contexts.items ≡ self.old.contexts.items ++ list_of context }

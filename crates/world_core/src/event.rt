@@ -35,7 +35,7 @@ pub enum Event {
         node: u64,
         word: u64,
     },
-    /// The node is handed bytes as what is no frame. It is always refused.
+    /// The node is handed bytes that should be no frame. It is always refused.
     Junk {
         node: u64,
         bytes: ByteString,
@@ -67,13 +67,14 @@ pub enum Event {
         node: u64,
         key: MetaKey,
     },
-    /// Somebody wants to hear of the changes at the node under a full prefix: so many of the last.
+    /// Somebody wants to hear of the changes at the node under a full prefix, the last `capacity`
+    /// of them.
     Watch {
         node: u64,
         prefix: FullPrefix,
         capacity: usize,
     },
-    /// What the node's watch of that number has noted is handed out.
+    /// The node's watch of that number hands out what it has noted.
     Changes {
         node: u64,
         number: u64,
@@ -95,7 +96,7 @@ pub enum Event {
 }
 
 impl Event {
-    /// Whose event it is.
+    /// The number of the node whose event it is.
     pub fn node(&self) -> u64
         ensures { result ≡ node_of_event self.now }
     {

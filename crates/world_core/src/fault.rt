@@ -25,7 +25,7 @@ pub enum WorldFault {
     NoSuchImage,
     /// 3, 10 to 16, 20, 25 to 29 or 40: what the node answers. It is never 99.
     Step(StepFault),
-    /// 99: an allocation was refused. It may stand in place of any other answer.
+    /// 99: an allocation was refused. It may come in place of any other outcome.
     Memory,
 }
 

@@ -185,7 +185,7 @@ fn id_of(event: &Event) -> NodeId
     NodeId::new(event.node() as u16).unwrap()
 }
 
-/// What has this number, from 1, if anything has.
+/// The item of this number, from 1, if there is one.
 fn numbered<T: Copy>(list: &[T], number: u64) -> Option<T>
     ensures { result ≡ numbered list.now number }
 {
@@ -195,7 +195,7 @@ fn numbered<T: Copy>(list: &[T], number: u64) -> Option<T>
     }
 }
 
-/// Why a frame that was sent can't be read: there is no other cause.
+/// Memory ran out: there is no other cause why a frame that was sent can't be read.
 fn want_of_memory(fault: FrameFault) -> AllocError
     requires { fault ≡ OfFrame.Memory }
 {
@@ -204,9 +204,9 @@ fn want_of_memory(fault: FrameFault) -> AllocError
 }
 
 impl World {
-    /// What has happened, as the accepted events tell it: a history. The context of each read is
-    /// that of what its node knew then. Fails only when memory runs out; it takes time with the
-    /// number of events and frames.
+    /// What has happened, as the accepted events tell it: a history. The context of each read is of
+    /// what its node knew then. Fails only when memory runs out; it takes time with the number of
+    /// events and frames.
     pub fn history(&self, alloc: Global) -> Result<Vec<Happening>, AllocError>
         ensures value { IfOk result (λ happenings. OfAllTold self.now
             (λ t. happenings.items ≡ t.history)) }
@@ -217,7 +217,7 @@ impl World {
             → numbered self.now.contexts read ≡ Some context
             → OfAllTold self.now (λ t. CountsSeen t read context) }
     {
-        // Read for what it tells: this is a world.
+        // Read for what its type says: this is a world.
         let _ = self.nodes.len();
         self.told(alloc)
     }
@@ -249,7 +249,7 @@ impl World {
         ensures { OnOk result ((frames : List F) → Pairwise Spells frames self.now.frames
             → told.new ≡ tell_frames node (frames_at numbers frames) told.old) }
     {
-        // Read for what it tells: each frame has a number of 64 bits.
+        // Read for what its type says: each frame has a number of 64 bits.
         let _ = self.chronicle.frame_count();
         for offset in 0..numbers.count {
             self.tell_frame(told, alloc, node, numbers.first + offset)?;
@@ -291,7 +291,7 @@ impl World {
     }
 
     /// The places, in `history`, of the writes that the node knows under the key, rising. Refused
-    /// with 44 `NoSuchNode` and 99 `Memory`. It is told from the history alone, by sets of places,
+    /// with 44 `NoSuchNode` and 99 `Memory`. It is found from the history alone, by sets of places,
     /// and takes memory and time with the square of the history's length.
     pub fn known(&self, alloc: Global, node: u64, key: &MetaKey) -> Result<Vec<usize>, WorldFault>
         ensures places { IfOk result (λ places. OfAllTold self.now

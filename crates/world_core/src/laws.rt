@@ -14,14 +14,14 @@ ghost use Rattle.world_core.specs.Tells.{Told, Tells};
 use crate::fault::WorldFault;
 use crate::world::World;
 
-/// What accepted events and frames tell is one.
+/// The same accepted events and frames never tell two histories.
 pub fn one_history_is_told()
     ensures { (accepted : List Accepted) (frames : List (List ℕ)) (t u : Told)
         → Tells accepted frames t → Tells accepted frames u → t ≡ u }
 {}
 
 /// What a world was and the event determine its outcome and the world that is left, but that memory
-/// may be wanting at any time.
+/// may run out at any time.
 pub fn one_outcome_for_each_event()
     ensures { OneOutcomeForEachEvent }
 {}
@@ -45,7 +45,7 @@ pub fn equal_knowledge_shows_equally(world: &World)
         → ((key : Key) → KnowTheSame t m n key)
         → tree_root (rows_of (table_at world.now m)) ≡ tree_root (rows_of (table_at world.now n))) }
 {
-    // Read for what it tells: this is a world.
+    // Read for what its type says: this is a world.
     let _ = world.nodes.len();
 }
 

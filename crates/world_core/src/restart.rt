@@ -23,8 +23,8 @@ impl World {
         Ok(self.chronicle.accept_restart(node, image))
     }
 
-    /// The number of the image that a node restarts from, in memory. Refused with 46 `NoSuchImage`,
-    /// and with 35 `IncarnationSpent`.
+    /// The number, as a `usize`, of the image that a node restarts from. Refused with 46
+    /// `NoSuchImage`, and with 35 `IncarnationSpent`.
     fn image_number(&self, node: NodeId, image: u64) -> Result<usize, WorldFault>
         requires { node < length self.now.nodes }
         ensures value { IfOk result (λ number. (number ≡ image)

@@ -77,13 +77,13 @@ impl World {
         ensures value { result.now ≡ self.now.accepted }
         ensures contexts { All (λ a. HandsOut self.now a.answer) self.now.accepted }
     {
-        // Read for what it tells: this is a world.
+        // Read for what its type says: this is a world.
         let _ = self.nodes.len();
         self.chronicle.accepted.as_slice()
     }
 
     /// The bytes of the frame of that number, if one has it: a copy. The first that was sent has
-    /// number 1. They spell a frame; an object that it carries is that of the writes its sender
+    /// number 1. They spell a frame; an object that it carries is of the writes that its sender
     /// knew when it was sent. Fails only when memory runs out.
     pub fn frame(&self, number: u64) -> Result<Option<ByteString>, AllocError>
         ensures value { IfOk result (λ bytes. bytes ≡ numbered self.now.frames number) }
@@ -93,7 +93,7 @@ impl World {
             → IsFrameOf self.now number frame → carried_object frame.message ≡ Some (key, object)
             → OfAllTold self.now (λ t. CarriesLoad t number frame.from key object) }
     {
-        // Read for what it tells: this is a world.
+        // Read for what its type says: this is a world.
         let _ = self.nodes.len();
         self.chronicle.frame(number)
     }
@@ -133,9 +133,9 @@ impl World {
     }
 
     /// The node; `None` for one that the world doesn't have, and only then. Under each key it holds
-    /// the object of the writes that it knows, whose values are those of them that none of them had
-    /// read. What the accepted events were to it took it there from a new node, life after life.
-    /// The number of its life is that of the history.
+    /// the object of the writes that it knows, whose values are those of the writes that no other
+    /// of these had read. The accepted events took it there from a new node, life after life. The
+    /// number of its life is that of the history.
     pub fn state(&self, node: u64) -> Option<&NodeState>
         ensures node { IsNone result ↔ (length self.now.nodes ≤ node) }
         ensures lends { IfSome result (λ state. state.now ≡ (node_at self.now node).state) }

@@ -10,7 +10,7 @@ use std::sync::Wait;
 use std::thread::Threads;
 use std::time::Instant;
 
-/// What runs came to in sum.
+/// The sums over several runs.
 #[derive(Drop)]
 struct Sum {
     assembled: u64,
@@ -19,8 +19,8 @@ struct Sum {
     nanos: u128,
 }
 
-/// The number by which the journals with all receipts aren't assembled; 0 where they are, 1 where
-/// they aren't whole.
+/// Returns the number by which the journals with all receipts aren't assembled; 0 where they are, 1
+/// where they aren't whole.
 fn code_of(alloc: Global, run: &ClusterRun) -> u16 {
     if !are_whole(run.closed.as_slice()) {
         return 1;
@@ -50,7 +50,7 @@ fn add<R: Threads + Wait + Sync>(
     done
 }
 
-/// Assembles a run and adds it up. It is told where it isn't assembled.
+/// Assembles a run and adds it up. Prints a line where it isn't assembled.
 fn add_run(rt: &HostRuntime, seed: u64, run: &ClusterRun, sum: &mut Sum) -> io::Result<()> {
     sum.calls = sum.calls.saturating_add(run.calls);
     sum.lost = sum.lost.saturating_add(run.lost);

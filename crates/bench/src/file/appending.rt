@@ -1,4 +1,4 @@
-//! Appends without end, and what is told of them afterwards.
+//! Appends without end, and the last number read from the file afterwards.
 
 use crate::begun::{go_on_at, read};
 use crate::file::kept::Kept;
@@ -11,8 +11,8 @@ use meta_types::{MetaKey, Value};
 use std::alloc::Global;
 use std::io::{self, Write};
 
-/// Opens the file at the path, or makes one, begins a life, and appends without end: the numbers
-/// after that of the object that it holds. Each is printed once it was acknowledged.
+/// Opens the file at the path, or makes one, begins a life, and appends without end, with the
+/// numbers after the number in the file's object. Each is printed once it was acknowledged.
 pub(crate) fn append(rt: &HostRuntime, path: &str) -> io::Result<()> {
     let at = key(rt.alloc(), 0)?;
     let done = append_at(rt, path, &at);

@@ -13,15 +13,15 @@ use std::fs::{self, File, OpenOptions};
 use std::io::{self, Write};
 use std::time::Instant;
 
-/// How many keys the file has that is opened.
+/// How many keys the opened file has.
 const KEYS: u32 = 8_192;
 
-/// How many rounds there are of appends and then of bare writes, and how many each has.
+/// How many rounds there are, each of appends and then of bare writes, and how many of both it has.
 const ROUNDS: u32 = 8;
 
 const IN_ROUND: u32 = 40;
 
-/// How often a file is opened, of which the middle time counts.
+/// How often a file is opened; the median time counts.
 const OPENINGS: usize = 11;
 
 pub(crate) fn measure(rt: &HostRuntime, folder: &str) -> io::Result<()> {
@@ -31,7 +31,7 @@ pub(crate) fn measure(rt: &HostRuntime, folder: &str) -> io::Result<()> {
     measure_opening(rt, folder, &objects)
 }
 
-/// A store of so many keys, each with a value.
+/// A store of `count` keys, each with a value.
 fn filled(alloc: Global, count: u32) -> io::Result<Store> {
     let mut store = Store::new(alloc);
     for number in 0..count {
@@ -47,7 +47,7 @@ fn put_one(alloc: Global, store: &mut Store, number: u32) -> io::Result<()> {
     Ok(())
 }
 
-/// Prints how often in a second the middle one of the samples is.
+/// Prints how often in a second the median of the samples is.
 fn print_rate(rt: &HostRuntime, name: &str, samples: &mut [u128]) -> io::Result<()> {
     print(rt, name, rate(1, median(samples)), "ops/s")
 }
@@ -58,7 +58,7 @@ fn new_in_memory(alloc: Global) -> io::Result<Kept<MemoryDevice>> {
     Ok(Kept::of(file, table))
 }
 
-/// Appends the object of the key of this number. Answers how many nanoseconds it took.
+/// Appends the object of the key of this number. Returns how many nanoseconds it took.
 fn append_one<D: Device + Drop>(
     rt: &HostRuntime,
     kept: &mut Kept<D>,
@@ -72,7 +72,8 @@ fn append_one<D: Device + Drop>(
     }
 }
 
-/// The nanoseconds of the appends of a round. Answers how many bytes one of them has.
+/// Makes the appends of a round, and adds the nanoseconds of each to `samples`. Returns how many
+/// bytes one of them has.
 fn appends<D: Device + Drop>(
     rt: &HostRuntime,
     kept: &mut Kept<D>,
@@ -112,7 +113,8 @@ fn append_rounds(
     Ok(())
 }
 
-/// The nanoseconds of so many bare writes of this size. Answers where the next one goes.
+/// Makes a round of bare writes of `size` bytes, and adds the nanoseconds of each to `samples`.
+/// Returns where the next one goes.
 fn bare_writes(
     rt: &HostRuntime,
     file: &File,
@@ -135,7 +137,7 @@ fn time_of_bare(rt: &HostRuntime, file: &File, gate: u64, bytes: &[u8]) -> io::R
     Ok(start.elapsed(rt)?.as_nanos())
 }
 
-/// Appends and bare writes of the same size, in turn, so that the disk is the same for both.
+/// Makes appends and bare writes of the same size by turns, so that the disk is the same for both.
 fn in_turn(
     rt: &HostRuntime,
     kept: &mut Kept<FileDevice>,
@@ -195,7 +197,7 @@ fn write_kept(
     file.write_all(kept.content())
 }
 
-/// The nanoseconds of opening the path as a file that is only read.
+/// Returns the nanoseconds of opening the path as a file that is only read.
 fn time_of_opening(rt: &HostRuntime, path: &str) -> io::Result<u128> {
     let start = Instant::now(rt)?;
     let (table, _life) = read(rt, path)?;

@@ -19,7 +19,7 @@ use std::time::Instant;
 pub(crate) struct Kept<D: Device> {
     file: NodeFile<D>,
     table: Store,
-    /// The table is that of the file: no append failed.
+    /// Whether the table agrees with the file: no append failed.
     is_in_step: bool,
 }
 
@@ -52,12 +52,12 @@ impl<D: Device + Drop> Kept<D> {
         &self.table
     }
 
-    /// How many bytes the device has.
+    /// Returns how many bytes the device has.
     pub(crate) fn len(&self) -> usize {
         self.file.device().len()
     }
 
-    /// Appends the object, and then holds a copy of it in the table. Answers how many nanoseconds
+    /// Appends the object, and then holds a copy of it in the table. Returns how many nanoseconds
     /// the append took. Once one failed, each is refused.
     pub(crate) fn append(
         &mut self,

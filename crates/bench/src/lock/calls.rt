@@ -1,4 +1,4 @@
-//! A call that writes, on a node in memory, and the bare step in it, in turn.
+//! A call that writes, on a node in memory, and the bare step in it, by turns.
 
 use crate::lock::KEYS;
 use crate::lock::writing::{fill, put_over};
@@ -16,7 +16,7 @@ use std::time::Instant;
 /// How many calls a sample has.
 const CALLS: u32 = 2_000;
 
-/// How many samples there are of calls, and of steps, of which the middle one counts.
+/// How many samples there are of calls, and of steps; the median counts.
 const SAMPLES: usize = 11;
 
 /// Prints how many nanoseconds a call takes, and a step.
@@ -60,8 +60,8 @@ fn measure_rows<J: Naming, R: Wait + Clock + Print>(
     done
 }
 
-/// Prints what a call takes, and what a step takes, of samples in turn. Both write under the same
-/// keys.
+/// Prints what a call takes and what a step takes, of samples made by turns. Both write under the
+/// same keys.
 fn measure_both<J: Naming, R: Wait + Clock + Print>(
     rt: &R,
     rows: &Rows,
@@ -80,7 +80,7 @@ fn measure_both<J: Naming, R: Wait + Clock + Print>(
     print(rt, "step_put_over", of_one(&mut steps), "ns")
 }
 
-/// The nanoseconds of one of so many that make a sample.
+/// The nanoseconds of one of the `CALLS` calls or steps of the median sample.
 fn of_one(samples: &mut [u128]) -> u128 {
     median(samples) / u128::from(CALLS)
 }

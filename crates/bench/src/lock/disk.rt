@@ -22,11 +22,11 @@ use std::sync::ledger::Blank;
 use std::time::Instant;
 use std::{fs, io};
 
-/// How many writes there are, of which the middle time counts.
+/// How many writes there are; the median time counts.
 const WRITES: usize = 40;
 
-/// Measures writes on a new file in the folder, which is then removed. The handle is the runtime
-/// once more, as what may wait.
+/// Measures writes on a new file in the folder, which is then removed. `handle` is the same
+/// runtime, as what may wait.
 pub(crate) fn measure<R: Wait + Clock + Print>(
     rt: &HostRuntime,
     handle: &R,
@@ -49,7 +49,7 @@ fn measure_file<R: Wait + Clock + Print>(
     fs::remove_file(rt, path)
 }
 
-/// How many bytes the file at the path has.
+/// Returns how many bytes the file at the path has.
 fn len_of(rt: &HostRuntime, path: &str) -> io::Result<usize> {
     let device = FileDevice::open_to_read(rt, rt.alloc(), path).map_err(refused)?;
     let len = device.len();
@@ -57,7 +57,7 @@ fn len_of(rt: &HostRuntime, path: &str) -> io::Result<usize> {
     Ok(len)
 }
 
-/// Measures writes on a new file. Answers how many bytes it had before.
+/// Measures writes on a new file. Returns how many bytes it had before.
 fn measure_at<R: Wait + Clock + Print>(
     rt: &HostRuntime,
     handle: &R,

@@ -1,4 +1,4 @@
-//! What is measured of a node whose file is in memory.
+//! The measures of a node whose file is in memory.
 
 ghost use Rattle.std.specs.Prelude.{◌≡◌, ◌≤◌};
 ghost use Rattle.node_desk.specs.Starting.{IsFileOf};
@@ -27,7 +27,7 @@ pub(crate) enum Work {
     Calls,
 }
 
-/// Measures it on a new node.
+/// Measures the work on a new node.
 pub(crate) fn measure<R: Threads + Wait + Clock + Print + Sync>(
     rt: &R,
     alloc: Global,

@@ -21,7 +21,7 @@ const SPAN: u64 = 300;
 /// For how many milliseconds a paced writer rests after each write, as one that waits for a disk.
 const PAUSE: u64 = 1;
 
-/// How many samples there are, of which the middle one counts.
+/// How many samples there are; the median counts.
 const SAMPLES: usize = 3;
 
 /// How often a reader looks before it asks whether the writer is done.
@@ -41,13 +41,13 @@ struct Setting {
 struct Shared {
     alloc: Global,
     rows: Rows,
-    /// The writer is done.
+    /// Whether the writer is done.
     is_over: AtomicBool,
     /// How many readers have begun.
     begun: AtomicU64,
 }
 
-/// A seat that comes back from its thread, and how often the call was made; none where one was
+/// A seat that comes back from its thread, and how often the call was made; `None` where a call was
 /// refused.
 type Done<S> = (S, Option<u64>);
 
@@ -119,14 +119,14 @@ fn measure<J: Naming + Send + Sync, R: Threads + Wait + Clock + Print + Sync>(
     print(rt, setting, "writes", median(&mut writes))
 }
 
-/// Prints how often in a second what was done.
+/// Prints a rate: how often in a second `what` was done.
 fn print<R: Print>(rt: &R, setting: Setting, what: &str, rate: u128) -> io::Result<()> {
     let Setting { readers, is_paced } = setting;
     let pace = if is_paced { "paced" } else { "busy" };
     println!(rt; "peek_{readers}_readers_{pace}_{what} {rate} {what}/s")
 }
 
-/// How many reads, and how many writes, were made in a second.
+/// Returns how many reads, and how many writes, were made in a second.
 fn sample<J: Naming + Send + Sync, R: Threads + Wait + Clock + Sync>(
     rt: &R,
     node: &Node<MemoryDevice, J, &R>,
@@ -151,7 +151,7 @@ fn sample<J: Naming + Send + Sync, R: Threads + Wait + Clock + Sync>(
     }
 }
 
-/// So many of the seats, or all where there are fewer.
+/// Takes `count` of the seats, or all where there are fewer.
 fn taken<S: Drop>(alloc: Global, seats: &mut Vec<S>, count: usize) -> Result<Vec<S>, AllocError> {
     let mut taken = Vec::new(alloc);
     for _seat in 0..count {
@@ -162,7 +162,7 @@ fn taken<S: Drop>(alloc: Global, seats: &mut Vec<S>, count: usize) -> Result<Vec
     Ok(taken)
 }
 
-/// The seat goes back. Answers how often the call was made.
+/// Puts the seat back. Returns how often the call was made.
 fn back<S: Drop>(seats: &mut Vec<S>, done: Done<S>) -> Option<u64> {
     let (seat, count) = done;
     match seats.push(seat) {
@@ -171,7 +171,7 @@ fn back<S: Drop>(seats: &mut Vec<S>, done: Done<S>) -> Option<u64> {
     }
 }
 
-/// All seats go back. Answers how often the call was made in sum.
+/// Puts all seats back. Returns how often the call was made in sum.
 fn all_back<S: Drop>(seats: &mut Vec<S>, done: Result<Vec<Done<S>>, AllocError>) -> Option<u64> {
     let mut sum = Some(0u64);
     for one in done.ok()? {
@@ -183,7 +183,7 @@ fn all_back<S: Drop>(seats: &mut Vec<S>, done: Result<Vec<Done<S>>, AllocError>)
     sum
 }
 
-/// Each seat in a thread of its own.
+/// Lets each seat work in a thread of its own.
 fn side_by_side<J: Naming + Send + Sync, R: Threads + Wait + Clock + Sync>(
     rt: &R,
     node: &Node<MemoryDevice, J, &R>,

@@ -9,13 +9,13 @@ use std::time::Instant;
 /// The least nanoseconds of a sample.
 const LEAST: u128 = 25_000_000;
 
-/// How many samples there are, of which the middle one counts.
+/// How many samples there are; the median counts.
 const SAMPLES: usize = 11;
 
-/// How often an exchange is run, of which the middle time counts.
+/// How often an exchange is run; the median time counts.
 const EXCHANGES: usize = 9;
 
-/// How many nanoseconds so many calls take.
+/// Returns how many nanoseconds `calls` calls take.
 fn taken(rt: &HostRuntime, table: &mut Table, work: Work, calls: u32) -> io::Result<u128> {
     let start = Instant::now(rt)?;
     for _call in 0..calls {
@@ -24,7 +24,7 @@ fn taken(rt: &HostRuntime, table: &mut Table, work: Work, calls: u32) -> io::Res
     Ok(start.elapsed(rt)?.as_nanos())
 }
 
-/// So many calls take a sample's least time.
+/// Returns how many calls take a sample's least time.
 fn calls_of(rt: &HostRuntime, table: &mut Table, work: Work) -> io::Result<u32> {
     let mut calls = 1_u32;
     for _doubling in 0..31 {
@@ -36,7 +36,7 @@ fn calls_of(rt: &HostRuntime, table: &mut Table, work: Work) -> io::Result<u32> 
     Ok(calls)
 }
 
-/// How many nanoseconds so many calls took: the median of the samples.
+/// How many nanoseconds `calls` calls took: the median of the samples.
 #[derive(Clone, Copy)]
 pub(crate) struct Pace {
     calls: u32,
@@ -54,19 +54,19 @@ pub(crate) fn median_pace(rt: &HostRuntime, table: &mut Table, work: Work) -> io
 }
 
 impl Pace {
-    /// How often in a second it is done, where each call does it so many times.
+    /// Returns how often in a second it is done, where each call does it `times` times.
     fn rate(self, times: u32) -> u128 {
         u128::from(self.calls) * u128::from(times) * 1_000_000_000 / self.nanos.max(1)
     }
 
-    /// Hundredths of a millisecond that a call takes.
+    /// Returns the hundredths of a millisecond that a call takes.
     fn hundredths(self) -> u128 {
         self.nanos / (u128::from(self.calls.max(1)) * 10_000)
     }
 }
 
 impl Work {
-    /// The baseline's name for it.
+    /// The baseline's name for the work.
     fn name(self) -> &'static str {
         match self {
             Work::PutWithTree => "put_over_tree",
@@ -108,7 +108,7 @@ fn print_time(
     println!(rt; "{name}_{count}_keys_{prefixes}_prefix {whole}.{rest:02} ms")
 }
 
-/// How many nanoseconds an exchange takes: the median of the runs.
+/// Returns how many nanoseconds an exchange takes: the median of the runs.
 pub(crate) fn median_time(rt: &HostRuntime, sides: &Sides) -> io::Result<u128> {
     let mut times = [0u128; EXCHANGES];
     for time in times.iter_mut() {

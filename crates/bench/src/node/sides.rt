@@ -33,7 +33,8 @@ pub(crate) struct Sent {
     pub(crate) bytes: u64,
 }
 
-/// Writes under so many of the keys, which lie evenly: in turn here, there, and on both sides.
+/// Makes one side's writes of `changes` keys, which lie evenly: they are written by turns here,
+/// there, and on both sides.
 fn write_some(store: &mut Store, side: u16, rows: &Rows, changes: u32) -> io::Result<()> {
     let actor = actor(1_u16.saturating_add(side))?;
     for turn in 0..changes {
@@ -48,7 +49,7 @@ fn write_some(store: &mut Store, side: u16, rows: &Rows, changes: u32) -> io::Re
 }
 
 impl Sides {
-    /// Two stores that differ under so many keys.
+    /// Two stores that differ under `changes` keys.
     pub(crate) fn differing(alloc: Global, changes: u32) -> io::Result<Self> {
         let rows = Rows::in_turn(alloc, KEYS, 1)?;
         let sides = Sides::of(alloc, &rows, changes);
@@ -78,7 +79,7 @@ impl Sides {
         both(held(self.alloc, &self.here), held(self.alloc, &self.there))
     }
 
-    /// How many nanoseconds an exchange of copies takes.
+    /// Returns how many nanoseconds an exchange of copies takes.
     pub(crate) fn taken(&self, rt: &HostRuntime) -> io::Result<u128> {
         let (mut here, mut there) = self.held()?;
         let nanos = time_of_exchange(rt, &mut here, &mut there);
@@ -109,7 +110,7 @@ fn time_of_exchange(rt: &HostRuntime, here: &mut Held, there: &mut Held) -> io::
 }
 
 impl Sent {
-    /// One frame more, of so many bytes.
+    /// The sum with one frame more, of `len` bytes.
     fn and_frame(self, len: u64) -> Self {
         Sent {
             frames: self.frames.saturating_add(1),
@@ -118,7 +119,8 @@ impl Sent {
     }
 }
 
-/// What an exchange sends that here begins: seven rounds, each of which answers the one before.
+/// Runs an exchange that `here` begins, in seven rounds, each of which answers the one before.
+/// Returns what it sends.
 fn exchanged(alloc: Global, here: &mut Held, there: &mut Held) -> io::Result<Sent> {
     let mut sent = Sent {
         frames: 0,
@@ -135,14 +137,14 @@ fn exchanged(alloc: Global, here: &mut Held, there: &mut Held) -> io::Result<Sen
     Ok(sent)
 }
 
-/// What begins an exchange.
+/// The messages that begin an exchange.
 fn begun(alloc: Global, held: &Held) -> io::Result<Vec<Message>> {
     let mut messages = Vec::new(alloc);
     messages.push(start(held))?;
     Ok(messages)
 }
 
-/// Takes a round of messages, and answers it. It is dropped.
+/// Takes a round of messages, drops it, and returns the answers.
 fn round(
     alloc: Global,
     held: &mut Held,
@@ -162,7 +164,7 @@ fn last_round(
     take_all(alloc, held, sent, messages.as_slice())
 }
 
-/// Takes messages and answers them. A want of a key comes after its object, so it makes no
+/// Takes messages and returns their answers. A want of a key comes after its object, so it makes no
 /// difference that all are taken before the first is answered.
 fn take_and_answer(
     alloc: Global,
@@ -174,7 +176,7 @@ fn take_and_answer(
     answers(alloc, held, messages)
 }
 
-/// Takes messages in turn, as `take` does.
+/// Takes messages one after another, as `take` does.
 fn take_all(
     alloc: Global,
     held: &mut Held,
@@ -205,7 +207,7 @@ fn merge(held: &mut Held, message: &Message) -> io::Result<()> {
     Ok(())
 }
 
-/// What messages are answered from what is held.
+/// The answers to messages from what is held.
 fn answers(alloc: Global, held: &Held, messages: &[Message]) -> io::Result<Vec<Message>> {
     let mut answers = Vec::new(alloc);
     for message in messages {
@@ -214,7 +216,7 @@ fn answers(alloc: Global, held: &Held, messages: &[Message]) -> io::Result<Vec<M
     Ok(answers)
 }
 
-/// Appends what a message is answered.
+/// Appends the answers to a message.
 fn add_answers(
     alloc: Global,
     answers: &mut Vec<Message>,
@@ -226,7 +228,7 @@ fn add_answers(
     Ok(())
 }
 
-/// How many bytes a message has as a frame from one node to another.
+/// Returns how many bytes a message has as a frame from one node to another.
 fn frame_len(alloc: Global, message: &Message) -> io::Result<u64> {
     let frame = framed(node(0)?, node(1)?, message)?;
     let len = encoded_len(alloc, &frame);
@@ -244,7 +246,8 @@ fn framed(from: NodeId, to: NodeId, message: &Message) -> Result<Frame, AllocErr
     })
 }
 
-/// How many bytes a frame has, its header with them. A frame that breaks a limit is refused.
+/// Returns how many bytes a frame has, including its header. A frame that breaks a limit is
+/// refused.
 fn encoded_len(alloc: Global, frame: &Frame) -> io::Result<u64> {
     if !is_lawful(frame) {
         return Err(io::Error::from(io::ErrorKind::Other));

@@ -11,7 +11,7 @@ use std::time::Instant;
 /// How many steps a sample has.
 const CALLS: u32 = 2_000;
 
-/// How many samples there are, of which the middle one counts.
+/// How many samples there are; the median counts.
 const SAMPLES: usize = 11;
 
 /// `CALLS` writes. What they send is dropped.
@@ -37,7 +37,7 @@ fn gossips(
     Ok(frames)
 }
 
-/// The reader takes the frames. Answers how many brought something new.
+/// The reader takes the frames. Returns how many brought something new.
 fn take_all(reader: &mut Subject, frames: Vec<ByteString>) -> io::Result<u32> {
     let mut fresh = 0_u32;
     for frame in frames {
@@ -99,7 +99,7 @@ pub(crate) fn median_of_gossips(
     Ok(median(&mut samples))
 }
 
-/// Prints how often in a second a step is made, of which `CALLS` took so long.
+/// Prints how often in a second a step is made, where `CALLS` steps took `nanos` nanoseconds.
 pub(crate) fn print_rate(rt: &HostRuntime, name: &str, count: u32, nanos: u128) -> io::Result<()> {
     let rate = rate(u64::from(CALLS), nanos);
     println!(rt; "{name}_{count}_keys_1_prefix {rate} ops/s")

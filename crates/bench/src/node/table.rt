@@ -1,4 +1,4 @@
-//! A store with its tree, and the work that is measured.
+//! A store with its tree, and the measured work.
 
 use crate::rows::{Dice, Rows, actor};
 use crate::samples::refused;
@@ -14,7 +14,7 @@ use std::io;
 pub(crate) enum Work {
     /// A write that has read what it replaces, taken into the tree.
     PutWithTree,
-    /// The same without a tree.
+    /// A write that has read what it replaces, without a tree.
     Put,
     /// A read: copies of the values, and a context.
     Look,
@@ -75,7 +75,7 @@ fn follow(tree: &mut Tree, store: &Store, key: &MetaKey) -> io::Result<()> {
 }
 
 impl Table {
-    /// A table with a value under each of so many keys.
+    /// A table with a value under each of `count` keys.
     pub(crate) fn filled(alloc: Global, count: u32, prefixes: u32) -> io::Result<Self> {
         let actor = actor(0)?;
         let rows = Rows::in_turn(alloc, count, prefixes)?;
@@ -90,7 +90,7 @@ impl Table {
         })
     }
 
-    /// Does the work once, a write or a read under a key that looks random.
+    /// Does the work once; a write or a read is under a key that looks random.
     pub(crate) fn work(&mut self, work: Work) -> io::Result<()> {
         match work {
             Work::PutWithTree => self.put_with_tree(),

@@ -14,7 +14,7 @@ pub(crate) struct Writes {
 }
 
 impl Writes {
-    /// Writes under so many keys of one full prefix.
+    /// Writes under `count` keys of one full prefix.
     pub(crate) fn new(alloc: Global, count: u32) -> io::Result<Self> {
         let rows = Rows::new(alloc, count)?;
         Ok(Writes {
@@ -28,7 +28,7 @@ impl Writes {
         writer.fill(&self.rows)
     }
 
-    /// Writes over what is held under the next key. Answers the frame that is sent, if one is.
+    /// Writes over what is held under the next key. Returns the frame that is sent, if one is.
     pub(crate) fn write(&mut self, writer: &mut Subject) -> io::Result<Option<ByteString>> {
         let key = self.rows.any_key(&mut self.dice)?;
         writer.put_over(&self.rows, key)

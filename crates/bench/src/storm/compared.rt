@@ -1,4 +1,4 @@
-//! What the calls answered, beside what the node left.
+//! What the calls returned, beside what the node left.
 
 use crate::storm::looking::Looks;
 use crate::storm::raised::{EACH, Left};
@@ -22,7 +22,7 @@ pub(crate) fn all_looked(looks: &[Looks]) -> bool {
             .all(|one| one.count > 0 && one.trouble.is_none())
 }
 
-/// How many writes were acknowledged in sum.
+/// Returns how many writes were acknowledged in sum.
 pub(crate) fn writes_of(answers: &[Answers]) -> u64 {
     let mut sum = 0u64;
     for one in answers {
@@ -39,7 +39,7 @@ pub(crate) fn counts_agree(left: &Left) -> bool {
 }
 
 /// Returns whether each receipt equals the entry at its place, and each entry has one receipt.
-/// Those of entries that were cut off the journal have none to be compared with.
+/// Receipts of entries that were cut off the journal have none to be compared with.
 pub(crate) fn receipts_equal_entries(alloc: Global, left: &Left) -> Result<bool, AllocError> {
     let mut has_receipt = vec![in alloc; false; left.closed.journal().len()]?;
     for one in left.answers.iter() {

@@ -6,8 +6,8 @@ use dvvset::Entry;
 use meta_store::{Rows, Store};
 use std::io;
 
-/// Prints the number of the last life; and for each key, for each life in which it was written, the
-/// key, the life, how many writes it counts, and the newest of them if it still stands.
+/// Prints the number of the last life; then, for each key and each life in which it was written:
+/// the key, the life, how many writes it counts, and the newest of them if it still stands.
 pub(crate) fn tell(rt: &HostRuntime, path: &str) -> io::Result<()> {
     let (table, life) = read(rt, path)?;
     let done = tell_table(rt, &table, life);

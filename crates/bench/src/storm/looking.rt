@@ -52,7 +52,7 @@ fn look_on<J: Naming, R: Wait + Clock>(
     done
 }
 
-/// Looks in rounds. The vectors are those that were shown last, of each key.
+/// Looks in rounds. `vectors` holds for each key the vector that was shown last.
 fn look_in_turn<J: Naming, R: Wait + Clock>(
     rt: &R,
     shared: &Shared<J>,
@@ -72,7 +72,7 @@ fn look_in_turn<J: Naming, R: Wait + Clock>(
     Ok(())
 }
 
-/// For each key the vector that was shown last: nothing was.
+/// An empty vector for each key: nothing was shown yet.
 fn no_vectors<J: Naming>(shared: &Shared<J>) -> Result<Vec<Vector>, Trouble> {
     let mut vectors = Vec::new(shared.alloc);
     for _key in shared.keys.iter() {
@@ -81,7 +81,7 @@ fn no_vectors<J: Naming>(shared: &Shared<J>) -> Result<Vec<Vector>, Trouble> {
     Ok(vectors)
 }
 
-/// Learns what a writer told last, whose vector counts as shown from now on.
+/// Learns of the write that was posted last, whose vector counts as shown from now on.
 fn learn<J: Naming, R: Wait>(
     rt: &R,
     shared: &Shared<J>,
@@ -97,7 +97,7 @@ fn learn<J: Naming, R: Wait>(
     Ok(noted?)
 }
 
-/// The vector of the key at the place counts as shown, where it is no older one.
+/// Takes the vector as shown for the key at this place, unless the one before descends it.
 fn note(vectors: &mut [Vector], place: usize, told: &Vector) -> Result<(), AllocError> {
     if let Some(last) = vectors.get_mut(place) {
         if !descends(last, told) {
@@ -119,7 +119,7 @@ fn look_at_each<J: Naming>(
     Ok(())
 }
 
-/// The vector that is shown under the key, which descends the one before.
+/// Returns the vector that is shown under the key. Fails where it doesn't descend the one before.
 fn look_at<J: Naming>(
     seat: &mut ReadSeat<J>,
     key: &MetaKey,

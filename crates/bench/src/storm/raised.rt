@@ -26,7 +26,7 @@ use std::time::Duration;
 /// How many threads write, and how many look.
 pub(crate) const EACH: usize = 8;
 
-/// How long a storm lasts, over how many keys, and whether its writes are told.
+/// How long a storm lasts, over how many keys, and whether its writes are printed.
 #[derive(Clone, Copy)]
 pub(crate) struct Plan {
     pub(crate) milliseconds: u64,
@@ -44,7 +44,7 @@ pub(crate) struct Left {
     pub(crate) time: Option<Duration>,
 }
 
-/// Seats that came back from their threads, and what each thread tells. Fails only when memory
+/// Seats that came back from their threads, and what each thread returned. Fails only when memory
 /// runs out.
 type Done<S, T> = Result<Vec<(S, T)>, AllocError>;
 
@@ -94,7 +94,7 @@ fn blow<J: Naming + Send + Sync, R: Threads + Wait + Clock + Print + Sync>(
     close(shared.alloc, node, written, looked, time)
 }
 
-/// Each seat in a thread of its own.
+/// Lets each seat work in a thread of its own.
 fn side_by_side<J: Naming + Send + Sync, R: Threads + Wait + Clock + Print + Sync>(
     rt: &R,
     node: &Node<FileDevice, J, &R>,
@@ -133,7 +133,7 @@ fn close<J: Naming, R: Wait>(
     })
 }
 
-/// The first parts, and the second ones.
+/// Splits pairs into the first parts and the second parts.
 fn apart<S: Drop, T: Drop>(
     alloc: Global,
     done: Done<S, T>,

@@ -11,7 +11,7 @@ use crate::storm::trouble::Trouble;
 use crate::storm::writing::Answers;
 use std::io;
 
-/// Prints figures, and what is so.
+/// Prints figures and findings.
 pub(crate) fn tell(rt: &HostRuntime, path: &str, left: &Left) -> io::Result<()> {
     tell_figures(rt, left)?;
     let is_equal = receipts_equal_entries(rt.alloc(), left)?;
@@ -27,8 +27,8 @@ fn is_kept(rt: &HostRuntime, path: &str, left: &Left) -> io::Result<bool> {
     Ok(is_kept)
 }
 
-/// Prints what is so at standard output, a line for each. Where something isn't, the line says it,
-/// and the last answer is an error.
+/// Prints the findings at standard output, a line for each. Where one isn't so, its line says so,
+/// and an error is returned at the end.
 fn tell_findings(rt: &HostRuntime, left: &Left, is_equal: bool, is_kept: bool) -> io::Result<()> {
     let findings = [
         (all_wrote(left.answers.as_slice()), "no writer was refused"),

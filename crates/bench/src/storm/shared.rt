@@ -10,8 +10,8 @@ use std::alloc::{AllocError, Global};
 use std::sync::atomic::{AtomicU64, Ordering};
 use std::sync::{Mutex, Wait};
 
-/// A write that was acknowledged, for readers: how far the history went, the place of its key, and
-/// the vector that was answered.
+/// An acknowledged write, for readers: how far the history went, the place of its key, and the
+/// vector that was returned.
 #[derive(Drop)]
 pub(crate) struct News<J: Naming> {
     pub(crate) revision: Revision<J>,
@@ -29,7 +29,7 @@ impl<J: Naming> News<J> {
     }
 }
 
-/// A time, keys, and what threads tell each other.
+/// A time, keys, and what threads pass to each other.
 #[derive(Drop)]
 pub(crate) struct Shared<J: Naming> {
     pub(crate) alloc: Global,
@@ -39,7 +39,7 @@ pub(crate) struct Shared<J: Naming> {
     pub(crate) actor: Actor,
     /// How many writers have begun.
     begun: AtomicU64,
-    /// How many writes were told at standard output; none where they aren't told.
+    /// How many writes were printed at standard output; `None` where they aren't printed.
     told: Option<Mutex<u64>>,
     news: Mutex<Option<News<J>>>,
 }
@@ -83,8 +83,8 @@ impl<J: Naming> Shared<J> {
         }
     }
 
-    /// Prints, where writes are told, that this one was acknowledged as the event of this count of
-    /// its key. The line is whole before another thread's begins.
+    /// Prints, where writes are printed, that this write was acknowledged as event number `count`
+    /// of its key. The line is whole before another thread's begins.
     pub(crate) fn tell<R: Wait + Print>(
         &self,
         rt: &R,

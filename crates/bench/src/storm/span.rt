@@ -11,7 +11,7 @@ pub(crate) struct Span {
 }
 
 impl Span {
-    /// So many milliseconds from now on.
+    /// Begins a time of `milliseconds` milliseconds.
     pub(crate) fn begin<R: Clock>(rt: &R, milliseconds: u64) -> Span {
         Span {
             begun: Instant::now(rt).ok(),
@@ -19,7 +19,7 @@ impl Span {
         }
     }
 
-    /// How long it is since it began.
+    /// Returns how much time has passed since it began.
     pub(crate) fn elapsed<R: Clock>(&self, rt: &R) -> Option<Duration> {
         match self.begun {
             Some(begun) => begun.elapsed(rt).ok(),

@@ -15,9 +15,9 @@ pub(crate) enum Trouble {
     WentBack,
     /// There are no keys to be written.
     NoKey,
-    /// A write was answered something else than a vector.
+    /// A write returned something other than a vector.
     NoVector,
-    /// A value could not be made, or a line not be printed.
+    /// A value could not be made, or a line could not be printed.
     Io,
     /// An allocation was refused.
     Memory,

@@ -12,12 +12,12 @@ use node_parts::both;
 use std::rt::Clock;
 use std::sync::Wait;
 
-/// What a writer was answered.
+/// What a writer's calls returned.
 #[derive(Drop)]
 pub(crate) struct Answers {
     /// How many writes were acknowledged.
     pub(crate) writes: u64,
-    /// Their receipts, but for those of before this writer cut the journal.
+    /// Their receipts, but for those from before this writer cut the journal.
     pub(crate) receipts: Vec<Receipt>,
     /// How often it cut the journal.
     pub(crate) cuts: u64,
@@ -80,7 +80,7 @@ fn go_on<J: Naming, R: Wait + Print>(
     }
 }
 
-/// Makes the write, and tells of it.
+/// Makes the write, prints it, and posts it to readers.
 fn write_one<J: Naming, R: Wait + Print>(
     rt: &R,
     node: &Node<FileDevice, J, &R>,
@@ -115,7 +115,7 @@ fn put<J: Naming, R: Wait>(
     Ok(done?)
 }
 
-/// Tells of an acknowledged write at standard output, and then to readers.
+/// Prints an acknowledged write at standard output, and then posts it to readers.
 fn tell<J: Naming, R: Wait + Print>(
     rt: &R,
     shared: &Shared<J>,
@@ -139,7 +139,7 @@ fn tell<J: Naming, R: Wait + Print>(
     Ok(())
 }
 
-/// The vector that the write was answered.
+/// The vector that the write returned.
 fn vector_of<J: Naming>(done: &Acknowledgement<J>) -> Result<Vector, Trouble> {
     match &done.entry().reply {
         Reply::Wrote { vector } => Ok(vector.copy()?),

@@ -1,4 +1,4 @@
-//! What is written: keys, and values that tell who wrote them.
+//! What is written: keys, and values that say who wrote them.
 
 use crate::rows::key_of;
 use crate::samples::refused;
@@ -29,8 +29,8 @@ impl Mark {
         Value::new(self.number, Some(body.into_bytes())).map_err(refused)
     }
 
-    /// The place of the key that is written, of so many: each writer goes round them all, and
-    /// begins at one of its own.
+    /// The place of the key that is written, of `keys` keys: each writer goes round them all,
+    /// beginning at its own number.
     pub(crate) fn place(self, keys: usize) -> usize {
         let turn = self.number.saturating_add(self.writer);
         (turn % (keys as u64).max(1)) as usize
@@ -43,7 +43,7 @@ impl Mark {
     }
 }
 
-/// So many keys: `key-0`, `key-1` and so on, under `storm` and `n`.
+/// `count` keys: `key-0`, `key-1` and so on, under `storm` and `n`.
 pub(crate) fn keys(alloc: Global, count: u32) -> io::Result<Vec<MetaKey>> {
     let mut keys = Vec::new(alloc);
     for number in 0..count {
@@ -61,7 +61,7 @@ pub(crate) fn text_of(bytes: &[u8]) -> &str {
     std::str::from_utf8(bytes).unwrap_or("bytes")
 }
 
-/// How many events of the writer the vector counts.
+/// Returns how many events of the writer the vector counts.
 pub(crate) fn count_of(vector: &Vector, writer: Actor) -> u64 {
     for counter in vector.counters() {
         if counter.id() == writer {

@@ -1,4 +1,4 @@
-//! One thread that takes a frame and puts one, in turn.
+//! One thread that takes a frame and puts one, by turns.
 
 ghost use Rattle.std.specs.Prelude.{◌≡◌, IfOk};
 

@@ -48,7 +48,7 @@ fn put_each<R: Wait>(handle: &R, alloc: Global, inbox: &Inbox, pass: PutPass)
     }
 }
 
-/// Takes all that four senders put, and answers how many bytes it was.
+/// Takes all that four senders put, and returns how many bytes it was.
 fn take_each<R: Wait>(handle: &R, inbox: &Inbox, pass: TakePass) -> usize
     requires { pass.line ≡ inbox.now.line }
 {
@@ -69,7 +69,7 @@ fn take_each<R: Wait>(handle: &R, inbox: &Inbox, pass: TakePass) -> usize
     0
 }
 
-/// Each sender puts in a thread of its own. False where memory is refused.
+/// Lets each sender put in a thread of its own. Returns false where memory is refused.
 fn put_all<R: Threads + Wait + Sync>(
     handle: &R,
     alloc: Global,
@@ -105,7 +105,8 @@ fn parts(fresh: Fresh) -> (Inbox, Vec<PutPass>, TakePass)
     (inbox, puts, takes)
 }
 
-/// Four senders put side by side while one takes: how many bytes came, 0 where memory is refused.
+/// Four senders put side by side while one takes. Returns how many bytes came, 0 where memory is
+/// refused.
 fn cross<R: Threads + Wait + Sync>(
     handle: &R,
     alloc: Global,

@@ -1,4 +1,4 @@
-//! What is measured, how often, and how it is printed.
+//! The measured work, how often it is done, and printing it.
 
 use crate::samples::{median, print, rate};
 use crate::threads::{alone, crowd};
@@ -8,13 +8,13 @@ use std::io;
 use std::sync::Wait;
 use std::thread::Threads;
 
-/// How many samples there are, of which the middle time counts.
+/// How many samples there are; the median counts.
 const SAMPLES: usize = 51;
 
 /// Work whose pace is measured, each sample with a new inbox.
 #[derive(Clone, Copy)]
 pub(crate) enum Work {
-    /// One thread puts a new frame and takes one, in turn.
+    /// One thread puts a new frame and takes one, by turns.
     OneThread,
     /// One thread takes a frame and puts the same one.
     OneThreadBare,
@@ -29,7 +29,7 @@ pub(crate) fn frame(alloc: Global) -> Result<ByteString, AllocError> {
     Ok(ByteString::new(vec![in alloc; 7u8; 100]?))
 }
 
-/// How many frames of that work went through in a second: the median of the samples.
+/// Returns how many frames of the work went through in a second: the median of the samples.
 pub(crate) fn median_rate<R: Threads + Wait + Sync>(
     rt: &HostRuntime,
     handle: &R,
