@@ -10,6 +10,8 @@
 // is as it should be.
 
 #[cfg(test)]
+mod calling;
+#[cfg(test)]
 mod damaged;
 #[cfg(test)]
 mod fields;

@@ -11,6 +11,8 @@
 #[cfg(test)]
 mod acts;
 #[cfg(test)]
+mod calling;
+#[cfg(test)]
 mod copies;
 #[cfg(test)]
 mod events;

@@ -8,6 +8,8 @@
 // statics, of which a proof knows no more than their type.
 
 #[cfg(test)]
+mod calling;
+#[cfg(test)]
 mod example;
 #[cfg(test)]
 mod exchanges;
