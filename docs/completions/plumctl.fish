@@ -14,7 +14,7 @@ complete -c plumctl -n $is_first -a file -d 'Print what the file of a node holds
 complete -c plumctl -n $is_first -a live -d 'Run a cluster of threads, and judge what they did'
 complete -c plumctl -n $is_first -a help -d 'Print help'
 complete -c plumctl -n '__fish_seen_subcommand_from frame run file; and not __fish_seen_subcommand_from help' -F
-complete -c plumctl -n '__fish_seen_subcommand_from run' -l explain -d 'After each command, tell more'
+complete -c plumctl -n '__fish_seen_subcommand_from run' -l explain -d 'After each command, print more'
 complete -c plumctl -n '__fish_seen_subcommand_from file' -l rewrite -r -F -d 'Make a clean copy, where nothing is yet'
 complete -c plumctl -n '__fish_seen_subcommand_from live' -l record -r -F -d 'Write the run down as a scenario'
 complete -c plumctl -n '__fish_seen_subcommand_from live' -l files -r -a '(__fish_complete_directories)' -d 'Run the nodes on files in a new folder'
