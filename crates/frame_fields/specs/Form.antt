@@ -23,7 +23,7 @@ abbrev pub IsCut : ℕ → List ℕ → ℕ → Type 0
 IsCut size bytes left = (length bytes < size) × (left ≡ length bytes)
 
 -- after a field that is right, what follows is at fault
-pub record BadBehind {A : Type 0} (form : Form A) (behind : A → List ℕ → ℕ → Type 0)
+pub record BadAfter {A : Type 0} (form : Form A) (behind : A → List ℕ → ℕ → Type 0)
     (bytes : List ℕ) (left : ℕ) : Type 0 where
   pub value : A
   pub rest : List ℕ
@@ -74,7 +74,7 @@ abbrev pub then_form : {A B : Type 0} → Form A → (A → Form B) → Form (A 
 then_form first second = record {
   spell = λ p. first.spell p.0 ++ (second p.0).spell p.1;
   Fits = λ p. first.Fits p.0 × (second p.0).Fits p.1;
-  Bad = λ bytes left. first.Bad bytes left ⊎ BadBehind first (λ x. (second x).Bad) bytes left;
+  Bad = λ bytes left. first.Bad bytes left ⊎ BadAfter first (λ x. (second x).Bad) bytes left;
 }
 
 -- the same bytes, seen as values of another type; for use only where each value that fits the first
@@ -94,9 +94,9 @@ spell_each form next s [] = []
 spell_each form next s (x ∷ xs) = (form s).spell x ++ spell_each form next (next x) xs
 
 -- what the form of the value after these depends on
-abbrev pub state_behind : {S A : Type 0} → (A → S) → S → List A → S
-state_behind next s [] = s
-state_behind next s (x ∷ xs) = state_behind next (next x) xs
+abbrev pub state_after : {S A : Type 0} → (A → S) → S → List A → S
+state_after next s [] = s
+state_after next s (x ∷ xs) = state_after next (next x) xs
 
 -- some values are right, fewer than `count`, and the next one is at fault
 pub record BadAmong {S A : Type 0} (form : S → Form A) (next : A → S)
@@ -106,7 +106,7 @@ pub record BadAmong {S A : Type 0} (form : S → Form A) (next : A → S)
   pub fewer : length before < count
   pub fit : EachFits form next s before
   pub spelled : bytes ≡ spell_each form next s before ++ rest
-  pub bad : (form (state_behind next s before)).Bad rest left
+  pub bad : (form (state_after next s before)).Bad rest left
 
 -- `count` values, one after another
 abbrev pub each : {S A : Type 0} → (S → Form A) → (A → S) → S → ℕ → Form (List A)

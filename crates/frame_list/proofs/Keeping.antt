@@ -3,32 +3,32 @@ use Rattle.std.proofs.Common.{◌≡◌, ℕ, zero, suc, min, Bool, true, false,
 use Rattle.std.proofs.lemmas.List.{append-nil, append_assoc, drop-append-le, get_or_append_left, get_or_push, length-append, length-drop, take-append-drop, take_all, drop_all, drop-drop}
 use Rattle.std.proofs.Math.Seq.{drop-append-add, take-append_seam}
 use Rattle.std.proofs.lemmas.Bool.{leb-true, leb-false, ltb-true, ltb-false}
-use Rattle.frame_list.specs.Sharing.{AreShared, HasEndOf, IsShared, bytes_over, ending, frames_behind}
+use Rattle.frame_list.specs.Sharing.{AreShared, HasEndOf, IsShared, bytes_over, ending, frames_after}
 use Rattle.frame_list.specs.declared.frames.Kept.{Kept}
 
 -- ---- lists of frames
 
-pub stays : (before : List (List ℕ)) (kept : List Kept) (at : ℕ) → at < length before → get_or (frames_behind before kept) at [] ≡ get_or before at []
+pub stays : (before : List (List ℕ)) (kept : List Kept) (at : ℕ) → at < length before → get_or (frames_after before kept) at [] ≡ get_or before at []
 stays before [] at low = refl
 stays before (k ∷ ks) at low =
     let more : length (before ++ bytes_over before k ∷ []) ≡ length before + 1 = length-append before (bytes_over before k ∷ []) in
     stays (before ++ bytes_over before k ∷ []) ks at (omega (arith, low, more)) ∙ get_or_append_left before (bytes_over before k ∷ []) [] at low
 
-length_from : (before : List (List ℕ)) (kept : List Kept) → length (frames_behind before kept) ≡ length before + length kept
+length_from : (before : List (List ℕ)) (kept : List Kept) → length (frames_after before kept) ≡ length before + length kept
 length_from before [] = omega arith
 length_from before (k ∷ ks) =
     let more : length (before ++ bytes_over before k ∷ []) ≡ length before + 1 = length-append before (bytes_over before k ∷ []) in
-    let rest : length (frames_behind (before ++ bytes_over before k ∷ []) ks) ≡ length (before ++ bytes_over before k ∷ []) + length ks = length_from (before ++ bytes_over before k ∷ []) ks in
+    let rest : length (frames_after (before ++ bytes_over before k ∷ []) ks) ≡ length (before ++ bytes_over before k ∷ []) + length ks = length_from (before ++ bytes_over before k ∷ []) ks in
     omega (arith, more, rest)
 
-pub how_many : (kept : List Kept) → length (frames_behind [] kept) ≡ length kept
-how_many kept = let e : length (frames_behind [] kept) ≡ 0 + length kept = length_from [] kept in omega (arith, e)
+pub how_many : (kept : List Kept) → length (frames_after [] kept) ≡ length kept
+how_many kept = let e : length (frames_after [] kept) ≡ 0 + length kept = length_from [] kept in omega (arith, e)
 
-pub one_more : (before : List (List ℕ)) (kept : List Kept) (k : Kept) → frames_behind before (kept ++ k ∷ []) ≡ frames_behind before kept ++ bytes_over (frames_behind before kept) k ∷ []
+pub one_more : (before : List (List ℕ)) (kept : List Kept) (k : Kept) → frames_after before (kept ++ k ∷ []) ≡ frames_after before kept ++ bytes_over (frames_after before kept) k ∷ []
 one_more before [] k = refl
 one_more before (x ∷ xs) k = one_more (before ++ bytes_over before x ∷ []) xs k
 
-pub one_more_shared : (before : List (List ℕ)) (kept : List Kept) (k : Kept) → AreShared before kept → IsShared (frames_behind before kept) k → AreShared before (kept ++ k ∷ [])
+pub one_more_shared : (before : List (List ℕ)) (kept : List Kept) (k : Kept) → AreShared before kept → IsShared (frames_after before kept) k → AreShared before (kept ++ k ∷ [])
 one_more_shared before [] k all is = (is, tt)
 one_more_shared before (x ∷ xs) k all is = (all.0, one_more_shared (before ++ bytes_over before x ∷ []) xs k all.1 is)
 
@@ -39,27 +39,27 @@ fewer_shared before kept zero all = tt
 fewer_shared before [] (suc n) all = tt
 fewer_shared before (k ∷ ks) (suc n) all = (all.0, fewer_shared (before ++ bytes_over before k ∷ []) ks n all.1)
 
-rest_behind : (before : List (List ℕ)) (kept : List Kept) → (rest : List (List ℕ)) × (frames_behind before kept ≡ before ++ rest)
+rest_behind : (before : List (List ℕ)) (kept : List Kept) → (rest : List (List ℕ)) × (frames_after before kept ≡ before ++ rest)
 rest_behind before [] = ([], sym (append-nil before))
 rest_behind before (k ∷ ks) =
     let whole = rest_behind (before ++ bytes_over before k ∷ []) ks in
     (bytes_over before k ∷ whole.0, whole.1 ∙ append_assoc before (bytes_over before k ∷ []) whole.0)
 
-front_from : (before : List (List ℕ)) (kept : List Kept) → take (length before) (frames_behind before kept) ≡ before
+front_from : (before : List (List ℕ)) (kept : List Kept) → take (length before) (frames_after before kept) ≡ before
 front_from before kept =
     let whole = rest_behind before kept in
     ap (take (length before)) whole.1 ∙ take-append_seam before whole.0
 
-fewer_from : (before : List (List ℕ)) (kept : List Kept) (n : ℕ) → frames_behind before (take n kept) ≡ take (length before + n) (frames_behind before kept)
-fewer_from before kept zero = sym (ap (λ m. take m (frames_behind before kept)) (let e : length before + 0 ≡ length before = omega arith in e) ∙ front_from before kept)
+fewer_from : (before : List (List ℕ)) (kept : List Kept) (n : ℕ) → frames_after before (take n kept) ≡ take (length before + n) (frames_after before kept)
+fewer_from before kept zero = sym (ap (λ m. take m (frames_after before kept)) (let e : length before + 0 ≡ length before = omega arith in e) ∙ front_from before kept)
 fewer_from before [] (suc n) = sym (take_all (length before + suc n) before (omega arith))
 fewer_from before (k ∷ ks) (suc n) =
     let now : List (List ℕ) = before ++ bytes_over before k ∷ [] in
     let more : length now ≡ length before + 1 = length-append before (bytes_over before k ∷ []) in
-    fewer_from now ks n ∙ ap (λ m. take m (frames_behind now ks)) (let e : length now + n ≡ length before + suc n = omega (arith, more) in e)
+    fewer_from now ks n ∙ ap (λ m. take m (frames_after now ks)) (let e : length now + n ≡ length before + suc n = omega (arith, more) in e)
 
-pub fewer : (kept : List Kept) (n : ℕ) → frames_behind [] (take n kept) ≡ take n (frames_behind [] kept)
-fewer kept n = fewer_from [] kept n ∙ ap (λ m. take m (frames_behind [] kept)) (let e : 0 + n ≡ n = omega arith in e)
+pub fewer : (kept : List Kept) (n : ℕ) → frames_after [] (take n kept) ≡ take n (frames_after [] kept)
+fewer kept n = fewer_from [] kept n ∙ ap (λ m. take m (frames_after [] kept)) (let e : 0 + n ≡ n = omega arith in e)
 
 -- ---- one frame
 
@@ -84,11 +84,11 @@ earlier_of : (k : Kept) (m n : ℕ) → m ≡ n → (k.shared ≡ 0) ⊎ (k.of <
 earlier_of k m n e (inl none) = inl none
 earlier_of k m n e (inr low) = inr (omega (arith, e, low))
 
-placed_from : (before : List (List ℕ)) (kept : List Kept) (p : ℕ) (d : Kept) → AreShared before kept → p < length kept → IsPlaced (frames_behind before kept) (length before + p) (get_or kept p d)
+placed_from : (before : List (List ℕ)) (kept : List Kept) (p : ℕ) (d : Kept) → AreShared before kept → p < length kept → IsPlaced (frames_after before kept) (length before + p) (get_or kept p d)
 placed_from before [] p d all low = absurd (omega (arith, low))
 placed_from before (k ∷ ks) zero d all low =
     let now : List (List ℕ) = before ++ bytes_over before k ∷ [] in
-    let frames : List (List ℕ) = frames_behind now ks in
+    let frames : List (List ℕ) = frames_after now ks in
     let more : length now ≡ length before + 1 = length-append before (bytes_over before k ∷ []) in
     let number : length before + 0 ≡ length before = omega arith in
     let here : get_or frames (length before + 0) [] ≡ bytes_over before k =
@@ -103,11 +103,11 @@ placed_from before (k ∷ ks) zero d all low =
 placed_from before (k ∷ ks) (suc p) d all low =
     let now : List (List ℕ) = before ++ bytes_over before k ∷ [] in
     let more : length now ≡ length before + 1 = length-append before (bytes_over before k ∷ []) in
-    subst (λ m. IsPlaced (frames_behind now ks) m (get_or ks p d)) (let e : length now + p ≡ length before + suc p = omega (arith, more) in e)
+    subst (λ m. IsPlaced (frames_after now ks) m (get_or ks p d)) (let e : length now + p ≡ length before + suc p = omega (arith, more) in e)
     (placed_from now ks p d all.1 (omega (arith, low)))
 
-pub placed : (kept : List Kept) (p : ℕ) (d : Kept) → AreShared [] kept → p < length kept → IsPlaced (frames_behind [] kept) p (get_or kept p d)
-placed kept p d all low = subst (λ m. IsPlaced (frames_behind [] kept) m (get_or kept p d)) (let e : 0 + p ≡ p = omega arith in e) (placed_from [] kept p d all low)
+pub placed : (kept : List Kept) (p : ℕ) (d : Kept) → AreShared [] kept → p < length kept → IsPlaced (frames_after [] kept) p (get_or kept p d)
+placed kept p d all low = subst (λ m. IsPlaced (frames_after [] kept) m (get_or kept p d)) (let e : 0 + p ≡ p = omega arith in e) (placed_from [] kept p d all low)
 
 -- ---- the walk from a frame down to those that it shares with
 
@@ -253,19 +253,19 @@ pub there_now : (frames : List (List ℕ)) (place at left : ℕ) (bytes : List �
 there_now frames place at left bytes some (inl none) = absurd (omega (arith, some, none))
 there_now frames place at left bytes some (inr low) = low
 
-pub placed_as : (kept : List Kept) (at : ℕ) (k : Kept) → AreShared [] kept → at < length kept → k ≡ get_or kept at k → IsPlaced (frames_behind [] kept) at k
-placed_as kept at k all low is = subst (IsPlaced (frames_behind [] kept) at) (sym is) (placed kept at k all low)
+pub placed_as : (kept : List Kept) (at : ℕ) (k : Kept) → AreShared [] kept → at < length kept → k ≡ get_or kept at k → IsPlaced (frames_after [] kept) at k
+placed_as kept at k all low is = subst (IsPlaced (frames_after [] kept) at) (sym is) (placed kept at k all low)
 
-pub low_now : (kept : List Kept) (place at left : ℕ) (bytes : List ℕ) → 0 < left → Walking (frames_behind [] kept) place at left bytes → at < length kept
-low_now kept place at left bytes some w = subst (λ n. at < n) (how_many kept) (there_now (frames_behind [] kept) place at left bytes some w.there)
+pub low_now : (kept : List Kept) (place at left : ℕ) (bytes : List ℕ) → 0 < left → Walking (frames_after [] kept) place at left bytes → at < length kept
+low_now kept place at left bytes some w = subst (λ n. at < n) (how_many kept) (there_now (frames_after [] kept) place at left bytes some w.there)
 
 -- ---- the frame that keeps some of an end as its own
 
 -- what stands before the end was read, so to speak
-pub at_first : (kept : List Kept) (place count : ℕ) → place < length kept → count ≤ length (get_or (frames_behind [] kept) place [])
-    → Walking (frames_behind [] kept) place place count (take (length (get_or (frames_behind [] kept) place []) - count) (get_or (frames_behind [] kept) place []))
+pub at_first : (kept : List Kept) (place count : ℕ) → place < length kept → count ≤ length (get_or (frames_after [] kept) place [])
+    → Walking (frames_after [] kept) place place count (take (length (get_or (frames_after [] kept) place []) - count) (get_or (frames_after [] kept) place []))
 at_first kept place count low within =
-    let frame : List ℕ = get_or (frames_behind [] kept) place [] in record {
+    let frame : List ℕ = get_or (frames_after [] kept) place [] in record {
       there = inr (subst (λ n. place < n) (sym (how_many kept)) low);
       within = within;
       whole = take-append-drop (length frame - count) frame;

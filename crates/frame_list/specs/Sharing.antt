@@ -12,9 +12,9 @@ abbrev pub bytes_over : List (List ℕ) → Kept → List ℕ
 bytes_over before kept = kept.own.items ++ ending kept.shared (get_or before kept.of [])
 
 -- the frames `before`, and after them the bytes of each frame that is kept
-abbrev pub frames_behind : List (List ℕ) → List Kept → List (List ℕ)
-frames_behind before [] = before
-frames_behind before (kept ∷ later) = frames_behind (before ++ bytes_over before kept ∷ []) later
+abbrev pub frames_after : List (List ℕ) → List Kept → List (List ℕ)
+frames_after before [] = before
+frames_after before (kept ∷ later) = frames_after (before ++ bytes_over before kept ∷ []) later
 
 -- an earlier frame has the bytes that this one shares, and `len` is the length of this one
 pub record IsShared (before : List (List ℕ)) (kept : Kept) : Type 0 where

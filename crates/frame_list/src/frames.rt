@@ -1,7 +1,7 @@
 //! A list of frames, as bytes, in which each may share its end with an earlier one.
 
 ghost use Rattle.std.specs.Prelude.{◌≡◌, ◌<◌, ◌^◌, ◌++◌, ◌∷◌, ◌≤◌, [], ℕ, List, get_or, length, take, IfOk, OnOk, OnErr};
-ghost use Rattle.frame_list.specs.Sharing.{AreShared, HasEndOf, ending, frames_behind};
+ghost use Rattle.frame_list.specs.Sharing.{AreShared, HasEndOf, ending, frames_after};
 
 use meta_types::ByteString;
 use std::alloc::{AllocError, Global};
@@ -36,11 +36,11 @@ type Latest = BTreeMap<ByteString, usize>;
 
 impl Model for Frames {
     ghost use Rattle.std.specs.Prelude.{ℕ, List, []};
-    ghost use Rattle.frame_list.specs.Sharing.{AreShared, frames_behind};
+    ghost use Rattle.frame_list.specs.Sharing.{AreShared, frames_after};
 
     ghost Value = { List (List ℕ) };
 
-    ghost view = { λ f. frames_behind [] f.kept.items };
+    ghost view = { λ f. frames_after [] f.kept.items };
 
     ghost invariant = { λ f. AreShared [] f.kept.items };
 }
@@ -153,7 +153,7 @@ impl Frames {
 fn bytes_at(alloc: Global, kept: &[Kept], place: usize) -> Result<Vec<u8>, AllocError>
     requires there { place < length kept.now }
     requires shared { AreShared [] kept.now }
-    ensures { IfOk result (λ bytes. bytes.items ≡ get_or (frames_behind [] kept.now) place []) }
+    ensures { IfOk result (λ bytes. bytes.items ≡ get_or (frames_after [] kept.now) place []) }
 {
     let mut left = kept[place].len;
     let mut bytes = Vec::with_capacity(alloc, left)?;
@@ -175,8 +175,8 @@ fn bytes_at(alloc: Global, kept: &[Kept], place: usize) -> Result<Vec<u8>, Alloc
 fn keeper(kept: &[Kept], place: usize, count: usize) -> usize
     requires there { place < length kept.now }
     requires shared { AreShared [] kept.now }
-    requires within { count ≤ length (get_or (frames_behind [] kept.now) place []) }
-    ensures { let frames = frames_behind [] kept.now in
+    requires within { count ≤ length (get_or (frames_after [] kept.now) place []) }
+    ensures { let frames = frames_after [] kept.now in
         HasEndOf frames result count (get_or frames place []) }
 {
     let mut at = place;

@@ -5,7 +5,7 @@ use Rattle.std.specs.Int.{Width, w8, w16, w32, w64, byte_len, from_be_bytes, to_
 use Rattle.std.proofs.lemmas.Bool.{cases_lt, ltb-false, ltb-true, le-ltb, lt-ltb}
 use Rattle.std.proofs.lemmas.List.{take_at, drop_at, take-append-drop, length-append, length-take, get_or-drop, get_or-take, get_or_past}
 use Rattle.std.proofs.lemmas.Nat.{be_bytes_2, be_bytes_4, be_bytes_8, from_be_bytes-to_be_bytes_2, from_be_bytes-to_be_bytes_4, from_be_bytes-to_be_bytes_8}
-use Rattle.frame_fields.specs.Form.{Form, any_number, some_bytes, no_bytes, ruled, then_form, seen_as, EachFits, spell_each, state_behind, BadAmong, each}
+use Rattle.frame_fields.specs.Form.{Form, any_number, some_bytes, no_bytes, ruled, then_form, seen_as, EachFits, spell_each, state_after, BadAmong, each}
 use Rattle.frame_readers.specs.Reader.{Reader, ◌>>=◌, number_reader, bytes_reader, ruled_reader, then_reader, made_reader, each_reader}
 
 abbrev pub IsBytes : List ℕ → Type 0
@@ -303,7 +303,7 @@ each_faulty form read next reads (suc n) s bytes left is e =
           ]
     ]
 
-each_refuses : {S A : Type 0} (form : S → Form A) (read : S → Reader A) (next : A → S) → ((s : S) → Reads (form s) (read s)) → (n : ℕ) (s : S) (before : List A) (rest : List ℕ) (left : ℕ) → length before < n → EachFits form next s before → (form (state_behind next s before)).Bad rest left → each_reader read next s n (spell_each form next s before ++ rest) ≡ Err left
+each_refuses : {S A : Type 0} (form : S → Form A) (read : S → Reader A) (next : A → S) → ((s : S) → Reads (form s) (read s)) → (n : ℕ) (s : S) (before : List A) (rest : List ℕ) (left : ℕ) → length before < n → EachFits form next s before → (form (state_after next s before)).Bad rest left → each_reader read next s n (spell_each form next s before ++ rest) ≡ Err left
 unfolding each_reader
 each_refuses form read next reads zero s before rest left lt fit bad = absurd (omega arith)
 each_refuses form read next reads (suc n) s [] rest left lt fit bad = rw ((reads s).refuses rest left bad) refl

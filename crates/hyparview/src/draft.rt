@@ -76,7 +76,7 @@ impl Draft {
     pub(crate) fn all_leave_active(&mut self) -> Result<(), AllocError>
         ensures { OnOk result (self.new ≡ all_leave_active self.old) }
     {
-        tell_down(&mut self.out, self.active.as_slice())?;
+        push_downs(&mut self.out, self.active.as_slice())?;
         self.active.clear();
         Ok(())
     }
@@ -141,7 +141,7 @@ impl Draft {
 }
 
 /// Gives out a `Down` for each of these nodes, in their order.
-fn tell_down(out: &mut Vec<ViewOut>, nodes: &[NodeId]) -> Result<(), AllocError>
+fn push_downs(out: &mut Vec<ViewOut>, nodes: &[NodeId]) -> Result<(), AllocError>
     ensures { OnOk result (out.new.items ≡ out.old.items ++ map (λ x. Down x) nodes.now) }
 {
     for node in nodes {

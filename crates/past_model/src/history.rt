@@ -18,14 +18,14 @@ pub fn fits(history: &[Happening]) -> bool
     ensures { IsTrue result ↔ IsHistory history.now }
 {
     for (place, happening) in history.iter().enumerate() {
-        if !fits_behind(&history[..place], happening) {
+        if !fits_after(&history[..place], happening) {
             return false;
         }
     }
     true
 }
 
-fn fits_behind(before: &[Happening], happening: &Happening) -> bool
+fn fits_after(before: &[Happening], happening: &Happening) -> bool
     ensures { IsTrue result ↔ Fits before.now happening.now }
 {
     match happening {

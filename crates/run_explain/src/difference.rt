@@ -91,7 +91,7 @@ fn add_both(
     outcome: &Result<Stepped, StepFault>,
 ) -> Result<(), AllocError> {
     add_call(text, at)?;
-    text.extend_from_slice(b"its journal tells ")?;
+    text.extend_from_slice(b"its journal says ")?;
     add_reply(text, &entry.reply)?;
     add_frames(text, entry.outbox.as_slice())?;
     text.push(b'\n')?;

@@ -45,8 +45,8 @@ cause_of_writer old new Write cause = cause
 cause_of_writer old new BrokenPipe cause = cause
 cause_of_writer old new Memory cause = (tt, inr cause)
 
-pub want_of_memory : (failed : Failed) (fault : StreamFault) → fault ≡ Memory → IsWriteFault failed failed fault
-want_of_memory failed fault e = subst (IsWriteFault failed failed) (sym e) (tt, inl (FailsNoMore-self failed))
+pub out_of_memory : (failed : Failed) (fault : StreamFault) → fault ≡ Memory → IsWriteFault failed failed fault
+out_of_memory failed fault e = subst (IsWriteFault failed failed) (sym e) (tt, inl (FailsNoMore-self failed))
 
 -- ---- commands
 
@@ -162,7 +162,7 @@ pub ends_unwritten : (manner : Manner) (old new : Stage) (command : Command) (te
     → DoesOrEnds manner.does old command text_old text_new new (Err fault) → EndsCommand manner old command w w (of_stage fault)
 ends_unwritten manner old new command text_old text_new w stages.Limit limit = (limit, Appends-nil w.contents, FailsNoMore-self w.failed)
 ends_unwritten manner old new command text_old text_new w stages.Memory does =
-    record { begun = []; begins = inl refl; appended = Appends-nil w.contents; cause = want_of_memory w.failed Memory refl }
+    record { begun = []; begins = inl refl; appended = Appends-nil w.contents; cause = out_of_memory w.failed Memory refl }
 
 -- a front was written
 pub ends_writing : (manner : Manner) (old new : Stage) (command : Command) (added : List ℕ) (w v : SinkAt) (fault : StreamFault)
@@ -202,7 +202,7 @@ plays_nothing manner scenario w v fault ends = record {
 pub plays_unopened : (manner : Manner) (scenario : Scenario) (w : SinkAt) (fault : ScenarioFault) → fault ≡ Stream Memory → EndsPlay manner scenario w w fault
 plays_unopened manner scenario w fault is =
     subst (EndsPlay manner scenario w w) (sym is)
-    (record { text = []; front = inl refl; appended = Appends-nil w.contents; cause = want_of_memory w.failed Memory refl })
+    (record { text = []; front = inl refl; appended = Appends-nil w.contents; cause = out_of_memory w.failed Memory refl })
 
 pub ends_play : (manner : Manner) (scenario : Scenario) (stage : Stage) (w v u : SinkAt) (fault : ScenarioFault) → stage ≡ new_stage scenario.nodes → WritesOpening manner.opens w v
     → FailsNoMore w.failed v.failed → EndsCommands manner stage scenario.commands v u fault → EndsPlay manner scenario w u fault

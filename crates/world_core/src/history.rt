@@ -196,7 +196,7 @@ fn numbered<T: Copy>(list: &[T], number: u64) -> Option<T>
 }
 
 /// Memory ran out: there is no other cause why a frame that was sent can't be read.
-fn want_of_memory(fault: FrameFault) -> AllocError
+fn out_of_memory(fault: FrameFault) -> AllocError
     requires { fault ≡ OfFrame.Memory }
 {
     drop(fault);
@@ -286,7 +286,7 @@ impl World {
         let bytes = self.chronicle.frame(number)?.unwrap();
         match decode(alloc, bytes.as_slice()) {
             Ok(frame) => Ok(frame),
-            Err(fault) => Err(want_of_memory(fault)),
+            Err(fault) => Err(out_of_memory(fault)),
         }
     }
 

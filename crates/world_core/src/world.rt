@@ -115,7 +115,8 @@ impl World {
 
     /// The images of the node, but for image 0, which is empty; `None` for a node that the world
     /// doesn't have, and only then. What one has under a key is read by
-    /// `node_images::image::object_in`, and is the object of the writes that the history has there.
+    /// `node_images::image::object_in`, and is the object of the writes that this image has by the
+    /// history: what its node knew of the key when it was last written or kept on the way to it.
     pub fn images(&self, node: u64) -> Option<&Images>
         ensures node { IsNone result ↔ (length self.now.nodes ≤ node) }
         ensures lends { IfSome result (λ images. images.now ≡ (node_at self.now node).images) }

@@ -1,11 +1,11 @@
 use Rattle.std.proofs.Common.{◌-◌, [], get_or, length, take}
-use Rattle.frame_list.specs.Sharing.{frames_behind}
+use Rattle.frame_list.specs.Sharing.{frames_after}
 use Rattle.frame_list.proofs.Keeping.{Walking}
 use Rattle.frame_list.proofs.frames.keeper.Given as goal
 
 abbrev pub invariant-loop-frame : goal.invariant-loop-frame
-invariant-loop-frame l = let frame = get_or (frames_behind [] l.kept) l.place [] in
-    Walking (frames_behind [] l.kept) l.place l.at l.count (take (length frame - l.count) frame)
+invariant-loop-frame l = let frame = get_or (frames_after [] l.kept) l.place [] in
+    Walking (frames_after [] l.kept) l.place l.at l.count (take (length frame - l.count) frame)
 
 abbrev pub decreases-loop-frame : goal.decreases-loop-frame
 decreases-loop-frame l = l.at

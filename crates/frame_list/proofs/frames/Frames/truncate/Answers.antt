@@ -1,5 +1,5 @@
 use Rattle.std.proofs.Common.{[], take, sym, ap, subst, ◌∙◌}
-use Rattle.frame_list.specs.Sharing.{AreShared, frames_behind}
+use Rattle.frame_list.specs.Sharing.{AreShared, frames_after}
 use Rattle.frame_list.proofs.Keeping.{fewer, fewer_shared}
 use Rattle.frame_list.proofs.frames.Frames.truncate.Goals as goal
 
@@ -7,4 +7,4 @@ pub invariant_of-self : goal.invariant_of-self
 invariant_of-self c = subst (AreShared []) (sym c.truncate.ensures.items) (fewer_shared [] c.self.inside.kept.items c.args.len c.self.invariant)
 
 pub returns : goal.returns
-returns c = ap (frames_behind []) c.truncate.ensures.items ∙ fewer c.self.inside.kept.items c.args.len ∙ ap (take c.args.len) c.self.view_is
+returns c = ap (frames_after []) c.truncate.ensures.items ∙ fewer c.self.inside.kept.items c.args.len ∙ ap (take c.args.len) c.self.view_is

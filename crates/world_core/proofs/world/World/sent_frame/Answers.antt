@@ -6,8 +6,8 @@ use Rattle.world_core.proofs.Outcomes.{world_of}
 use Rattle.world_core.proofs.Retelling.{never_refused, sent}
 use Rattle.world_core.proofs.world.World.sent_frame.Goals as goal
 
-pub want_of_memory-requires : goal.want_of_memory-requires
-want_of_memory-requires c =
+pub out_of_memory-requires : goal.out_of_memory-requires
+out_of_memory-requires c =
     let w : World = c.args.self.now in
     let is : IsWorld w = world_of w (subst IsWholeWorld c.self.view_is c.self.invariant) in
     let there : numbered w.frames c.args.number ≡ Some c.as_slice.result.now = search rules in

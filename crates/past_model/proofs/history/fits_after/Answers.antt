@@ -1,5 +1,5 @@
 use Rattle.past_model.proofs.Fitting.{write_fits, delivery_fits}
-use Rattle.past_model.proofs.history.fits_behind.Goals as goal
+use Rattle.past_model.proofs.history.fits_after.Goals as goal
 
 pub returns-in-Some : goal.returns-in-Some
 returns-in-Some c =
