@@ -19,10 +19,11 @@ _plumctl() {
     break
   done
   case $command in
-    '') words='frame run file live help -h --help -V --version' ;;
-    help) [ "$before" = help ] && words='frame run file live help' ;;
+    '') words='frame run draw file live help -h --help -V --version' ;;
+    help) [ "$before" = help ] && words='frame run draw file live help' ;;
     frame) words='-h --help' files=1 ;;
     run) words='--explain -h --help' files=1 ;;
+    draw) words='--from --to -h --help' files=1 ;;
     file) words='--rewrite -h --help' files=1 ;;
     live)
       words='--record --files -h --help'
@@ -31,6 +32,7 @@ _plumctl() {
   esac
   case $before in
     --rewrite | --record) words='' ;;
+    --from | --to) return ;;
     --files)
       compopt -o filenames 2>/dev/null
       mapfile -t COMPREPLY < <(compgen -d -- "$current")

@@ -5,6 +5,7 @@ use clap::builder::ValueParser;
 use clap::error::ErrorKind;
 use clap::{Arg, ArgAction, ArgMatches, Command, Error};
 use cluster::ClusterPlan;
+use plumctl_draw::Part;
 use std::alloc::{AllocError, Global};
 use std::io;
 use streams::{StreamFault, write_fault};
@@ -24,6 +25,11 @@ pub enum Asked<'a> {
         /// Whether each command is explained.
         explain: bool,
     },
+    /// A picture of a part of the scenario in the file of this path or standard input.
+    Draw {
+        file: Option<&'a str>,
+        part: Part,
+    },
     /// The report of the node file at a path, and with `rewrite` a clean copy of it at another.
     File {
         path: &'a str,
@@ -38,18 +44,19 @@ pub const USAGE: u8 = 2;
 
 const VERSION: &str = "0.1.0";
 
-const HELP: &str = "'plumctl help COMMAND' tells more of a command.";
+const HELP: &str = "'plumctl help COMMAND' says more of a command.";
 
 const LONG_HELP: &str = "Examples:
   plumctl run siblings.scenario
+  plumctl draw siblings.scenario > siblings.svg
   plumctl frame frames.hex
   plumctl file node-0 --rewrite node-0.clean
   plumctl live 4 200 7 --record tuesday.scenario
 
-'plumctl help COMMAND' tells more of a command, and -h less.
+'plumctl help COMMAND' says more of a command, and -h less.
 
 Exit status: 0 done, 1 what was read or run is refused, 2 wrong arguments, 3 reading or writing
-failed, 4 want of memory.";
+failed, 4 memory ran out.";
 
 const FRAME_HELP: &str =
     "Each line gives one line: the frame that its digits spell, or the refusal that comes first.
@@ -64,7 +71,7 @@ A refusal prints as its number and name, as `error 10 Short`; `error 15 BadBody 
 the frame the field at fault begins. No line number is printed: line N of the output is for line N.
 
 Exit status: 0 each line was a frame, 1 a line was refused or the input is longer than
-67,108,864 bytes, 2 wrong arguments, 3 reading or writing failed, 4 want of memory.";
+67,108,864 bytes, 2 wrong arguments, 3 reading or writing failed, 4 memory ran out.";
 
 const RUN_HELP: &str =
     "The first command says how many nodes there are, as `nodes 2`; each other is one of
@@ -101,8 +108,30 @@ prints
   ctx 0.1:1 values x
 
 Exit status: 0 done, 1 a line is no command, a settle would deliver more than 100,000 frames or the
-input is longer than 67,108,864 bytes, 2 wrong arguments, 3 reading or writing failed, 4 want of
-memory.";
+input is longer than 67,108,864 bytes, 2 wrong arguments, 3 reading or writing failed, 4 memory
+ran out.";
+
+const DRAW_HELP: &str =
+    "Runs a scenario as `run` does, and writes what happened as a picture in place of the results:
+SVG, which any browser shows. Each node has a lane, and time goes downwards. Each command has a
+row, with the number of its line; a settle has one for each frame that it delivers, and a keep one
+for each key.
+
+An arrow goes from the sending of a frame to its delivery, with its number and kind, and its colour
+says what it is about. It is dashed where the frame was stale or refused, and ends in a cross where
+the frame was never delivered. A dot is a step of a node, a diamond one about who knows whom, and a
+gap in a lane a restart. A box has what a node shows under a key from then on: the key, its values,
+its context.
+
+A picture has at most 200 commands, and 2,000 rows: --from and --to draw a part of a longer
+scenario, all of which is run.
+
+Example:
+  plumctl draw examples/healing-tree.scenario > tree.svg
+
+Exit status: 0 done, 1 a line is no command, a settle would deliver more than 100,000 frames, the
+part is too long or the input is longer than 67,108,864 bytes, 2 wrong arguments, 3 reading or
+writing failed, 4 memory ran out.";
 
 const FILE_HELP: &str =
     "Prints a line for the node, its last life and how many keys there are, a line for each key in
@@ -113,7 +142,7 @@ order, and a line for the root of the table's tree:
 Two nodes that print the same root hold the same objects. Nothing is changed, and a file that a node
 has open is not read.
 
-Where the file is damaged, `error 31 Damaged at 52` tells the first byte that is not as a file has
+Where the file is damaged, `error 31 Damaged at 52` names the first byte that is not as a file has
 it; a node can't be started from it. Where it could not be read, or OUT not be written, `error 30
 Device` is printed, and the cause stands at standard error.
 
@@ -121,7 +150,7 @@ OUT is a node file once the status is 0: give it the name of the old one then, w
 OUT is removed where it could not be written whole. A file of version 1 becomes one of version 2.
 
 Exit status: 0 done, 1 the file is damaged or has too many keys, 2 wrong arguments, 3 reading or
-writing failed, 4 want of memory.";
+writing failed, 4 memory ran out.";
 
 const LIVE_HELP: &str =
     "Each node has a worker in a thread of its own. All but node 0 join through node 0, and then
@@ -130,7 +159,7 @@ What all of them did is then put together as one run of the proved core:
   live nodes 4 turns 200
   calls 803 lost 0
   assembled
-Where it is none, or the cluster gives none, `fault` with a number and a name tells why.
+Where it is none, or the cluster gives none, `fault` with a number and a name says why.
 
 With --record, where the run is assembled, FILE is a scenario of it: `plumctl run FILE` makes the
 same calls again, one after the other, and prints each reply and frame that the threads had. With
@@ -138,13 +167,17 @@ same calls again, one after the other, and prints each reply and frame that the 
 there before. A node whose device fails makes no more turns, which is told at standard error.
 
 Exit status: 0 assembled (and recorded), 1 it is no run of the core, or has no recording, 2 wrong
-arguments, 3 FILE, DIR or a device failed before the threads started, or writing failed, 4 want of
-memory.";
+arguments, 3 FILE, DIR or a device failed before the threads started, or writing failed, 4 memory
+ran out.";
 
 /// The names of the arguments.
 const FILE: &str = "FILE";
 
 const EXPLAIN: &str = "explain";
+
+const FROM: &str = "from";
+
+const TO: &str = "to";
 
 const PATH: &str = "PATH";
 
@@ -178,13 +211,36 @@ fn run_command<'a>(alloc: Global) -> Result<Command<'a>, AllocError> {
         .action(ArgAction::Set);
     let explain = Arg::new(alloc, EXPLAIN)
         .long("explain")
-        .help("After each command, tell what is on its way and what nodes show anew")
+        .help("After each command, print what is on its way and what nodes show anew")
         .action(ArgAction::SetTrue);
     Command::new(alloc, "run")
         .about("Run a scenario over the nodes of a new cluster")
         .after_long_help(RUN_HELP)
         .arg(file)?
         .arg(explain)
+}
+
+/// The number of a line that `draw` asks for.
+fn line<'a>(alloc: Global, name: &'a str, help: &'a str) -> Arg<'a> {
+    Arg::new(alloc, name)
+        .long(name)
+        .value_name("LINE")
+        .help(help)
+        .value_parser(ValueParser::unsigned(0, u64::MAX))
+        .action(ArgAction::Set)
+}
+
+/// The command `draw`.
+fn draw_command<'a>(alloc: Global) -> Result<Command<'a>, AllocError> {
+    let file = Arg::new(alloc, FILE)
+        .help("The scenario; standard input if there is none, or for -")
+        .action(ArgAction::Set);
+    Command::new(alloc, "draw")
+        .about("Draw a run of a scenario, as an SVG picture")
+        .after_long_help(DRAW_HELP)
+        .arg(file)?
+        .arg(line(alloc, FROM, "Draw no command of an earlier line"))?
+        .arg(line(alloc, TO, "Draw no command of a later line"))
 }
 
 /// The command `file`.
@@ -252,6 +308,7 @@ fn command<'a>(alloc: Global) -> Result<Command<'a>, AllocError> {
         .subcommand_required(true)
         .subcommand(frame_command(alloc)?)?
         .subcommand(run_command(alloc)?)?
+        .subcommand(draw_command(alloc)?)?
         .subcommand(file_command(alloc)?)?
         .subcommand(live_command(alloc)?)
 }
@@ -312,6 +369,13 @@ pub fn read_arguments<'a>(rt: &HostRuntime, words: &'a [String]) -> Result<Asked
             Some(("run", matches)) => Ok(Asked::Run {
                 file: path(matches.get_str(FILE)),
                 explain: matches.get_flag(EXPLAIN),
+            }),
+            Some(("draw", matches)) => Ok(Asked::Draw {
+                file: path(matches.get_str(FILE)),
+                part: Part {
+                    from: matches.get_one::<u64>(FROM).unwrap_or(0),
+                    to: matches.get_one::<u64>(TO).unwrap_or(u64::MAX),
+                },
             }),
             Some(("file", matches)) => Ok(match matches.get_str(PATH) {
                 Some(path) => Asked::File {

@@ -4,6 +4,7 @@ ghost use Rattle.std.specs.Prelude.{◌≢◌};
 
 use crate::progress::told;
 use plumctl_core::{run_frame, run_scenario, tell, tell_unopened};
+use plumctl_draw::{Part, draw_scenario};
 use std::fs::{self, File};
 use std::io::{BufWriter, ErrorKind, IsTerminal};
 use std::sync::Wait;
@@ -100,4 +101,47 @@ fn run_to<R: Source, W: Sink>(rt: &HostRuntime, reader: &mut R, writer: &mut W, 
 {
     let mut errors = MayFail(rt.stderr());
     run_scenario(rt.alloc(), reader, writer, &mut errors, explain)
+}
+
+/// Does `draw`, and reports at a terminal that it takes its time, but not where the scenario is
+/// typed. Returns the exit status.
+pub fn draw<R: Threads + Wait + Sync>(
+    rt: &HostRuntime,
+    handle: &R,
+    file: Option<&str>,
+    part: Part,
+) -> u8 {
+    if file.is_none() && rt.stdin().is_terminal() {
+        return draw_input(rt, file, part);
+    }
+    told(rt, handle, None, || draw_input(rt, file, part))
+}
+
+/// Draws the scenario of the file of this path, or of standard input, to standard output. Returns
+/// the exit status, which is never 2, the status of wrong arguments: a file that can't be opened
+/// can't be read.
+fn draw_input(rt: &HostRuntime, file: Option<&str>, part: Part) -> u8
+    ensures { result ≢ 2 }
+{
+    let Some(path) = file else {
+        return draw_from(rt, &mut MayFail(rt.stdin()), part);
+    };
+    match open(rt, path) {
+        Ok(file) => draw_from(rt, &mut MayFail(file), part),
+        Err(kind) => tell_unopened(rt.alloc(), &mut MayFail(rt.stderr()), path, kind),
+    }
+}
+
+/// Draws the scenario of a reader, to standard output.
+fn draw_from<R: Source>(rt: &HostRuntime, reader: &mut R, part: Part) -> u8
+    ensures { result ≢ 2 }
+{
+    let mut errors = MayFail(rt.stderr());
+    draw_scenario(
+        rt.alloc(),
+        reader,
+        &mut MayFail(rt.stdout()),
+        &mut errors,
+        part,
+    )
 }

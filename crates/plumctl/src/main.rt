@@ -32,6 +32,7 @@ fn run<R: Threads + Wait + Sync>(rt: &HostRuntime, handle: &R) -> Result<u8, Str
     Ok(match read_arguments(rt, words.as_slice())? {
         Asked::Frame { file } => command::frame(rt, file),
         Asked::Run { file, explain } => command::run(rt, handle, file, explain),
+        Asked::Draw { file, part } => command::draw(rt, handle, file, part),
         Asked::File { path, rewrite } => file::file(rt, handle, path, rewrite),
         Asked::Live(asked) => live::live(rt, handle, asked),
         Asked::Nothing(status) => status,

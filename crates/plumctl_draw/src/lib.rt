@@ -1,0 +1,19 @@
+//! The command `draw` of the program `plumctl`, over any reader and writers: a scenario is run as
+//! `run` runs it, what happens is noted on the way, and a picture of it is written.
+//!
+//! ```
+//! let status = draw_scenario(rt.alloc(), &mut reader, &mut writer, &mut errors, Part::all());
+//! ```
+//!
+//! Read `command` (the whole), `drawing` (a scenario drawn), `observer` (what is noted of a run),
+//! and `labels`.
+#![tactic(auto)]
+
+mod command;
+mod drawing;
+mod fault;
+mod labels;
+mod observer;
+
+pub use command::draw_scenario;
+pub use drawing::{MAX_COMMANDS, MAX_MOMENTS, Part};

@@ -1,0 +1,390 @@
+//! Who runs a scenario and notes what happens.
+
+ghost use Rattle.scenario.specs.Output.{opens_plainly};
+ghost use Rattle.scenario_stage.specs.Obeying.{Obeys};
+
+use crate::drawing::MAX_MOMENTS;
+use crate::labels::{add_done, add_first_line, add_held, key_changed};
+use diagram::{CommandLine, Flight, Group, Mark, Moment, Notes, Span};
+use meta_frame::{Frame, Message, decode, kind_name};
+use meta_types::MetaKey;
+use node_events::Reply;
+use resolvers::Resolver;
+use scenario::Runner;
+use scenario_hint::is_skipped;
+use scenario_stage::{Stage, StageFault, print_line};
+use scenario_text::{Command, Lines};
+use std::alloc::{AllocError, Global};
+use world_core::{Accepted, Event, FrameNumbers, World};
+
+/// The most nodes of a world.
+const MOST_NODES: u64 = 16;
+
+/// No places.
+const NONE: Span = Span { start: 0, end: 0 };
+
+/// Who runs a scenario as `Plain` does, and notes what happens.
+#[derive(Drop)]
+pub(crate) struct Observer<'a> {
+    alloc: Global,
+    lines: Lines<'a>,
+    /// How many lines of the text were passed.
+    number: u64,
+    pub notes: Notes<'a>,
+}
+
+/// Under which key a node's object changed.
+#[derive(Drop)]
+struct Changed {
+    node: u64,
+    key: MetaKey,
+}
+
+impl<'a> Observer<'a> {
+    /// Observes the scenario that this text is, from its first command on.
+    pub(crate) fn new(alloc: Global, text: &'a [u8]) -> Self {
+        Observer {
+            alloc,
+            lines: Lines::of(text),
+            number: 0,
+            notes: Notes {
+                nodes: 0,
+                commands: Vec::new(alloc),
+                moments: Vec::new(alloc),
+                flights: Vec::new(alloc),
+                labels: Vec::new(alloc),
+            },
+        }
+    }
+
+    /// Notes the line of the next command.
+    fn note_line(&mut self) -> Result<(), AllocError> {
+        let text = next_line(&mut self.lines, &mut self.number).unwrap_or(b"");
+        let command = CommandLine {
+            number: self.number,
+            text,
+            first: self.notes.moments.len(),
+        };
+        self.notes.commands.push(command)?;
+        Ok(())
+    }
+
+    /// Notes what a command did: the events that were accepted from `before` on, and what it
+    /// printed.
+    fn note_command(
+        &mut self,
+        world: &World,
+        before: usize,
+        command: &Command<'_>,
+        printed: &[u8],
+    ) -> Result<(), AllocError> {
+        let events = world.accepted().get(before..).unwrap_or(&[]);
+        if events.is_empty() {
+            return self.note_look(command, printed);
+        }
+        let first = self.notes.moments.len();
+        self.note_events(world, events)?;
+        // (no part of a scenario in which a command has more moments is ever drawn)
+        if events.len() as u64 > MAX_MOMENTS {
+            return Ok(());
+        }
+        self.note_labels(world, events, first, printed)
+    }
+
+    /// Notes a command that changed nothing: one that looks, or is refused.
+    fn note_look(&mut self, command: &Command<'_>, printed: &[u8]) -> Result<(), AllocError> {
+        let start = self.notes.labels.len();
+        add_first_line(&mut self.notes.labels, printed)?;
+        let label = Span {
+            start,
+            end: self.notes.labels.len(),
+        };
+        let (node, mark, frame) = match command {
+            Command::Deliver { frame, node, .. } => {
+                (
+                    node.unwrap_or(self.addressee(*frame)),
+                    Mark::Refused,
+                    *frame,
+                )
+            }
+            command => (node_of(command), Mark::Look, 0),
+        };
+        self.note_refused(node, frame);
+        self.notes.moments.push(Moment {
+            node,
+            mark,
+            frame,
+            sent: NONE,
+            label,
+        })?;
+        Ok(())
+    }
+
+    /// To whom a frame was sent; 0 where there is no such frame.
+    fn addressee(&self, frame: u64) -> u64 {
+        match self.notes.flight(frame) {
+            Some(flight) => flight.to,
+            None => 0,
+        }
+    }
+
+    /// Notes that a frame arrives at the moment that comes next, if the node that refuses it is its
+    /// addressee.
+    fn note_refused(&mut self, node: u64, frame: u64) {
+        if node == self.addressee(frame) {
+            self.note_arrival(frame);
+        }
+    }
+
+    /// Notes that a frame arrives at the moment that comes next.
+    fn note_arrival(&mut self, frame: u64) {
+        let place = self.notes.moments.len();
+        let Some(at) = (frame as usize).checked_sub(1) else {
+            return;
+        };
+        if let Some(flight) = self.notes.flights.get_mut(at) {
+            flight.arrived = Some(place);
+        }
+    }
+
+    /// Notes a moment for each event, and the frames that it sent.
+    fn note_events(&mut self, world: &World, events: &[Accepted]) -> Result<(), AllocError> {
+        for accepted in events {
+            self.note_event(world, accepted)?;
+        }
+        Ok(())
+    }
+
+    /// Notes a moment for an event, and the frames that it sent.
+    fn note_event(&mut self, world: &World, accepted: &Accepted) -> Result<(), AllocError> {
+        let frame = frame_of(&accepted.event);
+        self.note_arrival(frame);
+        let start = self.notes.flights.len();
+        self.note_frames(world, accepted.answer.sent)?;
+        let moment = Moment {
+            node: accepted.event.node(),
+            mark: mark_of(accepted),
+            frame,
+            sent: Span {
+                start,
+                end: self.notes.flights.len(),
+            },
+            label: NONE,
+        };
+        self.notes.moments.push(moment)?;
+        Ok(())
+    }
+
+    /// Notes the frames of these numbers, which the moment sent that comes next.
+    fn note_frames(&mut self, world: &World, sent: FrameNumbers) -> Result<(), AllocError> {
+        let place = self.notes.moments.len();
+        for number in 0..sent.count {
+            if let Some(bytes) = world.frame(sent.first.saturating_add(number))? {
+                let flight = flight_of(self.alloc, bytes.as_slice(), place)?;
+                self.notes.flights.push(flight)?;
+            }
+        }
+        Ok(())
+    }
+
+    /// Labels the moments of these events, the first of which stands at this place: the last event
+    /// of the command that changed what a node shows under a key has what it shows then.
+    fn note_labels(
+        &mut self,
+        world: &World,
+        events: &[Accepted],
+        first: usize,
+        printed: &[u8],
+    ) -> Result<(), AllocError> {
+        let mut seen = Vec::new(self.alloc);
+        for (after, accepted) in events.iter().enumerate().rev() {
+            let start = self.notes.labels.len();
+            let labels = &mut self.notes.labels;
+            add_label(self.alloc, labels, world, accepted, &mut seen, printed)?;
+            let end = self.notes.labels.len();
+            if let Some(moment) = self.notes.moments.get_mut(first.saturating_add(after)) {
+                moment.label = Span { start, end };
+            }
+        }
+        Ok(())
+    }
+}
+
+/// Adds the label of an event.
+fn add_label(
+    alloc: Global,
+    label: &mut Vec<u8>,
+    world: &World,
+    accepted: &Accepted,
+    seen: &mut Vec<Changed>,
+    printed: &[u8],
+) -> Result<(), AllocError> {
+    let Some(key) = key_changed(alloc, world, accepted)? else {
+        return add_done(label, world, &accepted.event, printed);
+    };
+    let node = accepted.event.node();
+    if has_seen(seen.as_slice(), node, &key) {
+        return Ok(());
+    }
+    add_held(alloc, label, world, node, &key)?;
+    seen.push(Changed { node, key })?;
+    Ok(())
+}
+
+/// Whether a node's object under a key is among those that changed later.
+fn has_seen(seen: &[Changed], node: u64, key: &MetaKey) -> bool {
+    for other in seen {
+        if other.node == node && other.key == *key {
+            return true;
+        }
+    }
+    false
+}
+
+/// The next line that isn't skipped. Each line that is passed is counted.
+fn next_line<'a>(lines: &mut Lines<'a>, number: &mut u64) -> Option<&'a [u8]> {
+    while let Some(line) = lines.next() {
+        *number = number.saturating_add(1);
+        if !is_skipped(line) {
+            return Some(line);
+        }
+    }
+    None
+}
+
+/// The number of the frame that an event delivers, or 0.
+fn frame_of(event: &Event) -> u64 {
+    match event {
+        Event::Deliver { frame, .. } => *frame,
+        _ => 0,
+    }
+}
+
+/// How an event is marked.
+fn mark_of(accepted: &Accepted) -> Mark {
+    match &accepted.event {
+        Event::Deliver { .. } => match &accepted.answer.reply {
+            Reply::TookStale => Mark::Stale,
+            _ => Mark::Taken,
+        },
+        Event::Join { .. } | Event::Leave { .. } | Event::PeerDown { .. } => Mark::View,
+        Event::Restart { .. } => Mark::Restart,
+        Event::Get { .. } | Event::Watch { .. } | Event::Changes { .. } => Mark::Look,
+        _ => Mark::Step,
+    }
+}
+
+/// What is noted of the frame that these bytes spell, which the moment at this place sent. No frame
+/// of a world is refused but where memory runs out.
+fn flight_of(alloc: Global, bytes: &[u8], sent: usize) -> Result<Flight, AllocError> {
+    match decode(alloc, bytes) {
+        Ok(frame) => {
+            let flight = flight(&frame, sent);
+            drop(frame);
+            Ok(flight)
+        }
+        Err(_) => Err(AllocError),
+    }
+}
+
+/// What is noted of a frame, which the moment at this place sent.
+fn flight(frame: &Frame, sent: usize) -> Flight {
+    Flight {
+        name: kind_name(&frame.message),
+        group: group_of(&frame.message),
+        from: u64::from(frame.from.number()),
+        to: u64::from(frame.to.number()),
+        sent,
+        arrived: None,
+    }
+}
+
+/// What a message is about.
+fn group_of(message: &Message) -> Group {
+    match message {
+        Message::Gossip { .. } => Group::Gossip,
+        Message::IHave { .. } => Group::Announcement,
+        Message::Graft { .. } | Message::Prune => Group::Repair,
+        Message::XRoot { .. }
+        | Message::XPrefixes { .. }
+        | Message::XInner { .. }
+        | Message::XLeaves { .. }
+        | Message::XBucket { .. }
+        | Message::XObject { .. }
+        | Message::XWant { .. } => Group::Exchange,
+        _ => Group::Membership,
+    }
+}
+
+/// The node that a command is for, which is none that delivers; 0 for one that is for no node.
+fn node_of(command: &Command<'_>) -> u64 {
+    match command {
+        Command::Put { node, .. }
+        | Command::Del { node, .. }
+        | Command::Over { node, .. }
+        | Command::Read { node, .. }
+        | Command::Show { node, .. }
+        | Command::Resolve { node, .. }
+        | Command::Junk { node, .. }
+        | Command::Tick { node, .. }
+        | Command::Join { node, .. }
+        | Command::Down { node, .. }
+        | Command::Exchange { node, .. }
+        | Command::Hello { node, .. }
+        | Command::Leave { node }
+        | Command::Restart { node, .. }
+        | Command::Keep { node }
+        | Command::Watch { node, .. }
+        | Command::Changes { node, .. }
+        | Command::Keys { node, .. }
+        | Command::Root { node }
+        | Command::Images { node }
+        | Command::Views { node } => *node,
+        Command::Nodes { .. } | Command::Deliver { .. } | Command::Settle => 0,
+    }
+}
+
+/// How many nodes a world has.
+fn nodes_of(world: &World) -> u64 {
+    for number in 0..MOST_NODES {
+        if world.state(number).is_none() {
+            return number;
+        }
+    }
+    MOST_NODES
+}
+
+impl<'a> Runner for Observer<'a> {
+    ghost opens = { opens_plainly };
+
+    ghost does = { Obeys };
+
+    ghost follows = { λ _ _. Unit {0} };
+
+    fn open(&mut self, stage: &Stage, text: &mut Vec<u8>) -> Result<(), AllocError> {
+        self.note_line()?;
+        self.notes.nodes = nodes_of(stage.world());
+        self.notes.moments.push(Moment {
+            node: 0,
+            mark: Mark::Look,
+            frame: 0,
+            sent: NONE,
+            label: NONE,
+        })?;
+        print_line(text, "ok")
+    }
+
+    fn obey(
+        &mut self,
+        stage: &mut Stage,
+        command: &Command<'_>,
+        resolvers: &[Box<dyn Resolver>],
+        text: &mut Vec<u8>,
+    ) -> Result<(), StageFault> {
+        self.note_line()?;
+        let before = stage.world().accepted().len();
+        stage.obey(command, resolvers, text)?;
+        self.note_command(stage.world(), before, command, text.as_slice())?;
+        Ok(())
+    }
+}
