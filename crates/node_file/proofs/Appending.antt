@@ -1,13 +1,13 @@
 -- A record put behind the last, as a run of two writes.
-use Rattle.std.proofs.Common.{◌≡◌, ◌⊎◌, inl, inr, ⊎_elim, ℕ, ◌+◌, ◌≤◌, List, [], ◌∷◌, ◌++◌, length, None, Ok, true, Result, refl, sym, ◌∙◌, ap, subst, arith, append_assoc, length-append, length-take, take, drop}
+use Rattle.std.proofs.Common.{◌≡◌, inl, inr, ⊎_elim, ℕ, ◌+◌, ◌≤◌, List, [], ◌∷◌, ◌++◌, length, None, Ok, true, refl, sym, ◌∙◌, ap, subst, arith, append_assoc, length-append, length-take, take, drop}
 use Rattle.std.proofs.lemmas.List.{drop_at, take-append-le, take-take}
 use Rattle.node_file.specs.declared.record.Record.{Record}
 use Rattle.node_file.specs.declared.record.Record.TheVariants.{Life}
-use Rattle.devices.specs.Device.{IsDurable, Overwrites, Torn, LeavesOnly}
+use Rattle.devices.specs.Device.{Overwrites, Torn, LeavesOnly}
 use Rattle.node_file.specs.Record.{IsRecord, payload, record_bytes}
 use Rattle.node_file.specs.Fold.{may_follow, with_record}
-use Rattle.node_file.specs.File.{FileState, OpensLike, StandsFor, WithOrWithout, file_state, opened, state_with}
-use Rattle.devices.proofs.Moments.{started, follows, weaker}
+use Rattle.node_file.specs.File.{FileState, WithOrWithout, file_state, opened, state_with}
+use Rattle.devices.proofs.Moments.{follows, weaker}
 use Rattle.node_file.proofs.Parting.{IsLaidOut, laid_out}
 use Rattle.node_file.proofs.Torn.{length-record, torn_behind, torn_gate, open_has, written_behind, written_gate, written_over}
 

@@ -8,3 +8,4 @@ mod Writing
 mod Lives
 mod Tables
 mod Payloads
+mod ByHosts

@@ -1,5 +1,5 @@
 -- What the limits of a store say of records, and of the tables that records make.
-use Rattle.std.proofs.Common.{◌≡◌, ℕ, ◌+◌, ◌<◌, ◌≤◌, Bool, true, false, not, ◌&&◌, cond, T, List, length, Option, Some, None, is_some, is_none, refl, arith, leb}
+use Rattle.std.proofs.Common.{◌≡◌, ℕ, ◌+◌, ◌<◌, ◌≤◌, Bool, true, false, ◌&&◌, cond, List, length, Option, Some, None, is_some, is_none, refl, arith, leb}
 use Rattle.std.specs.Bool.{passes}
 use Rattle.std.specs.Cmp.{first_so, second_so}
 use Rattle.std.specs.List.{list_all}
@@ -15,7 +15,7 @@ use Rattle.meta_store.specs.Step.{is_full_for}
 use Rattle.meta_store.proofs.Keys.{key_total}
 use Rattle.meta_store.proofs.Sizes.{few_values_fit, held_fits}
 use Rattle.node_file.specs.declared.record.Record.TheVariants.{Object}
-use Rattle.node_file.specs.Fold.{Contents, with_record}
+use Rattle.node_file.specs.Fold.{Contents}
 use Rattle.node_file.specs.Refusal.{has_spelling}
 use Rattle.node_file.specs.Reads.{WouldBeTooMany}
 

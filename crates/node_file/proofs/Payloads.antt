@@ -1,19 +1,19 @@
 -- What a payload says, by its forms alone.
-use Rattle.std.proofs.Common.{◌≡◌, ℕ, zero, suc, ◌<◌, ◌^◌, ◌≤◌, List, [], ◌∷◌, ◌++◌, length, take, drop, Option, Some, None, Result, Ok, Err, Bool, true, false, ◌&&◌, cond, refl, sym, ◌∙◌, ap, subst, arith, append-nil}
+use Rattle.std.proofs.Common.{◌≡◌, ℕ, zero, suc, List, [], ◌∷◌, ◌++◌, length, Option, Some, None, Result, Ok, Err, Bool, true, false, ◌&&◌, cond, refl, ◌∙◌, ap, subst, arith, append-nil}
 use Rattle.std.specs.Int.{w16, w32, from_be_bytes, to_be_bytes}
 use Rattle.std.specs.Cmp.{first_so, second_so}
 use Rattle.std.proofs.lemmas.Bool.{eqb-true, ne_eqb}
 use Rattle.meta_types.specs.Name.{Key, IsKey}
-use Rattle.dvvset.specs.Object.{Entry, IsObject}
+use Rattle.dvvset.specs.Object.{Entry}
 use Rattle.frame_fields.specs.Field.{key, object, has_value}
 use Rattle.frame_fields.proofs.Spellable.{number_within, spelled_object}
-use Rattle.frame_readers.specs.Reader.{◌>>=◌, key_reader, number_reader, object_reader, then_reader}
+use Rattle.frame_readers.specs.Reader.{◌>>=◌, key_reader, object_reader, then_reader}
 use Rattle.frame_readers.proofs.Readers.{IsBytes, IsBytes-rest, number_reads, wide32}
 use Rattle.frame_readers.proofs.Fields.{key_reads, object_reads}
-use Rattle.meta_store.specs.Table.{IsHeld, is_small_enough, most_merged}
+use Rattle.meta_store.specs.Table.{is_small_enough, most_merged}
 use Rattle.node_file.specs.declared.record.Record.{Record}
 use Rattle.node_file.specs.declared.record.Record.TheVariants.{Life, Object}
-use Rattle.node_file.specs.Record.{IsRecord, Says, life_in, record_if_held, object_in, object_read, object_to_the_end, payload, record_of}
+use Rattle.node_file.specs.Record.{Says, life_in, object_in, object_read, record_of}
 use Rattle.node_file.proofs.Torn.{record_again}
 
 some_is : (x y : Record) → Some x ≡ Some y → x ≡ y

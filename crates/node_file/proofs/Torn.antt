@@ -1,10 +1,9 @@
 -- What a crash leaves in each of the two steps of an append.
-use Rattle.std.proofs.Common.{◌≡◌, ◌≢◌, ◌⊎◌, inl, inr, ℕ, ◌+◌, ◌-◌, ◌<◌, ◌≤◌, List, [], ◌∷◌, ◌++◌, length, get_or, take, drop, None, Some, Bool, true, false, cond, nat_le, Result, Ok, refl, sym, ◌∙◌, ap, arith, append-nil, append_assoc, length-append, take-append-drop}
+use Rattle.std.proofs.Common.{◌≡◌, ◌≢◌, ◌⊎◌, inl, inr, ℕ, ◌+◌, ◌-◌, ◌<◌, ◌≤◌, List, [], ◌∷◌, ◌++◌, length, get_or, take, drop, None, Some, true, Result, Ok, refl, sym, ◌∙◌, ap, arith, append-nil, append_assoc, length-append, take-append-drop}
 use Rattle.std.specs.Int.{w16, w32, from_be_bytes, to_be_bytes}
 use Rattle.std.proofs.lemmas.Bool.{cases_eq}
-use Rattle.std.proofs.lemmas.Bool.Decides.{nat_tests}
 use Rattle.std.proofs.lemmas.Slice.Eq.{bytes_eq-Decides}
-use Rattle.std.proofs.lemmas.Nat.{from_be_bytes-to_be_bytes_2, from_be_bytes-to_be_bytes_4}
+use Rattle.std.proofs.lemmas.Nat.{from_be_bytes-to_be_bytes_4}
 use Rattle.std.proofs.lemmas.List.{take_at, drop_at, drop_more}
 use Rattle.sha2.specs.Sha256.{sha256}
 use Rattle.sha2.proofs.Facts256.{length-sha256}
@@ -13,15 +12,14 @@ use Rattle.meta_types.specs.Name.{Key, IsKey}
 use Rattle.dvvset.specs.Object.{Entry}
 use Rattle.frame_fields.specs.Field.{key, name, object, prefix}
 use Rattle.frame_fields.proofs.Spellable.{key_fits}
-use Rattle.frame_readers.specs.Reader.{◌>>=◌, key_reader, object_reader}
+use Rattle.frame_readers.specs.Reader.{◌>>=◌, object_reader}
 use Rattle.frame_readers.proofs.Fields.{key_reads, object_reads}
 use Rattle.meta_store.specs.Table.{IsHeld, most_merged}
 use Rattle.meta_store.proofs.Sizes.{held_fits, small_parts}
-use Rattle.node_file.specs.declared.fault.FileFault.{FileFault}
 use Rattle.node_file.specs.declared.record.Record.{Record}
 use Rattle.node_file.specs.declared.record.Record.TheVariants.{Life, Object}
 use Rattle.node_file.specs.Record.{IsRecord, record_if_held, object_read, payload, record_bytes, record_in, record_of, whole_record, with_size}
-use Rattle.node_file.specs.Fold.{Contents, fold_records, may_follow, with_record}
+use Rattle.node_file.specs.Fold.{fold_records, may_follow, with_record}
 use Rattle.node_file.specs.File.{FileState, StandsFor, ended, opened, state_with}
 use Rattle.node_file.proofs.Folding.{closed, takes}
 use Rattle.node_file.proofs.Parting.{IsLaidOut, reads_whole, not_below}

@@ -1,5 +1,4 @@
 use Rattle.std.specs.Prelude.{◌≡◌, ◌⊎◌, ℕ, List, codes}
-use Rattle.meta_store.specs.declared.fault.StoreFault.{StoreFault}
 use Rattle.meta_store.specs.Fault as store
 use Rattle.devices.specs.declared.device.DeviceFault.{DeviceFault}
 use Rattle.devices.specs.declared.device.DeviceFault.TheVariants as OfDevice

@@ -25,3 +25,4 @@ pub mod View
 -- what private functions return
 pub mod Reads
 pub mod Putting
+pub mod Hosted

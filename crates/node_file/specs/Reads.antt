@@ -1,6 +1,5 @@
 -- What private functions return.
-use Rattle.std.specs.Prelude.{◌≡◌, ◌⊎◌, ◌<◌, ◌≤◌, ℕ, List, length, Option, Some, None, Result, Ok, Err, Bool, true, false}
-use Rattle.std.specs.Borrow.{Bor}
+use Rattle.std.specs.Prelude.{◌≡◌, ◌⊎◌, ◌<◌, ◌≤◌, ℕ, length, Option, Some, None, Result, Ok, Err, true, false}
 use Rattle.frame_readers.specs.declared.fault.FieldFault.{FieldFault}
 use Rattle.frame_readers.specs.declared.fault.FieldFault.TheVariants as fields
 use Rattle.meta_store.specs.Table.{Table, most_keys}

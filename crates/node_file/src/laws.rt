@@ -3,6 +3,7 @@
 ghost use Rattle.std.specs.Prelude.{◌≡◌, ◌↔◌, ◌+◌, ◌<◌, ◌++◌, List, [], ℕ, None, Some, Ok, length, take, drop};
 ghost use Rattle.frame_readers.proofs.Readers.{IsBytes};
 ghost use Rattle.node_file.specs.File.{empty_file, file_state, new_state, opened, FileState};
+ghost use Rattle.node_file.specs.Hosted.{CanTake, TakesRecord};
 ghost use Rattle.node_file.specs.Lives.{IsTold};
 ghost use Rattle.node_file.specs.Record.{IsRecord, payload, record_bytes, record_in, record_of, Says};
 ghost use Rattle.node_file.specs.Refusal.{refusal_of_serve};
@@ -42,4 +43,12 @@ pub fn a_record_is_read_again()
 pub fn an_empty_file_is_served()
     ensures { (node : ℕ) → node < 16 → (refusal_of_serve (Some node) (empty_file node) ≡ None)
         × (file_state (empty_file node) ≡ new_state node 0 []) }
+{}
+
+/// Who appends a record to the bytes of a file by the four calls of an append has the record in it
+/// then, and a crash at any moment leaves the file without the record or with it.
+pub fn an_append_is_safe()
+    ensures { (file : List ℕ) (gate : ℕ) (said : Record)
+        → opened None file ≡ Ok (file_state file, gate) → CanTake (file_state file) said
+        → TakesRecord file gate said }
 {}

@@ -8,13 +8,15 @@
 //! file.append(alloc, &key, &object)?; // durable from here on
 //! ```
 //!
-//! Read `node_file` and `opening`, then `record`, `laws` and `fault`; `reading`, `contents`,
+//! Read `node_file` and `opening`, then `hosted` (a file without a device), `record`, `laws` and
+//! `fault`; `reading`, `contents`,
 //! `found`, `putting` and `rewriting` hold the code.
 #![tactic(auto)]
 
 mod contents;
 mod fault;
 mod found;
+mod hosted;
 pub mod laws;
 mod node_file;
 mod opening;
@@ -25,6 +27,7 @@ mod rewriting;
 
 pub use fault::FileFault;
 pub use found::{MAX_FILE_LEN, MIN_FILE_LEN, is_refused_by_front};
+pub use hosted::{Served, serve_bytes, spell_append};
 pub use node_file::NodeFile;
 pub use opening::{create, open_node, serve};
 pub use record::Record;

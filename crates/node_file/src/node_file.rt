@@ -245,7 +245,7 @@ fn has_spelling(object: &Entries) -> bool
 
 /// Why no record of the object is put after this gate.
 #[tactic(auto, using(crate::proofs::Limits::of_refusals))]
-fn refusal_of(gate: usize, key: &MetaKey, object: &Entries) -> Option<FileFault>
+pub(crate) fn refusal_of(gate: usize, key: &MetaKey, object: &Entries) -> Option<FileFault>
     requires shows { has_value object.now ≡ true }
     ensures first { result ≡ refusal_of_append false gate key.now object.now }
     ensures lawful { result ≡ None → IsRecord (Object key.now object.now) }

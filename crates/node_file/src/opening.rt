@@ -219,7 +219,11 @@ fn find<D: Device>(alloc: Global, device: &mut D, asked: Option<NodeId>) -> Resu
 }
 
 /// What the bytes of a file stand for.
-fn stands_for(alloc: Global, bytes: &[u8], asked: Option<NodeId>) -> Result<Found, FileFault>
+pub(crate) fn stands_for(
+    alloc: Global,
+    bytes: &[u8],
+    asked: Option<NodeId>,
+) -> Result<Found, FileFault>
     ensures asked { IfOk result (λ f. opened asked bytes.now ≡ Ok (file_state bytes.now, f.gate)) }
     ensures stands { IfOk result (λ f. file_state bytes.now
         ≡ record { version = f.version; node = f.node; contents = f.contents }) }

@@ -1,4 +1,4 @@
-use Rattle.std.proofs.Common.{◌≡◌, [], length}
+use Rattle.std.proofs.Common.{◌≡◌, length}
 use Rattle.node_file.specs.Fold.{life_from}
 use Rattle.node_file.proofs.contents.look_over.Given as goal
 

@@ -1,6 +1,6 @@
-use Rattle.std.proofs.Common.{rules, ◌≡◌, ◌<◌, ◌≤◌, length, drop, get_or, true, Some, refl, sym, subst, ◌∙◌, ap, arith}
+use Rattle.std.proofs.Common.{rules, ◌≡◌, ◌<◌, ◌≤◌, length, drop, get_or, Some, refl, sym, subst, ◌∙◌, ap}
 use Rattle.node_file.specs.Record.{record_in}
-use Rattle.node_file.specs.Fold.{may_follow, with_record, life_from}
+use Rattle.node_file.specs.Fold.{with_record, life_from}
 use Rattle.node_file.specs.Reads.{FailsBehind, WouldBeTooMany}
 use Rattle.node_file.proofs.Folding.{failed_behind}
 use Rattle.node_file.proofs.contents.read_contents.Goals as goal

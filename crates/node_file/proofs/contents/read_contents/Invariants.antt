@@ -1,4 +1,4 @@
-use Rattle.std.proofs.Common.{◌≡◌, [], length}
+use Rattle.std.proofs.Common.{◌≡◌, length}
 use Rattle.node_file.specs.Fold.{contents_from, no_contents}
 use Rattle.node_file.proofs.contents.read_contents.Given as goal
 

@@ -1,5 +1,4 @@
-use Rattle.std.proofs.Common.{◌≡◌, [], None, Ok, refl, ◌∙◌, ap}
-use Rattle.node_file.specs.View.{FileView}
+use Rattle.std.proofs.Common.{◌≡◌, None, Ok, refl, ◌∙◌, ap}
 use Rattle.node_file.specs.File.{opened, file_state}
 use Rattle.node_file.proofs.Made.{fresh, made, settle, stands_so}
 use Rattle.node_file.proofs.opening.create.Goals as goal

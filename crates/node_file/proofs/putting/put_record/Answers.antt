@@ -1,8 +1,8 @@
-use Rattle.std.proofs.Common.{◌≡◌, ◌∷◌, ap, subst}
+use Rattle.std.proofs.Common.{◌∷◌, subst}
 use Rattle.devices.specs.Device.{Overwrites}
 use Rattle.node_file.specs.File.{IsAppended}
 use Rattle.node_file.specs.Reads.{record_given}
-use Rattle.node_file.proofs.Appending.{both_written, gate_within, staged_run, staged, staged_within, gate_run, appended}
+use Rattle.node_file.proofs.Appending.{both_written, gate_within, staged_run, staged, gate_run, appended}
 use Rattle.node_file.proofs.putting.put_record.Goals as goal
 
 pub write_synced-requires-clause-within : goal.write_synced-requires-clause-within

@@ -1,4 +1,4 @@
-use Rattle.std.proofs.Common.{◌≡◌, ◌+◌, ◌-◌, ◌++◌, ◌∷◌, [], length, Ok, rules, ◌∙◌, ap, arith, length-append}
+use Rattle.std.proofs.Common.{◌≡◌, ◌+◌, ◌-◌, ◌∷◌, [], length, Ok, rules, ◌∙◌, ap, arith, length-append}
 use Rattle.devices.specs.Device.{Overwrites}
 use Rattle.node_file.specs.Record.{payload, record_bytes}
 use Rattle.node_file.specs.File.{file_state, state_with}

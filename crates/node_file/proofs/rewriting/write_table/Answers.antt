@@ -1,7 +1,7 @@
-use Rattle.std.proofs.Common.{◌≡◌, ◌++◌, List, ℕ, subst, ◌∙◌}
+use Rattle.std.proofs.Common.{List, subst, ◌∙◌}
 use Rattle.dvvset.specs.Object.{Entry}
 use Rattle.meta_store.specs.Kept.{PartsOf, rows_under, table_of}
-use Rattle.node_file.proofs.Tables.{IsWritten, rows_held, rows_rise, rows_few, rows_written}
+use Rattle.node_file.proofs.Tables.{IsWritten, rows_held, rows_rise, rows_written}
 use Rattle.node_file.proofs.rewriting.write_table.Goals as goal
 
 pub write_rows-requires-clause-held : goal.write_rows-requires-clause-held

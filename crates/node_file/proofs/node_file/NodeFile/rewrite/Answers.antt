@@ -1,4 +1,4 @@
-use Rattle.std.proofs.Common.{◌≡◌, None, ◌∙◌, ap}
+use Rattle.std.proofs.Common.{None, ◌∙◌, ap}
 use Rattle.node_file.specs.File.{opened}
 use Rattle.node_file.proofs.Made.{made}
 use Rattle.node_file.proofs.node_file.NodeFile.rewrite.Goals as goal
