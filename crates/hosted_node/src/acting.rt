@@ -1,0 +1,90 @@
+//! A step of a hosted node.
+
+ghost use Rattle.std.specs.Prelude.{◌≡◌, ◌⊎◌, Err, None, false, true, IfOk, IfErr, OnOk};
+ghost use Rattle.desk_parts.specs.Stored.{record_after};
+ghost use Rattle.hosted_node.specs.Hosting.{Acts, FitsInFile, IsOverfullWith, RefusesActing, bytes_of, is_pending, spelled_for};
+ghost use Rattle.hosted_node.specs.declared.fault.HostFault.{HostFault};
+
+use crate::fault::HostFault;
+use crate::node::HostedNode;
+use meta_store::Store;
+use node_core::Stepped;
+use node_events::NodeEvent;
+use node_file::{FileFault, spell_append};
+use std::alloc::Global;
+
+impl HostedNode {
+    /// Makes the step of an event. What it stores is the next `record`; then the reply and the
+    /// frames are handed out.
+    ///
+    /// Refused in this order: 34 `Stopped`; 37 `Pending`; what the step refuses; 33 `FileFull`,
+    /// which stops the node. 99 `Memory` may come at any time, and stops the node if the step was
+    /// made. A refused call that doesn't stop the node leaves all as before.
+    pub fn act(&mut self, event: NodeEvent) -> Result<(), HostFault>
+        ensures acts { OnOk result (Acts self.old event self.new) }
+        ensures stopped { self.old.stopped ≡ true → result ≡ Err HostFault.Stopped }
+        ensures pending { self.old.stopped ≡ false → is_pending self.old ≡ true
+            → result ≡ Err HostFault.Pending }
+        ensures refused { IfErr result (RefusesActing self.old event self.new) }
+    {
+        // The event is dropped at the only way out, so that the proof has one case for it.
+        let acted = self.act_on(&event);
+        drop(event);
+        acted
+    }
+
+    fn act_on(&mut self, event: &NodeEvent) -> Result<(), HostFault>
+        ensures acts { OnOk result (Acts self.old event.now self.new) }
+        ensures stopped { self.old.stopped ≡ true → result ≡ Err HostFault.Stopped }
+        ensures pending { self.old.stopped ≡ false → is_pending self.old ≡ true
+            → result ≡ Err HostFault.Pending }
+        ensures refused { IfErr result (RefusesActing self.old event.now self.new) }
+    {
+        if self.is_stopped {
+            return Err(HostFault::Stopped);
+        }
+        if self.to_store.is_some() || self.sent < self.outbox.len() {
+            return Err(HostFault::Pending);
+        }
+        let Stepped { reply, outbox } = self.state.step_on(event)?;
+        match spelled_for(self.alloc, self.gate, event, self.state.store()) {
+            Ok(to_store) => {
+                self.to_store = to_store;
+                self.reply = Some(reply);
+                self.outbox = outbox.into_vec();
+                self.sent = 0;
+                Ok(())
+            }
+            Err(fault) => {
+                self.is_stopped = true;
+                Err(fault)
+            }
+        }
+    }
+}
+
+/// What the host has to store of an event, after which this is held.
+fn spelled_for(
+    alloc: Global,
+    gate: Option<usize>,
+    event: &NodeEvent,
+    store: &Store,
+) -> Result<Option<Vec<u8>>, HostFault>
+    ensures value { IfOk result
+        (λ bytes. bytes_of bytes ≡ spelled_for gate (record_after event.now store.now)) }
+    ensures fits { IfOk result (λ bytes. FitsInFile gate (bytes_of bytes)) }
+    ensures refused { IfErr result (λ fault. (fault ≡ HostFault.Memory)
+        ⊎ ((fault ≡ HostFault.FileFull) × IsOverfullWith gate (record_after event.now store.now))) }
+{
+    let (Some(gate), Some(key)) = (gate, event.stored_key()) else {
+        return Ok(None);
+    };
+    let Some(object) = store.object(key) else {
+        return Ok(None);
+    };
+    match spell_append(alloc, gate, key, object) {
+        Ok(record) => Ok(Some(record)),
+        Err(FileFault::FileFull) => Err(HostFault::FileFull),
+        Err(_) => Err(HostFault::Memory),
+    }
+}

@@ -1,0 +1,40 @@
+//! Contexts by their numbers.
+
+ghost use Rattle.node_export.specs.Exports.{Forgets, InSlot, KeepsAs};
+
+use crate::numbers::{NO_NODE, OK};
+use node_handle::Slot;
+use std::alloc::Global;
+
+/// Keeps the context of the last reply, a read's, and says its number. Refused with 80 `NoNode`, 38
+/// `Nothing` and 99 `Memory`.
+#[unsafe(no_mangle)]
+pub extern "C" fn zomtagi_keep_context(alloc: Global, slot: &mut Slot, number: &mut u64) -> u16
+    ensures { InSlot (KeepsAs number.new) slot.old.handle.held slot.new.handle.held result }
+{
+    let Some(mut node) = slot.take(alloc) else {
+        return NO_NODE;
+    };
+    let kept = node.keep_context();
+    slot.put(node);
+    match kept {
+        Ok(kept) => {
+            *number = kept;
+            OK
+        }
+        Err(fault) => fault.code(),
+    }
+}
+
+/// Forgets the context of a number, if there is one. Refused with 80 `NoNode`.
+#[unsafe(no_mangle)]
+pub extern "C" fn zomtagi_forget_context(alloc: Global, slot: &mut Slot, number: u64) -> u16
+    ensures { InSlot (Forgets number) slot.old.handle.held slot.new.handle.held result }
+{
+    let Some(mut node) = slot.take(alloc) else {
+        return NO_NODE;
+    };
+    node.forget_context(number);
+    slot.put(node);
+    OK
+}

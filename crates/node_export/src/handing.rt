@@ -1,0 +1,141 @@
+//! What the program is handed: what it has to store, the reply, and the frames.
+
+ghost use Rattle.std.specs.Prelude.{◌≡◌, Some, None, IfSome, nat_eq, not};
+ghost use Rattle.std.specs.Option.{option_copied};
+ghost use Rattle.hosted_node.specs.Hosting.{Stores, handed_record, handed_reply, next_frame};
+ghost use Rattle.node_export.specs.Exports.{AnswersAs, Hands, HandsFrom, InSlot, Sends};
+
+use crate::numbers::{NO_NODE, OK, SHORT_BUFFER, answer_of};
+use crate::reply::spell_reply;
+use hosted_node::{HostFault, HostedNode};
+use meta_types::TypeFault;
+use node_handle::Slot;
+use std::alloc::Global;
+
+/// Copies bytes to the front of a buffer, and says how many they are. Refused with 38 `Nothing`
+/// where there are none, and 81 `ShortBuffer`.
+pub(crate) fn copy_out(bytes: Option<&[u8]>, buffer: &mut [u8], len: &mut usize) -> u16
+    ensures { Hands (option_copied bytes.entry) buffer.old buffer.new len.new result }
+{
+    let Some(bytes) = bytes else {
+        return HostFault::Nothing.code();
+    };
+    *len = bytes.len();
+    if buffer.len() < bytes.len() {
+        return SHORT_BUFFER;
+    }
+    buffer[..bytes.len()].copy_from_slice(bytes);
+    OK
+}
+
+/// The record that the program has to store before it is handed the reply and the frames, and the
+/// offset of the closed gate of its file: it writes the bytes after the first from one byte after
+/// the gate on, syncs, writes the first over the gate, and syncs.
+///
+/// Refused with 80 `NoNode`, 38 `Nothing` and 81 `ShortBuffer`, where `len` says how long it is.
+#[unsafe(no_mangle)]
+pub extern "C" fn zomtagi_record(
+    alloc: Global,
+    slot: &mut Slot,
+    gate: &mut usize,
+    buffer: &mut [u8],
+    len: &mut usize,
+) -> u16
+    ensures same { slot.new.handle.held ≡ slot.old.handle.held }
+    ensures hands { HandsFrom slot.old.handle.held handed_record buffer.old buffer.new len.new
+        result }
+    ensures gate { result ≡ OK
+        → IfSome slot.old.handle.held (λ n. n.gate ≡ Some gate.new) }
+{
+    let Some(node) = slot.take(alloc) else {
+        return NO_NODE;
+    };
+    *gate = node.gate().unwrap_or(0);
+    let number = copy_out(node.record(), buffer, len);
+    slot.put(node);
+    number
+}
+
+/// The program stored the record, or failed to: then `is_stored` is 0, and the node is stopped.
+/// Refused with 80 `NoNode`, 34 `Stopped` and 38 `Nothing`.
+#[unsafe(no_mangle)]
+pub extern "C" fn zomtagi_stored(alloc: Global, slot: &mut Slot, is_stored: u8) -> u16
+    ensures { InSlot (AnswersAs (Stores (not (nat_eq is_stored 0))))
+        slot.old.handle.held slot.new.handle.held result }
+{
+    let Some(mut node) = slot.take(alloc) else {
+        return NO_NODE;
+    };
+    let stored = node.stored(is_stored != 0);
+    slot.put(node);
+    answer_of(stored)
+}
+
+/// What the last step replied, as bytes: see `docs/EMBEDDING.md`. Refused as `zomtagi_record` is,
+/// and with 99 `Memory`.
+#[unsafe(no_mangle)]
+pub extern "C" fn zomtagi_reply(
+    alloc: Global,
+    slot: &mut Slot,
+    buffer: &mut [u8],
+    len: &mut usize,
+) -> u16
+    ensures same { slot.new.handle.held ≡ slot.old.handle.held }
+    ensures held_back { IfSome slot.old.handle.held
+        (λ n. handed_reply n ≡ None → result ≡ 38) }
+{
+    let Some(node) = slot.take(alloc) else {
+        return NO_NODE;
+    };
+    let number = copy_reply(alloc, &node, buffer, len);
+    slot.put(node);
+    number
+}
+
+fn copy_reply(alloc: Global, node: &HostedNode, buffer: &mut [u8], len: &mut usize) -> u16
+    ensures { handed_reply node.now ≡ None → result ≡ 38 }
+{
+    match node.reply() {
+        Some(reply) => match spell_reply(alloc, reply) {
+            Ok(bytes) => copy_out(Some(bytes.as_slice()), buffer, len),
+            Err(_) => TypeFault::Memory.code(),
+        },
+        None => HostFault::Nothing.code(),
+    }
+}
+
+/// The next frame to send; its bytes 6 and 7 are its addressee. Refused as `zomtagi_record` is.
+#[unsafe(no_mangle)]
+pub extern "C" fn zomtagi_frame(
+    alloc: Global,
+    slot: &mut Slot,
+    buffer: &mut [u8],
+    len: &mut usize,
+) -> u16
+    ensures same { slot.new.handle.held ≡ slot.old.handle.held }
+    ensures hands { HandsFrom slot.old.handle.held next_frame buffer.old buffer.new len.new
+        result }
+{
+    let Some(node) = slot.take(alloc) else {
+        return NO_NODE;
+    };
+    let number = match node.frame() {
+        Some(frame) => copy_out(Some(frame.as_slice()), buffer, len),
+        None => copy_out(None, buffer, len),
+    };
+    slot.put(node);
+    number
+}
+
+/// The program has the next frame, if there is one. Refused with 80 `NoNode`.
+#[unsafe(no_mangle)]
+pub extern "C" fn zomtagi_sent(alloc: Global, slot: &mut Slot) -> u16
+    ensures { InSlot Sends slot.old.handle.held slot.new.handle.held result }
+{
+    let Some(mut node) = slot.take(alloc) else {
+        return NO_NODE;
+    };
+    node.sent();
+    slot.put(node);
+    OK
+}

@@ -1,0 +1,26 @@
+//! A node as a static library, for programs in Rust and C that bring a transport, a clock and a
+//! disk of their own. Each export takes a slot that the program keeps, and returns 0 or the number
+//! of a refusal. `bindings/c/zomtagi.h` has them in words, and `docs/EMBEDDING.md` how they are
+//! used.
+//!
+//! ```
+//! zomtagi_slot slot = {0};
+//! zomtagi_serve(&slot, file, file_len, 3);
+//! /* append zomtagi_record to the file, then */ zomtagi_stored(&slot, 1);
+//! zomtagi_tick(&slot, random());
+//! ```
+//!
+//! Read `making`, `steps`, `writing`, `handing`, `contexts` and `reading`; `numbers` has what they
+//! return.
+#![tactic(auto)]
+
+mod contexts;
+mod handing;
+mod making;
+mod numbers;
+mod reading;
+mod reply;
+mod steps;
+mod writing;
+
+pub use numbers::{BAD_LIFE, NO_NODE, OK, SHORT_BUFFER};

@@ -1,0 +1,111 @@
+//! What a node holds, without a step.
+
+ghost use Rattle.std.specs.Prelude.{◌≡◌, Some, None, IfSome};
+ghost use Rattle.hash_tree.specs.Tree.{rows_of, tree_root};
+ghost use Rattle.node_export.specs.Exports.{HandsFrom};
+
+use crate::handing::copy_out;
+use crate::numbers::{NO_NODE, OK};
+use crate::steps::prefix_of;
+use frame_fields::writing::write_key;
+use hosted_node::HostedNode;
+use meta_types::{FullPrefix, TypeFault};
+use node_handle::Slot;
+use std::alloc::{AllocError, Global};
+
+/// The keys under a full prefix, in order, each as a frame has it. What the node holds may not be
+/// stored yet. Refused with 80 `NoNode`, 1 `BadName`, 81 `ShortBuffer` and 99 `Memory`.
+#[unsafe(no_mangle)]
+pub extern "C" fn zomtagi_list(
+    alloc: Global,
+    slot: &mut Slot,
+    prefix: &[u8],
+    sub: &[u8],
+    buffer: &mut [u8],
+    len: &mut usize,
+) -> u16
+    ensures same { slot.new.handle.held ≡ slot.old.handle.held }
+{
+    let Some(node) = slot.take(alloc) else {
+        return NO_NODE;
+    };
+    let number = match prefix_of(alloc, prefix, sub) {
+        Ok(prefix) => copy_keys(alloc, &node, &prefix, buffer, len),
+        Err(fault) => fault.code(),
+    };
+    slot.put(node);
+    number
+}
+
+fn copy_keys(
+    alloc: Global,
+    node: &HostedNode,
+    prefix: &FullPrefix,
+    buffer: &mut [u8],
+    len: &mut usize,
+) -> u16 {
+    match spell_keys(alloc, node, prefix) {
+        Ok(bytes) => copy_out(Some(bytes.as_slice()), buffer, len),
+        Err(_) => TypeFault::Memory.code(),
+    }
+}
+
+fn spell_keys(
+    alloc: Global,
+    node: &HostedNode,
+    prefix: &FullPrefix,
+) -> Result<Vec<u8>, AllocError> {
+    let keys = node.state().store().list(prefix)?;
+    let mut bytes = Vec::new(alloc);
+    for key in keys.as_slice() {
+        write_key(&mut bytes, key)?;
+    }
+    Ok(bytes)
+}
+
+/// The 32 bytes of the root of the tree over all that the node holds, which may not be stored yet.
+/// Refused with 80 `NoNode` and
+/// 81 `ShortBuffer`.
+#[unsafe(no_mangle)]
+pub extern "C" fn zomtagi_root(
+    alloc: Global,
+    slot: &mut Slot,
+    buffer: &mut [u8],
+    len: &mut usize,
+) -> u16
+    ensures same { slot.new.handle.held ≡ slot.old.handle.held }
+    ensures hands { HandsFrom slot.old.handle.held (λ n. Some (tree_root (rows_of n.state.table)))
+        buffer.old buffer.new len.new result }
+{
+    let Some(node) = slot.take(alloc) else {
+        return NO_NODE;
+    };
+    let root = node.state().tree().root();
+    let number = copy_out(Some(root.bytes()), buffer, len);
+    slot.put(node);
+    number
+}
+
+/// The node's number, the number of its life, and whether it is stopped. Refused with 80 `NoNode`.
+#[unsafe(no_mangle)]
+pub extern "C" fn zomtagi_about(
+    alloc: Global,
+    slot: &mut Slot,
+    number: &mut u16,
+    life: &mut u32,
+    is_stopped: &mut u8,
+) -> u16
+    ensures same { slot.new.handle.held ≡ slot.old.handle.held }
+    ensures says { IfSome slot.old.handle.held (λ n. (result ≡ OK)
+        × (number.new ≡ n.state.node) × (life.new ≡ n.state.incarnation)) }
+    ensures none { slot.old.handle.held ≡ None → result ≡ NO_NODE }
+{
+    let Some(node) = slot.take(alloc) else {
+        return NO_NODE;
+    };
+    *number = node.state().node().number();
+    *life = node.state().incarnation();
+    *is_stopped = if node.is_stopped() { 1 } else { 0 };
+    slot.put(node);
+    OK
+}

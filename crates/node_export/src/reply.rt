@@ -1,0 +1,65 @@
+//! How a reply is spelled for the program.
+
+use frame_fields::writing::{write_key, write_u8, write_u64};
+use meta_types::Value;
+use node_events::Reply;
+use std::alloc::{AllocError, Global};
+use subscriptions::Change;
+
+/// The bytes of a reply: a byte that says which, and its fields. Numbers are written with the
+/// highest byte first; keys stand as in frames.
+pub(crate) fn spell_reply(alloc: Global, reply: &Reply) -> Result<Vec<u8>, AllocError> {
+    let mut bytes = Vec::new(alloc);
+    match reply {
+        Reply::Looked { values, .. } => {
+            write_u8(&mut bytes, 1)?;
+            add_values(&mut bytes, values.as_slice())?;
+        }
+        Reply::Wrote { .. } => write_u8(&mut bytes, 2)?,
+        Reply::Took => write_u8(&mut bytes, 3)?,
+        Reply::TookFresh => write_u8(&mut bytes, 4)?,
+        Reply::TookStale => write_u8(&mut bytes, 5)?,
+        Reply::Done => write_u8(&mut bytes, 6)?,
+        Reply::Watching { number } => {
+            write_u8(&mut bytes, 7)?;
+            write_u64(&mut bytes, *number)?;
+        }
+        Reply::Changed { missed, changes } => {
+            write_u8(&mut bytes, 8)?;
+            write_u64(&mut bytes, *missed)?;
+            add_changes(&mut bytes, changes.as_slice())?;
+        }
+    }
+    Ok(bytes)
+}
+
+/// Adds how many values there are, and each.
+fn add_values(bytes: &mut Vec<u8>, values: &[Value]) -> Result<(), AllocError> {
+    write_u64(bytes, values.len() as u64)?;
+    for value in values {
+        add_value(bytes, value)?;
+    }
+    Ok(())
+}
+
+/// Adds the stamp of a value, whether it has a body, and the length and the bytes of that.
+fn add_value(bytes: &mut Vec<u8>, value: &Value) -> Result<(), AllocError> {
+    write_u64(bytes, value.stamp())?;
+    match value.body() {
+        Some(body) => {
+            write_u8(bytes, 1)?;
+            write_u64(bytes, body.len() as u64)?;
+            bytes.extend_from_slice(body)
+        }
+        None => write_u8(bytes, 0),
+    }
+}
+
+/// Adds how many changes there are, and the key of each.
+fn add_changes(bytes: &mut Vec<u8>, changes: &[Change]) -> Result<(), AllocError> {
+    write_u64(bytes, changes.len() as u64)?;
+    for change in changes {
+        write_key(bytes, &change.key)?;
+    }
+    Ok(())
+}

@@ -1,0 +1,195 @@
+//! Steps that name no value: each is refused with 1 `BadName` or 3 `BadNode` for what it names,
+//! with 80 `NoNode`, and then as `HostedNode::act` is.
+
+ghost use Rattle.std.specs.Prelude.{◌≡◌, ◌⊎◌, [], IfOk, IfErr, OnOk};
+ghost use Rattle.meta_types.specs.Name.{IsFullPrefix, IsKey};
+ghost use Rattle.meta_types.specs.declared.fault.TypeFault.{TypeFault};
+ghost use Rattle.node_events.specs.declared.event.NodeEvent.TheVariants.{Changes, Exchange, Hello, Join, Keep, Leave, PeerDown, Read, Take, Tick, Watch};
+ghost use Rattle.node_export.specs.Exports.{Answers, AnswersNamed, AnswersPeer, Declines, key_named};
+
+use crate::numbers::{NO_NODE, answer_of};
+use meta_types::{ByteString, FullPrefix, MetaKey, NodeId, TypeFault};
+use node_events::NodeEvent;
+use node_handle::Slot;
+use std::alloc::Global;
+
+/// Has the node in the slot make the step of an event.
+pub(crate) fn act_in(alloc: Global, slot: &mut Slot, event: NodeEvent) -> u16
+    ensures { Answers slot.old.handle.held event slot.new.handle.held result }
+{
+    let Some(mut node) = slot.take(alloc) else {
+        return NO_NODE;
+    };
+    let acted = node.act(event);
+    slot.put(node);
+    answer_of(acted)
+}
+
+/// The key of these names.
+pub(crate) fn key_of(
+    alloc: Global,
+    prefix: &[u8],
+    sub: &[u8],
+    key: &[u8],
+) -> Result<MetaKey, TypeFault>
+    ensures value { IfOk result (λ k. k ≡ key_named prefix.now sub.now key.now) }
+    ensures lawful { OnOk result (IsKey (key_named prefix.now sub.now key.now)) }
+    ensures refused { IfErr result (λ fault. (fault ≡ TypeFault.Memory)
+        ⊎ ((fault ≡ TypeFault.BadName) × (IsKey (key_named prefix.now sub.now key.now) → ⊥))) }
+{
+    let prefix = FullPrefix::new(prefix.to_vec(alloc)?, sub.to_vec(alloc)?)?;
+    MetaKey::new(prefix, key.to_vec(alloc)?)
+}
+
+/// The node is read; `zomtagi_reply` has what it shows.
+#[unsafe(no_mangle)]
+pub extern "C" fn zomtagi_read(
+    alloc: Global,
+    slot: &mut Slot,
+    prefix: &[u8],
+    sub: &[u8],
+    key: &[u8],
+) -> u16
+    ensures { AnswersNamed (IsKey (key_named prefix.now sub.now key.now))
+        (Read (key_named prefix.now sub.now key.now))
+        slot.old.handle.held slot.new.handle.held result }
+{
+    match key_of(alloc, prefix, sub, key) {
+        Ok(key) => act_in(alloc, slot, NodeEvent::Read { key }),
+        Err(fault) => fault.code(),
+    }
+}
+
+/// What is held under the key is to be stored.
+#[unsafe(no_mangle)]
+pub extern "C" fn zomtagi_keep(
+    alloc: Global,
+    slot: &mut Slot,
+    prefix: &[u8],
+    sub: &[u8],
+    key: &[u8],
+) -> u16
+    ensures { AnswersNamed (IsKey (key_named prefix.now sub.now key.now))
+        (Keep (key_named prefix.now sub.now key.now))
+        slot.old.handle.held slot.new.handle.held result }
+{
+    match key_of(alloc, prefix, sub, key) {
+        Ok(key) => act_in(alloc, slot, NodeEvent::Keep { key }),
+        Err(fault) => fault.code(),
+    }
+}
+
+/// Bytes came that should be a frame for the node. The word is a random number.
+#[unsafe(no_mangle)]
+pub extern "C" fn zomtagi_take(alloc: Global, slot: &mut Slot, frame: &[u8], word: u64) -> u16
+    ensures { Answers slot.old.handle.held (Take frame.now word) slot.new.handle.held result
+        ⊎ Declines 99 slot.old.handle.held slot.new.handle.held result }
+{
+    match frame.to_vec(alloc) {
+        Ok(frame) => {
+            let frame = ByteString::new(frame);
+            act_in(alloc, slot, NodeEvent::Take { frame, word })
+        }
+        Err(_) => TypeFault::Memory.code(),
+    }
+}
+
+/// Time passes.
+#[unsafe(no_mangle)]
+pub extern "C" fn zomtagi_tick(alloc: Global, slot: &mut Slot, word: u64) -> u16
+    ensures { Answers slot.old.handle.held (Tick word) slot.new.handle.held result }
+{
+    act_in(alloc, slot, NodeEvent::Tick { word })
+}
+
+/// The node joins the cluster through a contact.
+#[unsafe(no_mangle)]
+pub extern "C" fn zomtagi_join(alloc: Global, slot: &mut Slot, contact: u16, word: u64) -> u16
+    ensures { AnswersPeer contact (Join contact word) slot.old.handle.held slot.new.handle.held
+        result }
+{
+    match NodeId::new(contact) {
+        Ok(contact) => act_in(alloc, slot, NodeEvent::Join { contact, word }),
+        Err(fault) => fault.code(),
+    }
+}
+
+/// Somebody found that a peer doesn't answer.
+#[unsafe(no_mangle)]
+pub extern "C" fn zomtagi_peer_down(alloc: Global, slot: &mut Slot, peer: u16, word: u64) -> u16
+    ensures { AnswersPeer peer (PeerDown peer word) slot.old.handle.held slot.new.handle.held
+        result }
+{
+    match NodeId::new(peer) {
+        Ok(peer) => act_in(alloc, slot, NodeEvent::PeerDown { peer, word }),
+        Err(fault) => fault.code(),
+    }
+}
+
+/// The node begins an exchange with a peer.
+#[unsafe(no_mangle)]
+pub extern "C" fn zomtagi_exchange(alloc: Global, slot: &mut Slot, peer: u16) -> u16
+    ensures { AnswersPeer peer (Exchange peer) slot.old.handle.held slot.new.handle.held result }
+{
+    match NodeId::new(peer) {
+        Ok(peer) => act_in(alloc, slot, NodeEvent::Exchange { peer }),
+        Err(fault) => fault.code(),
+    }
+}
+
+/// The node tells a peer which life it is in.
+#[unsafe(no_mangle)]
+pub extern "C" fn zomtagi_hello(alloc: Global, slot: &mut Slot, peer: u16) -> u16
+    ensures { AnswersPeer peer (Hello peer) slot.old.handle.held slot.new.handle.held result }
+{
+    match NodeId::new(peer) {
+        Ok(peer) => act_in(alloc, slot, NodeEvent::Hello { peer }),
+        Err(fault) => fault.code(),
+    }
+}
+
+/// The node leaves the cluster.
+#[unsafe(no_mangle)]
+pub extern "C" fn zomtagi_leave(alloc: Global, slot: &mut Slot) -> u16
+    ensures { Answers slot.old.handle.held Leave slot.new.handle.held result }
+{
+    act_in(alloc, slot, NodeEvent::Leave)
+}
+
+/// Somebody wants to hear of the changes under a full prefix, the last `capacity` of them.
+#[unsafe(no_mangle)]
+pub extern "C" fn zomtagi_watch(
+    alloc: Global,
+    slot: &mut Slot,
+    prefix: &[u8],
+    sub: &[u8],
+    capacity: usize,
+) -> u16
+    ensures { AnswersNamed (IsFullPrefix (key_named prefix.now sub.now []).prefix)
+        (Watch (key_named prefix.now sub.now []).prefix capacity)
+        slot.old.handle.held slot.new.handle.held result }
+{
+    match prefix_of(alloc, prefix, sub) {
+        Ok(prefix) => act_in(alloc, slot, NodeEvent::Watch { prefix, capacity }),
+        Err(fault) => fault.code(),
+    }
+}
+
+/// The full prefix of these names.
+pub(crate) fn prefix_of(alloc: Global, prefix: &[u8], sub: &[u8]) -> Result<FullPrefix, TypeFault>
+    ensures value { IfOk result (λ p. p ≡ (key_named prefix.now sub.now []).prefix) }
+    ensures lawful { OnOk result (IsFullPrefix (key_named prefix.now sub.now []).prefix) }
+    ensures refused { IfErr result (λ fault. (fault ≡ TypeFault.Memory)
+        ⊎ ((fault ≡ TypeFault.BadName)
+        × (IsFullPrefix (key_named prefix.now sub.now []).prefix → ⊥))) }
+{
+    FullPrefix::new(prefix.to_vec(alloc)?, sub.to_vec(alloc)?)
+}
+
+/// The watch of that number hands out what it has noted.
+#[unsafe(no_mangle)]
+pub extern "C" fn zomtagi_changes(alloc: Global, slot: &mut Slot, number: u64) -> u16
+    ensures { Answers slot.old.handle.held (Changes number) slot.new.handle.held result }
+{
+    act_in(alloc, slot, NodeEvent::Changes { number })
+}
