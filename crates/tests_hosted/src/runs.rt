@@ -2,6 +2,7 @@
 
 use crate::hosts::{empty_file, key, node, store, value};
 use hosted_node::{HostFault, HostedNode};
+use meta_types::NodeId;
 use node_events::NodeEvent;
 use std::alloc::Global;
 
@@ -33,21 +34,32 @@ fn carry(alloc: Global, from: &mut HostedNode, to: &mut HostedNode) -> Result<u6
     Ok(carried)
 }
 
-/// A write reaches another node: what the two show, and how many frames there were.
+/// A write reaches another node: how many values that shows, and how many frames there were.
+fn spread_between(
+    alloc: Global,
+    zero: &mut HostedNode,
+    one: &mut HostedNode,
+) -> Result<(usize, u64), HostFault> {
+    let contact = node(0)?;
+    one.act(NodeEvent::Join { contact, word: 0 })?;
+    let joins = carry(alloc, one, zero)?;
+    put(alloc, zero, b"colour", b"red")?;
+    let gossips = carry(alloc, zero, one)?;
+    Ok((shown(alloc, one, b"colour")?, joins.saturating_add(gossips)))
+}
+
 fn spread(alloc: Global) -> Result<(usize, u64), HostFault> {
     let mut zero = HostedNode::new(alloc, node(0)?, 1)?;
+    let spread = spread_from(alloc, &mut zero);
+    drop(zero);
+    spread
+}
+
+fn spread_from(alloc: Global, zero: &mut HostedNode) -> Result<(usize, u64), HostFault> {
     let mut one = HostedNode::new(alloc, node(1)?, 1)?;
-    one.act(NodeEvent::Join {
-        contact: node(0)?,
-        word: 0,
-    })?;
-    let joins = carry(alloc, &mut one, &mut zero)?;
-    put(alloc, &mut zero, b"colour", b"red")?;
-    let gossips = carry(alloc, &mut zero, &mut one)?;
-    Ok((
-        shown(alloc, &one, b"colour")?,
-        joins.saturating_add(gossips),
-    ))
+    let spread = spread_between(alloc, zero, &mut one);
+    drop(one);
+    spread
 }
 
 #[test]
@@ -55,24 +67,57 @@ fn a_write_reaches_another_node(rt: HostRuntime) {
     assert!(rt; spread(rt.alloc()) == Ok((1, 2)));
 }
 
-/// The life of a node that is served from this file, and how many values it shows under `colour`.
+/// The life of a node, and how many values it shows under `colour`.
+fn seen(alloc: Global, node: &HostedNode) -> Result<(u32, usize), HostFault> {
+    Ok((node.state().incarnation(), shown(alloc, node, b"colour")?))
+}
+
+/// What a node shows that is served from this file.
 fn serve_again(alloc: Global, file: &[u8]) -> Result<(u32, usize), HostFault> {
-    match HostedNode::serve(alloc, file, Some(node(3)?)) {
-        Ok(node) => Ok((node.state().incarnation(), shown(alloc, &node, b"colour")?)),
+    match HostedNode::serve(alloc, file, NodeId::new(3).ok()) {
+        Ok(node) => {
+            let seen = seen(alloc, &node);
+            drop(node);
+            seen
+        }
         Err(_) => Err(HostFault::Nothing),
     }
 }
 
-/// A node writes in its first life, its host stores all that he is asked to, and serves it again.
+/// A node writes, and its host stores all that he is asked to.
+fn write_and_store(
+    alloc: Global,
+    file: &mut Vec<u8>,
+    node: &mut HostedNode,
+) -> Result<(), HostFault> {
+    store(file, node)?;
+    put(alloc, node, b"colour", b"red")?;
+    store(file, node)
+}
+
+/// The first life of a node, in this file.
+fn live_once(alloc: Global, file: &mut Vec<u8>) -> Result<(), HostFault> {
+    match HostedNode::serve(alloc, file.as_slice(), NodeId::new(3).ok()) {
+        Ok(mut first) => {
+            let written = write_and_store(alloc, file, &mut first);
+            drop(first);
+            written
+        }
+        Err(_) => Err(HostFault::Nothing),
+    }
+}
+
+/// Two lives of a node: what it shows in the second.
+fn live_twice(alloc: Global, file: &mut Vec<u8>) -> Result<(u32, usize), HostFault> {
+    live_once(alloc, file)?;
+    serve_again(alloc, file.as_slice())
+}
+
 fn survive(alloc: Global) -> Result<(u32, usize), HostFault> {
     let mut file = empty_file(alloc)?;
-    let Ok(mut first) = HostedNode::serve(alloc, file.as_slice(), Some(node(3)?)) else {
-        return Err(HostFault::Nothing);
-    };
-    store(&mut file, &mut first)?;
-    put(alloc, &mut first, b"colour", b"red")?;
-    store(&mut file, &mut first)?;
-    serve_again(alloc, file.as_slice())
+    let seen = live_twice(alloc, &mut file);
+    drop(file);
+    seen
 }
 
 #[test]
@@ -80,22 +125,31 @@ fn what_was_stored_is_there_in_the_next_life(rt: HostRuntime) {
     assert!(rt; survive(rt.alloc()) == Ok((2, 1)));
 }
 
-/// A write that has read what a read showed replaces it; one that has read nothing doesn't: how
-/// many values there are after each, and the number of the context.
+/// A write that has read what a read showed replaces it; one that has read nothing doesn't: how many
+/// values there are after each, and the number of the context.
+fn write_on(alloc: Global, node: &mut HostedNode) -> Result<(usize, usize, u64), HostFault> {
+    put(alloc, node, b"colour", b"red")?;
+    let key = key(alloc, b"colour")?;
+    node.act(NodeEvent::Read { key })?;
+    let number = node.keep_context()?;
+    write_by(alloc, node, number)?;
+    let replaced = shown(alloc, node, b"colour")?;
+    node.forget_context(number);
+    write_by(alloc, node, 0)?;
+    Ok((replaced, shown(alloc, node, b"colour")?, number))
+}
+
+/// Has a node write with the context of this number.
+fn write_by(alloc: Global, node: &mut HostedNode, number: u64) -> Result<(), HostFault> {
+    let context = node.context(number)?;
+    write(alloc, node, context)
+}
+
 fn write_with_a_context(alloc: Global) -> Result<(usize, usize, u64), HostFault> {
     let mut node = HostedNode::new(alloc, node(0)?, 1)?;
-    put(alloc, &mut node, b"colour", b"red")?;
-    node.act(NodeEvent::Read {
-        key: key(alloc, b"colour")?,
-    })?;
-    let number = node.keep_context()?;
-    let context = node.context(number)?;
-    write(alloc, &mut node, context)?;
-    let replaced = shown(alloc, &node, b"colour")?;
-    node.forget_context(number);
-    let none = node.context(0)?;
-    write(alloc, &mut node, none)?;
-    Ok((replaced, shown(alloc, &node, b"colour")?, number))
+    let written = write_on(alloc, &mut node);
+    drop(node);
+    written
 }
 
 /// Has a node write with this context.

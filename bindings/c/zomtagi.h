@@ -1,0 +1,308 @@
+/*
+ * A node of the cluster metadata store zomtagi, as the static library node_export has it. You
+ * bring a transport, a clock and a disk: docs/EMBEDDING.md has how the exports are used together,
+ * and example.c beside this file is a program over them.
+ *
+ *     zomtagi_slot slot = {0};
+ *     zomtagi_serve(&slot, file, file_len, 3);
+ *     ... store zomtagi_record, then zomtagi_stored(&slot, 1) ...
+ *     zomtagi_tick(&slot, random_word());
+ *     ... the same, then zomtagi_reply, and zomtagi_frame with zomtagi_sent until it is 38 ...
+ *
+ * An export returns 0, or the number of a refusal. Refusals are listed in their order: if several
+ * apply, the first is returned. 99 Memory may come in place of any. Unless it is said otherwise, a
+ * call that is refused leaves the node as it was.
+ */
+#ifndef ZOMTAGI_H
+#define ZOMTAGI_H
+
+#include <stdbool.h>
+#include <stddef.h>
+#include <stdint.h>
+
+#ifdef __cplusplus
+extern "C" {
+#endif
+
+/*
+ * A place for one node. It begins as zeros. What you owe, and nothing checks:
+ *
+ * - Only the exports change a slot, and nobody looks into it. It may be moved by copying its bytes,
+ *   if the old place isn't used any more: of a full slot no copy is used beside it.
+ * - One call at a time, and all calls of a slot on one thread.
+ * - A full slot is freed once, by zomtagi_free, or it leaks. A slot that was freed is empty: an
+ *   export that needs a node answers 80 then, zomtagi_free does nothing, and zomtagi_new or
+ *   zomtagi_serve may fill the slot again.
+ * - A pointer is never NULL, also beside a length of 0, and points to as many bytes as the length
+ *   says. What an export writes (slot, buffer, len, gate, number ..) overlaps nothing else that it
+ *   is given.
+ */
+typedef struct zomtagi_slot {
+    bool full;
+    void *node;
+} zomtagi_slot;
+
+/* The numbers of refusals, with their names. 80 to 82 are of the exports alone. */
+enum {
+    ZOMTAGI_OK = 0,
+    ZOMTAGI_BAD_NAME = 1,         /* a part of a key is empty or too long */
+    ZOMTAGI_VALUE_TOO_LONG = 2,   /* a body has more than 1,024 bytes */
+    ZOMTAGI_BAD_NODE = 3,         /* no number from 0 to 15, or the node's own */
+    ZOMTAGI_SHORT = 10,           /* 10 to 16: the bytes are no frame */
+    ZOMTAGI_BAD_MAGIC = 11,
+    ZOMTAGI_BAD_VERSION = 12,
+    ZOMTAGI_BAD_KIND = 13,
+    ZOMTAGI_TOO_LONG = 14,
+    ZOMTAGI_BAD_BODY = 15,
+    ZOMTAGI_LEFT_OVER = 16,
+    ZOMTAGI_COUNTER_SPENT = 20,   /* this life of the node can't count another write of the key */
+    ZOMTAGI_BAD_ENTRIES = 21,     /* the frame's object can't have arisen beside the one held */
+    ZOMTAGI_STORE_FULL = 25,      /* the node holds 8,192 keys, and this is another one */
+    ZOMTAGI_WRONG_KEY = 26,       /* the context is of another key */
+    ZOMTAGI_OBJECT_TOO_LARGE = 27,
+    ZOMTAGI_BAD_WATCH = 28,       /* a capacity out of range, or a seventeenth watch in a life */
+    ZOMTAGI_NO_SUCH_WATCH = 29,
+    ZOMTAGI_DAMAGED = 31,         /* the bytes are no node file, or it is damaged */
+    ZOMTAGI_OTHER_NODE = 32,      /* the file is of another node */
+    ZOMTAGI_FILE_FULL = 33,       /* the file would have more than 2^40 bytes */
+    ZOMTAGI_STOPPED = 34,
+    ZOMTAGI_INCARNATION_SPENT = 35, /* there is no further life */
+    ZOMTAGI_OLD_VERSION = 36,     /* the file is of version 1 */
+    ZOMTAGI_PENDING = 37,         /* a record isn't stored, or a frame isn't fetched */
+    ZOMTAGI_NOTHING = 38,         /* there is nothing to hand out */
+    ZOMTAGI_NOT_ADDRESSED = 40,   /* the frame is addressed to another node */
+    ZOMTAGI_NO_SUCH_READ = 43,    /* there is no context of this number */
+    ZOMTAGI_NO_NODE = 80,         /* there is no node in the slot */
+    ZOMTAGI_SHORT_BUFFER = 81,    /* the buffer is shorter than what it should hold */
+    ZOMTAGI_BAD_LIFE = 82,        /* lives are numbered from 1 */
+    ZOMTAGI_MEMORY = 99
+};
+
+/* ---- making and freeing ---- */
+
+/*
+ * Puts a node without a file into the slot, in the life of this number; it holds nothing. A node
+ * that was in the slot is freed. You see to it that the node never had a life of this number or a
+ * greater.
+ * Refused with 3 BadNode, 82 BadLife (life 0), 99 Memory: the slot is then as it was.
+ */
+uint16_t zomtagi_new(zomtagi_slot *slot, uint16_t node, uint32_t life);
+
+/*
+ * Puts the node of this number into the slot, served from the bytes of its file: it holds the
+ * file's table, in the life after the last one in the file. A node that was in the slot is freed.
+ * The record of the life is to be stored first (zomtagi_record, zomtagi_stored); until then steps
+ * are refused with 37. The bytes aren't used after the call.
+ * Refused with 3 BadNode; 31 Damaged, 32 OtherNode, 31 Damaged at a gate, 25 StoreFull;
+ * 36 OldVersion, 35 IncarnationSpent, 33 FileFull; 99 Memory: the slot is then as it was.
+ */
+uint16_t zomtagi_serve(zomtagi_slot *slot, const uint8_t *bytes, size_t bytes_len, uint16_t node);
+
+/* Frees the node in the slot, if there is one. The slot is empty then. */
+void zomtagi_free(zomtagi_slot *slot);
+
+/*
+ * Copies out the bytes of a file of a node that had no life yet, 11 of them, and their number.
+ * Write and sync them, and the folder, before the node is served from them.
+ * Refused with 3 BadNode, 81 ShortBuffer, 99 Memory.
+ */
+uint16_t zomtagi_empty_file(uint16_t node, uint8_t *buffer, size_t buffer_len, size_t *len);
+
+/* ---- steps ----
+ *
+ * Each has the node make the step of one event. Then, in this order: zomtagi_record, and unless it
+ * is 38 zomtagi_stored; zomtagi_reply, if you want it; zomtagi_frame and zomtagi_sent until there
+ * is no frame left.
+ *
+ * Each is refused, after what stands at it before "step":
+ *   80 NoNode, 34 Stopped, 37 Pending; what the step refuses, listed at the export;
+ *   33 FileFull: the step was made, but its record doesn't fit in the file, which stops the node;
+ *   99 Memory: nothing changed, or the node is stopped (zomtagi_about says which).
+ * Only a write and zomtagi_keep have a record, and only where the node was served from a file. A
+ * step of any other kind is never refused with 33.
+ *
+ * A word is a random number, a new one each time.
+ */
+
+/*
+ * The node is read under a key: reply 1. 1 BadName; step.
+ */
+uint16_t zomtagi_read(zomtagi_slot *slot, const uint8_t *prefix, size_t prefix_len,
+                      const uint8_t *sub, size_t sub_len, const uint8_t *key, size_t key_len);
+
+/*
+ * What the node holds under the key is to be stored, whoever wrote it; nothing if it holds nothing
+ * there: reply 6. 1 BadName; step.
+ */
+uint16_t zomtagi_keep(zomtagi_slot *slot, const uint8_t *prefix, size_t prefix_len,
+                      const uint8_t *sub, size_t sub_len, const uint8_t *key, size_t key_len);
+
+/*
+ * Writes a value, which has read what the context of this number says, or nothing for context 0: it
+ * replaces what that read has shown, and stands beside all else. The stamp is yours, and never
+ * read by the node. Reply 2.
+ * 80 NoNode, 43 NoSuchRead, 1 BadName, 2 ValueTooLong; step: 26 WrongKey, 25 StoreFull,
+ * 20 CounterSpent, 27 ObjectTooLarge.
+ */
+uint16_t zomtagi_write(zomtagi_slot *slot, const uint8_t *prefix, size_t prefix_len,
+                       const uint8_t *sub, size_t sub_len, const uint8_t *key, size_t key_len,
+                       const uint8_t *body, size_t body_len, uint64_t stamp, uint64_t context);
+
+/* Writes a tombstone, as zomtagi_write writes a value, and refused as that is, but for 2. */
+uint16_t zomtagi_delete(zomtagi_slot *slot, const uint8_t *prefix, size_t prefix_len,
+                        const uint8_t *sub, size_t sub_len, const uint8_t *key, size_t key_len,
+                        uint64_t stamp, uint64_t context);
+
+/*
+ * Writes a value over all that the node shows under the key. Reply 2.
+ * 80 NoNode, 1 BadName, 2 ValueTooLong; step: 25 StoreFull, 20 CounterSpent, 27 ObjectTooLarge.
+ */
+uint16_t zomtagi_write_over(zomtagi_slot *slot, const uint8_t *prefix, size_t prefix_len,
+                            const uint8_t *sub, size_t sub_len, const uint8_t *key,
+                            size_t key_len, const uint8_t *body, size_t body_len,
+                            uint64_t stamp);
+
+/* Writes a tombstone over all that the node shows, refused as zomtagi_write_over is, but for 2. */
+uint16_t zomtagi_delete_over(zomtagi_slot *slot, const uint8_t *prefix, size_t prefix_len,
+                             const uint8_t *sub, size_t sub_len, const uint8_t *key,
+                             size_t key_len, uint64_t stamp);
+
+/*
+ * Bytes came that should be a frame for the node. Reply 3 of a frame without an object, 4 where its
+ * object has a write that wasn't known here, 5 where it has none. What came is in no file until its
+ * key is written or kept.
+ * step: 10 Short, 11 BadMagic, 12 BadVersion, 13 BadKind, 14 TooLong, 10 Short, 16 LeftOver,
+ * 15 BadBody; 40 NotAddressed; 21 BadEntries, 25 StoreFull, 27 ObjectTooLarge. Drop the bytes then.
+ */
+uint16_t zomtagi_take(zomtagi_slot *slot, const uint8_t *frame, size_t frame_len, uint64_t word);
+
+/* Time passes: reply 6. The step refuses nothing. */
+uint16_t zomtagi_tick(zomtagi_slot *slot, uint64_t word);
+
+/*
+ * The node joins the cluster through a contact: reply 6. 3 BadNode of a number above 15; step: 3
+ * BadNode of the node itself.
+ */
+uint16_t zomtagi_join(zomtagi_slot *slot, uint16_t contact, uint64_t word);
+
+/* A peer doesn't answer: reply 6. Refused as zomtagi_join is. */
+uint16_t zomtagi_peer_down(zomtagi_slot *slot, uint16_t peer, uint64_t word);
+
+/* The node begins an exchange with a peer: reply 6. Refused as zomtagi_join is. */
+uint16_t zomtagi_exchange(zomtagi_slot *slot, uint16_t peer);
+
+/*
+ * The node tells a peer which life it is in: reply 6. Say it before the join: a peer that hears of
+ * a new life has the node as a neighbour no longer. Refused as zomtagi_join is.
+ */
+uint16_t zomtagi_hello(zomtagi_slot *slot, uint16_t peer);
+
+/* The node leaves the cluster: reply 6. The step refuses nothing. */
+uint16_t zomtagi_leave(zomtagi_slot *slot);
+
+/*
+ * Watches the changes under a full prefix, the last `capacity` of them, 1 to 1,024: reply 7, with
+ * the number of the watch. A life has at most 16 watches. 1 BadName; step: 28 BadWatch.
+ */
+uint16_t zomtagi_watch(zomtagi_slot *slot, const uint8_t *prefix, size_t prefix_len,
+                       const uint8_t *sub, size_t sub_len, size_t capacity);
+
+/*
+ * The watch of this number hands out what it has noted, and is empty then: reply 8. step: 29
+ * NoSuchWatch.
+ */
+uint16_t zomtagi_changes(zomtagi_slot *slot, uint64_t number);
+
+/* ---- what you are handed ----
+ *
+ * Each copies bytes to the front of the buffer, and writes their number to *len. 81 ShortBuffer
+ * writes only *len: call again with a buffer of that many bytes. 38 Nothing and 80 NoNode write
+ * nothing.
+ */
+
+/*
+ * The record that you have to store, and in *gate the offset of the closed gate of your file. Write
+ * its bytes after the first from *gate + 1 on, sync, write the first over the gate, sync; then
+ * zomtagi_stored.
+ * Refused with 80 NoNode, 38 Nothing, 81 ShortBuffer. (*gate is written unless it is refused with
+ * 80.)
+ */
+uint16_t zomtagi_record(zomtagi_slot *slot, size_t *gate, uint8_t *buffer, size_t buffer_len,
+                        size_t *len);
+
+/*
+ * You stored the record; or, with is_stored 0, failed to at any point, which stops the node: free
+ * it, and serve it from the file again.
+ * Refused with 80 NoNode, 34 Stopped, 38 Nothing.
+ */
+uint16_t zomtagi_stored(zomtagi_slot *slot, uint8_t is_stored);
+
+/*
+ * What the last step replied that was made; 38 Nothing until its record is stored, and of a stopped
+ * node. Numbers are big endian. The first byte says which reply it is:
+ *
+ *   1 looked    the number of values (8 bytes), then each: its stamp (8); 1 (1 byte), the length of
+ *               its body (8) and the body, or 0 (1 byte), for a tombstone
+ *   2 wrote     3 taken     4 fresh     5 stale     6 done     (nothing follows)
+ *   7 watching  the number of the watch (8)
+ *   8 changed   how many changes were missed (8), the number of keys (8), then each key
+ *
+ * A key is its prefix, its sub-prefix and its name, each with its length before it, in 2 bytes.
+ * Refused with 80 NoNode, 38 Nothing, 81 ShortBuffer; 99 Memory, after which it may be called
+ * again.
+ */
+uint16_t zomtagi_reply(zomtagi_slot *slot, uint8_t *buffer, size_t buffer_len, size_t *len);
+
+/*
+ * The next frame to send; its bytes 6 and 7 are its addressee, and its bytes 16 to 19 say how many
+ * follow the first 20. It stays the next one until zomtagi_sent.
+ * Refused with 80 NoNode, 38 Nothing (none is left, a record isn't stored, the node is stopped), 81
+ * ShortBuffer.
+ */
+uint16_t zomtagi_frame(zomtagi_slot *slot, uint8_t *buffer, size_t buffer_len, size_t *len);
+
+/* You have the next frame, if there is one, whether or not it arrives. Refused with 80 NoNode. */
+uint16_t zomtagi_sent(zomtagi_slot *slot);
+
+/* ---- contexts ---- */
+
+/*
+ * Keeps the context of the last reply, a read's, and writes its number, from 1, to *number. It
+ * takes memory until it is forgotten, or the node is freed.
+ * Refused with 80 NoNode, 38 Nothing (the last step was no read), 99 Memory: *number is as it was.
+ */
+uint16_t zomtagi_keep_context(zomtagi_slot *slot, uint64_t *number);
+
+/* Forgets the context of this number, if there is one; the number may be given again. 80 NoNode. */
+uint16_t zomtagi_forget_context(zomtagi_slot *slot, uint64_t number);
+
+/* ---- what the node holds, without a step ----
+ *
+ * What it holds may not be stored yet, and a stopped node answers too. Nothing changes.
+ */
+
+/*
+ * The keys under a full prefix, in order, one after the other, each as in a reply; no bytes if
+ * there are none. Refused with 80 NoNode, 1 BadName, 81 ShortBuffer, 99 Memory.
+ */
+uint16_t zomtagi_list(zomtagi_slot *slot, const uint8_t *prefix, size_t prefix_len,
+                      const uint8_t *sub, size_t sub_len, uint8_t *buffer, size_t buffer_len,
+                      size_t *len);
+
+/*
+ * The root of the tree over all that the node holds, 32 bytes: nodes that hold the same have equal
+ * roots. Refused with 80 NoNode, 81 ShortBuffer.
+ */
+uint16_t zomtagi_root(zomtagi_slot *slot, uint8_t *buffer, size_t buffer_len, size_t *len);
+
+/*
+ * The node's number, the number of its life, and 1 if it is stopped, or 0. Refused with 80 NoNode.
+ */
+uint16_t zomtagi_about(zomtagi_slot *slot, uint16_t *number, uint32_t *life,
+                       uint8_t *is_stopped);
+
+#ifdef __cplusplus
+}
+#endif
+
+#endif

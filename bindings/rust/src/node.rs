@@ -1,0 +1,312 @@
+use crate::error::Error;
+use crate::raw::*;
+use crate::types::{Changes, Context, Frame, Key, Read, Taken, Value};
+use std::io;
+use std::mem::take;
+use std::sync::{Arc, Mutex};
+
+/// What executes what a node asks to be stored. After `Ok` all of it is durable.
+pub trait Store {
+    /// Writes the record's bytes after the first from one byte after the gate on, syncs, writes the first over the gate, and
+    /// syncs. Where this fails at any point the node is stopped, and is served from the file again.
+    fn append(&mut self, gate: u64, record: &[u8]) -> io::Result<()>;
+}
+
+/// A node. It isn't `Send`: keep it in one thread, and send that thread what happens.
+pub struct Node {
+    slot: Slot,
+    store: Option<Box<dyn Store>>,
+    /// The contexts that were dropped, and are to be forgotten.
+    dropped: Arc<Mutex<Vec<u64>>>,
+    buffer: Vec<u8>,
+}
+
+/// The answer of an export.
+fn answered(number: u16) -> Result<(), Error> {
+    if number == 0 {
+        Ok(())
+    } else {
+        Err(Error::Refused(number))
+    }
+}
+
+/// The export's number for a buffer that is too short, and for nothing to hand out.
+const SHORT_BUFFER: u16 = 81;
+const NOTHING: u16 = 38;
+
+impl Node {
+    /// A node without a file, in the life of this number, from 1. See to it that it never had a life of this number or a
+    /// greater one.
+    pub fn new(node: u16, life: u32) -> Result<Node, Error> {
+        let mut made = Node::empty(None);
+        answered(unsafe { zomtagi_new(&mut made.slot, node, life) })?;
+        Ok(made)
+    }
+
+    /// A node in its next life, served from the bytes of its file, of which `store` keeps the rest. The record of the life is
+    /// stored before this returns.
+    pub fn serve(node: u16, bytes: &[u8], store: impl Store + 'static) -> Result<Node, Error> {
+        let mut made = Node::empty(Some(Box::new(store)));
+        answered(unsafe { zomtagi_serve(&mut made.slot, bytes.as_ptr(), bytes.len(), node) })?;
+        made.store_record()?;
+        Ok(made)
+    }
+
+    fn empty(store: Option<Box<dyn Store>>) -> Node {
+        Node { slot: Slot::EMPTY, store, dropped: Arc::default(), buffer: vec![0; 4096] }
+    }
+
+    /// What the node shows under a key.
+    pub fn read(&mut self, key: &Key) -> Result<Read, Error> {
+        let (prefix, sub, name) = (&key.prefix, &key.sub, &key.name);
+        let reply = self.step(|slot| unsafe {
+            zomtagi_read(slot, prefix.as_ptr(), prefix.len(), sub.as_ptr(), sub.len(), name.as_ptr(), name.len())
+        })?;
+        let mut number = 0;
+        answered(unsafe { zomtagi_keep_context(&mut self.slot, &mut number) })?;
+        let context = Context { number, dropped: Arc::clone(&self.dropped) };
+        let mut fields = Fields(&reply[1..]);
+        let values = (0..fields.number()).map(|_| fields.value()).collect();
+        Ok(Read { values, context })
+    }
+
+    /// Writes a value, which replaces what the context's read has shown, or nothing. Returns the frames to send.
+    pub fn write(&mut self, key: &Key, value: &Value, context: Option<&Context>) -> Result<Vec<Frame>, Error> {
+        let context = self.number_of(context)?;
+        let (prefix, sub, name) = (&key.prefix, &key.sub, &key.name);
+        self.step(|slot| unsafe {
+            match &value.body {
+                Some(body) => zomtagi_write(
+                    slot, prefix.as_ptr(), prefix.len(), sub.as_ptr(), sub.len(), name.as_ptr(), name.len(), body.as_ptr(),
+                    body.len(), value.stamp, context,
+                ),
+                None => zomtagi_delete(
+                    slot, prefix.as_ptr(), prefix.len(), sub.as_ptr(), sub.len(), name.as_ptr(), name.len(), value.stamp, context,
+                ),
+            }
+        })?;
+        self.frames()
+    }
+
+    /// Writes a value over all that the node shows. Returns the frames to send.
+    pub fn write_over(&mut self, key: &Key, value: &Value) -> Result<Vec<Frame>, Error> {
+        let (prefix, sub, name) = (&key.prefix, &key.sub, &key.name);
+        self.step(|slot| unsafe {
+            match &value.body {
+                Some(body) => zomtagi_write_over(
+                    slot, prefix.as_ptr(), prefix.len(), sub.as_ptr(), sub.len(), name.as_ptr(), name.len(), body.as_ptr(),
+                    body.len(), value.stamp,
+                ),
+                None => zomtagi_delete_over(
+                    slot, prefix.as_ptr(), prefix.len(), sub.as_ptr(), sub.len(), name.as_ptr(), name.len(), value.stamp,
+                ),
+            }
+        })?;
+        self.frames()
+    }
+
+    /// Stores what the node holds under a key, whoever wrote it.
+    pub fn keep(&mut self, key: &Key) -> Result<(), Error> {
+        let (prefix, sub, name) = (&key.prefix, &key.sub, &key.name);
+        self.step(|slot| unsafe {
+            zomtagi_keep(slot, prefix.as_ptr(), prefix.len(), sub.as_ptr(), sub.len(), name.as_ptr(), name.len())
+        })?;
+        Ok(())
+    }
+
+    /// Takes a frame that came. The word is a random number.
+    pub fn take(&mut self, frame: &[u8], word: u64) -> Result<(Taken, Vec<Frame>), Error> {
+        let reply = self.step(|slot| unsafe { zomtagi_take(slot, frame.as_ptr(), frame.len(), word) })?;
+        let taken = match reply[0] {
+            4 => Taken::Fresh,
+            5 => Taken::Stale,
+            _ => Taken::Taken,
+        };
+        Ok((taken, self.frames()?))
+    }
+
+    /// Time passes. The word is a random number. Returns the frames to send.
+    pub fn tick(&mut self, word: u64) -> Result<Vec<Frame>, Error> {
+        self.step(|slot| unsafe { zomtagi_tick(slot, word) })?;
+        self.frames()
+    }
+
+    /// Joins the cluster through a contact. The word is a random number. Returns the frames to send.
+    pub fn join(&mut self, contact: u16, word: u64) -> Result<Vec<Frame>, Error> {
+        self.step(|slot| unsafe { zomtagi_join(slot, contact, word) })?;
+        self.frames()
+    }
+
+    /// A peer doesn't answer. The word is a random number. Returns the frames to send.
+    pub fn peer_down(&mut self, peer: u16, word: u64) -> Result<Vec<Frame>, Error> {
+        self.step(|slot| unsafe { zomtagi_peer_down(slot, peer, word) })?;
+        self.frames()
+    }
+
+    /// Begins an exchange with a peer, after which both hold what either held. Returns the frames to send.
+    pub fn exchange(&mut self, peer: u16) -> Result<Vec<Frame>, Error> {
+        self.step(|slot| unsafe { zomtagi_exchange(slot, peer) })?;
+        self.frames()
+    }
+
+    /// Tells a peer which life the node is in. Say it before the join: a peer that hears of a new life has the node as a
+    /// neighbour no longer. Returns the frames to send.
+    pub fn hello(&mut self, peer: u16) -> Result<Vec<Frame>, Error> {
+        self.step(|slot| unsafe { zomtagi_hello(slot, peer) })?;
+        self.frames()
+    }
+
+    /// Leaves the cluster. Returns the frames to send.
+    pub fn leave(&mut self) -> Result<Vec<Frame>, Error> {
+        self.step(|slot| unsafe { zomtagi_leave(slot) })?;
+        self.frames()
+    }
+
+    /// Watches a full prefix, the last `capacity` changes of it, 1 to 1,024. Returns the number of the watch.
+    pub fn watch(&mut self, prefix: &[u8], sub: &[u8], capacity: usize) -> Result<u64, Error> {
+        let reply = self.step(|slot| unsafe {
+            zomtagi_watch(slot, prefix.as_ptr(), prefix.len(), sub.as_ptr(), sub.len(), capacity)
+        })?;
+        Ok(Fields(&reply[1..]).number())
+    }
+
+    /// What a watch has noted since it was asked last.
+    pub fn changes(&mut self, number: u64) -> Result<Changes, Error> {
+        let reply = self.step(|slot| unsafe { zomtagi_changes(slot, number) })?;
+        let mut fields = Fields(&reply[1..]);
+        let missed = fields.number();
+        let keys = (0..fields.number()).map(|_| fields.key()).collect();
+        Ok(Changes { missed, keys })
+    }
+
+    /// The keys under a full prefix, in order.
+    pub fn list(&mut self, prefix: &[u8], sub: &[u8]) -> Result<Vec<Key>, Error> {
+        let bytes = self.fetch(|slot, buffer, size, len| unsafe {
+            zomtagi_list(slot, prefix.as_ptr(), prefix.len(), sub.as_ptr(), sub.len(), buffer, size, len)
+        })?;
+        let bytes = bytes.unwrap_or_default();
+        let (mut fields, mut keys) = (Fields(&bytes), Vec::new());
+        while !fields.0.is_empty() {
+            keys.push(fields.key());
+        }
+        Ok(keys)
+    }
+
+    /// The root of the tree over all that the node holds: nodes with equal roots hold the same.
+    pub fn root(&mut self) -> Result<[u8; 32], Error> {
+        let bytes = self.fetch(|slot, buffer, size, len| unsafe { zomtagi_root(slot, buffer, size, len) })?;
+        Ok(bytes.unwrap_or_default().try_into().expect("a root has 32 bytes"))
+    }
+
+    /// The life that the node is in.
+    pub fn life(&mut self) -> Result<u32, Error> {
+        let (mut number, mut life, mut is_stopped) = (0, 0, 0);
+        answered(unsafe { zomtagi_about(&mut self.slot, &mut number, &mut life, &mut is_stopped) })?;
+        Ok(life)
+    }
+
+    /// The number of a context of this node, 0 for none.
+    fn number_of(&self, context: Option<&Context>) -> Result<u64, Error> {
+        match context {
+            None => Ok(0),
+            Some(context) if Arc::ptr_eq(&context.dropped, &self.dropped) => Ok(context.number),
+            Some(_) => Err(Error::OtherContext),
+        }
+    }
+
+    /// Asks for a step, has stored what it stores, and returns the bytes of its reply.
+    fn step(&mut self, ask: impl FnOnce(&mut Slot) -> u16) -> Result<Vec<u8>, Error> {
+        self.forget_dropped();
+        answered(ask(&mut self.slot))?;
+        self.store_record()?;
+        let reply = self.fetch(|slot, buffer, size, len| unsafe { zomtagi_reply(slot, buffer, size, len) })?;
+        reply.ok_or(Error::Refused(NOTHING))
+    }
+
+    fn forget_dropped(&mut self) {
+        let dropped = self.dropped.lock().map(|mut dropped| take(&mut *dropped)).unwrap_or_default();
+        for number in dropped {
+            unsafe { zomtagi_forget_context(&mut self.slot, number) };
+        }
+    }
+
+    /// Has the record stored that there is to store, if there is one.
+    fn store_record(&mut self) -> Result<(), Error> {
+        let mut gate = 0;
+        let record = self.fetch(|slot, buffer, size, len| unsafe { zomtagi_record(slot, &mut gate, buffer, size, len) })?;
+        let (Some(record), Some(store)) = (record, &mut self.store) else {
+            return Ok(());
+        };
+        let stored = store.append(gate as u64, &record);
+        answered(unsafe { zomtagi_stored(&mut self.slot, u8::from(stored.is_ok())) })?;
+        Ok(stored?)
+    }
+
+    /// The frames that the last step sends.
+    fn frames(&mut self) -> Result<Vec<Frame>, Error> {
+        let mut frames = Vec::new();
+        while let Some(frame) = self.fetch(|slot, buffer, size, len| unsafe { zomtagi_frame(slot, buffer, size, len) })? {
+            frames.push(Frame(frame));
+            answered(unsafe { zomtagi_sent(&mut self.slot) })?;
+        }
+        Ok(frames)
+    }
+
+    /// The bytes that an export hands out, if there are any.
+    fn fetch(
+        &mut self,
+        mut ask: impl FnMut(&mut Slot, *mut u8, usize, &mut usize) -> u16,
+    ) -> Result<Option<Vec<u8>>, Error> {
+        loop {
+            let mut len = 0;
+            match ask(&mut self.slot, self.buffer.as_mut_ptr(), self.buffer.len(), &mut len) {
+                0 => return Ok(Some(self.buffer[..len].to_vec())),
+                SHORT_BUFFER => self.buffer.resize(len, 0),
+                NOTHING => return Ok(None),
+                number => return Err(Error::Refused(number)),
+            }
+        }
+    }
+}
+
+impl Drop for Node {
+    fn drop(&mut self) {
+        unsafe { zomtagi_free(&mut self.slot) };
+    }
+}
+
+/// What is left of the bytes of a reply.
+struct Fields<'a>(&'a [u8]);
+
+impl Fields<'_> {
+    fn take(&mut self, len: usize) -> &[u8] {
+        let (front, rest) = self.0.split_at(len);
+        self.0 = rest;
+        front
+    }
+
+    fn number(&mut self) -> u64 {
+        u64::from_be_bytes(self.take(8).try_into().expect("it has eight bytes"))
+    }
+
+    fn value(&mut self) -> Value {
+        let stamp = self.number();
+        let body = match self.take(1)[0] {
+            0 => None,
+            _ => {
+                let len = self.number() as usize;
+                Some(self.take(len).to_vec())
+            }
+        };
+        Value { stamp, body }
+    }
+
+    /// A key as a frame has it: each part with its length in two bytes.
+    fn key(&mut self) -> Key {
+        let mut part = || {
+            let len = u16::from_be_bytes(self.take(2).try_into().expect("it has two bytes"));
+            self.take(len as usize).to_vec()
+        };
+        Key { prefix: part(), sub: part(), name: part() }
+    }
+}

@@ -1,0 +1,57 @@
+//! The exports of the static library, as `bindings/c/zomtagi.h` has them.
+
+/// A place for a node. It begins as zeros, and only the exports change it.
+#[repr(C)]
+pub struct Slot {
+    full: bool,
+    node: *mut u8,
+}
+
+impl Slot {
+    pub const EMPTY: Slot = Slot { full: false, node: std::ptr::null_mut() };
+}
+
+macro_rules! exports {
+    ($($name:ident($($argument:ident: $type:ty),*);)*) => {
+        extern "C" {
+            $(pub fn $name(slot: &mut Slot, $($argument: $type),*) -> u16;)*
+            pub fn zomtagi_free(slot: &mut Slot);
+            pub fn zomtagi_empty_file(node: u16, buffer: *mut u8, size: usize, len: &mut usize) -> u16;
+        }
+    };
+}
+
+exports! {
+    zomtagi_new(node: u16, life: u32);
+    zomtagi_serve(bytes: *const u8, len: usize, node: u16);
+    zomtagi_read(prefix: *const u8, prefix_len: usize, sub: *const u8, sub_len: usize, key: *const u8, key_len: usize);
+    zomtagi_keep(prefix: *const u8, prefix_len: usize, sub: *const u8, sub_len: usize, key: *const u8, key_len: usize);
+    zomtagi_write(prefix: *const u8, prefix_len: usize, sub: *const u8, sub_len: usize, key: *const u8, key_len: usize,
+        body: *const u8, body_len: usize, stamp: u64, context: u64);
+    zomtagi_delete(prefix: *const u8, prefix_len: usize, sub: *const u8, sub_len: usize, key: *const u8, key_len: usize,
+        stamp: u64, context: u64);
+    zomtagi_write_over(prefix: *const u8, prefix_len: usize, sub: *const u8, sub_len: usize, key: *const u8, key_len: usize,
+        body: *const u8, body_len: usize, stamp: u64);
+    zomtagi_delete_over(prefix: *const u8, prefix_len: usize, sub: *const u8, sub_len: usize, key: *const u8, key_len: usize,
+        stamp: u64);
+    zomtagi_take(frame: *const u8, len: usize, word: u64);
+    zomtagi_tick(word: u64);
+    zomtagi_join(contact: u16, word: u64);
+    zomtagi_peer_down(peer: u16, word: u64);
+    zomtagi_exchange(peer: u16);
+    zomtagi_hello(peer: u16);
+    zomtagi_leave();
+    zomtagi_watch(prefix: *const u8, prefix_len: usize, sub: *const u8, sub_len: usize, capacity: usize);
+    zomtagi_changes(number: u64);
+    zomtagi_record(gate: &mut usize, buffer: *mut u8, size: usize, len: &mut usize);
+    zomtagi_stored(is_stored: u8);
+    zomtagi_reply(buffer: *mut u8, size: usize, len: &mut usize);
+    zomtagi_frame(buffer: *mut u8, size: usize, len: &mut usize);
+    zomtagi_sent();
+    zomtagi_keep_context(number: &mut u64);
+    zomtagi_forget_context(number: u64);
+    zomtagi_list(prefix: *const u8, prefix_len: usize, sub: *const u8, sub_len: usize, buffer: *mut u8, size: usize,
+        len: &mut usize);
+    zomtagi_root(buffer: *mut u8, size: usize, len: &mut usize);
+    zomtagi_about(number: &mut u16, life: &mut u32, is_stopped: &mut u8);
+}
