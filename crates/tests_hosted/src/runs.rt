@@ -125,8 +125,8 @@ fn what_was_stored_is_there_in_the_next_life(rt: HostRuntime) {
     assert!(rt; survive(rt.alloc()) == Ok((2, 1)));
 }
 
-/// A write that has read what a read showed replaces it; one that has read nothing doesn't: how many
-/// values there are after each, and the number of the context.
+/// A write that has read what a read showed replaces it; one that has read nothing doesn't: how
+/// many values there are after each, and the number of the context.
 fn write_on(alloc: Global, node: &mut HostedNode) -> Result<(usize, usize, u64), HostFault> {
     put(alloc, node, b"colour", b"red")?;
     let key = key(alloc, b"colour")?;
