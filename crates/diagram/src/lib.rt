@@ -9,8 +9,8 @@
 //! // <svg xmlns="http://www.w3.org/2000/svg" ..
 //! ```
 //!
-//! Read `notes` (what happened), `picture` and `arrows` (what is drawn), `layout` (where), and `svg`
-//! (how it is spelled).
+//! Read `notes` (what happened), `picture` and `arrows` (what is drawn), `layout` (where), and
+//! `svg` (how it is spelled).
 #![tactic(auto)]
 
 mod arrows;

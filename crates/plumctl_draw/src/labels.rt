@@ -26,8 +26,8 @@ pub(crate) fn key_changed(
     }
 }
 
-/// The key of the object that a frame of the world carries, if it carries one. No frame of a world is
-/// refused but where memory runs out.
+/// The key of the object that a frame of the world carries, if it carries one. No frame of a world
+/// is refused but where memory runs out.
 fn key_carried(alloc: Global, world: &World, frame: u64) -> Result<Option<MetaKey>, AllocError> {
     let Some(bytes) = world.frame(frame)? else {
         return Ok(None);
