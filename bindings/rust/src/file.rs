@@ -20,22 +20,30 @@ pub struct FileStore {
 
 impl FileStore {
     /// Opens the node's file, which is made where there is none, and serves the node from it, in its next life. See to it that
-    /// the file wasn't lost: a new file begins with life 1 again, and no life's number may be used twice.
+    /// the file wasn't lost: a new file begins with life 1 again, and no life's number may be used twice. So a file that is there
+    /// and empty is no new one: it is refused with 31 `Damaged`.
     pub fn serve(path: impl AsRef<Path>, node: u16) -> Result<Node, Error> {
-        let mut store = FileStore::open(path.as_ref())?;
-        let mut bytes = Vec::new();
-        store.file.read_to_end(&mut bytes)?;
-        if bytes.is_empty() {
-            bytes = empty_file(node)?;
-            store.write_at(0, &bytes)?;
-            store.file.sync_all()?;
-            sync_folder(path.as_ref())?;
+        let (path, mut bytes) = (path.as_ref(), Vec::new());
+        match FileStore::open(path, false) {
+            Err(error) if error.kind() == io::ErrorKind::NotFound => {
+                let mut store = FileStore::open(path, true)?;
+                bytes = empty_file(node)?;
+                store.write_at(0, &bytes)?;
+                store.file.sync_all()?;
+                sync_folder(path)?;
+                Node::serve(node, &bytes, store)
+            }
+            opened => {
+                let mut store = opened?;
+                store.file.read_to_end(&mut bytes)?;
+                Node::serve(node, &bytes, store)
+            }
         }
-        Node::serve(node, &bytes, store)
     }
 
-    fn open(path: &Path) -> io::Result<FileStore> {
-        let file = OpenOptions::new().read(true).write(true).create(true).truncate(false).open(path)?;
+    /// Opens the file, or makes a new one, and takes its lock.
+    fn open(path: &Path, is_new: bool) -> io::Result<FileStore> {
+        let file = OpenOptions::new().read(true).write(true).create_new(is_new).open(path)?;
         if unsafe { flock(file.as_raw_fd(), EXCLUSIVE_OR_FAIL) } != 0 {
             return Err(io::Error::last_os_error());
         }

@@ -77,6 +77,8 @@ fn what_was_stored_is_there_in_the_next_life() {
     assert_eq!((node.life().unwrap(), node.read(&colour()).unwrap().values), (2, vec![Value::text("red")]));
     drop(node);
     assert_eq!(FileStore::serve(&path, 4).err().unwrap().to_string(), "32 OtherNode");
+    std::fs::write(&path, "").unwrap(); // (what was in it is lost, so it is no new file)
+    assert_eq!(FileStore::serve(&path, 3).err().unwrap().to_string(), "31 Damaged");
     std::fs::remove_file(&path).unwrap();
 }
 
