@@ -11,7 +11,7 @@
 //!
 //! Read `report` (`file_report`), then `run` (`run_file`, `run_rewrite`) and `paths`
 //! (`report_path`, `copy_to_path`); `text` has the lines, and `cause` what is printed at standard
-//! error about a path. Their rows are the program `rows_file`.
+//! error about a path. Their rows are paths of the program `rows`.
 #![tactic(auto)]
 
 mod cause;

@@ -1,18 +1,17 @@
-//! Reports the node files of `data/` as `plumctl file` does. Each line of standard input is a path;
-//! for each it prints the path, what is reported, what would be printed at standard error, and the
-//! exit status; and for a file that was shown, the bytes of its clean copy in digits.
-#![tactic(auto)]
+//! Reports on node files, as `plumctl file` does. Each line is a path; for each it prints the path,
+//! what is reported, what would be printed at standard error, and the exit status; and for a file
+//! that was shown, the bytes of its clean copy in digits.
 
 use devices::{FileDevice, MemoryDevice};
 use plumctl_file::{Reported, ShownFile, report_path, run_rewrite};
 use std::alloc::AllocError;
 use std::io;
 
-fn main(rt: HostRuntime) -> io::Result<()> {
-    for line in rt.lines(rt.alloc()) {
-        let path = line?;
+/// Reports on each of the paths.
+pub fn run(rt: &HostRuntime, paths: &str) -> io::Result<()> {
+    for path in paths.lines() {
         println!(rt; "== {path}")?;
-        show(&rt, path.as_str())?;
+        show(rt, path)?;
     }
     Ok(())
 }

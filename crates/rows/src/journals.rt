@@ -1,4 +1,5 @@
-//! The text of rows, and what is printed for it.
+//! Journals, and what is put together of them: nodes are driven by a scenario, each node by itself,
+//! and their journals, with what is changed in them, are handed to `assemble`.
 //!
 //! A line `== NAME` begins a row. The lines after it are a scenario, up to the first line that
 //! begins with `:`. Each line that begins so is tried on the journals that the scenario left:
@@ -17,12 +18,19 @@
 //!
 //! For each, what came of it is printed; where an answer's claim isn't so, ` NOT SO` after it; and
 //! for a refusal what `explain_fault` says, indented.
+//!
+//! `driver` has the nodes without a world, `change` what is done to a journal, and `claims` whether
+//! what `assemble` returned is so, checked by plain code.
+
+mod change;
+mod claims;
+mod driver;
 
 ghost use Rattle.node_journal.specs.Closed.{AreWhole};
 
-use crate::change::{Change, Kind};
-use crate::claims::is_so;
-use crate::driver::Nodes;
+use crate::journals::change::{Change, Kind};
+use crate::journals::claims::is_so;
+use crate::journals::driver::Nodes;
 use node_journal::{Closed, Receipt, are_whole};
 use run_explain::explain_fault;
 use run_order::Place;

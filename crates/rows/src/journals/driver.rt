@@ -6,7 +6,7 @@ ghost use Rattle.meta_types.specs.Name.{IsKey};
 ghost use Rattle.scenario_text.specs.Coded.{command_word, key_word};
 ghost use Rattle.scenario_text.specs.Commands.{fault_in};
 
-use crate::change::{Change, Kind, changed};
+use crate::journals::change::{Change, Kind, changed};
 use meta_frame::read_header;
 use meta_store::{Context, Store};
 use meta_types::{ByteString, NodeId, Value};
