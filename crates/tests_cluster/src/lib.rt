@@ -1,11 +1,16 @@
-//! The tests of clusters of threads, over the public calls of `cluster` and apart from it: a crate
-//! is proved once more with its tests. No crate uses this one.
+//! The tests of clusters of threads, of their runs as texts, and of `plumctl live` and `plumctl
+//! file`, over the public calls of `cluster`, `run_replay`, `plumctl_live` and `plumctl_file` and
+//! apart from them: a crate is proved once more with its tests. No crate uses this one.
 #![tactic(auto)]
 
 // What is asserted doesn't depend on which thread comes first, but where a gate holds one of them.
 
 #[cfg(test)]
+mod files;
+#[cfg(test)]
 mod gates;
+#[cfg(test)]
+mod kinds;
 #[cfg(test)]
 mod limits;
 #[cfg(test)]
@@ -13,6 +18,14 @@ mod lives;
 #[cfg(test)]
 mod parts;
 #[cfg(test)]
+mod recordings;
+#[cfg(test)]
+mod reports;
+#[cfg(test)]
+mod rows;
+#[cfg(test)]
 mod runs;
 #[cfg(test)]
 mod stops;
+#[cfg(test)]
+mod threads;

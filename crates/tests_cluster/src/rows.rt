@@ -3,6 +3,7 @@
 ghost use Rattle.std.specs.Prelude.{All};
 ghost use Rattle.devices.specs.Device.{IsDurable};
 
+use crate::parts::{add, plan};
 use cluster::{ClusterFault, ClusterPlan, Limits, NoGate, run_cluster_on};
 use devices::{Device, MemoryDevice};
 use node_file::FileFault;
@@ -12,10 +13,6 @@ use std::process::Abort;
 use std::sync::Wait;
 use std::thread::Threads;
 use streams::MayFail;
-
-fn plan(nodes: u64, turns: u64, seed: u64) -> ClusterPlan {
-    ClusterPlan { nodes, turns, seed }
-}
 
 /// Returns whether a run prints this, and nothing at standard error, with this status.
 fn is_run<R: Threads + Wait + Sync>(
@@ -87,15 +84,6 @@ fn faults_are_told(rt: HostRuntime) {
             4
         )
     );
-}
-
-/// Adds a device with nothing pending.
-fn add<D: Device + Drop>(rt: &impl Abort, devices: &mut Vec<D>, device: D)
-    requires all { All (λ d. IsDurable (D.content d) (D.may_leave d)) devices.old.items }
-    requires one { IsDurable (D.content device) (D.may_leave device) }
-    ensures { All (λ d. IsDurable (D.content d) (D.may_leave d)) devices.new.items }
-{
-    devices.push(device).ok().expect(rt, "memory");
 }
 
 /// A new device in memory, alone in a list.
