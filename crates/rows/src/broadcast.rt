@@ -4,6 +4,7 @@ use crate::fault::RowFault;
 use crate::words::{Words, key, node, number, vector};
 use dvvset::Vector;
 use meta_types::{MetaKey, NodeId};
+use node_parts::both;
 use plumtree::{Cast, CastOut};
 use std::alloc::AllocError;
 
@@ -37,8 +38,8 @@ struct Known {
 impl Known {
     fn read(words: &mut Words<'_>) -> Result<Self, RowFault> {
         let (name, events) = Known::named(words)?;
-        let key = key(words.alloc(), name)?;
-        let vector = vector(words.alloc(), events)?;
+        let alloc = words.alloc();
+        let (key, vector) = both(key(alloc, name), vector(alloc, events))?;
         Ok(Known { key, vector })
     }
 
@@ -77,8 +78,8 @@ struct Told {
 impl Told {
     fn read(words: &mut Words<'_>, one: &str, other: &str) -> Result<Self, RowFault> {
         let came = Came::read(words)?;
-        let known = Known::read(words)?;
-        let is_first = words.is_first_of(one, other)?;
+        let known = Known::read(words);
+        let (known, is_first) = both(known, words.is_first_of(one, other))?;
         Ok(Told {
             came,
             known,
@@ -104,12 +105,15 @@ fn down(cast: &mut Cast, words: &mut Words<'_>) -> Result<Vec<CastOut>, RowFault
 
 fn write(cast: &mut Cast, words: &mut Words<'_>) -> Result<Vec<CastOut>, RowFault> {
     let known = Known::read(words)?;
-    given(cast.on_broadcast(&known.key, &known.vector))
+    let outs = cast.on_broadcast(&known.key, &known.vector);
+    drop(known);
+    given(outs)
 }
 
 fn change(cast: &mut Cast, words: &mut Words<'_>) -> Result<Vec<CastOut>, RowFault> {
     let known = Known::read(words)?;
     cast.on_change(&known.key, &known.vector);
+    drop(known);
     Ok(Vec::new(words.alloc()))
 }
 
@@ -119,7 +123,9 @@ fn gossip(cast: &mut Cast, words: &mut Words<'_>) -> Result<Vec<CastOut>, RowFau
         known,
         is_first: fresh,
     } = Told::read(words, "fresh", "stale")?;
-    given(cast.on_gossip(came.from, came.round, &known.key, &known.vector, fresh))
+    let outs = cast.on_gossip(came.from, came.round, &known.key, &known.vector, fresh);
+    drop(known);
+    given(outs)
 }
 
 fn ihave(cast: &mut Cast, words: &mut Words<'_>) -> Result<Vec<CastOut>, RowFault> {
@@ -128,7 +134,9 @@ fn ihave(cast: &mut Cast, words: &mut Words<'_>) -> Result<Vec<CastOut>, RowFaul
         known,
         is_first: stale,
     } = Told::read(words, "stale", "fresh")?;
-    given(cast.on_ihave(came.from, came.round, &known.key, &known.vector, stale))
+    let outs = cast.on_ihave(came.from, came.round, &known.key, &known.vector, stale);
+    drop(known);
+    given(outs)
 }
 
 fn graft(cast: &mut Cast, words: &mut Words<'_>) -> Result<Vec<CastOut>, RowFault> {
@@ -137,5 +145,7 @@ fn graft(cast: &mut Cast, words: &mut Words<'_>) -> Result<Vec<CastOut>, RowFaul
         known,
         is_first: held,
     } = Told::read(words, "held", "absent")?;
-    given(cast.on_graft(came.from, came.round, &known.key, held))
+    let outs = cast.on_graft(came.from, came.round, &known.key, held);
+    drop(known);
+    given(outs)
 }

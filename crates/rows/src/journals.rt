@@ -37,6 +37,7 @@ use run_order::Place;
 use run_record::{RecordFault, assemble};
 use std::alloc::{AllocError, Global};
 use std::io;
+use std::mem::replace;
 use std::time::Instant;
 use world_core::World;
 
@@ -80,7 +81,20 @@ fn try_line(rt: &HostRuntime, nodes: &Nodes, line: &str) -> io::Result<()> {
 /// Adds what comes of a line.
 fn add_line(alloc: Global, nodes: &Nodes, line: &str, text: &mut String) -> Result<(), AllocError> {
     let mut closed = closed_of(alloc, nodes, line)?;
-    arrange(alloc, &mut closed, line)?;
+    let done = add_closed(alloc, nodes, &mut closed, line, text);
+    drop(closed);
+    done
+}
+
+/// Adds what comes of a line with the nodes, closed.
+fn add_closed(
+    alloc: Global,
+    nodes: &Nodes,
+    closed: &mut Vec<Closed>,
+    line: &str,
+    text: &mut String,
+) -> Result<(), AllocError> {
+    arrange(alloc, closed, line)?;
     match line.strip_prefix("whole ") {
         Some(numbers) => text.push_str(whole_text(closed.as_slice(), numbers)),
         None => add_record(alloc, nodes, closed.as_slice(), line, text),
@@ -155,14 +169,21 @@ fn change_of(line: &str) -> Option<(usize, Change)> {
 
 /// Turns the order of the nodes round.
 fn turn(alloc: Global, closed: &mut Vec<Closed>) -> Result<(), AllocError> {
+    let turned = backwards(alloc, closed)?;
+    drop(replace(closed, turned));
+    Ok(())
+}
+
+/// The items of a list, which is left empty, in the opposite order. Its type parameter hides what
+/// is dropped where memory runs out.
+fn backwards<T: Drop>(alloc: Global, items: &mut Vec<T>) -> Result<Vec<T>, AllocError> {
     let mut turned = Vec::new(alloc);
-    for _place in 0..closed.len() {
-        if let Some(one) = closed.pop() {
+    for _place in 0..items.len() {
+        if let Some(one) = items.pop() {
             turned.push(one)?;
         }
     }
-    *closed = turned;
-    Ok(())
+    Ok(turned)
 }
 
 /// The receipt that a line asks for: it has the entry of a node at a place, and may name another
@@ -286,6 +307,13 @@ fn add_words(
     text: &mut String,
 ) -> Result<(), AllocError> {
     let words = explain_fault(alloc, closed, receipts, fault)?;
+    let done = add_indented(words.as_slice(), text);
+    drop(words);
+    done
+}
+
+/// Adds lines, each indented.
+fn add_indented(words: &[u8], text: &mut String) -> Result<(), AllocError> {
     for line in words.trim_ascii_end().split(|byte| *byte == b'\n') {
         text.push_str("\n  ")?;
         text.push_str(std::str::from_utf8(line).unwrap_or("no text"))?;
@@ -360,13 +388,22 @@ fn is_changed(nodes: &Nodes, closed: &[Closed], node: usize) -> bool {
 /// Prints how long it takes to put the journals together.
 fn try_pace(rt: &HostRuntime, nodes: &Nodes) -> io::Result<()> {
     let closed = nodes.closed(&[])?;
-    let start = Instant::now(rt)?;
+    let done = pace_of(rt, closed.as_slice());
+    drop(closed);
+    done
+}
+
+fn pace_of(rt: &HostRuntime, closed: &[Closed]) -> io::Result<()> {
     let mut text = String::new(rt.alloc());
-    add_told(rt.alloc(), closed.as_slice(), &[], &mut text)?;
-    println!(rt;
-        "pace: {text}, {} microseconds",
-        start.elapsed(rt)?.as_micros()
-    )
+    let time = time_of_told(rt, closed, &mut text)?;
+    println!(rt; "pace: {text}, {time} microseconds")
+}
+
+/// Adds what comes of assembling journals, and returns how many microseconds that took.
+fn time_of_told(rt: &HostRuntime, closed: &[Closed], text: &mut String) -> io::Result<u128> {
+    let start = Instant::now(rt)?;
+    add_told(rt.alloc(), closed, &[], text)?;
+    Ok(start.elapsed(rt)?.as_micros())
 }
 
 /// Returns whether the answer is so with the change of an entry of the node; none where that
@@ -378,10 +415,23 @@ fn try_change(
     change: Change,
 ) -> Result<Option<bool>, AllocError> {
     let closed = nodes.closed(&[(node, change)])?;
-    if !is_changed(nodes, closed.as_slice(), node) || !are_whole(&closed) {
+    let is_so = is_so_of(alloc, nodes, closed.as_slice(), node);
+    drop(closed);
+    is_so
+}
+
+/// Returns whether the answer for these journals is so; none where that of the node is the one that
+/// it left, or they aren't whole.
+fn is_so_of(
+    alloc: Global,
+    nodes: &Nodes,
+    closed: &[Closed],
+    node: usize,
+) -> Result<Option<bool>, AllocError> {
+    if !is_changed(nodes, closed, node) || !are_whole(closed) {
         return Ok(None);
     }
-    Ok(Some(is_answer_so(alloc, closed.as_slice())?))
+    Ok(Some(is_answer_so(alloc, closed)?))
 }
 
 /// Returns whether the answer for these journals is so.

@@ -49,8 +49,9 @@ impl Node {
         text: &mut Vec<u8>,
     ) -> Result<(), RowFault> {
         let outs = call(&mut self.cast, command, words)?;
-        print_cast_outs(text, self.number, outs.as_slice())?;
-        Ok(())
+        let done = print_cast_outs(text, self.number, outs.as_slice());
+        drop(outs);
+        Ok(done?)
     }
 
     fn step(
@@ -61,8 +62,9 @@ impl Node {
     ) -> Result<(), RowFault> {
         let event = event(command, words)?;
         let outs = self.views.step(event, words.random())?;
-        print_view_outs(text, self.number, outs.as_slice())?;
-        Ok(())
+        let done = print_view_outs(text, self.number, outs.as_slice());
+        drop(outs);
+        Ok(done?)
     }
 
     fn print_views(&self, text: &mut Vec<u8>) -> Result<(), AllocError> {

@@ -5,6 +5,7 @@ use crate::schedule::NODES;
 use dvvset::Vector;
 use meta_types::{FullPrefix, MetaKey, NodeId, Value};
 use node_core::NodeState;
+use node_parts::both;
 use past_model::Plain;
 use std::alloc::{AllocError, Global};
 use world_core::World;
@@ -12,17 +13,16 @@ use world_core::World;
 /// The keys that schedules name: p/s/k, p/s/l and p/t/k.
 pub fn keys(alloc: Global) -> Result<Vec<MetaKey>, AllocError> {
     let mut keys = Vec::with_capacity(alloc, 3)?;
-    keys.push(key(alloc, b's', b'k')?)?;
-    keys.push(key(alloc, b's', b'l')?)?;
-    keys.push(key(alloc, b't', b'k')?)?;
+    for (sub, letter) in [(b's', b'k'), (b's', b'l'), (b't', b'k')] {
+        keys.push(key(alloc, sub, letter)?)?;
+    }
     Ok(keys)
 }
 
 /// The key of this letter under p and another letter.
 fn key(alloc: Global, sub: u8, letter: u8) -> Result<MetaKey, AllocError> {
-    let first = Vec::from_slice(alloc, b"p")?;
-    let second = Vec::from_slice(alloc, &[sub])?;
-    let own = Vec::from_slice(alloc, &[letter])?;
+    let names = both(Vec::from_slice(alloc, b"p"), Vec::from_slice(alloc, &[sub]));
+    let (own, (first, second)) = both(Vec::from_slice(alloc, &[letter]), names)?;
     let prefix = FullPrefix::new(first, second).unwrap();
     Ok(MetaKey::new(prefix, own).unwrap())
 }
@@ -67,8 +67,11 @@ fn shows(
     key: &MetaKey,
 ) -> Result<bool, AllocError> {
     let (values, vector) = state.store().get(key)?;
-    let is_context = is_context(alloc, plain, state.node(), key, &vector)?;
-    Ok(is_context && are_siblings(alloc, plain, state.node(), key, values.as_slice())?)
+    let is_context = is_context(alloc, plain, state.node(), key, &vector);
+    drop(vector);
+    let are_siblings = are_siblings(alloc, plain, state.node(), key, values.as_slice());
+    drop(values);
+    Ok(is_context? && are_siblings?)
 }
 
 fn is_context(

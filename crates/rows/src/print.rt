@@ -32,7 +32,10 @@ fn print_sent(
         number: 1,
         message,
     };
-    print_frame(text, &frame)
+    let done = print_frame(text, &frame);
+    // Dropped by a call: no case of the proof then takes it apart.
+    drop(frame);
+    done
 }
 
 fn print_view_out(text: &mut Vec<u8>, from: NodeId, out: &ViewOut) -> Result<(), AllocError> {

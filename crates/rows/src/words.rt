@@ -4,6 +4,7 @@ use crate::fault::RowFault;
 use dvvset::{Counter, Vector};
 use frame_fields::Nodes;
 use meta_types::{Actor, FullPrefix, MetaKey, NodeId};
+use node_parts::both;
 use std::alloc::Global;
 use std::str::SplitWhitespace;
 
@@ -97,10 +98,10 @@ fn add_nodes(numbers: &mut Vec<NodeId>, word: &str) -> Result<(), RowFault> {
 
 /// A key under the full prefix `a/b`.
 pub fn key(alloc: Global, word: &str) -> Result<MetaKey, RowFault> {
-    let prefix = Vec::from_slice(alloc, b"a")?;
-    let sub = Vec::from_slice(alloc, b"b")?;
-    let own = Vec::from_slice(alloc, word.as_bytes())?;
-    let prefix = FullPrefix::new(prefix, sub).map_err(|_| RowFault::NoCommand)?;
+    let names = both(Vec::from_slice(alloc, b"a"), Vec::from_slice(alloc, b"b"));
+    let (own, (prefix, sub)) = both(Vec::from_slice(alloc, word.as_bytes()), names)?;
+    let prefix = FullPrefix::new(prefix, sub).map_err(|_| RowFault::NoCommand);
+    let (prefix, own) = both(prefix, Ok(own))?;
     MetaKey::new(prefix, own).map_err(|_| RowFault::NoCommand)
 }
 

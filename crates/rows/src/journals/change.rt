@@ -3,7 +3,9 @@
 use meta_types::{ByteString, NodeId};
 use node_events::{NodeEvent, Outbox, Reply};
 use node_journal::Entry;
+use node_parts::both;
 use std::alloc::{AllocError, Global};
+use std::mem::replace;
 
 /// A change of the entry at a place.
 #[derive(Clone, Copy, Debug, PartialEq, Eq)]
@@ -44,13 +46,25 @@ pub fn changed(
     change: Option<Change>,
 ) -> Result<Vec<Entry>, AllocError> {
     let mut entries = Vec::new(alloc);
+    let done = add_changed(alloc, &mut entries, journal, change);
+    let (entries, ()) = both(Ok(entries), done)?;
+    Ok(entries)
+}
+
+/// Adds copies of entries, and makes the change.
+fn add_changed(
+    alloc: Global,
+    entries: &mut Vec<Entry>,
+    journal: &[Entry],
+    change: Option<Change>,
+) -> Result<(), AllocError> {
     for entry in journal {
         entries.push(entry.copy()?)?;
     }
-    if let Some(change) = change {
-        make(alloc, &mut entries, change)?;
+    match change {
+        Some(change) => make(alloc, entries, change),
+        None => Ok(()),
     }
-    Ok(entries)
 }
 
 /// Makes the change. Nothing is done where there is no such entry.
@@ -96,13 +110,26 @@ fn double(entries: &mut Vec<Entry>, at: usize) -> Result<(), AllocError> {
 /// Changes what an entry holds.
 fn alter(alloc: Global, entry: &mut Entry, kind: Kind) -> Result<(), AllocError> {
     match kind {
-        Kind::Reply => entry.reply = other_reply(&entry.reply),
-        Kind::Send(byte) => entry.outbox = with_first(alloc, &entry.outbox, Some(byte))?,
-        Kind::Unsend => entry.outbox = with_first(alloc, &entry.outbox, None)?,
-        Kind::Take(byte) => flip_taken(&mut entry.event, byte)?,
-        Kind::Unread => forget_context(&mut entry.event),
-        _ => {}
+        Kind::Reply => {
+            let other = other_reply(&entry.reply);
+            drop(replace(&mut entry.reply, other));
+            Ok(())
+        }
+        Kind::Send(byte) => send(alloc, &mut entry.outbox, Some(byte)),
+        Kind::Unsend => send(alloc, &mut entry.outbox, None),
+        Kind::Take(byte) => flip_taken(&mut entry.event, byte),
+        Kind::Unread => {
+            forget_context(&mut entry.event);
+            Ok(())
+        }
+        _ => Ok(()),
     }
+}
+
+/// Puts frames with another first one, or with none, in place of these.
+fn send(alloc: Global, outbox: &mut Outbox, byte: Option<usize>) -> Result<(), AllocError> {
+    let other = with_first(alloc, outbox, byte)?;
+    drop(replace(outbox, other));
     Ok(())
 }
 
@@ -141,20 +168,32 @@ fn flipped(frame: &ByteString, byte: usize) -> Result<ByteString, AllocError> {
 /// The frames with a bit of the first one changed, or without the first one.
 fn with_first(alloc: Global, outbox: &Outbox, byte: Option<usize>) -> Result<Outbox, AllocError> {
     let mut frames = Vec::new(alloc);
-    for (place, frame) in outbox.as_slice().iter().enumerate() {
+    let done = add_frames(&mut frames, outbox.as_slice(), byte);
+    let (frames, ()) = both(Ok(frames), done)?;
+    Ok(Outbox::new(frames))
+}
+
+/// Adds copies of frames, with a bit of the first one changed, or without the first one.
+fn add_frames(
+    frames: &mut Vec<ByteString>,
+    sent: &[ByteString],
+    byte: Option<usize>,
+) -> Result<(), AllocError> {
+    for (place, frame) in sent.iter().enumerate() {
         match byte {
             Some(byte) if place == 0 => frames.push(flipped(frame, byte)?)?,
             None if place == 0 => {}
             _ => frames.push(frame.copy()?)?,
         }
     }
-    Ok(Outbox::new(frames))
+    Ok(())
 }
 
 /// Changes a bit of the frame that the event takes.
 fn flip_taken(event: &mut NodeEvent, byte: usize) -> Result<(), AllocError> {
     if let NodeEvent::Take { frame, .. } = event {
-        *frame = flipped(frame, byte)?;
+        let other = flipped(frame, byte)?;
+        drop(replace(frame, other));
     }
     Ok(())
 }
@@ -162,6 +201,6 @@ fn flip_taken(event: &mut NodeEvent, byte: usize) -> Result<(), AllocError> {
 /// Makes a write one that has read nothing.
 fn forget_context(event: &mut NodeEvent) {
     if let NodeEvent::Write { context, .. } = event {
-        *context = None;
+        drop(context.take());
     }
 }

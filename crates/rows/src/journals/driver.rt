@@ -9,10 +9,11 @@ ghost use Rattle.scenario_text.specs.Commands.{fault_in};
 use crate::journals::change::{Change, Kind, changed};
 use meta_frame::read_header;
 use meta_store::{Context, Store};
-use meta_types::{ByteString, NodeId, Value};
-use node_core::NodeState;
+use meta_types::{ByteString, MetaKey, NodeId, Value};
+use node_core::{NodeState, Stepped};
 use node_events::{NodeEvent, Reply};
 use node_journal::{Closed, Entry, Receipt};
+use node_parts::both;
 use scenario_text::{BytesWord, Command, KeyWord, Script, parse};
 use std::alloc::{AllocError, Global};
 
@@ -81,10 +82,9 @@ impl Nodes {
             return Ok(None);
         };
         let mut nodes = Nodes::none(alloc);
-        match nodes.follow(script) {
-            Ok(()) => Ok(Some(nodes)),
-            Err(error) => Err(error),
-        }
+        let done = nodes.follow(script);
+        let (nodes, ()) = both(Ok(nodes), done)?;
+        Ok(Some(nodes))
     }
 
     /// Makes the step of the command on its node. Does nothing with a command that is no step, or
@@ -103,19 +103,8 @@ impl Nodes {
     }
 
     fn step(&mut self, at: usize, event: NodeEvent) -> Result<(), AllocError> {
-        let given = match self.states.get_mut(at) {
-            Some(state) => state.step_on(&event).ok(),
-            None => None,
-        };
-        match given {
-            Some(given) => self.journal(
-                at,
-                Entry {
-                    event,
-                    reply: given.reply,
-                    outbox: given.outbox,
-                },
-            ),
+        match self.given(at, &event) {
+            Some(given) => self.journal(at, entry_of(event, given)),
             None => {
                 drop(event);
                 Ok(())
@@ -123,12 +112,22 @@ impl Nodes {
         }
     }
 
+    /// What the step of the node at this place gives; none where it refuses the event, or there is
+    /// no such node.
+    fn given(&mut self, at: usize, event: &NodeEvent) -> Option<Stepped> {
+        self.states.get_mut(at)?.step_on(event).ok()
+    }
+
     /// Puts an entry after the others of its node.
     fn journal(&mut self, at: usize, entry: Entry) -> Result<(), AllocError> {
         let kept = self.keep(&entry);
-        match (kept, self.journals.get_mut(at)) {
-            (Ok(()), Some(journal)) => Ok(journal.push(entry)?),
-            (kept, _) => kept,
+        let (entry, ()) = both(Ok(entry), kept)?;
+        match self.journals.get_mut(at) {
+            Some(journal) => Ok(journal.push(entry)?),
+            None => {
+                drop(entry);
+                Ok(())
+            }
         }
     }
 
@@ -192,6 +191,18 @@ impl Nodes {
         Ok(Value::new(stamp, body).ok())
     }
 
+    /// What a write has read: nothing, or a copy of the context of the read of this number. None
+    /// where no read has that number.
+    fn read_by(&self, read: Option<u64>) -> Result<Option<Option<Context>>, AllocError> {
+        let Some(read) = read else {
+            return Ok(Some(None));
+        };
+        match numbered(self.contexts.as_slice(), read) {
+            Some(context) => Ok(Some(Some(context.copy()?))),
+            None => Ok(None),
+        }
+    }
+
     fn write(
         &self,
         node: u64,
@@ -202,25 +213,9 @@ impl Nodes {
     ) -> Result<Option<(u64, NodeEvent)>, AllocError>
         requires { IsKey (key_word key.now) }
     {
-        let context = match read {
-            Some(read) => match numbered(self.contexts.as_slice(), read) {
-                Some(context) => Some(context.copy()?),
-                None => return Ok(None),
-            },
-            None => None,
-        };
-        let key = key.to_key(self.alloc)?;
-        match self.value(bytes, stamp)? {
-            Some(value) => Ok(Some((
-                node,
-                NodeEvent::Write {
-                    key,
-                    value,
-                    context,
-                },
-            ))),
-            None => Ok(None),
-        }
+        let named = both(key.to_key(self.alloc), self.value(bytes, stamp));
+        let ((key, value), context) = both(named, self.read_by(read))?;
+        Ok(write_of(node, key, value, context))
     }
 
     fn over(
@@ -232,11 +227,8 @@ impl Nodes {
     ) -> Result<Option<(u64, NodeEvent)>, AllocError>
         requires { IsKey (key_word key.now) }
     {
-        let key = key.to_key(self.alloc)?;
-        match self.value(Some(bytes), stamp)? {
-            Some(value) => Ok(Some((node, NodeEvent::PutOver { key, value }))),
-            None => Ok(None),
-        }
+        let (key, value) = both(key.to_key(self.alloc), self.value(Some(bytes), stamp))?;
+        Ok(over_of(node, key, value))
     }
 
     /// The event by which the frame of this number comes to the node, or to its addressee.
@@ -286,7 +278,8 @@ impl Nodes {
     /// The nodes, closed, with these changes, at most one for each node.
     pub fn closed(&self, changes: &[(usize, Change)]) -> Result<Vec<Closed>, AllocError> {
         let mut closed = Vec::new(self.alloc);
-        self.close_all(changes, &mut closed)?;
+        let done = self.close_all(changes, &mut closed);
+        let (closed, ()) = both(Ok(closed), done)?;
         Ok(closed)
     }
 
@@ -310,22 +303,75 @@ impl Nodes {
         requires { number < length self.now.states.items }
     {
         let state = &self.states[number];
-        let journal = match self.journals.get(number) {
-            Some(journal) => changed(self.alloc, journal.as_slice(), change)?,
-            None => Vec::new(self.alloc),
-        };
-        let base = NodeState::new(self.alloc, state.node(), 1)?;
-        let table = table_of(state.store(), change)?;
+        let base = NodeState::new(self.alloc, state.node(), 1);
+        let left = both(
+            self.journal_of(number, change),
+            table_of(state.store(), change),
+        );
+        let (base, (journal, table)) = both(base, left)?;
         Ok(Closed::from_parts(base, journal, table))
     }
+
+    /// A copy of the journal of the node at this place, with this change.
+    fn journal_of(&self, at: usize, change: Option<Change>) -> Result<Vec<Entry>, AllocError> {
+        match self.journals.get(at) {
+            Some(journal) => changed(self.alloc, journal.as_slice(), change),
+            None => Ok(Vec::new(self.alloc)),
+        }
+    }
+}
+
+/// Both items, where both are there. Its type parameters hide what is dropped where one isn't.
+fn paired<A: Drop, B: Drop>(first: Option<A>, second: Option<B>) -> Option<(A, B)> {
+    match (first, second) {
+        (Some(first), Some(second)) => Some((first, second)),
+        _ => None,
+    }
+}
+
+/// The entry of an event and what its step gave.
+fn entry_of(event: NodeEvent, given: Stepped) -> Entry {
+    let Stepped { reply, outbox } = given;
+    Entry {
+        event,
+        reply,
+        outbox,
+    }
+}
+
+/// The write of these parts, where all are there.
+fn write_of(
+    node: u64,
+    key: MetaKey,
+    value: Option<Value>,
+    context: Option<Option<Context>>,
+) -> Option<(u64, NodeEvent)> {
+    let (key, (value, context)) = paired(Some(key), paired(value, context))?;
+    Some((
+        node,
+        NodeEvent::Write {
+            key,
+            value,
+            context,
+        },
+    ))
+}
+
+/// The write of these parts over what is held, where there is a value.
+fn over_of(node: u64, key: MetaKey, value: Option<Value>) -> Option<(u64, NodeEvent)> {
+    let (key, value) = paired(Some(key), value)?;
+    Some((node, NodeEvent::PutOver { key, value }))
 }
 
 /// A copy of a table, without its first object where the change asks for that.
 fn table_of(store: &Store, change: Option<Change>) -> Result<Store, AllocError> {
     let mut table = store.copy()?;
-    if change.is_some_and(|change| change.kind == Kind::Untable) {
-        forget_first(&mut table, store)?;
-    }
+    let done = if change.is_some_and(|change| change.kind == Kind::Untable) {
+        forget_first(&mut table, store)
+    } else {
+        Ok(())
+    };
+    let (table, ()) = both(Ok(table), done)?;
     Ok(table)
 }
 
