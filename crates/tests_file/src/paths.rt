@@ -126,3 +126,52 @@ fn a_sealed_device_reads_nothing_and_ends(rt: HostRuntime) {
     assert!(rt; holds(&rt, path, &SERVED[..11]));
     let _ = fs::remove_file(&rt, path);
 }
+
+/// Returns whether what was opened at the path holds these bytes; `None` if memory ran out.
+fn is_held(opened: Result<FileDevice, OpenFault>, bytes: &[u8]) -> Option<bool> {
+    match opened {
+        Ok(device) => Some(device.held() == Some(bytes)),
+        Err(fault) => if fault == OpenFault::Memory {
+            None
+        } else {
+            Some(false)
+        },
+    }
+}
+
+/// Opens the path for writing.
+fn is_opened(rt: &HostRuntime, path: &str) -> Option<bool> {
+    is_held(FileDevice::open(rt, rt.alloc(), path), ONE)
+}
+
+/// Opens the path to be read.
+fn is_opened_to_read(rt: &HostRuntime, path: &str) -> Option<bool> {
+    is_held(FileDevice::open_to_read(rt, rt.alloc(), path), ONE)
+}
+
+/// Makes a file at the path.
+fn is_made(rt: &HostRuntime, path: &str) -> Option<bool> {
+    is_held(FileDevice::create_new(rt, rt.alloc(), path), b"")
+}
+
+// Each passes whichever single allocation is refused: what was refused memory is done again.
+#[test]
+fn a_path_is_opened_again_under_refused_memory(rt: HostRuntime) {
+    let path = "a_file_to_open";
+    if fs::write(&rt, path, ONE).is_err() {
+        let _ = fs::write(&rt, path, ONE);
+    }
+    let done = is_opened(&rt, path).or_else(|| is_opened(&rt, path));
+    let read = is_opened_to_read(&rt, path).or_else(|| is_opened_to_read(&rt, path));
+    assert!(rt; done == Some(true) && read == Some(true));
+}
+
+#[test]
+fn a_path_is_made_again_under_refused_memory(rt: HostRuntime) {
+    let path = "a_file_to_make";
+    if fs::remove_file(&rt, path).is_err() {
+        let _ = fs::remove_file(&rt, path);
+    }
+    let done = is_made(&rt, path).or_else(|| is_made(&rt, path));
+    assert!(rt; done == Some(true));
+}
