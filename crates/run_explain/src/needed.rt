@@ -1,7 +1,7 @@
 //! What an entry needs, and who gives it.
 
 use crate::explain::{add_call, entry_at};
-use meta_frame::decode;
+use meta_frame::{FrameFault, decode};
 use meta_store::Context;
 use meta_types::ByteString;
 use node_events::{NodeEvent, Reply};
@@ -111,6 +111,7 @@ fn gives(entry: &Entry, event: &NodeEvent) -> bool {
 pub(crate) fn add_frame(text: &mut Vec<u8>, bytes: &ByteString) -> Result<(), AllocError> {
     match decode(*text.allocator(), bytes.as_slice()) {
         Ok(frame) => print_frame(text, &frame),
+        Err(FrameFault::Memory) => Err(AllocError),
         Err(_) => text.extend_from_slice(b"bytes that are no frame"),
     }
 }
