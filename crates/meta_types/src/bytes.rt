@@ -99,11 +99,12 @@ impl ByteString {
         self.bytes.as_slice()
     }
 
+    /// The bytes are copied as one block: `clone` of a vector goes from element to element.
     pub fn copy(&self) -> Result<Self, AllocError>
         ensures { IfOk result (λ copy. copy ≡ self.now) }
     {
         Ok(ByteString {
-            bytes: self.bytes.clone()?,
+            bytes: Vec::from_slice(*self.bytes.allocator(), self.bytes.as_slice())?,
             head: self.head,
         })
     }
