@@ -8,7 +8,7 @@ ghost use Rattle.frame_readers.specs.Reader.{Gives, MatchesReader, each_reader, 
 ghost use Rattle.frame_readers.specs.declared.fault.FieldFault.TheVariants.{Memory};
 
 use crate::fault::FieldFault;
-use crate::reading::{node_from, read_bytes, read_node, u16_within};
+use crate::reading::{most_rows, node_from, read_bytes, read_node, u16_within};
 use frame_fields::rows::{MAX_ROWS, is_before};
 use frame_fields::{Digest, Digests, KeyDigest, KeyDigests, Nodes, PrefixDigest, PrefixDigests};
 use meta_types::{ByteString, FullPrefix, NodeId};
@@ -275,12 +275,4 @@ pub fn read_keys(alloc: Global, bytes: &[u8]) -> Result<(KeyDigests, &[u8]), Fie
 {
     let (rows, rest) = list_of_keys(alloc, bytes)?;
     Ok((KeyDigests::new(rows), rest))
-}
-
-/// How many rows to make room for: not more than are announced, nor than the bytes can hold, so
-/// that a short frame takes little memory.
-fn most_rows(len: u16, bytes: &[u8], row_len: usize) -> usize
-    requires { 0 < row_len }
-{
-    usize::from(len).min(bytes.len() / row_len)
 }

@@ -19,6 +19,23 @@ use std::alloc::Global;
 /// One more than the greatest number of a writer.
 pub(crate) const MOST_WRITERS: u64 = 16 * INCARNATIONS;
 
+/// The fewest bytes of a value.
+const MIN_VALUE_LEN: usize = 9;
+
+/// The fewest bytes of an entry.
+const MIN_ENTRY_LEN: usize = 16;
+
+/// The bytes of a counter.
+const COUNTER_LEN: usize = 14;
+
+/// How many rows to make room for: not more than are announced, nor than the bytes can hold, so
+/// that a short frame takes little memory.
+pub(crate) fn most_rows(len: u16, bytes: &[u8], row_len: usize) -> usize
+    requires { 0 < row_len }
+{
+    usize::from(len).min(bytes.len() / row_len)
+}
+
 pub fn read_u8(bytes: &[u8]) -> Result<(u8, &[u8]), FieldFault>
     ensures value { MatchesReader result (number_reader w8 bytes.now) }
     ensures memory { IfErr result (λ fault. fault ≢ Memory) }
@@ -308,7 +325,7 @@ fn each_value(alloc: Global, len: u16, bytes: &[u8]) -> Result<(Vec<Value>, &[u8
     ensures { Gives (λ x. (x.0.items, x.1.now)) result
         (each_reader (λ _. value_reader) forget no_state len bytes.now) }
 {
-    let mut values = Vec::new(alloc);
+    let mut values = Vec::with_capacity(alloc, most_rows(len, bytes, MIN_VALUE_LEN))?;
     let mut rest = bytes;
     for _ in 0..len {
         let (value, after) = read_value(alloc, rest)?;
@@ -346,7 +363,7 @@ fn each_entry(alloc: Global, len: u16, bytes: &[u8]) -> Result<(Vec<Entry>, &[u8
     ensures { Gives (λ x. (x.0.items, x.1.now)) result
         (each_reader entry_reader above_entry 0 len bytes.now) }
 {
-    let mut entries = Vec::new(alloc);
+    let mut entries = Vec::with_capacity(alloc, most_rows(len, bytes, MIN_ENTRY_LEN))?;
     let mut rest = bytes;
     let mut low = 0;
     for _ in 0..len {
@@ -383,7 +400,7 @@ fn each_counter(alloc: Global, len: u16, bytes: &[u8]) -> Result<(Vec<Counter>, 
     ensures { Gives (λ x. (x.0.items, x.1.now)) result
         (each_reader counter_reader above_counter 0 len bytes.now) }
 {
-    let mut counters = Vec::new(alloc);
+    let mut counters = Vec::with_capacity(alloc, most_rows(len, bytes, COUNTER_LEN))?;
     let mut rest = bytes;
     let mut low = 0;
     for _ in 0..len {

@@ -8,7 +8,7 @@ use Rattle.frame_readers.proofs.reading.each_counter.Goals as goal
 
 pub returns-in_err-node : goal.returns-in_err-node
 returns-in_err-node c =
-    let p = err_from_is_err_and c.from_residual.result c.from_residual.ensures.1 in
+    let p = err_from_is_err_and c.from_residual-in_err-node.result c.from_residual-in_err-node.ensures.1 in
     rw (p.1, p.2) (ends counter_reader above_counter c.in_err-node.field-0.0 c.loop.counters.items c.args.len c.loop.counter c.loop.low c.loop.rest.now (each_reader counter_reader above_counter 0 c.args.len c.args.bytes.now) c.loop-test.true c.in_err-node.ensures.value c.loop.invariant.0)
 
 pub loop-preserved : goal.loop-preserved

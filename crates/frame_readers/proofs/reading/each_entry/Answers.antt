@@ -7,7 +7,7 @@ use Rattle.frame_readers.proofs.reading.each_entry.Goals as goal
 
 pub returns-in_err-entry : goal.returns-in_err-entry
 returns-in_err-entry c =
-    let p = err_from_is_err_and c.from_residual.result c.from_residual.ensures.1 in
+    let p = err_from_is_err_and c.from_residual-in_err-entry.result c.from_residual-in_err-entry.ensures.1 in
     rw (p.1, p.2) (ends entry_reader above_entry c.in_err-entry.field-0.0 c.loop.entries.items c.args.len c.loop.counter c.loop.low c.loop.rest.now (each_reader entry_reader above_entry 0 c.args.len c.args.bytes.now) c.loop-test.true c.in_err-entry.ensures c.loop.invariant.0)
 
 pub loop-preserved : goal.loop-preserved
