@@ -1,6 +1,6 @@
 -- The four calls of an append, without a device.
 use Rattle.std.proofs.Common.{◌≡◌, ◌≤◌, ◌&&◌, ◌==◌, Bool, true, false, not, T, inl, inr, ⊎_elim, ℕ, ◌+◌, List, [], ◌∷◌, ◌++◌, length, take, drop, None, Ok, refl, sym, ◌∙◌, ap, subst, arith, append_assoc, length-append}
-use Rattle.devices.specs.Calls.{CrashLeftSince, content_after}
+use Rattle.devices.specs.Calls.{CrashLeaves, CrashLeftSince, content_after}
 use Rattle.devices.specs.Device.{Torn}
 use Rattle.meta_types.specs.First.{first_that_applies}
 use Rattle.meta_types.specs.Name.{Key}
@@ -11,7 +11,7 @@ use Rattle.node_file.specs.declared.fault.FileFault.TheVariants.{FileFull, Incar
 use Rattle.node_file.specs.declared.record.Record.{Record}
 use Rattle.node_file.specs.declared.record.Record.TheVariants.{Life, Object}
 use Rattle.node_file.specs.Record.{payload, record_bytes}
-use Rattle.node_file.specs.File.{FileState, OpensLike, WithOrWithout, file_state, gated, opened, record_size, state_with}
+use Rattle.node_file.specs.File.{FileState, OpensLike, StandsFor, WithOrWithout, file_state, gated, opened, record_size, state_with}
 use Rattle.node_file.specs.Refusal.{has_spelling, is_too_long_with, most_file, refusal_of_append, refusal_of_life}
 use Rattle.node_file.specs.Hosted.{CanTake, TakesRecord, append_calls}
 use Rattle.node_file.proofs.Torn.{length-record, nothing_behind, torn_behind, torn_gate}
@@ -50,8 +50,11 @@ module _ (file : List ℕ) (gate : ℕ) (r : Record) (opens : opened None file �
   like : (c : List ℕ) → c ≡ mid → WithOrWithout file r c
   like c is = inl (ap (opened None) is ∙ mid_opens)
 
+  has_it : (c : List ℕ) → c ≡ done → StandsFor (state_with (file_state file) r) c
+  has_it c is = (gate + record_size r, ap (opened None) is ∙ ends)
+
   with_it : (c : List ℕ) → c ≡ done → WithOrWithout file r c
-  with_it c is = inr (gate + record_size r, ap (opened None) is ∙ ends)
+  with_it c is = inr (has_it c is)
 
   first_torn : (c : List ℕ) → Torn (gate + 1) (length body) file c → WithOrWithout file r c
   first_torn c torn = inl (torn_behind (file_state file) gate file (layout gate file opens) (length body) c torn ∙ sym opens)
@@ -70,7 +73,7 @@ module _ (file : List ℕ) (gate : ℕ) (r : Record) (opens : opened None file �
   moments c (inr (inr (inr (inr (late, is))))) = inl (ap (opened None) is)
 
   pub takes_record : TakesRecord file gate r
-  takes_record = record { opens = ends; any_moment = moments }
+  takes_record = record { opens = ends; durable = has_it; any_moment = moments }
 
 -- ---- that what is written fits in a file
 

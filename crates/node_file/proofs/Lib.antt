@@ -2,10 +2,10 @@ mod Limits
 mod Folding
 mod Parting
 mod Torn
-mod Made
-mod Appending
+pub mod Made
+pub mod Appending
 mod Writing
-mod Lives
+pub mod Lives
 mod Tables
 mod Payloads
-mod ByHosts
+pub mod ByHosts

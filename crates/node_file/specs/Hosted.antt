@@ -1,12 +1,12 @@
 -- A node's file whose bytes a host keeps himself: the calls by which he appends a record to it, and
 -- that no crash breaks it. The rule is our own.
 use Rattle.std.specs.Prelude.{◌≡◌, ℕ, ◌+◌, ◌≤◌, List, [], ◌∷◌, ◌++◌, length, None, Ok, true}
-use Rattle.devices.specs.Calls.{CrashLeftSince, DeviceCall, content_after, synced, wrote}
+use Rattle.devices.specs.Calls.{CrashLeaves, CrashLeftSince, DeviceCall, content_after, synced, wrote}
 use Rattle.meta_store.specs.Table.{most_keys}
 use Rattle.node_file.specs.declared.record.Record.{Record}
 use Rattle.node_file.specs.Record.{IsRecord, payload, record_bytes}
 use Rattle.node_file.specs.Fold.{may_follow}
-use Rattle.node_file.specs.File.{FileState, WithOrWithout, file_state, opened, record_size, state_with}
+use Rattle.node_file.specs.File.{FileState, StandsFor, WithOrWithout, file_state, opened, record_size, state_with}
 
 -- The record is written after the closed gate at this offset and synced, and then the gate is
 -- opened and synced. The newest call stands first.
@@ -22,10 +22,12 @@ pub record CanTake (s : FileState) (record_ : Record) : Type 0 where
   pub follows : may_follow s.contents record_ ≡ true
   pub room : length (state_with s record_).contents.table ≤ most_keys
 
--- after the calls the file has the record, and a crash at any moment leaves it without the record or
--- with it
+-- after the calls the file has the record, and every crash from then on leaves it with the record;
+-- a crash at any moment before leaves it without the record or with it
 pub record TakesRecord (file : List ℕ) (gate : ℕ) (record_ : Record) : Type 0 where
   pub opens : opened None (content_after file (append_calls gate record_))
       ≡ Ok (state_with (file_state file) record_, gate + record_size record_)
+  pub durable : (c : List ℕ) → CrashLeaves file (append_calls gate record_) c
+      → StandsFor (state_with (file_state file) record_) c
   pub any_moment : (c : List ℕ) → CrashLeftSince file (append_calls gate record_) 0 c
       → WithOrWithout file record_ c

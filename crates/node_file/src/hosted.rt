@@ -71,11 +71,11 @@ pub fn serve_bytes(alloc: Global, bytes: &[u8], asked: Option<NodeId>) -> Result
     })
 }
 
-/// The record that a host appends, as [`serve_bytes`] says, so that this is the object under the key
-/// from then on; the closed gate of his file stands at this offset.
+/// The record that a host appends, as [`serve_bytes`] says, so that this is the object under the
+/// key from then on; the closed gate of his file stands at this offset.
 ///
-/// Refused as [`NodeFile::append`](crate::NodeFile::append) is, but for 34 `Stopped` and 30 `Device`.
-/// It takes memory for the record.
+/// Refused as [`NodeFile::append`](crate::NodeFile::append) is, but for 34 `Stopped` and 30
+/// `Device`. It takes memory for the record.
 pub fn spell_append(
     alloc: Global,
     gate: usize,

@@ -46,7 +46,8 @@ pub fn an_empty_file_is_served()
 {}
 
 /// Who appends a record to the bytes of a file by the four calls of an append has the record in it
-/// then, and a crash at any moment leaves the file without the record or with it.
+/// then, and every crash after the last call leaves the file with the record. A crash at any moment
+/// before leaves it without the record or with it.
 pub fn an_append_is_safe()
     ensures { (file : List ℕ) (gate : ℕ) (said : Record)
         → opened None file ≡ Ok (file_state file, gate) → CanTake (file_state file) said
