@@ -1,2 +1,3 @@
 mod Places
 mod Stopping
+mod Filing

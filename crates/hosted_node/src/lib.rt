@@ -16,13 +16,14 @@
 //! ```
 //!
 //! Read `node` (a hosted node and how it begins), `acting`, `handing` (what the host is handed),
-//! then `contexts` and `fault`.
+//! then `contexts`, `fault` and `laws` (what becomes of the host's file).
 #![tactic(auto)]
 
 mod acting;
 mod contexts;
 mod fault;
 mod handing;
+pub mod laws;
 mod node;
 
 pub use fault::HostFault;
