@@ -114,8 +114,8 @@ uint16_t zomtagi_empty_file(uint16_t node, uint8_t *buffer, size_t buffer_len, s
  * is 38 zomtagi_stored; zomtagi_reply, if you want it; zomtagi_frame and zomtagi_sent until there
  * is no frame left.
  *
- * Each is refused, after what stands at it before "step":
- *   80 NoNode, 34 Stopped, 37 Pending; what the step refuses, listed at the export;
+ * Each is refused with 80 NoNode; then with what stands at it before "step"; then, as a step, with:
+ *   34 Stopped, 37 Pending; what the step refuses, listed at the export;
  *   33 FileFull: the step was made, but its record doesn't fit in the file, which stops the node;
  *   99 Memory: nothing changed, or the node is stopped (zomtagi_about says which).
  * Only a write and zomtagi_keep have a record, and only where the node was served from a file. A
@@ -141,8 +141,8 @@ uint16_t zomtagi_keep(zomtagi_slot *slot, const uint8_t *prefix, size_t prefix_l
  * Writes a value, which has read what the context of this number says, or nothing for context 0: it
  * replaces what that read has shown, and stands beside all else. The stamp is yours, and never
  * read by the node. Reply 2.
- * 80 NoNode, 43 NoSuchRead, 1 BadName, 2 ValueTooLong; step: 26 WrongKey, 25 StoreFull,
- * 20 CounterSpent, 27 ObjectTooLarge.
+ * 43 NoSuchRead, 1 BadName, 2 ValueTooLong; step: 26 WrongKey, 25 StoreFull, 20 CounterSpent,
+ * 27 ObjectTooLarge.
  */
 uint16_t zomtagi_write(zomtagi_slot *slot, const uint8_t *prefix, size_t prefix_len,
                        const uint8_t *sub, size_t sub_len, const uint8_t *key, size_t key_len,
@@ -155,7 +155,7 @@ uint16_t zomtagi_delete(zomtagi_slot *slot, const uint8_t *prefix, size_t prefix
 
 /*
  * Writes a value over all that the node shows under the key. Reply 2.
- * 80 NoNode, 1 BadName, 2 ValueTooLong; step: 25 StoreFull, 20 CounterSpent, 27 ObjectTooLarge.
+ * 1 BadName, 2 ValueTooLong; step: 25 StoreFull, 20 CounterSpent, 27 ObjectTooLarge.
  */
 uint16_t zomtagi_write_over(zomtagi_slot *slot, const uint8_t *prefix, size_t prefix_len,
                             const uint8_t *sub, size_t sub_len, const uint8_t *key,
@@ -216,8 +216,8 @@ uint16_t zomtagi_changes(zomtagi_slot *slot, uint64_t number);
 /* ---- what you are handed ----
  *
  * Each copies bytes to the front of the buffer, and writes their number to *len. 81 ShortBuffer
- * writes only *len: call again with a buffer of that many bytes. 38 Nothing and 80 NoNode write
- * nothing.
+ * writes only *len: call again with a buffer of that many bytes. Any other refusal leaves the
+ * buffer and *len as they are.
  */
 
 /*

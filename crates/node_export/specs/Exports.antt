@@ -1,7 +1,8 @@
 -- What the exports return, and what they hand out, by the node in the slot, if there is one. The
 -- rule is our own.
 use Rattle.std.specs.Prelude.{◌≡◌, ◌≢◌, ◌⊎◌, ◌<◌, ℕ, List, ◌++◌, length, drop, Bool, true, false, nat_lt, Option, Some, None, Result, Ok, Err}
-use Rattle.meta_types.specs.Name.{IsKey, Key}
+use Rattle.std.specs.Option.{option_map}
+use Rattle.meta_types.specs.Name.{IsFullPrefix, IsKey, Key, Prefix}
 use Rattle.meta_types.specs.Value.{IsBody, ValueParts}
 use Rattle.meta_types.specs.declared.fault.TypeFault.TheVariants.{BadName, ValueTooLong}
 use Rattle.node_events.specs.declared.event.NodeEvent.{NodeEvent}
@@ -10,6 +11,7 @@ use Rattle.hosted_node.specs.Fault.{code_of}
 use Rattle.hosted_node.specs.Hosting.{Acts, ForgetsContext, HostedParts, IsLooked, KeepsContext, RefusesActing, after_sending, context_at, handed_reply}
 use Rattle.hosted_node.specs.declared.fault.HostFault.{HostFault}
 use Rattle.hosted_node.specs.declared.fault.HostFault.TheVariants.{Argument, Memory, NoSuchRead}
+use Rattle.node_export.specs.Spelling.{list_bytes, reply_bytes}
 
 -- the number of how a call ended: 0, or that of its refusal
 abbrev pub answer_of : {A : Type 0} → Result A HostFault → ℕ
@@ -42,34 +44,55 @@ StepsOrRefuses event old (Err fault) new = RefusesActing old event new fault
 abbrev pub Answers : Option HostedParts → NodeEvent → Option HostedParts → ℕ → Type 0
 Answers old event new answer = InSlot (AnswersAs (StepsOrRefuses event)) old new answer
 
--- nothing was done, for this cause, or because memory ran out
-abbrev pub Declines : ℕ → Option HostedParts → Option HostedParts → ℕ → Type 0
-Declines cause old new answer = (new ≡ old) × ((answer ≡ cause) ⊎ (answer ≡ 99))
+-- nothing was done, for this cause
+abbrev pub Declines : ℕ → HostedParts → HostedParts → ℕ → Type 0
+Declines cause old new answer = (new ≡ old) × (answer ≡ cause)
+
+-- the same, or memory ran out
+abbrev pub DeclinesOrFails : ℕ → HostedParts → HostedParts → ℕ → Type 0
+DeclinesOrFails cause old new answer = Declines cause old new answer ⊎ Declines 99 old new answer
 
 -- the key of these names, which may be out of range
 abbrev pub key_named : List ℕ → List ℕ → List ℕ → Key
 key_named prefix sub key =
     record { prefix = record { prefix = prefix; sub = sub }; key = key }
 
+-- a step whose bytes are copied first
+abbrev pub AnswersCopied : NodeEvent → HostedParts → HostedParts → ℕ → Type 0
+AnswersCopied event old new answer =
+    AnswersAs (StepsOrRefuses event) old new answer ⊎ Declines 99 old new answer
+
 -- a step that names something; 1 where that is out of range
-pub record AnswersNamed (in_range : Type 0) (event : NodeEvent) (old new : Option HostedParts)
+pub record AnswersNamed (in_range : Type 0) (event : NodeEvent) (old new : HostedParts)
     (answer : ℕ) : Type 0 where
-  pub lawful : in_range → Answers old event new answer ⊎ Declines 99 old new answer
-  pub unlawful : (in_range → ⊥) → Declines 1 old new answer
+  pub lawful : in_range → AnswersCopied event old new answer
+  pub unlawful : (in_range → ⊥) → DeclinesOrFails 1 old new answer
 
 -- a step that names another node; 3 where there is none of the number
-pub record AnswersPeer (peer : ℕ) (event : NodeEvent) (old new : Option HostedParts)
-    (answer : ℕ) : Type 0 where
-  pub lawful : peer < 16 → Answers old event new answer
-  pub unlawful : (peer < 16 → ⊥) → (new ≡ old) × (answer ≡ 3)
+pub record AnswersPeer (peer : ℕ) (event : NodeEvent) (old new : HostedParts) (answer : ℕ)
+    : Type 0 where
+  pub lawful : peer < 16 → AnswersAs (StepsOrRefuses event) old new answer
+  pub unlawful : (peer < 16 → ⊥) → Declines 3 old new answer
 
 -- ---- writes
 
--- the context of a write isn't there, its key or its value is out of range, or memory ran out
+-- there is a context of the number, or it is 0, which asks for none
+abbrev pub HasContext : ℕ → HostedParts → Type 0
+HasContext context n = (context ≡ 0) ⊎ (context_at context n ≢ None)
+
+-- a write can be asked for: its context is there, and its key and its value are in range
+pub record CanAskFor (context : ℕ) (key : Key) (value : ValueParts) (n : HostedParts)
+    : Type 0 where
+  pub context_there : HasContext context n
+  pub key_in_range : IsKey key
+  pub value_in_range : IsBody value.body
+
+-- the first cause for which it can't be asked for, or memory ran out
 abbrev pub IsWrong : ℕ → Key → ValueParts → HostedParts → HostFault → Type 0
 IsWrong context key value old NoSuchRead = (context ≢ 0) × (context_at context old ≡ None)
-IsWrong context key value old (Argument BadName) = IsKey key → ⊥
-IsWrong context key value old (Argument ValueTooLong) = IsBody value.body → ⊥
+IsWrong context key value old (Argument BadName) = HasContext context old × (IsKey key → ⊥)
+IsWrong context key value old (Argument ValueTooLong) =
+    HasContext context old × IsKey key × (IsBody value.body → ⊥)
 IsWrong context key value old Memory = Unit {0}
 IsWrong context key value old fault = ⊥
 
@@ -78,21 +101,26 @@ IsWrong context key value old fault = ⊥
 abbrev pub Writes : ℕ → Key → ValueParts → HostedParts → Result (Unit {0}) HostFault
     → HostedParts → Type 0
 Writes context key value old (Ok done) new =
-    Acts old (Write key value (context_at context old)) new
-    × ((context ≡ 0) ⊎ (context_at context old ≢ None))
+    CanAskFor context key value old × Acts old (Write key value (context_at context old)) new
 Writes context key value old (Err fault) new =
-    RefusesActing old (Write key value (context_at context old)) new fault
+    (CanAskFor context key value old
+    × RefusesActing old (Write key value (context_at context old)) new fault)
     ⊎ (IsWrong context key value old fault × (new ≡ old))
 
 -- the same of a write over all that the node shows
 abbrev pub WritesOver : Key → ValueParts → HostedParts → Result (Unit {0}) HostFault → HostedParts
     → Type 0
-WritesOver key value old (Ok done) new = Acts old (PutOver key value) new
+WritesOver key value old (Ok done) new =
+    CanAskFor 0 key value old × Acts old (PutOver key value) new
 WritesOver key value old (Err fault) new =
-    RefusesActing old (PutOver key value) new fault
+    (CanAskFor 0 key value old × RefusesActing old (PutOver key value) new fault)
     ⊎ (IsWrong 0 key value old fault × (new ≡ old))
 
 -- ---- what is handed out
+
+-- nothing is handed out, for this cause: the buffer and the length stay as they are
+abbrev pub HandsNothing : ℕ → List ℕ → List ℕ → ℕ → ℕ → ℕ → Type 0
+HandsNothing cause old new before len answer = (answer ≡ cause) × (new ≡ old) × (len ≡ before)
 
 -- a buffer that is too short stays as it is, 81; the front of another one holds the bytes
 abbrev pub HoldsIf : Bool → List ℕ → List ℕ → List ℕ → ℕ → Type 0
@@ -101,16 +129,44 @@ HoldsIf false bytes old new answer =
     (answer ≡ 0) × (new ≡ bytes ++ drop (length bytes) old)
 
 -- the bytes, with their length, where the buffer has room for them; 38 where there are none
-abbrev pub Hands : Option (List ℕ) → List ℕ → List ℕ → ℕ → ℕ → Type 0
-Hands None old new len answer = (answer ≡ 38) × (new ≡ old)
-Hands (Some bytes) old new len answer =
+abbrev pub Hands : Option (List ℕ) → List ℕ → List ℕ → ℕ → ℕ → ℕ → Type 0
+Hands None old new before len answer = HandsNothing 38 old new before len answer
+Hands (Some bytes) old new before len answer =
     (len ≡ length bytes) × HoldsIf (nat_lt (length old) (length bytes)) bytes old new answer
 
 -- the same, of the node in the slot; 80 where there is none
 abbrev pub HandsFrom : Option HostedParts → (HostedParts → Option (List ℕ)) → List ℕ → List ℕ → ℕ
-    → ℕ → Type 0
-HandsFrom None wanted old new len answer = (answer ≡ 80) × (new ≡ old)
-HandsFrom (Some n) wanted old new len answer = Hands (wanted n) old new len answer
+    → ℕ → ℕ → Type 0
+HandsFrom None wanted old new before len answer = HandsNothing 80 old new before len answer
+HandsFrom (Some n) wanted old new before len answer = Hands (wanted n) old new before len answer
+
+-- the bytes of the reply that is handed out
+abbrev pub handed_reply_bytes : HostedParts → Option (List ℕ)
+handed_reply_bytes n = option_map reply_bytes (handed_reply n)
+
+-- the reply; or memory ran out for its bytes
+abbrev pub HandsReply : HostedParts → List ℕ → List ℕ → ℕ → ℕ → ℕ → Type 0
+HandsReply n old new before len answer =
+    Hands (handed_reply_bytes n) old new before len answer
+    ⊎ (HandsNothing 99 old new before len answer × (handed_reply n ≢ None))
+
+abbrev pub HandsReplyFrom : Option HostedParts → List ℕ → List ℕ → ℕ → ℕ → ℕ → Type 0
+HandsReplyFrom None old new before len answer = HandsNothing 80 old new before len answer
+HandsReplyFrom (Some n) old new before len answer = HandsReply n old new before len answer
+
+-- the keys under a full prefix; 1 where that is out of range; or memory ran out
+pub record HandsList (prefix : Prefix) (n : HostedParts) (old new : List ℕ)
+    (before len answer : ℕ) : Type 0 where
+  pub lawful : IsFullPrefix prefix → Hands (Some (list_bytes prefix n.state.table)) old new before
+      len answer
+      ⊎ HandsNothing 99 old new before len answer
+  pub unlawful : (IsFullPrefix prefix → ⊥) → HandsNothing 1 old new before len answer
+      ⊎ HandsNothing 99 old new before len answer
+
+abbrev pub HandsListFrom : Prefix → Option HostedParts → List ℕ → List ℕ → ℕ → ℕ → ℕ → Type 0
+HandsListFrom prefix None old new before len answer = HandsNothing 80 old new before len answer
+HandsListFrom prefix (Some n) old new before len answer =
+    HandsList prefix n old new before len answer
 
 -- the program sent the next frame, if there is one
 abbrev pub Sends : HostedParts → HostedParts → ℕ → Type 0

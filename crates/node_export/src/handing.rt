@@ -2,8 +2,8 @@
 
 ghost use Rattle.std.specs.Prelude.{◌≡◌, Some, None, IfSome, nat_eq, not};
 ghost use Rattle.std.specs.Option.{option_copied};
-ghost use Rattle.hosted_node.specs.Hosting.{Stores, handed_record, handed_reply, next_frame};
-ghost use Rattle.node_export.specs.Exports.{AnswersAs, Hands, HandsFrom, InSlot, Sends};
+ghost use Rattle.hosted_node.specs.Hosting.{Stores, handed_record, next_frame};
+ghost use Rattle.node_export.specs.Exports.{AnswersAs, Hands, HandsFrom, HandsReply, HandsReplyFrom, InSlot, Sends};
 
 use crate::numbers::{NO_NODE, OK, SHORT_BUFFER, answer_of};
 use crate::reply::spell_reply;
@@ -15,7 +15,7 @@ use std::alloc::Global;
 /// Copies bytes to the front of a buffer, and says how many they are. Refused with 38 `Nothing`
 /// where there are none, and 81 `ShortBuffer`.
 pub(crate) fn copy_out(bytes: Option<&[u8]>, buffer: &mut [u8], len: &mut usize) -> u16
-    ensures { Hands (option_copied bytes.entry) buffer.old buffer.new len.new result }
+    ensures { Hands (option_copied bytes.entry) buffer.old buffer.new len.old len.new result }
 {
     let Some(bytes) = bytes else {
         return HostFault::Nothing.code();
@@ -42,8 +42,8 @@ pub extern "C" fn zomtagi_record(
     len: &mut usize,
 ) -> u16
     ensures same { slot.new.handle.held ≡ slot.old.handle.held }
-    ensures hands { HandsFrom slot.old.handle.held handed_record buffer.old buffer.new len.new
-        result }
+    ensures hands { HandsFrom slot.old.handle.held handed_record buffer.old buffer.new len.old
+        len.new result }
     ensures gate { result ≡ OK
         → IfSome slot.old.handle.held (λ n. n.gate ≡ Some gate.new) }
 {
@@ -81,8 +81,8 @@ pub extern "C" fn zomtagi_reply(
     len: &mut usize,
 ) -> u16
     ensures same { slot.new.handle.held ≡ slot.old.handle.held }
-    ensures held_back { IfSome slot.old.handle.held
-        (λ n. handed_reply n ≡ None → result ≡ 38) }
+    ensures hands { HandsReplyFrom slot.old.handle.held buffer.old buffer.new len.old len.new
+        result }
 {
     let Some(node) = slot.take(alloc) else {
         return NO_NODE;
@@ -93,7 +93,7 @@ pub extern "C" fn zomtagi_reply(
 }
 
 fn copy_reply(alloc: Global, node: &HostedNode, buffer: &mut [u8], len: &mut usize) -> u16
-    ensures { handed_reply node.now ≡ None → result ≡ 38 }
+    ensures { HandsReply node.now buffer.old buffer.new len.old len.new result }
 {
     match node.reply() {
         Some(reply) => match spell_reply(alloc, reply) {
@@ -113,8 +113,8 @@ pub extern "C" fn zomtagi_frame(
     len: &mut usize,
 ) -> u16
     ensures same { slot.new.handle.held ≡ slot.old.handle.held }
-    ensures hands { HandsFrom slot.old.handle.held next_frame buffer.old buffer.new len.new
-        result }
+    ensures hands { HandsFrom slot.old.handle.held next_frame buffer.old buffer.new len.old
+        len.new result }
 {
     let Some(node) = slot.take(alloc) else {
         return NO_NODE;

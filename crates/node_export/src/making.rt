@@ -7,7 +7,7 @@ ghost use Rattle.node_file.specs.File.{empty_file};
 ghost use Rattle.node_file.specs.Refusal.{refusal_of_serve};
 ghost use Rattle.node_file.specs.declared.fault.FileFault.{FileFault};
 ghost use Rattle.hosted_node.specs.Hosting.{Serves, beginning};
-ghost use Rattle.node_export.specs.Exports.{Hands};
+ghost use Rattle.node_export.specs.Exports.{Hands, HandsNothing};
 
 use crate::handing::copy_out;
 use crate::numbers::{BAD_LIFE, OK};
@@ -99,8 +99,9 @@ pub extern "C" fn zomtagi_empty_file(
     len: &mut usize,
 ) -> u16
     ensures bad_node { (node < 16 → ⊥) → result ≡ 3 }
-    ensures hands { node < 16 → Hands (Some (empty_file node)) buffer.old buffer.new len.new result
-        ⊎ (result ≡ 99) }
+    ensures hands { node < 16
+        → Hands (Some (empty_file node)) buffer.old buffer.new len.old len.new result
+        ⊎ HandsNothing 99 buffer.old buffer.new len.old len.new result }
 {
     let Ok(node) = NodeId::new(node) else {
         return TypeFault::BadNode.code();

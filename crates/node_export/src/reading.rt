@@ -1,15 +1,18 @@
 //! What a node holds, without a step.
 
-ghost use Rattle.std.specs.Prelude.{◌≡◌, Some, None, IfSome};
+ghost use Rattle.std.specs.Prelude.{◌≡◌, ◌⊎◌, ◌++◌, [], Some, None, IfOk, IfSome, OnOk, if◌then◌else◌};
+ghost use Rattle.std.specs.List.{flat_map};
+ghost use Rattle.frame_fields.specs.Field.{key};
 ghost use Rattle.hash_tree.specs.Tree.{rows_of, tree_root};
-ghost use Rattle.node_export.specs.Exports.{HandsFrom};
+ghost use Rattle.node_export.specs.Exports.{Hands, HandsFrom, HandsList, HandsListFrom, HandsNothing, key_named};
+ghost use Rattle.node_export.specs.Spelling.{list_bytes};
 
 use crate::handing::copy_out;
 use crate::numbers::{NO_NODE, OK};
 use crate::steps::prefix_of;
 use frame_fields::writing::write_key;
 use hosted_node::HostedNode;
-use meta_types::{FullPrefix, TypeFault};
+use meta_types::{FullPrefix, MetaKey, TypeFault};
 use node_handle::Slot;
 use std::alloc::{AllocError, Global};
 
@@ -25,16 +28,32 @@ pub extern "C" fn zomtagi_list(
     len: &mut usize,
 ) -> u16
     ensures same { slot.new.handle.held ≡ slot.old.handle.held }
+    ensures hands { HandsListFrom (key_named prefix.now sub.now []).prefix slot.old.handle.held
+        buffer.old buffer.new len.old len.new result }
 {
     let Some(node) = slot.take(alloc) else {
         return NO_NODE;
     };
-    let number = match prefix_of(alloc, prefix, sub) {
-        Ok(prefix) => copy_keys(alloc, &node, &prefix, buffer, len),
-        Err(fault) => fault.code(),
-    };
+    let number = list_of(alloc, &node, (prefix, sub), buffer, len);
     slot.put(node);
     number
+}
+
+fn list_of(
+    alloc: Global,
+    node: &HostedNode,
+    names: (&[u8], &[u8]),
+    buffer: &mut [u8],
+    len: &mut usize,
+) -> u16
+    ensures { HandsList (key_named names.entry.0.now names.entry.1.now []).prefix node.now
+        buffer.old buffer.new len.old len.new result }
+{
+    let (prefix, sub) = names;
+    match prefix_of(alloc, prefix, sub) {
+        Ok(prefix) => copy_keys(alloc, node, &prefix, buffer, len),
+        Err(fault) => fault.code(),
+    }
 }
 
 fn copy_keys(
@@ -43,29 +62,37 @@ fn copy_keys(
     prefix: &FullPrefix,
     buffer: &mut [u8],
     len: &mut usize,
-) -> u16 {
+) -> u16
+    ensures { Hands (Some (list_bytes prefix.now node.now.state.table)) buffer.old buffer.new
+        len.old len.new result ⊎ HandsNothing 99 buffer.old buffer.new len.old len.new result }
+{
     match spell_keys(alloc, node, prefix) {
         Ok(bytes) => copy_out(Some(bytes.as_slice()), buffer, len),
         Err(_) => TypeFault::Memory.code(),
     }
 }
 
-fn spell_keys(
-    alloc: Global,
-    node: &HostedNode,
-    prefix: &FullPrefix,
-) -> Result<Vec<u8>, AllocError> {
+fn spell_keys(alloc: Global, node: &HostedNode, prefix: &FullPrefix) -> Result<Vec<u8>, AllocError>
+    ensures { IfOk result (λ bytes. bytes.items ≡ list_bytes prefix.now node.now.state.table) }
+{
     let keys = node.state().store().list(prefix)?;
     let mut bytes = Vec::new(alloc);
-    for key in keys.as_slice() {
-        write_key(&mut bytes, key)?;
-    }
+    add_keys(&mut bytes, keys.as_slice())?;
     Ok(bytes)
 }
 
+/// Adds each key, as a frame has it.
+fn add_keys(bytes: &mut Vec<u8>, keys: &[MetaKey]) -> Result<(), AllocError>
+    ensures { OnOk result (bytes.new.items ≡ bytes.old.items ++ flat_map key.spell keys.now) }
+{
+    for key in keys {
+        write_key(bytes, key)?;
+    }
+    Ok(())
+}
+
 /// The 32 bytes of the root of the tree over all that the node holds, which may not be stored yet.
-/// Refused with 80 `NoNode` and
-/// 81 `ShortBuffer`.
+/// Refused with 80 `NoNode` and 81 `ShortBuffer`.
 #[unsafe(no_mangle)]
 pub extern "C" fn zomtagi_root(
     alloc: Global,
@@ -75,7 +102,7 @@ pub extern "C" fn zomtagi_root(
 ) -> u16
     ensures same { slot.new.handle.held ≡ slot.old.handle.held }
     ensures hands { HandsFrom slot.old.handle.held (λ n. Some (tree_root (rows_of n.state.table)))
-        buffer.old buffer.new len.new result }
+        buffer.old buffer.new len.old len.new result }
 {
     let Some(node) = slot.take(alloc) else {
         return NO_NODE;
@@ -98,6 +125,8 @@ pub extern "C" fn zomtagi_about(
     ensures same { slot.new.handle.held ≡ slot.old.handle.held }
     ensures says { IfSome slot.old.handle.held (λ n. (result ≡ OK)
         × (number.new ≡ n.state.node) × (life.new ≡ n.state.incarnation)) }
+    ensures stopped { IfSome slot.old.handle.held
+        (λ n. is_stopped.new ≡ (if n.stopped then 1 else 0)) }
     ensures none { slot.old.handle.held ≡ None → result ≡ NO_NODE }
 {
     let Some(node) = slot.take(alloc) else {

@@ -1,5 +1,9 @@
 //! How a reply is spelled for the program.
 
+ghost use Rattle.std.specs.Prelude.{◌≡◌, ◌++◌, IfOk, OnOk};
+ghost use Rattle.std.specs.List.{flat_map};
+ghost use Rattle.node_export.specs.Spelling.{change_bytes, changes_bytes, reply_bytes, value_bytes, values_bytes};
+
 use frame_fields::writing::{write_key, write_u8, write_u64};
 use meta_types::Value;
 use node_events::Reply;
@@ -8,7 +12,9 @@ use subscriptions::Change;
 
 /// The bytes of a reply: a byte that says which, and its fields. Numbers are written with the
 /// highest byte first; keys stand as in frames.
-pub(crate) fn spell_reply(alloc: Global, reply: &Reply) -> Result<Vec<u8>, AllocError> {
+pub(crate) fn spell_reply(alloc: Global, reply: &Reply) -> Result<Vec<u8>, AllocError>
+    ensures { IfOk result (λ bytes. bytes.items ≡ reply_bytes reply.now) }
+{
     let mut bytes = Vec::new(alloc);
     match reply {
         Reply::Looked { values, .. } => {
@@ -34,8 +40,16 @@ pub(crate) fn spell_reply(alloc: Global, reply: &Reply) -> Result<Vec<u8>, Alloc
 }
 
 /// Adds how many values there are, and each.
-fn add_values(bytes: &mut Vec<u8>, values: &[Value]) -> Result<(), AllocError> {
+fn add_values(bytes: &mut Vec<u8>, values: &[Value]) -> Result<(), AllocError>
+    ensures { OnOk result (bytes.new.items ≡ bytes.old.items ++ values_bytes values.now) }
+{
     write_u64(bytes, values.len() as u64)?;
+    add_each_value(bytes, values)
+}
+
+fn add_each_value(bytes: &mut Vec<u8>, values: &[Value]) -> Result<(), AllocError>
+    ensures { OnOk result (bytes.new.items ≡ bytes.old.items ++ flat_map value_bytes values.now) }
+{
     for value in values {
         add_value(bytes, value)?;
     }
@@ -43,7 +57,9 @@ fn add_values(bytes: &mut Vec<u8>, values: &[Value]) -> Result<(), AllocError> {
 }
 
 /// Adds the stamp of a value, whether it has a body, and the length and the bytes of that.
-fn add_value(bytes: &mut Vec<u8>, value: &Value) -> Result<(), AllocError> {
+fn add_value(bytes: &mut Vec<u8>, value: &Value) -> Result<(), AllocError>
+    ensures { OnOk result (bytes.new.items ≡ bytes.old.items ++ value_bytes value.now) }
+{
     write_u64(bytes, value.stamp())?;
     match value.body() {
         Some(body) => {
@@ -56,8 +72,16 @@ fn add_value(bytes: &mut Vec<u8>, value: &Value) -> Result<(), AllocError> {
 }
 
 /// Adds how many changes there are, and the key of each.
-fn add_changes(bytes: &mut Vec<u8>, changes: &[Change]) -> Result<(), AllocError> {
+fn add_changes(bytes: &mut Vec<u8>, changes: &[Change]) -> Result<(), AllocError>
+    ensures { OnOk result (bytes.new.items ≡ bytes.old.items ++ changes_bytes changes.now) }
+{
     write_u64(bytes, changes.len() as u64)?;
+    add_each_change(bytes, changes)
+}
+
+fn add_each_change(bytes: &mut Vec<u8>, changes: &[Change]) -> Result<(), AllocError>
+    ensures { OnOk result (bytes.new.items ≡ bytes.old.items ++ flat_map change_bytes changes.now) }
+{
     for change in changes {
         write_key(bytes, &change.key)?;
     }

@@ -1,11 +1,12 @@
-//! Steps that name no value: each is refused with 1 `BadName` or 3 `BadNode` for what it names,
-//! with 80 `NoNode`, and then as `HostedNode::act` is.
+//! Steps that name no value: each is refused with 80 `NoNode`, with 1 `BadName` or 3 `BadNode` for
+//! what it names, and then as `HostedNode::act` is.
 
 ghost use Rattle.std.specs.Prelude.{◌≡◌, ◌⊎◌, [], IfOk, IfErr, OnOk};
 ghost use Rattle.meta_types.specs.Name.{IsFullPrefix, IsKey};
+ghost use Rattle.meta_types.specs.Fault.{code_of};
 ghost use Rattle.meta_types.specs.declared.fault.TypeFault.{TypeFault};
 ghost use Rattle.node_events.specs.declared.event.NodeEvent.TheVariants.{Changes, Exchange, Hello, Join, Keep, Leave, PeerDown, Read, Take, Tick, Watch};
-ghost use Rattle.node_export.specs.Exports.{Answers, AnswersNamed, AnswersPeer, Declines, key_named};
+ghost use Rattle.node_export.specs.Exports.{Answers, AnswersCopied, AnswersNamed, AnswersPeer, Declines, InSlot, key_named};
 
 use crate::numbers::{NO_NODE, answer_of};
 use meta_types::{ByteString, FullPrefix, MetaKey, NodeId, TypeFault};
@@ -23,6 +24,17 @@ pub(crate) fn act_in(alloc: Global, slot: &mut Slot, event: NodeEvent) -> u16
     let acted = node.act(event);
     slot.put(node);
     answer_of(acted)
+}
+
+/// Refuses what was asked for, where there is a node in the slot.
+fn refuse_in(alloc: Global, slot: &mut Slot, fault: TypeFault) -> u16
+    ensures { InSlot (Declines (code_of fault)) slot.old.handle.held slot.new.handle.held result }
+{
+    let Some(node) = slot.take(alloc) else {
+        return NO_NODE;
+    };
+    slot.put(node);
+    fault.code()
 }
 
 /// The key of these names.
@@ -50,13 +62,13 @@ pub extern "C" fn zomtagi_read(
     sub: &[u8],
     key: &[u8],
 ) -> u16
-    ensures { AnswersNamed (IsKey (key_named prefix.now sub.now key.now))
-        (Read (key_named prefix.now sub.now key.now))
+    ensures { InSlot (AnswersNamed (IsKey (key_named prefix.now sub.now key.now))
+        (Read (key_named prefix.now sub.now key.now)))
         slot.old.handle.held slot.new.handle.held result }
 {
     match key_of(alloc, prefix, sub, key) {
         Ok(key) => act_in(alloc, slot, NodeEvent::Read { key }),
-        Err(fault) => fault.code(),
+        Err(fault) => refuse_in(alloc, slot, fault),
     }
 }
 
@@ -69,28 +81,28 @@ pub extern "C" fn zomtagi_keep(
     sub: &[u8],
     key: &[u8],
 ) -> u16
-    ensures { AnswersNamed (IsKey (key_named prefix.now sub.now key.now))
-        (Keep (key_named prefix.now sub.now key.now))
+    ensures { InSlot (AnswersNamed (IsKey (key_named prefix.now sub.now key.now))
+        (Keep (key_named prefix.now sub.now key.now)))
         slot.old.handle.held slot.new.handle.held result }
 {
     match key_of(alloc, prefix, sub, key) {
         Ok(key) => act_in(alloc, slot, NodeEvent::Keep { key }),
-        Err(fault) => fault.code(),
+        Err(fault) => refuse_in(alloc, slot, fault),
     }
 }
 
 /// Bytes came that should be a frame for the node. The word is a random number.
 #[unsafe(no_mangle)]
 pub extern "C" fn zomtagi_take(alloc: Global, slot: &mut Slot, frame: &[u8], word: u64) -> u16
-    ensures { Answers slot.old.handle.held (Take frame.now word) slot.new.handle.held result
-        ⊎ Declines 99 slot.old.handle.held slot.new.handle.held result }
+    ensures { InSlot (AnswersCopied (Take frame.now word))
+        slot.old.handle.held slot.new.handle.held result }
 {
     match frame.to_vec(alloc) {
         Ok(frame) => {
             let frame = ByteString::new(frame);
             act_in(alloc, slot, NodeEvent::Take { frame, word })
         }
-        Err(_) => TypeFault::Memory.code(),
+        Err(_) => refuse_in(alloc, slot, TypeFault::Memory),
     }
 }
 
@@ -105,46 +117,48 @@ pub extern "C" fn zomtagi_tick(alloc: Global, slot: &mut Slot, word: u64) -> u16
 /// The node joins the cluster through a contact.
 #[unsafe(no_mangle)]
 pub extern "C" fn zomtagi_join(alloc: Global, slot: &mut Slot, contact: u16, word: u64) -> u16
-    ensures { AnswersPeer contact (Join contact word) slot.old.handle.held slot.new.handle.held
-        result }
+    ensures { InSlot (AnswersPeer contact (Join contact word))
+        slot.old.handle.held slot.new.handle.held result }
 {
     match NodeId::new(contact) {
         Ok(contact) => act_in(alloc, slot, NodeEvent::Join { contact, word }),
-        Err(fault) => fault.code(),
+        Err(fault) => refuse_in(alloc, slot, fault),
     }
 }
 
 /// Somebody found that a peer doesn't answer.
 #[unsafe(no_mangle)]
 pub extern "C" fn zomtagi_peer_down(alloc: Global, slot: &mut Slot, peer: u16, word: u64) -> u16
-    ensures { AnswersPeer peer (PeerDown peer word) slot.old.handle.held slot.new.handle.held
-        result }
+    ensures { InSlot (AnswersPeer peer (PeerDown peer word))
+        slot.old.handle.held slot.new.handle.held result }
 {
     match NodeId::new(peer) {
         Ok(peer) => act_in(alloc, slot, NodeEvent::PeerDown { peer, word }),
-        Err(fault) => fault.code(),
+        Err(fault) => refuse_in(alloc, slot, fault),
     }
 }
 
 /// The node begins an exchange with a peer.
 #[unsafe(no_mangle)]
 pub extern "C" fn zomtagi_exchange(alloc: Global, slot: &mut Slot, peer: u16) -> u16
-    ensures { AnswersPeer peer (Exchange peer) slot.old.handle.held slot.new.handle.held result }
+    ensures { InSlot (AnswersPeer peer (Exchange peer))
+        slot.old.handle.held slot.new.handle.held result }
 {
     match NodeId::new(peer) {
         Ok(peer) => act_in(alloc, slot, NodeEvent::Exchange { peer }),
-        Err(fault) => fault.code(),
+        Err(fault) => refuse_in(alloc, slot, fault),
     }
 }
 
 /// The node tells a peer which life it is in.
 #[unsafe(no_mangle)]
 pub extern "C" fn zomtagi_hello(alloc: Global, slot: &mut Slot, peer: u16) -> u16
-    ensures { AnswersPeer peer (Hello peer) slot.old.handle.held slot.new.handle.held result }
+    ensures { InSlot (AnswersPeer peer (Hello peer))
+        slot.old.handle.held slot.new.handle.held result }
 {
     match NodeId::new(peer) {
         Ok(peer) => act_in(alloc, slot, NodeEvent::Hello { peer }),
-        Err(fault) => fault.code(),
+        Err(fault) => refuse_in(alloc, slot, fault),
     }
 }
 
@@ -165,13 +179,13 @@ pub extern "C" fn zomtagi_watch(
     sub: &[u8],
     capacity: usize,
 ) -> u16
-    ensures { AnswersNamed (IsFullPrefix (key_named prefix.now sub.now []).prefix)
-        (Watch (key_named prefix.now sub.now []).prefix capacity)
+    ensures { InSlot (AnswersNamed (IsFullPrefix (key_named prefix.now sub.now []).prefix)
+        (Watch (key_named prefix.now sub.now []).prefix capacity))
         slot.old.handle.held slot.new.handle.held result }
 {
     match prefix_of(alloc, prefix, sub) {
         Ok(prefix) => act_in(alloc, slot, NodeEvent::Watch { prefix, capacity }),
-        Err(fault) => fault.code(),
+        Err(fault) => refuse_in(alloc, slot, fault),
     }
 }
 

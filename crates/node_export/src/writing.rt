@@ -27,10 +27,14 @@ fn parts_of(
         ≡ key_named names.entry.0.now names.entry.1.now names.entry.2.now) }
     ensures value { IfOk result (λ parts. parts.1
         ≡ record { stamp = stamp; body = option_copied body.entry }) }
+    ensures key_in_range { OnOk result
+        (IsKey (key_named names.entry.0.now names.entry.1.now names.entry.2.now)) }
+    ensures value_in_range { OnOk result (IsBody (option_copied body.entry)) }
     ensures refused { IfErr result (λ fault. (fault ≡ OfHost.Memory)
         ⊎ (((fault ≡ OfHost.Argument OfType.BadName)
         × (IsKey (key_named names.entry.0.now names.entry.1.now names.entry.2.now) → ⊥))
         ⊎ ((fault ≡ OfHost.Argument OfType.ValueTooLong)
+        × IsKey (key_named names.entry.0.now names.entry.1.now names.entry.2.now)
         × (IsBody (option_copied body.entry) → ⊥)))) }
 {
     let (prefix, sub, key) = names;
