@@ -23,7 +23,11 @@ fn status<R: Threads + Wait + Sync>(files: &HostRuntime, rt: &R, folder: &str) -
     match new_files(files, folder, plan.nodes) {
         Ok(devices) => {
             let alloc = files.alloc();
-            run_live_on(rt, alloc, plan, devices, &NoGate, &mut writer, &mut errors).status
+            let live = run_live_on(rt, alloc, plan, devices, &NoGate, &mut writer, &mut errors);
+            let status = live.status;
+            // Dropped by a call: no case of the proof then takes it apart.
+            drop(live);
+            status
         }
         Err(fault) => tell_unmade(&mut errors, fault),
     }

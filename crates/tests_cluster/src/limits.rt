@@ -1,7 +1,7 @@
 //! What is refused at once, and runs with the least limits.
 
 use crate::parts::{Came, failing, plan, told};
-use cluster::{ClusterFault, ClusterPlan, Limits, NoGate, run_cluster, run_cluster_on};
+use cluster::{ClusterFault, ClusterPlan, ClusterRun, Limits, NoGate, run_cluster, run_cluster_on};
 use node_file::FileFault;
 use node_lock::LockFault;
 use std::alloc::Global;
@@ -21,10 +21,19 @@ fn code<R: Threads + Wait + Abort + Sync>(
     let (inbox, journal) = limits;
     let limits = Limits { inbox, journal };
     let devices = failing(rt, alloc, b"", passed);
-    match run_cluster_on(rt, alloc, plan(nodes, 1, 0), limits, devices, &NoGate) {
+    let plan = plan(nodes, 1, 0);
+    code_of(run_cluster_on(rt, alloc, plan, limits, devices, &NoGate))
+}
+
+/// Returns the number by which a run is refused, 0 where it isn't.
+fn code_of(run: Result<ClusterRun, ClusterFault>) -> u16 {
+    let code = match &run {
         Ok(_run) => 0,
         Err(fault) => fault.code(),
-    }
+    };
+    // Dropped by a call: no case of the proof then takes it apart.
+    drop(run);
+    code
 }
 
 const MOST: u64 = u64::MAX;
@@ -51,17 +60,8 @@ fn refusals_come_in_their_order(rt: HostRuntime) {
 /// Returns the number by which a run of one node on a device with these bytes is refused, or 0.
 fn code_on<R: Threads + Wait + Abort + Sync>(rt: &R, alloc: Global, bytes: &[u8]) -> u16 {
     let devices = failing(rt, alloc, bytes, &[MOST]);
-    match run_cluster_on(
-        rt,
-        alloc,
-        plan(1, 1, 0),
-        Limits::largest(),
-        devices,
-        &NoGate,
-    ) {
-        Ok(_run) => 0,
-        Err(fault) => fault.code(),
-    }
+    let (plan, limits) = (plan(1, 1, 0), Limits::largest());
+    code_of(run_cluster_on(rt, alloc, plan, limits, devices, &NoGate))
 }
 
 /// Bytes that are no file, the file of another node, and a file of the first version.

@@ -142,9 +142,13 @@ fn turns_of_one<R: Threads + Wait + Sync>(files: &HostRuntime, rt: &R) -> Result
 
 /// Runs `turns_of_one`, and once more where memory or a thread was refused.
 fn turns_again<R: Threads + Wait + Abort + Sync>(files: &HostRuntime, rt: &R) -> ClusterRun {
-    let run = match turns_of_one(files, rt) {
-        Err(56 | 99) => turns_of_one(files, rt),
-        run => run,
+    let run = turns_of_one(files, rt);
+    let was_refused = matches!(&run, Err(56 | 99));
+    let run = if was_refused {
+        drop(run);
+        turns_of_one(files, rt)
+    } else {
+        run
     };
     run.ok().expect(rt, "a run")
 }

@@ -76,16 +76,22 @@ pub(crate) struct Came {
 
 /// Returns what came of the run, or the number of the refusal.
 pub(crate) fn told(alloc: Global, run: Result<ClusterRun, ClusterFault>) -> Result<Came, u16> {
-    match run {
-        Ok(run) => Ok(Came {
-            calls: run.calls,
-            lost: run.lost,
-            closed: run.closed.len(),
-            receipts: run.receipts.len(),
-            kept: kept(&run),
-            code: code_in_the_end(alloc, &run),
-        }),
+    let told = match &run {
+        Ok(run) => Ok(came_of(alloc, run)),
         Err(fault) => Err(fault.code()),
+    };
+    drop(run);
+    told
+}
+
+fn came_of(alloc: Global, run: &ClusterRun) -> Came {
+    Came {
+        calls: run.calls,
+        lost: run.lost,
+        closed: run.closed.len(),
+        receipts: run.receipts.len(),
+        kept: kept(run),
+        code: code_in_the_end(alloc, run),
     }
 }
 
@@ -95,10 +101,14 @@ fn code_of_assembly(alloc: Global, run: &ClusterRun) -> u16 {
     if !are_whole(run.closed.as_slice()) {
         return 1;
     }
-    match assemble(alloc, run.closed.as_slice(), run.receipts.as_slice()) {
+    let answer = assemble(alloc, run.closed.as_slice(), run.receipts.as_slice());
+    let code = match &answer {
         Ok(_world) => 0,
         Err(fault) => fault.code(),
-    }
+    };
+    // Dropped by a call: no case of the proof then takes it apart.
+    drop(answer);
+    code
 }
 
 /// Returns `code_of_assembly`, asked once more where memory was refused: journals and receipts are

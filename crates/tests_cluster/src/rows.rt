@@ -25,7 +25,9 @@ fn is_run<R: Threads + Wait + Sync>(
     let mut writer = Vec::new(alloc);
     let mut errors = Vec::new(alloc);
     let live = run_live(rt, alloc, plan, &NoGate, &mut writer, &mut errors);
-    live.status == status && writer.as_slice() == printed && errors.is_empty()
+    let ended = live.status;
+    drop(live);
+    ended == status && writer.as_slice() == printed && errors.is_empty()
 }
 
 #[test]
@@ -47,7 +49,9 @@ fn is_told(alloc: Global, fault: ClusterFault, printed: &[u8], told: &[u8], stat
     let mut writer = Vec::new(alloc);
     let mut errors = Vec::new(alloc);
     let live = tell_run(alloc, plan(3, 4, 5), Err(fault), &mut writer, &mut errors);
-    live.status == status && writer.as_slice() == printed && errors.as_slice() == told
+    let ended = live.status;
+    drop(live);
+    ended == status && writer.as_slice() == printed && errors.as_slice() == told
 }
 
 /// A writer that takes nothing more.
@@ -58,8 +62,10 @@ fn a_writer_that_fails_is_told(rt: HostRuntime) {
     let mut errors = Vec::new(alloc);
     let mut writer = MayFail(room.as_mut_slice());
     let live = run_live(&rt, alloc, plan(1, 1, 0), &NoGate, &mut writer, &mut errors);
+    let (status, is_judged) = (live.status, live.judged.is_ok());
+    drop(live);
     let line = b"error: the output could not be written\n";
-    assert!(&rt; live.status == 3 && live.judged.is_ok() && errors.as_slice() == line.as_slice());
+    assert!(&rt; status == 3 && is_judged && errors.as_slice() == line.as_slice());
     assert!(&rt; room.as_slice() == b"live nodes".as_slice());
 }
 
@@ -109,10 +115,12 @@ fn refusal<R: Threads + Wait + Abort + Sync>(
     let run = run.ok().expect(rt, "a run");
     let judged = judge(alloc, &run);
     drop(run);
-    match judged {
-        Ok(_) => "",
+    let name = match &judged {
+        Ok(_world) => "",
         Err(fault) => fault.name(),
-    }
+    };
+    drop(judged);
+    name
 }
 
 /// Nobody can say of a journal that was cut what its node did.
