@@ -7,4 +7,6 @@ mod hosts;
 #[cfg(test)]
 mod refusals;
 #[cfg(test)]
+mod refused_memory;
+#[cfg(test)]
 mod runs;

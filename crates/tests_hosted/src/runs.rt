@@ -14,7 +14,12 @@ fn shown(alloc: Global, node: &HostedNode, name: &[u8]) -> Result<usize, HostFau
 }
 
 /// Has a node write over what it shows.
-fn put(alloc: Global, node: &mut HostedNode, name: &[u8], text: &[u8]) -> Result<(), HostFault> {
+pub(crate) fn put(
+    alloc: Global,
+    node: &mut HostedNode,
+    name: &[u8],
+    text: &[u8],
+) -> Result<(), HostFault> {
     let (key, value) = (key(alloc, name)?, value(alloc, text)?);
     node.act(NodeEvent::PutOver { key, value })
 }
