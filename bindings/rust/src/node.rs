@@ -7,7 +7,7 @@ use std::sync::{Arc, Mutex};
 
 /// What executes what a node asks to be stored. After `Ok` all of it is durable.
 pub trait Store {
-    /// Writes the record's bytes after the first from one byte after the gate on, syncs, writes the first over the gate, and
+    /// Writes all bytes of the record but the first at the offset after the gate, syncs, writes the first over the gate, and
     /// syncs. Where this fails at any point the node is stopped, and is served from the file again.
     fn append(&mut self, gate: u64, record: &[u8]) -> io::Result<()>;
 }
