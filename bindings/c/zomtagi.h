@@ -10,8 +10,8 @@
  *     ... the same, then zomtagi_reply, and zomtagi_frame with zomtagi_sent until it is 38 ...
  *
  * An export returns 0, or the number of a refusal. Refusals are listed in their order: if several
- * apply, the first is returned. 99 Memory may come in place of any. Unless it is said otherwise, a
- * call that is refused leaves the node as it was.
+ * apply, the first is returned. 99 Memory may come in place of any but 80. Unless it is said
+ * otherwise, a call that is refused leaves the node as it was.
  */
 #ifndef ZOMTAGI_H
 #define ZOMTAGI_H
@@ -222,10 +222,10 @@ uint16_t zomtagi_changes(zomtagi_slot *slot, uint64_t number);
 
 /*
  * The record that you have to store, and in *gate the offset of the closed gate of your file. Write
- * its bytes after the first from *gate + 1 on, sync, write the first over the gate, sync; then
+ * all its bytes but the first at *gate + 1, sync, write the first at *gate, sync; then
  * zomtagi_stored.
- * Refused with 80 NoNode, 38 Nothing, 81 ShortBuffer. (*gate is written unless it is refused with
- * 80.)
+ * Make these calls once for a record; if one fails, repeat none, and call zomtagi_stored with 0.
+ * Refused with 80 NoNode, 38 Nothing, 81 ShortBuffer: what *gate says then means nothing.
  */
 uint16_t zomtagi_record(zomtagi_slot *slot, size_t *gate, uint8_t *buffer, size_t buffer_len,
                         size_t *len);
@@ -269,7 +269,8 @@ uint16_t zomtagi_sent(zomtagi_slot *slot);
 /*
  * Keeps the context of the last reply, a read's, and writes its number, from 1, to *number. It
  * takes memory until it is forgotten, or the node is freed.
- * Refused with 80 NoNode, 38 Nothing (the last step was no read), 99 Memory: *number is as it was.
+ * Refused with 80 NoNode, 38 Nothing (the last step was no read, or its reply isn't handed out), 99
+ * Memory: *number is as it was.
  */
 uint16_t zomtagi_keep_context(zomtagi_slot *slot, uint64_t *number);
 

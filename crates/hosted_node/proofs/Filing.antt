@@ -22,7 +22,7 @@ use Rattle.devices.specs.Calls.{CrashLeaves, CrashLeftSince, content_after}
 use Rattle.node_file.specs.declared.record.Record.{Record}
 use Rattle.node_file.specs.declared.record.Record.TheVariants.{Life, Object}
 use Rattle.node_file.specs.Record.{payload}
-use Rattle.node_file.specs.File.{FileState, file_state, gated, opened, record_size, state_with}
+use Rattle.node_file.specs.File.{FileState, file_state, gated, opened, record_size, state_or_none, state_with}
 use Rattle.node_file.specs.Hosted.{CanTake, append_calls}
 use Rattle.node_file.proofs.Appending.{spelled_size}
 use Rattle.node_file.proofs.ByHosts.{takes_record}
@@ -264,6 +264,7 @@ stored file old new stores is =
     λ c same. has c (ap (opened None) same ∙ takes.opens) in record {
       said = said;
       spelled = spelled;
+      tells = ap (λ made. file_state (content_after file made)) calls ∙ ap state_or_none takes.opens;
       after = ends (content_after file (host_calls old)) (ap (content_after file) calls);
       durable = λ c left. ends c (subst (λ calls. CrashLeaves file calls c) calls left);
       any_moment = λ c left. takes.any_moment c (subst (λ calls. CrashLeftSince file calls 0 c) calls left);

@@ -64,11 +64,13 @@ host_calls n = calls_to_store n.gate n.to_store
 
 -- ---- what becomes of his file
 
--- After the calls the file is that of the new node, and so is what every crash from then on leaves;
--- a crash at any moment before leaves the old file without the record or with it.
+-- After the calls the file says what it said, and then the record; it is that of the new node, and
+-- so is what every crash until the next call leaves. A crash at any moment before leaves the old
+-- file without the record or with it.
 pub record IsStoredIn (file : List ℕ) (old new : HostedParts) : Type 0 where
   pub said : Record
   pub spelled : old.to_store ≡ Some (gated said)
+  pub tells : file_state (content_after file (host_calls old)) ≡ state_with (file_state file) said
   pub after : IsFileOf (content_after file (host_calls old)) new
   pub durable : (c : List ℕ) → CrashLeaves file (host_calls old) c → IsFileOf c new
   pub any_moment : (c : List ℕ) → CrashLeftSince file (host_calls old) 0 c

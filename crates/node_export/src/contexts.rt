@@ -1,5 +1,6 @@
 //! Contexts by their numbers.
 
+ghost use Rattle.std.specs.Prelude.{◌≡◌, ◌≢◌};
 ghost use Rattle.node_export.specs.Exports.{Forgets, InSlot, KeepsAs};
 
 use crate::numbers::{NO_NODE, OK};
@@ -10,7 +11,8 @@ use std::alloc::Global;
 /// `Nothing` and 99 `Memory`.
 #[unsafe(no_mangle)]
 pub extern "C" fn zomtagi_keep_context(alloc: Global, slot: &mut Slot, number: &mut u64) -> u16
-    ensures { InSlot (KeepsAs number.new) slot.old.handle.held slot.new.handle.held result }
+    ensures kept { InSlot (KeepsAs number.new) slot.old.handle.held slot.new.handle.held result }
+    ensures number { result ≢ OK → number.new ≡ number.old }
 {
     let Some(mut node) = slot.take(alloc) else {
         return NO_NODE;

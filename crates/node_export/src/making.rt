@@ -1,6 +1,6 @@
 //! Making a node, and freeing it.
 
-ghost use Rattle.std.specs.Prelude.{◌≡◌, ◌≢◌, ◌⊎◌, ◌<◌, ◌≤◌, [], Some, None, IfSome};
+ghost use Rattle.std.specs.Prelude.{◌≡◌, ◌≢◌, ◌⊎◌, ◌<◌, ◌≤◌, [], Some, None, MatchOption};
 ghost use Rattle.node_core.specs.Node.{opening};
 ghost use Rattle.node_file.specs.Fault.{code_of};
 ghost use Rattle.node_file.specs.File.{empty_file};
@@ -50,7 +50,7 @@ pub extern "C" fn zomtagi_new(alloc: Global, slot: &mut Slot, node: u16, life: u
 #[unsafe(no_mangle)]
 pub extern "C" fn zomtagi_serve(alloc: Global, slot: &mut Slot, bytes: &[u8], node: u16) -> u16
     ensures served { result ≡ OK
-        → IfSome slot.new.handle.held (Serves (Some node) bytes.now) }
+        → MatchOption slot.new.handle.held ⊥ (Serves (Some node) bytes.now) }
     ensures kept { result ≢ OK → slot.new.handle.held ≡ slot.old.handle.held }
     ensures bad_node { (node < 16 → ⊥) → result ≡ 3 }
     ensures refused { node < 16 → (result ≡ OK) ⊎ ((result ≡ 99)
@@ -98,7 +98,8 @@ pub extern "C" fn zomtagi_empty_file(
     buffer: &mut [u8],
     len: &mut usize,
 ) -> u16
-    ensures bad_node { (node < 16 → ⊥) → result ≡ 3 }
+    ensures bad_node { (node < 16 → ⊥)
+        → HandsNothing 3 buffer.old buffer.new len.old len.new result }
     ensures hands { node < 16
         → Hands (Some (empty_file node)) buffer.old buffer.new len.old len.new result
         ⊎ HandsNothing 99 buffer.old buffer.new len.old len.new result }
