@@ -20,9 +20,14 @@ pub(crate) fn actor(number: u16) -> io::Result<Actor> {
 
 /// The key of these three names.
 pub(crate) fn key_of(alloc: Global, prefix: &str, sub: &str, own: String) -> io::Result<MetaKey> {
-    let prefix = prefix.as_bytes().to_vec(alloc)?;
-    let full = FullPrefix::new(prefix, sub.as_bytes().to_vec(alloc)?).map_err(refused)?;
-    MetaKey::new(full, own.into_bytes()).map_err(refused)
+    let names = both(
+        prefix.as_bytes().to_vec(alloc),
+        sub.as_bytes().to_vec(alloc),
+    );
+    let (own, (prefix, sub)) = both(Ok(own.into_bytes()), names)?;
+    let full = FullPrefix::new(prefix, sub).map_err(refused);
+    let (full, own) = both(full, Ok(own))?;
+    MetaKey::new(full, own).map_err(refused)
 }
 
 /// The key of this number: `key-00007` under `bench` and the second name.
@@ -73,7 +78,7 @@ impl Rows {
     }
 
     fn of(alloc: Global, keys: Vec<MetaKey>) -> io::Result<Self> {
-        let value = value(alloc)?;
+        let (keys, value) = both(Ok(keys), value(alloc))?;
         Ok(Rows { keys, value })
     }
 

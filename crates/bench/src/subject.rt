@@ -26,7 +26,10 @@ impl Model for Subject {
 
 /// The last frame that was sent, if one was.
 fn last_frame(stepped: Stepped) -> Option<ByteString> {
-    stepped.outbox.into_vec().pop()
+    let Stepped { reply, outbox } = stepped;
+    // Dropped by a call: no case of the proof then takes it apart.
+    drop(reply);
+    outbox.into_vec().pop()
 }
 
 /// Returns whether what came was new.
@@ -85,6 +88,9 @@ impl Subject {
 
     /// Takes a frame. Returns whether it brought something new.
     pub(crate) fn take(&mut self, frame: ByteString) -> io::Result<bool> {
-        Ok(is_fresh(&self.step(NodeEvent::Take { frame, word: 0 })?))
+        let stepped = self.step(NodeEvent::Take { frame, word: 0 })?;
+        let is_fresh = is_fresh(&stepped);
+        drop(stepped);
+        Ok(is_fresh)
     }
 }

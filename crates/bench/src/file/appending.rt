@@ -8,6 +8,7 @@ use devices::FileDevice;
 use dvvset::Entries;
 use meta_store::Store;
 use meta_types::{MetaKey, Value};
+use node_parts::both;
 use std::alloc::Global;
 use std::io::{self, Write};
 
@@ -59,13 +60,17 @@ fn acknowledge(rt: &HostRuntime, number: u64) -> io::Result<()> {
 /// An object whose value has the number as its stamp.
 fn object_of(alloc: Global, at: &MetaKey, number: u64) -> io::Result<Entries> {
     let mut store = Store::new(alloc);
-    put_number(alloc, &mut store, at, number)?;
-    object_in(&store, at)
+    let done = put_number(alloc, &mut store, at, number);
+    let object = object_in(&store, at);
+    drop(store);
+    let (object, ()) = both(object, done)?;
+    Ok(object)
 }
 
 fn put_number(alloc: Global, store: &mut Store, at: &MetaKey, number: u64) -> io::Result<()> {
-    let (actor, key) = (actor(0)?, at.copy()?);
-    let value = Value::new(number, Some(Vec::new(alloc))).map_err(refused)?;
+    let actor = actor(0)?;
+    let value = Value::new(number, Some(Vec::new(alloc))).map_err(refused);
+    let (key, value) = both(at.copy().map_err(refused), value)?;
     drop(store.put(actor, key, value, None).map_err(refused)?);
     Ok(())
 }

@@ -26,9 +26,15 @@ const OPENINGS: usize = 11;
 
 pub(crate) fn measure(rt: &HostRuntime, folder: &str) -> io::Result<()> {
     let objects = filled(rt.alloc(), KEYS)?;
-    measure_memory(rt, &objects)?;
-    measure_appends(rt, folder, &objects)?;
-    measure_opening(rt, folder, &objects)
+    let done = measure_all(rt, folder, &objects);
+    drop(objects);
+    done
+}
+
+fn measure_all(rt: &HostRuntime, folder: &str, objects: &Store) -> io::Result<()> {
+    measure_memory(rt, objects)?;
+    measure_appends(rt, folder, objects)?;
+    measure_opening(rt, folder, objects)
 }
 
 /// A store of `count` keys, each with a value.
@@ -155,16 +161,25 @@ fn in_turn(
 }
 
 fn measure_appends(rt: &HostRuntime, folder: &str, objects: &Store) -> io::Result<()> {
-    let path = format!(in rt.alloc(); "{folder}/bench-append.tmp")?;
-    let bare_path = format!(in rt.alloc(); "{folder}/bench-bare.tmp")?;
+    let path = format!(in rt.alloc(); "{folder}/bench-append.tmp");
+    let (path, bare) = both(path, format!(in rt.alloc(); "{folder}/bench-bare.tmp"))?;
+    append_beside(rt, path.as_str(), bare.as_str(), objects)
+}
+
+/// Appends to a new file at the path, and bare writes to one at the other path; both are then
+/// removed.
+fn append_beside(rt: &HostRuntime, path: &str, bare: &str, objects: &Store) -> io::Result<()> {
+    append_to(rt, path, bare, objects)?;
+    fs::remove_file(rt, path)?;
+    fs::remove_file(rt, bare)
+}
+
+fn append_to(rt: &HostRuntime, path: &str, bare: &str, objects: &Store) -> io::Result<()> {
     let mut options = OpenOptions::new();
-    let bare = options
-        .write(true)
-        .create_new(true)
-        .open(rt, bare_path.as_str())?;
-    append_at(rt, path.as_str(), objects, &bare)?;
-    fs::remove_file(rt, path.as_str())?;
-    fs::remove_file(rt, bare_path.as_str())
+    let bare = options.write(true).create_new(true).open(rt, bare)?;
+    let done = append_at(rt, path, objects, &bare);
+    drop(bare);
+    done
 }
 
 /// Appends to a new file at the path, and bare writes to the other one.
@@ -201,8 +216,10 @@ fn write_kept(
 fn time_of_opening(rt: &HostRuntime, path: &str) -> io::Result<u128> {
     let start = Instant::now(rt)?;
     let (table, _life) = read(rt, path)?;
-    let nanos = start.elapsed(rt)?.as_nanos();
-    if table.len() == KEYS as usize {
+    let (time, len) = (start.elapsed(rt), table.len());
+    drop(table);
+    let nanos = time?.as_nanos();
+    if len == KEYS as usize {
         Ok(nanos)
     } else {
         Ok(0)

@@ -60,12 +60,11 @@ impl Sides {
     fn of(alloc: Global, rows: &Rows, changes: u32) -> io::Result<Self> {
         let (here, tree) = filled(alloc, actor(0)?, rows)?;
         drop(tree);
-        let mut sides = Sides {
-            alloc,
-            there: here.copy()?,
-            here,
-        };
-        sides.write(rows, changes)?;
+        let there = here.copy();
+        let (here, there) = both(Ok(here), there)?;
+        let mut sides = Sides { alloc, here, there };
+        let done = sides.write(rows, changes);
+        let (sides, ()) = both(Ok(sides), done)?;
         Ok(sides)
     }
 

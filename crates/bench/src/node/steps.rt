@@ -4,6 +4,7 @@ use crate::node::writes::Writes;
 use crate::samples::{median, rate};
 use crate::subject::Subject;
 use meta_types::ByteString;
+use node_parts::both;
 use std::alloc::Global;
 use std::io;
 use std::time::Instant;
@@ -62,8 +63,8 @@ fn time_of_gossips(
     writer: &mut Subject,
     reader: &mut Subject,
 ) -> io::Result<u128> {
-    let frames = gossips(rt.alloc(), writes, writer)?;
-    let start = Instant::now(rt)?;
+    let frames = gossips(rt.alloc(), writes, writer);
+    let (frames, start) = both(frames, Instant::now(rt))?;
     let fresh = take_all(reader, frames)?;
     let nanos = start.elapsed(rt)?.as_nanos();
     if fresh != CALLS {

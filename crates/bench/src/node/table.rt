@@ -79,7 +79,8 @@ impl Table {
     pub(crate) fn filled(alloc: Global, count: u32, prefixes: u32) -> io::Result<Self> {
         let actor = actor(0)?;
         let rows = Rows::in_turn(alloc, count, prefixes)?;
-        let (store, tree) = filled(alloc, actor, &rows)?;
+        let held = filled(alloc, actor, &rows);
+        let (rows, (store, tree)) = both(Ok(rows), held)?;
         Ok(Table {
             alloc,
             actor,
@@ -137,8 +138,9 @@ impl Table {
 pub(crate) fn filled(alloc: Global, actor: Actor, rows: &Rows) -> io::Result<(Store, Tree)> {
     let mut store = Store::new(alloc);
     let mut tree = Tree::from_store(alloc, &store)?;
-    fill(&mut store, &mut tree, actor, rows)?;
-    Ok((store, tree))
+    let done = fill(&mut store, &mut tree, actor, rows);
+    let (held, ()) = both(Ok((store, tree)), done)?;
+    Ok(held)
 }
 
 fn fill(store: &mut Store, tree: &mut Tree, actor: Actor, rows: &Rows) -> io::Result<()> {

@@ -71,7 +71,7 @@ impl<J: Naming> Shared<J> {
     /// Readers learn of this from now on.
     pub(crate) fn post<R: Wait>(&self, rt: &R, news: News<J>) {
         let mut last = self.news.lock(rt);
-        *last = Some(news);
+        drop(last.replace(news));
     }
 
     /// What was posted last.

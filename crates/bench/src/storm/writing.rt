@@ -64,20 +64,28 @@ fn go_on<J: Naming, R: Wait + Print>(
         writer,
         number: answers.writes,
     };
-    match write_one(rt, node, shared, seat, mark) {
-        Ok(receipt) => {
-            answers.writes = answers.writes.saturating_add(1);
-            answers.receipts.push(receipt)?;
-            Ok(())
-        }
-        Err(Trouble::Write(LockFault::JournalFull)) => {
-            node.cut(rt, seat)?;
-            answers.cuts = answers.cuts.saturating_add(1);
-            answers.receipts.clear();
-            Ok(())
-        }
-        Err(trouble) => Err(trouble),
+    let done = write_one(rt, node, shared, seat, mark);
+    if !found_no_room(&done) {
+        return keep(answers, done?);
     }
+    // Dropped by a call: no case of the proof then takes it apart.
+    drop(done);
+    node.cut(rt, seat)?;
+    answers.cuts = answers.cuts.saturating_add(1);
+    answers.receipts.clear();
+    Ok(())
+}
+
+/// Returns whether the write was refused because the journal is full.
+fn found_no_room(done: &Result<Receipt, Trouble>) -> bool {
+    matches!(done, Err(Trouble::Write(LockFault::JournalFull)))
+}
+
+/// Keeps the receipt of a write that was acknowledged.
+fn keep(answers: &mut Answers, receipt: Receipt) -> Result<(), Trouble> {
+    answers.writes = answers.writes.saturating_add(1);
+    answers.receipts.push(receipt)?;
+    Ok(())
 }
 
 /// Makes the write, prints it, and posts it to readers.
