@@ -40,16 +40,16 @@ pub fn sending_and_contexts_keep_the_file()
         → KeepsAllButContexts old new → IsFileOf file old → IsFileOf file new }
 {}
 
-/// Once the host has stored a record by his four calls, and says so, the file with the record is
-/// that of the node, and every crash from then on leaves it. A crash at any moment before leaves
-/// the file without the record or with it.
+/// Once the host has stored a record by his four calls, and says so, the file says what it said and
+/// then the record; it is that of the node, and so is what every crash until the next call of the
+/// file leaves. A crash at any moment before leaves the file without the record or with it.
 pub fn a_stored_record_is_in_the_file()
     ensures { (file : List ℕ) (old new : HostedParts)
         → Stores true old (Ok tt) new → IsFileOf file old → IsStoredIn file old new }
 {}
 
-/// Once the host has stored the record of a write, or of a key that is kept, every crash leaves in
-/// the file the object that the node holds under the key.
+/// Once the host has stored the record of a write, or of a key that is kept, and until the next
+/// call of the file, every crash leaves in it the object that the node holds under the key.
 pub fn a_stored_write_is_in_the_file(node: &HostedNode)
     ensures { (file c : List ℕ) (old new : HostedParts) (event : NodeEvent) (key : Key)
         → IsFileOf file old → StoresStep old event key node.now new

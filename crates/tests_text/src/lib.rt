@@ -3,8 +3,8 @@
 //! show what no contract says and what one run of a program over standard input and output can't:
 //! readers and writers that fail in mid-stream, when a line is answered, the limit of an input,
 //! memory that is refused, and what stands in a picture. The stored run of the program `plumctl`
-//! shows how each line is printed, and the rows of `rows` show what a scenario prints. No crate uses
-//! this one.
+//! shows how each line is printed, and the rows of `rows` show what a scenario prints. No crate
+//! uses this one.
 #![tactic(auto)]
 
 #[cfg(test)]
