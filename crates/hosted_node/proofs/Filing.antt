@@ -1,23 +1,29 @@
 -- The file of a host stays that of his node.
-use Rattle.std.proofs.Common.{◌≡◌, ℕ, ◌+◌, ◌-◌, ◌≤◌, Bool, true, false, ◌||◌, cond, T, List, length, Option, Some, None, Ok, is_some, ⊎_elim, refl, sym, ap, subst, ◌∙◌, arith, nat_lt}
+use Rattle.std.proofs.Common.{◌≡◌, ◌≢◌, ℕ, ◌+◌, ◌-◌, Bool, true, false, ◌||◌, cond, T, List, [], length, Option, Some, None, Ok, is_some, ⊎_elim, refl, sym, ap, subst, ◌∙◌, arith, nat_lt}
+use Rattle.std.specs.Option.{unwrap_or}
 use Rattle.std.specs.Ordering.{is_eq}
 use Rattle.std.specs.Cmp.{tied_itself}
-use Rattle.std.specs.FinMap.{find, is_sorted}
-use Rattle.std.specs.FinMap.Entries.{find-put, is_sorted-put}
+use Rattle.std.specs.FinMap.{find}
+use Rattle.std.specs.FinMap.Entries.{find-put}
 use Rattle.meta_types.specs.Name.{Key}
 use Rattle.meta_types.specs.Order.{key_cmp}
+use Rattle.dvvset.specs.Clock.{descends, join}
 use Rattle.dvvset.specs.Object.{Entry}
-use Rattle.meta_store.specs.Table.{IsTable, Table, most_keys, with_object}
+use Rattle.meta_store.specs.Step.{object_after_put}
+use Rattle.meta_store.specs.Table.{IsTable, Table, object_at, with_object}
 use Rattle.meta_store.proofs.Keys.{key_total}
-use Rattle.meta_store.proofs.Maps.{is_true}
-use Rattle.meta_store.proofs.Tables.{found_row}
+use Rattle.meta_store.proofs.Tables.{found_row, table_put}
 use Rattle.node_events.specs.Event.{stored_key}
 use Rattle.node_events.specs.declared.event.NodeEvent.{NodeEvent}
-use Rattle.node_core.specs.Node.{NodeParts}
+use Rattle.node_events.specs.declared.event.NodeEvent.TheVariants.{PutOver, Write}
+use Rattle.node_core.specs.Growing.{EachStepGrows}
+use Rattle.node_core.specs.Node.{NodeParts, present, writer}
 use Rattle.node_core.specs.Step.{IsNodeStep}
 use Rattle.node_core.specs.declared.state.Stepped.{Stepped}
 use Rattle.node_core.proofs.Growing.{held_is_kept}
+use Rattle.node_core.proofs.Leaves.{each_step_leaves}
 use Rattle.node_core.proofs.Runs.{each_counts}
+use Rattle.node_readers.proofs.Growing.{descends_itself}
 use Rattle.devices.specs.Calls.{CrashLeaves, CrashLeftSince, content_after}
 use Rattle.node_file.specs.declared.record.Record.{Record}
 use Rattle.node_file.specs.declared.record.Record.TheVariants.{Life, Object}
@@ -26,26 +32,28 @@ use Rattle.node_file.specs.File.{FileState, file_state, gated, opened, record_si
 use Rattle.node_file.specs.Hosted.{CanTake, append_calls}
 use Rattle.node_file.proofs.Appending.{spelled_size}
 use Rattle.node_file.proofs.ByHosts.{takes_record}
-use Rattle.node_file.proofs.Lives.{keys_rise}
 use Rattle.node_file.proofs.Made.{opens_so, stands_so}
-use Rattle.desk_parts.specs.Stored.{IsStoredOf, object_record, record_after, record_under}
-use Rattle.desk_parts.proofs.Within.{keeps_with, no_longer}
+use Rattle.desk_parts.specs.Stored.{object_record, record_after, record_under}
+use Rattle.desk_parts.proofs.Within.{keeps_with, room_within}
 use Rattle.hosted_node.specs.declared.fault.HostFault.{HostFault}
 use Rattle.hosted_node.specs.declared.fault.HostFault.TheVariants.{Step, FileFull, Stopped, Pending, Memory}
 use Rattle.hosted_node.specs.Hosting.{Acts, HostedParts, KeepsAllButContexts, MayStep, RefusesActing, Serves, StopsAfter, Stores, after_sending, after_storing, gate_after, next_frame, sent_by, spelled_for}
-use Rattle.hosted_node.specs.HostFile.{HasObjectOf, IsFileOf, IsNextRecord, IsRecordOf, IsStoredIn, IsUpToDate, StoresStep, calls_to_store, host_calls}
+use Rattle.hosted_node.specs.HostFile.{HasObjectOf, HasRecordOf, IsFileOf, IsKnownTo, IsNextRecord, IsRecordOf, IsStoredIn, IsUpToDate, calls_to_store, host_calls, written_key}
+use Rattle.hosted_node.proofs.Knowing.{put_known}
 
 -- ---- a node that is served
 
-pub served : (asked : Option ℕ) (bytes : List ℕ) (n : HostedParts) → Serves asked bytes n → IsFileOf bytes n
-served asked bytes n is =
+pub served : (asked : Option ℕ) (bytes : List ℕ) (n : HostedParts) → IsTable n.state.table → Serves asked bytes n → IsFileOf bytes n
+served asked bytes n table is =
+    let stored = (file_state bytes).contents.table in
+    let rows : IsTable stored = subst IsTable (ap (λ (m : HostedParts). m.state.table) is.begins) table in
     subst (IsFileOf bytes) (sym is.begins) (record {
       gate = is.gate;
       its_gate = refl;
       opens = is.opens;
       version = is.can_take.version;
       node = refl;
-      keys = record { rising = keys_rise bytes (file_state bytes) is.gate is.opens; keys = λ key some. some };
+      known = record { held_is_table = rows; stored_is_table = rows; keys = λ key some. some; events = descends_itself stored rows };
       next = record {
         said = Life ((file_state bytes).contents.life + 1);
         spelled = refl;
@@ -58,56 +66,53 @@ served asked bytes n is =
 -- ---- a record of what is held can be taken
 
 -- what is stored, with an object that is held
-with_held : (held stored : Table) (key : Key) (o : List Entry) → find key_cmp key held ≡ Some o → IsStoredOf held stored
-    → IsStoredOf held (with_object key o stored)
-with_held held stored key o is within = record {
-  rising =
-      is_true (is_sorted key_cmp (with_object key o stored))
-      (is_sorted-put key_cmp key_total key o stored (subst T (sym within.rising) tt));
-  keys = keeps_with stored held key o within.keys (λ none. let clash : Some o ≡ None = sym is ∙ none in absurd (cc));
-}
+with_held : (held stored : Table) (key : Key) (o : List Entry) → find key_cmp key held ≡ Some o → IsKnownTo held stored
+    → IsKnownTo held (with_object key o stored)
+with_held held stored key o is known =
+    let row = found_row key held o known.held_is_table.held known.held_is_table.keys is in
+    let there : find key_cmp key held ≢ None = λ none. let clash : Some o ≡ None = sym is ∙ none in absurd (cc) in
+    let room = room_within stored held key (subst T (sym known.stored_is_table.rising) tt) known.held_is_table known.keys there in
+    let same : object_at held key ≡ o = ap (λ (found : Option (List Entry)). unwrap_or found []) is in
+    record {
+      held_is_table = known.held_is_table;
+      stored_is_table = table_put key o stored known.stored_is_table row.key row.held room;
+      keys = keeps_with stored held key o known.keys there;
+      events =
+          put_known stored held key o known.events
+          (subst (λ (p : List Entry). descends (join (object_at held key)) (join p) ≡ true) same (descends_itself held known.held_is_table key));
+    }
 
--- there is room: each key of the file is held, and a table has few keys
-room_for_held : (held stored : Table) (key : Key) (o : List Entry) → find key_cmp key held ≡ Some o → IsTable held
-    → IsStoredOf held stored → length (with_object key o stored) ≤ most_keys
-room_for_held held stored key o is table within =
-    let with_it = with_held held stored key o is within in
-    let fewer : length (with_object key o stored) ≤ length held =
-    no_longer (with_object key o stored) held (subst T (sym with_it.rising) tt) (subst T (sym table.rising) tt) with_it.keys in
-    let few : length held ≤ most_keys = table.few in
-    omega (arith, fewer, few)
-
-can_take_held : (s : FileState) (held : Table) (key : Key) (o : List Entry) → find key_cmp key held ≡ Some o → IsTable held
-    → s.version ≡ 2 → IsStoredOf held s.contents.table → CanTake s (Object key o)
-can_take_held s held key o is table two within =
-    let row = found_row key held o table.held table.keys is in record {
+can_take_held : (s : FileState) (held : Table) (key : Key) (o : List Entry) → find key_cmp key held ≡ Some o
+    → s.version ≡ 2 → IsKnownTo held s.contents.table → CanTake s (Object key o)
+can_take_held s held key o is two known =
+    let row = found_row key held o known.held_is_table.held known.held_is_table.keys is in record {
       version = two;
       lawful = (row.key, row.held);
       follows = refl;
-      room = room_for_held held s.contents.table key o is table within;
+      room = (with_held held s.contents.table key o is known).stored_is_table.few;
     }
 
 next_under : (gate : ℕ) (s : FileState) (n : NodeParts) (key : Key) (found : Option (List Entry)) → find key_cmp key n.table ≡ found
-    → IsTable n.table → s.version ≡ 2 → IsStoredOf n.table s.contents.table → s.contents.life ≡ n.incarnation
+    → s.version ≡ 2 → IsKnownTo n.table s.contents.table → s.contents.life ≡ n.incarnation
     → IsUpToDate s n (spelled_for (Some gate) (object_record key found))
-next_under gate s n key None is table two within life = life
-next_under gate s n key (Some o) is table two within life = record {
+next_under gate s n key None is two known life = life
+next_under gate s n key (Some o) is two known life = record {
   said = Object key o;
   spelled = refl;
-  can_take = can_take_held s n.table key o is table two within;
+  can_take = can_take_held s n.table key o is two known;
   held = is;
   life = life;
 }
 
-next_of : (gate : ℕ) (s : FileState) (n : NodeParts) (asked : Option Key) → IsTable n.table → s.version ≡ 2
-    → IsStoredOf n.table s.contents.table → s.contents.life ≡ n.incarnation
+next_of : (gate : ℕ) (s : FileState) (n : NodeParts) (asked : Option Key) → s.version ≡ 2
+    → IsKnownTo n.table s.contents.table → s.contents.life ≡ n.incarnation
     → IsUpToDate s n (spelled_for (Some gate) (record_under asked n.table))
-next_of gate s n None table two within life = life
-next_of gate s n (Some key) table two within life = next_under gate s n key (find key_cmp key n.table) refl table two within life
+next_of gate s n None two known life = life
+next_of gate s n (Some key) two known life = next_under gate s n key (find key_cmp key n.table) refl two known life
 
 -- ---- a step
 
-nothing_to_store : (stored : Option (List ℕ)) (more : Bool) → (is_some stored || more) ≡ false → stored ≡ None
+pub nothing_to_store : (stored : Option (List ℕ)) (more : Bool) → (is_some stored || more) ≡ false → stored ≡ None
 nothing_to_store None more free = refl
 nothing_to_store (Some bytes) more free = absurd (cc)
 
@@ -120,23 +125,30 @@ in_life file n ready is =
 -- what holds of the file and a node after a step, but for what is to be stored
 record IsBeside (file : List ℕ) (n : NodeParts) : Type 0 where
   node : (file_state file).node ≡ n.node
-  keys : IsStoredOf n.table (file_state file).contents.table
+  known : IsKnownTo n.table (file_state file).contents.table
   life : (file_state file).contents.life ≡ n.incarnation
 
-beside : (file : List ℕ) (old : HostedParts) (event : NodeEvent) (new : NodeParts) (s : Stepped) → MayStep old
-    → IsNodeStep old.state event new s → IsFileOf file old → IsBeside file new
-beside file old event new s ready step is =
+beside : (file : List ℕ) (old : HostedParts) (event : NodeEvent) (new : NodeParts) (s : Stepped) → EachStepGrows event → IsTable new.table
+    → MayStep old → IsNodeStep old.state event new s → IsFileOf file old → IsBeside file new
+beside file old event new s grows table ready step is =
+    let stored = (file_state file).contents.table in
     let counts = each_counts.step old.state event new s step in
-    let keeps = held_is_kept.steps old.state event new s step in record {
+    let keeps = held_is_kept.steps old.state event new s step in
+    let more = (grows old.state new s is.known.held_is_table step).descends in record {
       node = is.node ∙ sym counts.node;
-      keys = record { rising = is.keys.rising; keys = λ key some. keeps key (is.keys.keys key some) };
+      known = record {
+        held_is_table = table;
+        stored_is_table = is.known.stored_is_table;
+        keys = λ key some. keeps key (is.known.keys key some);
+        events = held_is_kept.onwards stored old.state.table new.table is.known.stored_is_table is.known.events more;
+      };
       life = in_life file old ready is ∙ sym counts.life;
     }
 
-pub stepped : (file : List ℕ) (old : HostedParts) (event : NodeEvent) (new : HostedParts) → IsTable new.state.table
+pub stepped : (file : List ℕ) (old : HostedParts) (event : NodeEvent) (new : HostedParts) → EachStepGrows event → IsTable new.state.table
     → Acts old event new → IsFileOf file old → IsFileOf file new
-stepped file old event new table acts is =
-    let by = beside file old event new.state acts.stepped acts.ready acts.step is in
+stepped file old event new grows table acts is =
+    let by = beside file old event new.state acts.stepped grows table acts.ready acts.step is in
     let to_store : new.to_store ≡ spelled_for (Some is.gate) (record_after event new.state.table) =
     acts.to_store ∙ ap (λ gate. spelled_for gate (record_after event new.state.table)) is.its_gate in record {
       gate = is.gate;
@@ -144,23 +156,23 @@ stepped file old event new table acts is =
       opens = is.opens;
       version = is.version;
       node = by.node;
-      keys = by.keys;
+      known = by.known;
       next =
           subst (IsUpToDate (file_state file) new.state) (sym to_store)
-          (next_of is.gate (file_state file) new.state (stored_key event) table is.version by.keys by.life);
+          (next_of is.gate (file_state file) new.state (stored_key event) is.version by.known by.life);
     }
 
-stopped_after : (file : List ℕ) (old : HostedParts) (event : NodeEvent) (new : HostedParts) → StopsAfter old event new
-    → IsFileOf file old → IsFileOf file new
-stopped_after file old event new stops is =
-    let by = beside file old event new.state stops.stepped stops.ready stops.step is in
+stopped_after : (file : List ℕ) (old : HostedParts) (event : NodeEvent) (new : HostedParts) → EachStepGrows event
+    → IsTable new.state.table → StopsAfter old event new → IsFileOf file old → IsFileOf file new
+stopped_after file old event new grows table stops is =
+    let by = beside file old event new.state stops.stepped grows table stops.ready stops.step is in
     let none : old.to_store ≡ None = nothing_to_store old.to_store (nat_lt old.sent (length old.outbox)) stops.ready.free in record {
       gate = is.gate;
       its_gate = ap (λ (n : HostedParts). n.gate) stops.rest ∙ is.its_gate;
       opens = is.opens;
       version = is.version;
       node = by.node;
-      keys = by.keys;
+      known = by.known;
       next =
           subst (IsUpToDate (file_state file) new.state) (sym (ap (λ (n : HostedParts). n.to_store) stops.rest ∙ none)) by.life;
     }
@@ -168,15 +180,15 @@ stopped_after file old event new stops is =
 same_file : (file : List ℕ) (old new : HostedParts) → new ≡ old → IsFileOf file old → IsFileOf file new
 same_file file old new same is = subst (IsFileOf file) (sym same) is
 
-pub refused : (file : List ℕ) (old : HostedParts) (event : NodeEvent) (new : HostedParts) (fault : HostFault)
-    → RefusesActing old event new fault → IsFileOf file old → IsFileOf file new
-refused file old event new (Step fault) why is = same_file file old new why.2 is
-refused file old event new FileFull why is = stopped_after file old event new why.0 is
-refused file old event new Stopped why is = same_file file old new why.1 is
-refused file old event new Pending why is = same_file file old new why.2 is
-refused file old event new Memory why is =
-    ⊎_elim (λ same. same_file file old new same is) (λ stops. stopped_after file old event new stops is) why
-refused file old event new _ why is = absurd why
+pub refused : (file : List ℕ) (old : HostedParts) (event : NodeEvent) (new : HostedParts) (fault : HostFault) → EachStepGrows event
+    → IsTable new.state.table → RefusesActing old event new fault → IsFileOf file old → IsFileOf file new
+refused file old event new (Step fault) grows table why is = same_file file old new why.2 is
+refused file old event new FileFull grows table why is = stopped_after file old event new grows table why.0 is
+refused file old event new Stopped grows table why is = same_file file old new why.1 is
+refused file old event new Pending grows table why is = same_file file old new why.2 is
+refused file old event new Memory grows table why is =
+    ⊎_elim (λ same. same_file file old new same.1 is) (λ stops. stopped_after file old event new grows table stops.0 is) why
+refused file old event new _ grows table why is = absurd why
 
 -- ---- sending, and contexts
 
@@ -189,7 +201,7 @@ other_parts file old new state gate to_store is = record {
   opens = is.opens;
   version = is.version;
   node = is.node ∙ sym (ap (λ (n : NodeParts). n.node) state);
-  keys = subst (λ (n : NodeParts). IsStoredOf n.table (file_state file).contents.table) (sym state) is.keys;
+  known = subst (λ (n : NodeParts). IsKnownTo n.table (file_state file).contents.table) (sym state) is.known;
   next =
       subst (λ n. IsUpToDate (file_state file) n new.to_store) (sym state)
       (subst (IsUpToDate (file_state file) old.state) (sym to_store) is.next);
@@ -207,12 +219,16 @@ with_contexts file old new rest is =
     other_parts file old new (ap (λ (n : HostedParts). n.state) rest) (ap (λ (n : HostedParts). n.gate) rest)
     (ap (λ (n : HostedParts). n.to_store) rest) is
 
+-- a node that is stopped has the file that it had
+pub when_stopped : (file : List ℕ) (n : HostedParts) → IsFileOf file n → IsFileOf file (record n { stopped = true })
+when_stopped file n is = other_parts file n (record n { stopped = true }) refl refl refl is
+
 -- ---- storing
 
-with_said : (held : Table) (s : FileState) (said : Record) → IsRecordOf held said → IsStoredOf held s.contents.table
-    → IsStoredOf held (state_with s said).contents.table
-with_said held s (Life n) is within = within
-with_said held s (Object key o) is within = with_held held s.contents.table key o is within
+with_said : (held : Table) (s : FileState) (said : Record) → IsRecordOf held said → IsKnownTo held s.contents.table
+    → IsKnownTo held (state_with s said).contents.table
+with_said held s (Life n) is known = known
+with_said held s (Object key o) is known = with_held held s.contents.table key o is known
 
 pub gate_moves : (gate : ℕ) (said : Record) → gate + (length (gated said) - 1) ≡ gate + record_size said
 unfolding record_size
@@ -236,14 +252,14 @@ with_record_is file old bytes c is next opens =
       opens = opens_so c s (is.gate + record_size next.said) opens;
       version = ap (λ (t : FileState). t.version) stands ∙ is.version;
       node = ap (λ (t : FileState). t.node) stands ∙ is.node;
-      keys =
-          subst (λ (t : FileState). IsStoredOf old.state.table t.contents.table) (sym stands)
-          (with_said old.state.table (file_state file) next.said next.held is.keys);
+      known =
+          subst (λ (t : FileState). IsKnownTo old.state.table t.contents.table) (sym stands)
+          (with_said old.state.table (file_state file) next.said next.held is.known);
       next = ap (λ (t : FileState). t.contents.life) stands ∙ next.life;
     }
 
 -- what the host does are the four calls of an append
-calls_are : (gate : Option ℕ) (to_store : Option (List ℕ)) (g : ℕ) (said : Record) → gate ≡ Some g → to_store ≡ Some (gated said)
+pub calls_are : (gate : Option ℕ) (to_store : Option (List ℕ)) (g : ℕ) (said : Record) → gate ≡ Some g → to_store ≡ Some (gated said)
     → calls_to_store gate to_store ≡ append_calls g said
 calls_are gate to_store g said gate_is stored_is =
     ap (λ o. calls_to_store o to_store) gate_is ∙ ap (calls_to_store (Some g)) stored_is
@@ -277,37 +293,71 @@ found_here key o table =
     find-put key_cmp key_total key key o table
     ∙ ap (λ c. cond (is_eq c) (Some o) (find key_cmp key table)) (tied_itself key_total key)
 
--- what there was to store is the object under the key
-object_to_store : (gate : ℕ) (key : Key) (found : Option (List Entry)) (bytes : List ℕ)
-    → spelled_for (Some gate) (object_record key found) ≡ Some bytes
-    → (o : List Entry) × ((found ≡ Some o) × (Some bytes ≡ Some (gated (Object key o))))
-object_to_store gate key None bytes is = let clash : None ≡ Some bytes = is in absurd (cc)
-object_to_store gate key (Some o) bytes is = (o, (refl, sym is))
+-- what is to be stored after a step
+to_store_after : (old : HostedParts) (event : NodeEvent) (new : HostedParts) (key : Key) (gate : ℕ) → Acts old event new
+    → stored_key event ≡ Some key → old.gate ≡ Some gate
+    → new.to_store ≡ spelled_for (Some gate) (object_record key (find key_cmp key new.state.table))
+to_store_after old event new key gate acts its_key its_gate =
+    acts.to_store ∙ ap (λ gate. spelled_for gate (record_after event new.state.table)) its_gate
+    ∙ ap (λ k. spelled_for (Some gate) (record_under k new.state.table)) its_key
 
-pub written : (file c : List ℕ) (old : HostedParts) (event : NodeEvent) (mid new : HostedParts) (key : Key)
-    → IsTable mid.state.table → IsFileOf file old → StoresStep old event key mid new
-    → CrashLeaves file (host_calls mid) c → HasObjectOf key new c
-written file c old event mid new key table is step left =
-    let acts = step.acts in
-    let stores = step.stores in
-    let now = stepped file old event mid table acts is in
-    let held = mid.state.table in
-    let there : mid.to_store ≡ Some stores.1.0 = stores.1.1 in
-    let to_store : mid.to_store ≡ spelled_for (Some is.gate) (object_record key (find key_cmp key held)) =
-    acts.to_store ∙ ap (λ gate. spelled_for gate (record_after event held)) is.its_gate
-    ∙ ap (λ k. spelled_for (Some is.gate) (record_under k held)) step.its_key in
-    let of = object_to_store is.gate key (find key_cmp key held) stores.1.0 (sym to_store ∙ there) in
-    let o : List Entry = of.0 in
-    let found : find key_cmp key held ≡ Some o = of.1.0 in
-    let spelled : mid.to_store ≡ Some (gated (Object key o)) = there ∙ of.1.1 in
-    let can = can_take_held (file_state file) held key o found table now.version now.keys in
-    let takes = takes_record file now.gate (Object key o) now.opens can in
-    let calls : host_calls mid ≡ append_calls now.gate (Object key o) =
-    calls_are mid.gate mid.to_store now.gate (Object key o) now.its_gate spelled in
-    let ended : c ≡ content_after file (append_calls now.gate (Object key o)) = subst (λ calls. CrashLeaves file calls c) calls left in
+pub stored_there : (file c : List ℕ) (n : HostedParts) (key : Key) (is : IsFileOf file n) (has : HasRecordOf key n)
+    → CrashLeaves file (host_calls n) c → find key_cmp key (file_state c).contents.table ≡ Some has.object
+stored_there file c n key is has left =
+    let o : List Entry = has.object in
+    let can = can_take_held (file_state file) n.state.table key o has.held is.version is.known in
+    let takes = takes_record file is.gate (Object key o) is.opens can in
+    let calls : host_calls n ≡ append_calls is.gate (Object key o) =
+    calls_are n.gate n.to_store is.gate (Object key o) is.its_gate has.to_store in
+    let ended : c ≡ content_after file (append_calls is.gate (Object key o)) = subst (λ calls. CrashLeaves file calls c) calls left in
     let stands : file_state c ≡ state_with (file_state file) (Object key o) =
-    stands_so c (state_with (file_state file) (Object key o)) (now.gate + record_size (Object key o)) (ap (opened None) ended ∙ takes.opens) in record {
-      object = o;
-      held = ap (λ (n : HostedParts). find key_cmp key n.state.table) stores.1.2 ∙ found;
-      stored = ap (λ (s : FileState). find key_cmp key s.contents.table) stands ∙ found_here key o (file_state file).contents.table;
-    }
+    stands_so c (state_with (file_state file) (Object key o)) (is.gate + record_size (Object key o)) (ap (opened None) ended ∙ takes.opens) in
+    ap (λ (s : FileState). find key_cmp key s.contents.table) stands ∙ found_here key o (file_state file).contents.table
+
+pub written : (file c : List ℕ) (old new : HostedParts) (key : Key) → IsFileOf file old → HasRecordOf key old
+    → Stores true old (Ok tt) new → CrashLeaves file (host_calls old) c → HasObjectOf key new c
+written file c old new key is has stores left = record {
+  object = has.object;
+  held = ap (λ (n : HostedParts). find key_cmp key n.state.table) stores.1.2 ∙ has.held;
+  stored = stored_there file c old key is has left;
+}
+
+-- the object that a write left is held, and to be stored
+has_record : (gate : ℕ) (key : Key) (o : List Entry) (n : HostedParts) → find key_cmp key n.state.table ≡ Some o
+    → n.to_store ≡ spelled_for (Some gate) (object_record key (find key_cmp key n.state.table)) → HasRecordOf key n
+has_record gate key o n found to_store = record {
+  object = o;
+  held = found;
+  to_store = to_store ∙ ap (λ f. spelled_for (Some gate) (object_record key f)) found;
+}
+
+put_there : (table new : Table) (key : Key) (o : List Entry) → new ≡ with_object key o table → find key_cmp key new ≡ Some o
+put_there table new key o is = ap (find key_cmp key) is ∙ found_here key o table
+
+pub recorded : (old : HostedParts) (event : NodeEvent) (new : HostedParts) (key : Key) (gate : ℕ) → Acts old event new
+    → written_key event ≡ Some key → old.gate ≡ Some gate → HasRecordOf key new
+recorded old (Write k value context) new key gate acts its_key its_gate =
+    let same : k ≡ key = cc in
+    let held = (each_step_leaves old.state (Write k value context) new.state acts.stepped acts.step).held in
+    let o = object_after_put old.state.table (writer old.state) k value context in
+    let found : find key_cmp key new.state.table ≡ Some o =
+    subst (λ (q : Key). find key_cmp q new.state.table ≡ Some o) same (put_there old.state.table new.state.table k o held) in
+    has_record gate key o new found (to_store_after old (Write k value context) new key gate acts its_key its_gate)
+recorded old (PutOver k value) new key gate acts its_key its_gate =
+    let same : k ≡ key = cc in
+    let held = (each_step_leaves old.state (PutOver k value) new.state acts.stepped acts.step).held in
+    let o = object_after_put old.state.table (writer old.state) k value (Some (present k old.state)) in
+    let found : find key_cmp key new.state.table ≡ Some o =
+    subst (λ (q : Key). find key_cmp q new.state.table ≡ Some o) same (put_there old.state.table new.state.table k o held) in
+    has_record gate key o new found (to_store_after old (PutOver k value) new key gate acts its_key its_gate)
+recorded old event new key gate acts its_key its_gate = let clash : None ≡ Some key = its_key in absurd (cc)
+
+kept_with : (gate : ℕ) (key : Key) (n : HostedParts) (found : Option (List Entry)) → find key_cmp key n.state.table ≡ found
+    → found ≢ None → n.to_store ≡ spelled_for (Some gate) (object_record key (find key_cmp key n.state.table)) → HasRecordOf key n
+kept_with gate key n None is some to_store = absurd (some refl)
+kept_with gate key n (Some o) is some to_store = has_record gate key o n is to_store
+
+pub kept : (old new : HostedParts) (event : NodeEvent) (key : Key) (gate : ℕ) → Acts old event new
+    → stored_key event ≡ Some key → old.gate ≡ Some gate → find key_cmp key new.state.table ≢ None → HasRecordOf key new
+kept old new event key gate acts its_key its_gate some =
+    kept_with gate key new (find key_cmp key new.state.table) refl some (to_store_after old event new key gate acts its_key its_gate)

@@ -1,3 +1,7 @@
 mod Places
 mod Stopping
+mod Knowing
 mod Filing
+mod Histories
+mod Serving
+mod Lasting

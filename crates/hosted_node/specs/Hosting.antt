@@ -83,6 +83,17 @@ abbrev pub IsOverfullWith : Option ℕ → Option Record → Type 0
 IsOverfullWith None stored = ⊥
 IsOverfullWith (Some gate) stored = IsTooLong gate stored
 
+-- there is something to store, and a file of this closed gate can take it
+pub record IsWanted (gate : Option ℕ) (stored : Option Record) : Type 0 where
+  pub there : spelled_for gate stored ≢ None
+  pub fits : IsOverfullWith gate stored → ⊥
+
+-- why what is to be stored isn't spelled: the file is full, or memory ran out
+abbrev pub RefusesSpelling : Option ℕ → Option Record → HostFault → Type 0
+RefusesSpelling gate stored FileFull = IsOverfullWith gate stored
+RefusesSpelling gate stored Memory = IsWanted gate stored
+RefusesSpelling gate stored fault = ⊥
+
 -- why no step was made, or it wasn't handed out
 abbrev pub RefusesActing : HostedParts → NodeEvent → HostedParts → HostFault → Type 0
 RefusesActing old event new (Step fault) =
@@ -92,7 +103,9 @@ RefusesActing old event new FileFull =
 RefusesActing old event new Stopped = (old.stopped ≡ true) × (new ≡ old)
 RefusesActing old event new Pending =
     (old.stopped ≡ false) × (is_pending old ≡ true) × (new ≡ old)
-RefusesActing old event new Memory = (new ≡ old) ⊎ StopsAfter old event new
+RefusesActing old event new Memory =
+    (MayStep old × (new ≡ old))
+    ⊎ (StopsAfter old event new × IsWanted old.gate (record_after event new.state.table))
 RefusesActing old event new fault = ⊥
 
 -- ---- what is handed out
@@ -122,13 +135,14 @@ abbrev pub gate_after : Option ℕ → List ℕ → Option ℕ
 gate_after None bytes = None
 gate_after (Some gate) bytes = Some (gate + (length bytes - 1))
 
--- The host stored the record: its bytes after the first stand after the gate, which moves to their
--- end. Or he failed to, which stops the node.
+-- The host reports that he stored the record: its bytes after the first stand after the gate, which
+-- moves to their end. Or he reports that he failed to, which stops the node.
 abbrev pub after_storing : Bool → List ℕ → HostedParts → HostedParts
 after_storing true bytes n = record n { gate = gate_after n.gate bytes; to_store = None }
 after_storing false bytes n = record n { stopped = true }
 
--- that he did, or failed, was told of the record that there was to store; or there was none
+-- he reported either of the record that there was to store; 34 where the node is stopped, 38 where
+-- there is none
 abbrev pub Stores : Bool → HostedParts → Result (Unit {0}) HostFault → HostedParts → Type 0
 Stores is_stored old (Ok done) new =
     (old.stopped ≡ false)

@@ -1,3 +1,4 @@
 pub mod Fault
 pub mod Hosting
 pub mod HostFile
+pub mod Lasting

@@ -1,13 +1,19 @@
 //! A step of a hosted node.
 
-ghost use Rattle.std.specs.Prelude.{◌≡◌, ◌⊎◌, Err, None, false, true, IfOk, IfErr, OnOk};
+ghost use Rattle.std.specs.Prelude.{◌≡◌, ◌≤◌, ◌+◌, length, Err, None, Some, false, true, IfOk, IfErr, OnOk};
+ghost use Rattle.meta_store.specs.Table.{IsHeld};
+ghost use Rattle.node_file.specs.File.{gated};
+ghost use Rattle.node_file.specs.Refusal.{most_file};
+ghost use Rattle.node_file.specs.declared.record.Record.TheVariants.{Object};
 ghost use Rattle.desk_parts.specs.Stored.{record_after};
-ghost use Rattle.hosted_node.specs.Hosting.{Acts, FitsInFile, IsOverfullWith, RefusesActing, bytes_of, is_pending, spelled_for};
+ghost use Rattle.hosted_node.specs.Hosting.{Acts, FitsInFile, RefusesActing, RefusesSpelling, bytes_of, is_pending, spelled_for};
 ghost use Rattle.hosted_node.specs.declared.fault.HostFault.{HostFault};
 
 use crate::fault::HostFault;
 use crate::node::HostedNode;
+use dvvset::Entries;
 use meta_store::Store;
+use meta_types::MetaKey;
 use node_core::Stepped;
 use node_events::NodeEvent;
 use node_file::{FileFault, spell_append};
@@ -73,8 +79,8 @@ fn spelled_for(
     ensures value { IfOk result
         (λ bytes. bytes_of bytes ≡ spelled_for gate (record_after event.now store.now)) }
     ensures fits { IfOk result (λ bytes. FitsInFile gate (bytes_of bytes)) }
-    ensures refused { IfErr result (λ fault. (fault ≡ HostFault.Memory)
-        ⊎ ((fault ≡ HostFault.FileFull) × IsOverfullWith gate (record_after event.now store.now))) }
+    ensures refused { IfErr result
+        (RefusesSpelling gate (record_after event.now store.now)) }
 {
     let (Some(gate), Some(key)) = (gate, event.stored_key()) else {
         return Ok(None);
@@ -82,8 +88,19 @@ fn spelled_for(
     let Some(object) = store.object(key) else {
         return Ok(None);
     };
+    Ok(Some(spell(alloc, gate, key, object)?))
+}
+
+/// The record of what is held under a key, with its gates.
+fn spell(alloc: Global, gate: usize, key: &MetaKey, object: &Entries) -> Result<Vec<u8>, HostFault>
+    requires { IsHeld object.now }
+    ensures record { IfOk result (λ bytes. bytes.items ≡ gated (Object key.now object.now)) }
+    ensures fits { IfOk result (λ bytes. gate + length bytes.items ≤ most_file) }
+    ensures refused { IfErr result
+        (RefusesSpelling (Some gate) (Some (Object key.now object.now))) }
+{
     match spell_append(alloc, gate, key, object) {
-        Ok(record) => Ok(Some(record)),
+        Ok(record) => Ok(record),
         Err(FileFault::FileFull) => Err(HostFault::FileFull),
         Err(_) => Err(HostFault::Memory),
     }

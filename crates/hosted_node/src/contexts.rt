@@ -17,7 +17,8 @@ impl HostedNode {
     /// memory for a copy.
     pub fn keep_context(&mut self) -> Result<u64, HostFault>
         ensures kept { IfOk result (KeepsContext self.old self.new) }
-        ensures refused { IfErr result (λ fault. (fault ≡ HostFault.Memory)
+        ensures refused { IfErr result (λ fault.
+            ((fault ≡ HostFault.Memory) × IsLooked (handed_reply self.old))
             ⊎ ((fault ≡ HostFault.Nothing) × (IsLooked (handed_reply self.old) → ⊥))) }
         ensures same { OnErr result (self.new ≡ self.old) }
     {
@@ -34,7 +35,8 @@ impl HostedNode {
     pub fn context(&self, number: u64) -> Result<Option<Context>, HostFault>
         ensures value { IfOk result (λ context. context ≡ context_at number self.now) }
         ensures none { OnOk result ((number ≡ 0) ⊎ (context_at number self.now ≢ None)) }
-        ensures refused { IfErr result (λ fault. (fault ≡ HostFault.Memory)
+        ensures refused { IfErr result (λ fault.
+            ((fault ≡ HostFault.Memory) × (context_at number self.now ≢ None))
             ⊎ ((fault ≡ HostFault.NoSuchRead) × (number ≢ 0)
             × (context_at number self.now ≡ None))) }
     {

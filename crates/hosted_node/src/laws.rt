@@ -1,36 +1,50 @@
 //! Laws of a hosted node and its host's file. The contract of a function is the law; its body does
-//! nothing, or reads what the type of its argument says.
+//! nothing, or reads what the types of its arguments say: that what a node holds is a table, and that
+//! what an event has read is a vector.
 
-ghost use Rattle.std.specs.Prelude.{◌≡◌, List, ℕ, Option, Ok, Some, true};
+ghost use Rattle.std.specs.Prelude.{◌≡◌, ◌≢◌, ◌++◌, List, length, ℕ, Option, None, Ok, Some, true};
+ghost use Rattle.std.specs.FinMap.{find};
 ghost use Rattle.meta_types.specs.Name.{Key};
-ghost use Rattle.devices.specs.Calls.{CrashLeaves};
+ghost use Rattle.meta_types.specs.Order.{key_cmp};
+ghost use Rattle.dvvset.specs.Object.{Entry};
+ghost use Rattle.devices.specs.Calls.{CrashLeaves, CrashLeftSince, DeviceCall, content_after};
+ghost use Rattle.node_events.specs.Event.{stored_key};
 ghost use Rattle.node_events.specs.declared.event.NodeEvent.{NodeEvent};
-ghost use Rattle.hosted_node.specs.HostFile.{HasObjectOf, IsFileOf, IsStoredIn, StoresStep, host_calls};
+ghost use Rattle.node_file.specs.File.{file_state};
+ghost use Rattle.hosted_node.specs.HostFile.{HasObjectOf, HasRecordOf, IsFileOf, IsStoredIn, host_calls, written_key};
 ghost use Rattle.hosted_node.specs.Hosting.{Acts, HostedParts, KeepsAllButContexts, RefusesActing, Serves, Stores, after_sending};
+ghost use Rattle.hosted_node.specs.Lasting.{CanBeServed, GoesOn, HasAllOf, IsAcknowledged, IsLeft, Knows, Later, Moment, OpensWithOrWithout};
 ghost use Rattle.hosted_node.specs.declared.fault.HostFault.{HostFault};
 
 use crate::node::HostedNode;
+use node_core::laws::each_step_grows;
+use node_events::NodeEvent;
 
 /// The bytes from which a node is served are its file.
-pub fn a_served_node_has_its_file()
-    ensures { (asked : Option ℕ) (file : List ℕ) (n : HostedParts)
-        → Serves asked file n → IsFileOf file n }
-{}
-
-/// A step leaves the node its file, and the file can take the record of the step.
-pub fn a_step_keeps_the_file(node: &HostedNode)
-    ensures { (file : List ℕ) (old : HostedParts) (event : NodeEvent)
-        → Acts old event node.now → IsFileOf file old → IsFileOf file node.now }
+pub fn a_served_node_has_its_file(node: &HostedNode)
+    ensures { (asked : Option ℕ) (file : List ℕ)
+        → Serves asked file node.now → IsFileOf file node.now }
 {
-    // Read for what its type says: what is held is a table.
     let _keys = node.state().store().len();
 }
 
+/// A step leaves the node its file, and the file can take the record of the step.
+pub fn a_step_keeps_the_file(node: &HostedNode, event: &NodeEvent)
+    ensures { (file : List ℕ) (old : HostedParts)
+        → Acts old event.now node.now → IsFileOf file old → IsFileOf file node.now }
+{
+    let _keys = node.state().store().len();
+    each_step_grows(event);
+}
+
 /// A step that is refused leaves the node its file, also where it stops the node.
-pub fn a_refused_step_keeps_the_file()
-    ensures { (file : List ℕ) (old new : HostedParts) (event : NodeEvent) (fault : HostFault)
-        → RefusesActing old event new fault → IsFileOf file old → IsFileOf file new }
-{}
+pub fn a_refused_step_keeps_the_file(node: &HostedNode, event: &NodeEvent)
+    ensures { (file : List ℕ) (old : HostedParts) (fault : HostFault)
+        → RefusesActing old event.now node.now fault → IsFileOf file old → IsFileOf file node.now }
+{
+    let _keys = node.state().store().len();
+    each_step_grows(event);
+}
 
 /// So do sending, and keeping and forgetting contexts.
 pub fn sending_and_contexts_keep_the_file()
@@ -40,21 +54,65 @@ pub fn sending_and_contexts_keep_the_file()
         → KeepsAllButContexts old new → IsFileOf file old → IsFileOf file new }
 {}
 
+/// A write of a host who keeps a file leaves its record to store, that of the object then held; so
+/// does a step that keeps a key under which something is held.
+pub fn a_write_has_its_record()
+    ensures writes { (old new : HostedParts) (event : NodeEvent) (key : Key) (gate : ℕ)
+        → Acts old event new → written_key event ≡ Some key → old.gate ≡ Some gate
+        → HasRecordOf key new }
+    ensures keeps { (old new : HostedParts) (event : NodeEvent) (key : Key) (gate : ℕ)
+        → Acts old event new → stored_key event ≡ Some key → old.gate ≡ Some gate
+        → find key_cmp key new.state.table ≢ None → HasRecordOf key new }
+{}
+
 /// Once the host has stored a record by his four calls, and says so, the file says what it said and
-/// then the record; it is that of the node, and so is what every crash until the next call of the
-/// file leaves. A crash at any moment before leaves the file without the record or with it.
+/// then the record. It is the node's file, and every crash until the next call of the file leaves
+/// such a file. A crash at any moment before leaves the file without the record or with it.
 pub fn a_stored_record_is_in_the_file()
     ensures { (file : List ℕ) (old new : HostedParts)
         → Stores true old (Ok tt) new → IsFileOf file old → IsStoredIn file old new }
 {}
 
-/// Once the host has stored the record of a write, or of a key that is kept, and until the next
-/// call of the file, every crash leaves in it the object that the node holds under the key.
-pub fn a_stored_write_is_in_the_file(node: &HostedNode)
-    ensures { (file c : List ℕ) (old new : HostedParts) (event : NodeEvent) (key : Key)
-        → IsFileOf file old → StoresStep old event key node.now new
-        → CrashLeaves file (host_calls node.now) c → HasObjectOf key new c }
-{
-    // Read for what its type says: what is held is a table.
-    let _keys = node.state().store().len();
-}
+/// Once the host has stored the record of a key, and until the next call of the file, every crash
+/// leaves in it the object that the node holds under the key.
+pub fn a_stored_write_is_in_the_file()
+    ensures { (file c : List ℕ) (old new : HostedParts) (key : Key)
+        → IsFileOf file old → HasRecordOf key old → Stores true old (Ok tt) new
+        → CrashLeaves file (host_calls old) c → HasObjectOf key new c }
+{}
+
+/// Where a crash, or a call that failed, breaks off the host's calls, what is left opens as the file
+/// did, or with the record that was to be stored, and has all that the file had.
+pub fn what_is_left_has_all()
+    ensures opens { (file c : List ℕ) (n : HostedParts)
+        → IsFileOf file n → IsLeft file n c → OpensWithOrWithout file n c }
+    ensures has_all { (file c : List ℕ) (n : HostedParts)
+        → IsFileOf file n → IsLeft file n c → HasAllOf (file_state file) (file_state c) }
+{}
+
+/// An append ends with a sync, so after further calls a crash leaves what it would leave had they
+/// begun with the appended file.
+pub fn later_calls_go_on_from_the_sync()
+    ensures { (file c : List ℕ) (n : HostedParts) (later : List DeviceCall)
+        → CrashLeftSince file (later ++ host_calls n) (length (host_calls n)) c
+        → CrashLeftSince (content_after file (host_calls n)) later 0 c }
+{}
+
+/// A node can be served again from its file, unless the file is full or there is no next life.
+pub fn a_file_can_be_served_again()
+    ensures { (file : List ℕ) (n : HostedParts)
+        → IsFileOf file n → CanBeServed n.state.node file }
+{}
+
+/// Whatever happens, over all lives, the file stays the node's and has all that it had.
+pub fn a_file_and_its_node_go_on()
+    ensures { (first last : Moment)
+        → IsFileOf first.file first.node → Later first last → GoesOn first last }
+{}
+
+/// **No acknowledged write is lost**: once the reply of a write, or a frame after it, has been handed
+/// out, file and node know the write, at every later moment of this life and of those to come.
+pub fn an_acknowledged_write_stays()
+    ensures { (key : Key) (object : List Entry) (now last : Moment)
+        → IsAcknowledged key object now → Later now last → Knows key object last }
+{}

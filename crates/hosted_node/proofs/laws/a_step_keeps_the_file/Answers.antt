@@ -4,7 +4,7 @@ use Rattle.hosted_node.proofs.Filing.{stepped}
 use Rattle.hosted_node.proofs.laws.a_step_keeps_the_file.Goals as goal
 
 pub returns : goal.returns
-returns c = λ file old event acts is.
+returns c = λ file old acts is.
     let node = c.args.node.now in
     let table : IsTable node.state.table = search rules in
-    stepped file old event node table acts is
+    stepped file old c.args.event.now node c.each_step_grows.ensures table acts is

@@ -1,8 +1,7 @@
-use Rattle.std.proofs.Common.{◌≡◌, ◌⊎◌, ℕ, Option, true, rules, subst}
+use Rattle.std.proofs.Common.{◌≡◌, ℕ, Option, true, rules, subst}
 use Rattle.meta_store.specs.Table.{Table}
 use Rattle.desk_parts.specs.Stored.{record_after}
-use Rattle.hosted_node.specs.declared.fault.HostFault.TheVariants.{FileFull, Memory}
-use Rattle.hosted_node.specs.Hosting.{IsOverfullWith, MayStep, StopsAfter}
+use Rattle.hosted_node.specs.Hosting.{MayStep, RefusesSpelling, StopsAfter}
 use Rattle.hosted_node.proofs.Stopping.{stops}
 use Rattle.hosted_node.proofs.node.HostedNode.act_on.Goals as goal
 use Rattle.hosted_node.proofs.node.HostedNode.act_on.Goals.{in-Looked-1, in-Wrote-1, in-Changed-1, in-Took-1}
@@ -19,7 +18,7 @@ returns-in-Err-clause-refused c =
       | in-Took-1 w ↦ search rules
     ] in
     let after : StopsAfter old c.args.event.now new = record { ready = ready; stepped = c.in_ok-reply.field-0; step = search rules; rest = is } in
-    let of : Option ℕ → Table → Type 0 = λ gate held. (c.in-Err.fault ≡ Memory) ⊎ ((c.in-Err.fault ≡ FileFull) × IsOverfullWith gate (record_after c.args.event.now held)) in
+    let of : Option ℕ → Table → Type 0 = λ gate held. RefusesSpelling gate (record_after c.args.event.now held) c.in-Err.fault in
     let gate_is : c.self.inside.gate ≡ old.gate = search rules in
     let table_is : c.store.result.now ≡ new.state.table = elim c.match-reply.branch [
       | in-Looked-1 w ↦ search rules
