@@ -87,14 +87,15 @@ pub record CanAskFor (context : ℕ) (key : Key) (value : ValueParts) (n : Hoste
   pub key_in_range : IsKey key
   pub value_in_range : IsBody value.body
 
--- the first cause for which it can't be asked for, or memory ran out
-abbrev pub IsWrong : ℕ → Key → ValueParts → HostedParts → HostFault → Type 0
-IsWrong context key value old NoSuchRead = (context ≢ 0) × (context_at context old ≡ None)
-IsWrong context key value old (Argument BadName) = HasContext context old × (IsKey key → ⊥)
-IsWrong context key value old (Argument ValueTooLong) =
+-- The first cause for which it can't be asked for. Memory may run out for copies of its parts, once
+-- its context is there.
+abbrev pub CannotAskFor : ℕ → Key → ValueParts → HostedParts → HostFault → Type 0
+CannotAskFor context key value old NoSuchRead = (context ≢ 0) × (context_at context old ≡ None)
+CannotAskFor context key value old (Argument BadName) = HasContext context old × (IsKey key → ⊥)
+CannotAskFor context key value old (Argument ValueTooLong) =
     HasContext context old × IsKey key × (IsBody value.body → ⊥)
-IsWrong context key value old Memory = Unit {0}
-IsWrong context key value old fault = ⊥
+CannotAskFor context key value old Memory = HasContext context old
+CannotAskFor context key value old fault = ⊥
 
 -- the write, which has read what the context of the number says, was made, or it was refused; or it
 -- could not be asked for
@@ -105,7 +106,7 @@ Writes context key value old (Ok done) new =
 Writes context key value old (Err fault) new =
     (CanAskFor context key value old
     × RefusesActing old (Write key value (context_at context old)) new fault)
-    ⊎ (IsWrong context key value old fault × (new ≡ old))
+    ⊎ (CannotAskFor context key value old fault × (new ≡ old))
 
 -- the same of a write over all that the node shows
 abbrev pub WritesOver : Key → ValueParts → HostedParts → Result (Unit {0}) HostFault → HostedParts
@@ -114,7 +115,7 @@ WritesOver key value old (Ok done) new =
     CanAskFor 0 key value old × Acts old (PutOver key value) new
 WritesOver key value old (Err fault) new =
     (CanAskFor 0 key value old × RefusesActing old (PutOver key value) new fault)
-    ⊎ (IsWrong 0 key value old fault × (new ≡ old))
+    ⊎ (CannotAskFor 0 key value old fault × (new ≡ old))
 
 -- ---- what is handed out
 
@@ -123,22 +124,28 @@ abbrev pub HandsNothing : ℕ → List ℕ → List ℕ → ℕ → ℕ → ℕ 
 HandsNothing cause old new before len answer = (answer ≡ cause) × (new ≡ old) × (len ≡ before)
 
 -- a buffer that is too short stays as it is, 81; the front of another one holds the bytes
-abbrev pub HoldsIf : Bool → List ℕ → List ℕ → List ℕ → ℕ → Type 0
-HoldsIf true bytes old new answer = (answer ≡ 81) × (new ≡ old)
-HoldsIf false bytes old new answer =
+abbrev pub CopiedUnless : Bool → List ℕ → List ℕ → List ℕ → ℕ → Type 0
+CopiedUnless true bytes old new answer = (answer ≡ 81) × (new ≡ old)
+CopiedUnless false bytes old new answer =
     (answer ≡ 0) × (new ≡ bytes ++ drop (length bytes) old)
 
 -- the bytes, with their length, where the buffer has room for them; 38 where there are none
 abbrev pub Hands : Option (List ℕ) → List ℕ → List ℕ → ℕ → ℕ → ℕ → Type 0
 Hands None old new before len answer = HandsNothing 38 old new before len answer
 Hands (Some bytes) old new before len answer =
-    (len ≡ length bytes) × HoldsIf (nat_lt (length old) (length bytes)) bytes old new answer
+    (len ≡ length bytes) × CopiedUnless (nat_lt (length old) (length bytes)) bytes old new answer
 
--- the same, of the node in the slot; 80 where there is none
-abbrev pub HandsFrom : Option HostedParts → (HostedParts → Option (List ℕ)) → List ℕ → List ℕ → ℕ
-    → ℕ → ℕ → Type 0
-HandsFrom None wanted old new before len answer = HandsNothing 80 old new before len answer
-HandsFrom (Some n) wanted old new before len answer = Hands (wanted n) old new before len answer
+-- what is handed out of the node in the slot; 80 where there is none
+abbrev pub HandsFrom : Option HostedParts
+    → (HostedParts → List ℕ → List ℕ → ℕ → ℕ → ℕ → Type 0)
+    → List ℕ → List ℕ → ℕ → ℕ → ℕ → Type 0
+HandsFrom None hands old new before len answer = HandsNothing 80 old new before len answer
+HandsFrom (Some n) hands old new before len answer = hands n old new before len answer
+
+-- these bytes of the node
+abbrev pub HandsOf : (HostedParts → Option (List ℕ)) → HostedParts → List ℕ → List ℕ → ℕ → ℕ → ℕ
+    → Type 0
+HandsOf wanted n old new before len answer = Hands (wanted n) old new before len answer
 
 -- the bytes of the reply that is handed out
 abbrev pub handed_reply_bytes : HostedParts → Option (List ℕ)
@@ -150,10 +157,6 @@ HandsReply n old new before len answer =
     Hands (handed_reply_bytes n) old new before len answer
     ⊎ (HandsNothing 99 old new before len answer × (handed_reply n ≢ None))
 
-abbrev pub HandsReplyFrom : Option HostedParts → List ℕ → List ℕ → ℕ → ℕ → ℕ → Type 0
-HandsReplyFrom None old new before len answer = HandsNothing 80 old new before len answer
-HandsReplyFrom (Some n) old new before len answer = HandsReply n old new before len answer
-
 -- the keys under a full prefix; 1 where that is out of range; or memory ran out
 pub record HandsList (prefix : Prefix) (n : HostedParts) (old new : List ℕ)
     (before len answer : ℕ) : Type 0 where
@@ -162,11 +165,6 @@ pub record HandsList (prefix : Prefix) (n : HostedParts) (old new : List ℕ)
       ⊎ HandsNothing 99 old new before len answer
   pub unlawful : (IsFullPrefix prefix → ⊥) → HandsNothing 1 old new before len answer
       ⊎ HandsNothing 99 old new before len answer
-
-abbrev pub HandsListFrom : Prefix → Option HostedParts → List ℕ → List ℕ → ℕ → ℕ → ℕ → Type 0
-HandsListFrom prefix None old new before len answer = HandsNothing 80 old new before len answer
-HandsListFrom prefix (Some n) old new before len answer =
-    HandsList prefix n old new before len answer
 
 -- the program sent the next frame, if there is one
 abbrev pub Sends : HostedParts → HostedParts → ℕ → Type 0
@@ -178,7 +176,8 @@ Sends old new answer = (answer ≡ 0) × (new ≡ after_sending old)
 abbrev pub KeepsAs : ℕ → HostedParts → HostedParts → ℕ → Type 0
 KeepsAs number old new answer =
     ((answer ≡ 0) × KeepsContext old new number)
-    ⊎ ((new ≡ old) × ((answer ≡ 99) ⊎ ((answer ≡ 38) × (IsLooked (handed_reply old) → ⊥))))
+    ⊎ ((new ≡ old) × (((answer ≡ 99) × IsLooked (handed_reply old))
+    ⊎ ((answer ≡ 38) × (IsLooked (handed_reply old) → ⊥))))
 
 abbrev pub Forgets : ℕ → HostedParts → HostedParts → ℕ → Type 0
 Forgets number old new answer = (answer ≡ 0) × ForgetsContext number old new

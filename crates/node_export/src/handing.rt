@@ -1,9 +1,9 @@
 //! What the program is handed: what it has to store, the reply, and the frames.
 
-ghost use Rattle.std.specs.Prelude.{◌≡◌, Some, None, IfSome, nat_eq, not};
+ghost use Rattle.std.specs.Prelude.{◌≡◌, ◌≢◌, Some, None, IfSome, nat_eq, not};
 ghost use Rattle.std.specs.Option.{option_copied};
 ghost use Rattle.hosted_node.specs.Hosting.{Stores, handed_record, next_frame};
-ghost use Rattle.node_export.specs.Exports.{AnswersAs, Hands, HandsFrom, HandsReply, HandsReplyFrom, InSlot, Sends};
+ghost use Rattle.node_export.specs.Exports.{AnswersAs, Hands, HandsFrom, HandsOf, HandsReply, InSlot, Sends};
 
 use crate::numbers::{NO_NODE, OK, SHORT_BUFFER, answer_of};
 use crate::reply::spell_reply;
@@ -42,17 +42,21 @@ pub extern "C" fn zomtagi_record(
     len: &mut usize,
 ) -> u16
     ensures same { slot.new.handle.held ≡ slot.old.handle.held }
-    ensures hands { HandsFrom slot.old.handle.held handed_record buffer.old buffer.new len.old
-        len.new result }
+    ensures hands { HandsFrom slot.old.handle.held (HandsOf handed_record) buffer.old buffer.new
+        len.old len.new result }
     ensures gate { result ≡ OK
         → IfSome slot.old.handle.held (λ n. n.gate ≡ Some gate.new) }
+    ensures gate_kept { result ≢ OK → gate.new ≡ gate.old }
 {
     let Some(node) = slot.take(alloc) else {
         return NO_NODE;
     };
-    *gate = node.gate().unwrap_or(0);
     let number = copy_out(node.record(), buffer, len);
+    let at = node.gate().unwrap_or(0);
     slot.put(node);
+    if number == OK {
+        *gate = at;
+    }
     number
 }
 
@@ -81,8 +85,8 @@ pub extern "C" fn zomtagi_reply(
     len: &mut usize,
 ) -> u16
     ensures same { slot.new.handle.held ≡ slot.old.handle.held }
-    ensures hands { HandsReplyFrom slot.old.handle.held buffer.old buffer.new len.old len.new
-        result }
+    ensures hands { HandsFrom slot.old.handle.held HandsReply buffer.old buffer.new len.old
+        len.new result }
 {
     let Some(node) = slot.take(alloc) else {
         return NO_NODE;
@@ -113,8 +117,8 @@ pub extern "C" fn zomtagi_frame(
     len: &mut usize,
 ) -> u16
     ensures same { slot.new.handle.held ≡ slot.old.handle.held }
-    ensures hands { HandsFrom slot.old.handle.held next_frame buffer.old buffer.new len.old
-        len.new result }
+    ensures hands { HandsFrom slot.old.handle.held (HandsOf next_frame) buffer.old buffer.new
+        len.old len.new result }
 {
     let Some(node) = slot.take(alloc) else {
         return NO_NODE;

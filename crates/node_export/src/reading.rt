@@ -1,10 +1,10 @@
 //! What a node holds, without a step.
 
-ghost use Rattle.std.specs.Prelude.{◌≡◌, ◌⊎◌, ◌++◌, [], Some, None, IfOk, IfSome, OnOk, if◌then◌else◌};
+ghost use Rattle.std.specs.Prelude.{◌≡◌, ◌≢◌, ◌⊎◌, ◌++◌, [], Some, None, IfOk, IfSome, OnOk, if◌then◌else◌};
 ghost use Rattle.std.specs.List.{flat_map};
 ghost use Rattle.frame_fields.specs.Field.{key};
 ghost use Rattle.hash_tree.specs.Tree.{rows_of, tree_root};
-ghost use Rattle.node_export.specs.Exports.{Hands, HandsFrom, HandsList, HandsListFrom, HandsNothing, key_named};
+ghost use Rattle.node_export.specs.Exports.{Hands, HandsFrom, HandsList, HandsNothing, HandsOf, key_named};
 ghost use Rattle.node_export.specs.Spelling.{list_bytes};
 
 use crate::handing::copy_out;
@@ -28,7 +28,8 @@ pub extern "C" fn zomtagi_list(
     len: &mut usize,
 ) -> u16
     ensures same { slot.new.handle.held ≡ slot.old.handle.held }
-    ensures hands { HandsListFrom (key_named prefix.now sub.now []).prefix slot.old.handle.held
+    ensures hands { HandsFrom slot.old.handle.held
+        (HandsList (key_named prefix.now sub.now []).prefix)
         buffer.old buffer.new len.old len.new result }
 {
     let Some(node) = slot.take(alloc) else {
@@ -101,7 +102,8 @@ pub extern "C" fn zomtagi_root(
     len: &mut usize,
 ) -> u16
     ensures same { slot.new.handle.held ≡ slot.old.handle.held }
-    ensures hands { HandsFrom slot.old.handle.held (λ n. Some (tree_root (rows_of n.state.table)))
+    ensures hands { HandsFrom slot.old.handle.held
+        (HandsOf (λ n. Some (tree_root (rows_of n.state.table))))
         buffer.old buffer.new len.old len.new result }
 {
     let Some(node) = slot.take(alloc) else {
@@ -128,6 +130,8 @@ pub extern "C" fn zomtagi_about(
     ensures stopped { IfSome slot.old.handle.held
         (λ n. is_stopped.new ≡ (if n.stopped then 1 else 0)) }
     ensures none { slot.old.handle.held ≡ None → result ≡ NO_NODE }
+    ensures kept { result ≢ OK → (number.new ≡ number.old) × (life.new ≡ life.old)
+        × (is_stopped.new ≡ is_stopped.old) }
 {
     let Some(node) = slot.take(alloc) else {
         return NO_NODE;
