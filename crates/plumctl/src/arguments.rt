@@ -5,6 +5,7 @@ use clap::builder::ValueParser;
 use clap::error::ErrorKind;
 use clap::{Arg, ArgAction, ArgMatches, Command, Error};
 use cluster::ClusterPlan;
+use node_parts::both;
 use plumctl_draw::Part;
 use std::alloc::{AllocError, Global};
 use std::io;
@@ -193,72 +194,39 @@ const RECORD: &str = "record";
 
 const FILES: &str = "files";
 
-/// The command `frame`.
-fn frame_command<'a>(alloc: Global) -> Result<Command<'a>, AllocError> {
-    let file = Arg::new(alloc, FILE)
-        .help("The lines; standard input if there is none, or for -")
-        .action(ArgAction::Set);
-    Command::new(alloc, "frame")
-        .about("Print the frames that lines of hexadecimal digits spell")
-        .after_long_help(FRAME_HELP)
-        .arg(file)
+/// A command with its help, which takes no argument yet.
+fn command_of<'a>(alloc: Global, name: &'a str, about: &'a str, long_help: &'a str) -> Command<'a> {
+    Command::new(alloc, name)
+        .about(about)
+        .after_long_help(long_help)
 }
 
-/// The command `run`.
-fn run_command<'a>(alloc: Global) -> Result<Command<'a>, AllocError> {
-    let file = Arg::new(alloc, FILE)
-        .help("The scenario; standard input if there is none, or for -")
-        .action(ArgAction::Set);
-    let explain = Arg::new(alloc, EXPLAIN)
-        .long("explain")
-        .help("After each command, print what is on its way and what nodes show anew")
-        .action(ArgAction::SetTrue);
-    Command::new(alloc, "run")
-        .about("Run a scenario over the nodes of a new cluster")
-        .after_long_help(RUN_HELP)
-        .arg(file)?
-        .arg(explain)
+/// The command with one argument more.
+fn with_argument<'a>(
+    command: Result<Command<'a>, AllocError>,
+    argument: Arg<'a>,
+) -> Result<Command<'a>, AllocError> {
+    let (command, argument) = both(command, Ok(argument))?;
+    command.arg(argument)
+}
+
+/// The file that a command reads.
+fn input<'a>(alloc: Global, help: &'a str) -> Arg<'a> {
+    Arg::new(alloc, FILE).help(help).action(ArgAction::Set)
+}
+
+/// An option that takes a value.
+fn option<'a>(alloc: Global, name: &'a str, value_name: &'a str, help: &'a str) -> Arg<'a> {
+    Arg::new(alloc, name)
+        .long(name)
+        .value_name(value_name)
+        .help(help)
+        .action(ArgAction::Set)
 }
 
 /// The number of a line that `draw` asks for.
 fn line<'a>(alloc: Global, name: &'a str, help: &'a str) -> Arg<'a> {
-    Arg::new(alloc, name)
-        .long(name)
-        .value_name("LINE")
-        .help(help)
-        .value_parser(ValueParser::unsigned(0, u64::MAX))
-        .action(ArgAction::Set)
-}
-
-/// The command `draw`.
-fn draw_command<'a>(alloc: Global) -> Result<Command<'a>, AllocError> {
-    let file = Arg::new(alloc, FILE)
-        .help("The scenario; standard input if there is none, or for -")
-        .action(ArgAction::Set);
-    Command::new(alloc, "draw")
-        .about("Draw a run of a scenario, as an SVG picture")
-        .after_long_help(DRAW_HELP)
-        .arg(file)?
-        .arg(line(alloc, FROM, "Draw no command of an earlier line"))?
-        .arg(line(alloc, TO, "Draw no command of a later line"))
-}
-
-/// The command `file`.
-fn file_command<'a>(alloc: Global) -> Result<Command<'a>, AllocError> {
-    let path = Arg::new(alloc, PATH)
-        .help("The file of a node")
-        .required(true)
-        .action(ArgAction::Set);
-    let rewrite = Arg::new(alloc, REWRITE)
-        .long("rewrite")
-        .value_name("OUT")
-        .help("Make a clean copy here, one record for each key, where nothing is yet")
-        .action(ArgAction::Set);
-    Command::new(alloc, "file")
-        .about("Print what the file of a node holds, or where it is damaged")
-        .after_long_help(FILE_HELP)
-        .arg(path)?
-        .arg(rewrite)
+    option(alloc, name, "LINE", help).value_parser(ValueParser::unsigned(0, u64::MAX))
 }
 
 /// A number that `live` asks for, in this range.
@@ -270,47 +238,84 @@ fn number<'a>(alloc: Global, name: &'a str, help: &'a str, least: u64, most: u64
         .action(ArgAction::Set)
 }
 
+/// The command `frame`.
+fn frame_command<'a>(alloc: Global) -> Result<Command<'a>, AllocError> {
+    let about = "Print the frames that lines of hexadecimal digits spell";
+    let help = "The lines; standard input if there is none, or for -";
+    command_of(alloc, "frame", about, FRAME_HELP).arg(input(alloc, help))
+}
+
+/// The command `run`.
+fn run_command<'a>(alloc: Global) -> Result<Command<'a>, AllocError> {
+    let about = "Run a scenario over the nodes of a new cluster";
+    let help = "The scenario; standard input if there is none, or for -";
+    let command = command_of(alloc, "run", about, RUN_HELP).arg(input(alloc, help));
+    let explain = Arg::new(alloc, EXPLAIN)
+        .long(EXPLAIN)
+        .help("After each command, print what is on its way and what nodes show anew")
+        .action(ArgAction::SetTrue);
+    with_argument(command, explain)
+}
+
+/// The command `draw`.
+fn draw_command<'a>(alloc: Global) -> Result<Command<'a>, AllocError> {
+    let about = "Draw a run of a scenario, as an SVG picture";
+    let help = "The scenario; standard input if there is none, or for -";
+    let command = command_of(alloc, "draw", about, DRAW_HELP).arg(input(alloc, help));
+    let from = line(alloc, FROM, "Draw no command of an earlier line");
+    let command = with_argument(command, from);
+    with_argument(command, line(alloc, TO, "Draw no command of a later line"))
+}
+
+/// The command `file`.
+fn file_command<'a>(alloc: Global) -> Result<Command<'a>, AllocError> {
+    let about = "Print what the file of a node holds, or where it is damaged";
+    let path = Arg::new(alloc, PATH)
+        .help("The file of a node")
+        .required(true)
+        .action(ArgAction::Set);
+    let command = command_of(alloc, "file", about, FILE_HELP).arg(path);
+    let help = "Make a clean copy here, one record for each key, where nothing is yet";
+    with_argument(command, option(alloc, REWRITE, "OUT", help))
+}
+
 /// The command `live`.
 fn live_command<'a>(alloc: Global) -> Result<Command<'a>, AllocError> {
-    let record = Arg::new(alloc, RECORD)
-        .long("record")
-        .value_name("FILE")
-        .help("Write the run down as a scenario, to a new file")
-        .action(ArgAction::Set);
-    let files = Arg::new(alloc, FILES)
-        .long("files")
-        .value_name("DIR")
-        .help("Make a folder, and run the nodes on files there")
-        .action(ArgAction::Set);
-    Command::new(alloc, "live")
-        .about("Run a cluster of threads, and judge what they did")
-        .after_long_help(LIVE_HELP)
-        .arg(number(alloc, NODES, "How many nodes there are, 1 to 16", 1, 16))?
-        .arg(number(
-            alloc,
-            TURNS,
-            "How many turns each makes, 1 to 100000",
-            1,
-            100_000,
-        ))?
-        .arg(number(alloc, SEED, "What the random words come from", 0, u64::MAX))?
-        .arg(record)?
-        .arg(files)
+    let about = "Run a cluster of threads, and judge what they did";
+    let nodes = number(alloc, NODES, "How many nodes there are, 1 to 16", 1, 16);
+    let command = command_of(alloc, "live", about, LIVE_HELP).arg(nodes);
+    let help = "How many turns each makes, 1 to 100000";
+    let command = with_argument(command, number(alloc, TURNS, help, 1, 100_000));
+    let help = "What the random words come from";
+    let command = with_argument(command, number(alloc, SEED, help, 0, u64::MAX));
+    let help = "Write the run down as a scenario, to a new file";
+    let command = with_argument(command, option(alloc, RECORD, "FILE", help));
+    let help = "Make a folder, and run the nodes on files there";
+    with_argument(command, option(alloc, FILES, "DIR", help))
 }
 
 /// The command line, with its help.
 fn command<'a>(alloc: Global) -> Result<Command<'a>, AllocError> {
-    Command::new(alloc, "plumctl")
+    let command = Command::new(alloc, "plumctl")
         .about("The commands of Zomtagi, a cluster metadata store")
         .version(VERSION)
         .after_help(HELP)
         .after_long_help(LONG_HELP)
-        .subcommand_required(true)
-        .subcommand(frame_command(alloc)?)?
-        .subcommand(run_command(alloc)?)?
-        .subcommand(draw_command(alloc)?)?
-        .subcommand(file_command(alloc)?)?
-        .subcommand(live_command(alloc)?)
+        .subcommand_required(true);
+    let command = with_subcommand(Ok(command), frame_command(alloc));
+    let command = with_subcommand(command, run_command(alloc));
+    let command = with_subcommand(command, draw_command(alloc));
+    let command = with_subcommand(command, file_command(alloc));
+    with_subcommand(command, live_command(alloc))
+}
+
+/// The command with one subcommand more.
+fn with_subcommand<'a>(
+    command: Result<Command<'a>, AllocError>,
+    subcommand: Result<Command<'a>, AllocError>,
+) -> Result<Command<'a>, AllocError> {
+    let (command, subcommand) = both(command, subcommand)?;
+    command.subcommand(subcommand)
 }
 
 /// Returns the arguments of the program, its name among them; `None` where one is no text.
@@ -359,35 +364,64 @@ fn live<'a>(matches: &ArgMatches<'a>) -> Asked<'a> {
     }
 }
 
+/// What the arguments of the command of this name ask for.
+fn asked_of<'a>(name: &str, matches: &ArgMatches<'a>) -> Asked<'a> {
+    match name {
+        "frame" => Asked::Frame {
+            file: path(matches.get_str(FILE)),
+        },
+        "run" => Asked::Run {
+            file: path(matches.get_str(FILE)),
+            explain: matches.get_flag(EXPLAIN),
+        },
+        "draw" => Asked::Draw {
+            file: path(matches.get_str(FILE)),
+            part: Part {
+                from: matches.get_one::<u64>(FROM).unwrap_or(0),
+                to: matches.get_one::<u64>(TO).unwrap_or(u64::MAX),
+            },
+        },
+        "file" => match matches.get_str(PATH) {
+            Some(path) => Asked::File {
+                path,
+                rewrite: matches.get_str(REWRITE),
+            },
+            None => Asked::Nothing(USAGE),
+        },
+        "live" => live(matches),
+        _ => Asked::Nothing(USAGE),
+    }
+}
+
+/// What the arguments ask for, once they were found to be right.
+fn asked_for<'a>(matches: &ArgMatches<'a>) -> Asked<'a> {
+    match matches.subcommand() {
+        Some((name, matches)) => asked_of(name, matches),
+        None => Asked::Nothing(USAGE),
+    }
+}
+
+/// Prints why the arguments ask for nothing more, and returns the exit status.
+fn told(rt: &HostRuntime, error: &Error) -> Result<u8, StreamFault> {
+    if error.kind() == ErrorKind::OutOfMemory {
+        return Err(StreamFault::Memory);
+    }
+    print(rt, error)
+}
+
 /// What the arguments ask for.
 pub fn read_arguments<'a>(rt: &HostRuntime, words: &'a [String]) -> Result<Asked<'a>, StreamFault> {
     match command(rt.alloc())?.try_get_matches_from(words) {
-        Ok(matches) => match matches.subcommand() {
-            Some(("frame", matches)) => Ok(Asked::Frame {
-                file: path(matches.get_str(FILE)),
-            }),
-            Some(("run", matches)) => Ok(Asked::Run {
-                file: path(matches.get_str(FILE)),
-                explain: matches.get_flag(EXPLAIN),
-            }),
-            Some(("draw", matches)) => Ok(Asked::Draw {
-                file: path(matches.get_str(FILE)),
-                part: Part {
-                    from: matches.get_one::<u64>(FROM).unwrap_or(0),
-                    to: matches.get_one::<u64>(TO).unwrap_or(u64::MAX),
-                },
-            }),
-            Some(("file", matches)) => Ok(match matches.get_str(PATH) {
-                Some(path) => Asked::File {
-                    path,
-                    rewrite: matches.get_str(REWRITE),
-                },
-                None => Asked::Nothing(USAGE),
-            }),
-            Some(("live", matches)) => Ok(live(&matches)),
-            _ => Ok(Asked::Nothing(USAGE)),
-        },
-        Err(error) if error.kind() == ErrorKind::OutOfMemory => Err(StreamFault::Memory),
-        Err(error) => Ok(Asked::Nothing(print(rt, &error)?)),
+        Ok(matches) => {
+            let asked = asked_for(&matches);
+            // Dropped by a call: no case of the proof then takes it apart.
+            drop(matches);
+            Ok(asked)
+        }
+        Err(error) => {
+            let status = told(rt, &error);
+            drop(error);
+            Ok(Asked::Nothing(status?))
+        }
     }
 }
