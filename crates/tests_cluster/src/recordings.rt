@@ -5,7 +5,13 @@ ghost use Rattle.run_record.specs.Record.{IsOfARun};
 
 use cluster::{ClusterPlan, NoGate};
 use devices::{FailsAfter, MemoryDevice};
+use meta_store::Store;
+use meta_types::{FullPrefix, MetaKey, NodeId};
+use node_core::NodeState;
+use node_events::{NodeEvent, Outbox, Reply};
+use node_journal::{Closed, Entry, are_whole};
 use plumctl_live::{LiveFault, recording_of, run_live, write_recording};
+use run_record::assemble;
 use scenario::run_over;
 use std::alloc::Global;
 use std::process::Abort;
@@ -154,4 +160,60 @@ fn recordings_are_written(rt: HostRuntime) {
     assert!(&rt; is_written(&rt, rt.alloc(), 0, 3, failed));
     assert!(&rt; is_written(&rt, rt.alloc(), 1, 3, failed));
     assert!(&rt; is_written(&rt, rt.alloc(), 2, 0, b""));
+}
+
+/// The key a/b/k.
+fn key(rt: &impl Abort, alloc: Global) -> MetaKey {
+    let prefix = b"a".to_vec(alloc).expect(rt, "memory");
+    let sub = b"b".to_vec(alloc).expect(rt, "memory");
+    let prefix = FullPrefix::new(prefix, sub).ok().expect(rt, "a prefix");
+    let own = b"k".to_vec(alloc).expect(rt, "memory");
+    MetaKey::new(prefix, own).ok().expect(rt, "a key")
+}
+
+/// What is left of a node that held nothing and kept one key: an entry that sent nothing, and no
+/// object.
+fn kept(rt: &impl Abort, alloc: Global) -> Closed {
+    let base = NodeState::new(alloc, NodeId::new(0).unwrap(), 1).expect(rt, "memory");
+    let entry = Entry {
+        event: NodeEvent::Keep {
+            key: key(rt, alloc),
+        },
+        reply: Reply::Done,
+        outbox: Outbox::new(Vec::new(alloc)),
+    };
+    let mut journal = Vec::new(alloc);
+    journal.push(entry).ok().expect(rt, "memory");
+    Closed::from_parts(base, journal, Store::new(alloc))
+}
+
+/// The world of that node alone.
+fn world_of_kept(rt: &impl Abort, alloc: Global) -> World
+    ensures { IsOfARun 1 result }
+{
+    let closed = [kept(rt, alloc)];
+    if !are_whole(&closed) {
+        panic!(rt; "a whole life");
+    }
+    let world = assemble(alloc, &closed, &[]);
+    world.ok().expect(rt, "a run of the world")
+}
+
+/// The keeping of one key has no command.
+#[test]
+fn a_run_without_a_command_has_no_recording(rt: HostRuntime) {
+    let alloc = rt.alloc();
+    let plan = ClusterPlan {
+        nodes: 1,
+        turns: 1,
+        seed: 0,
+    };
+    let world = world_of_kept(&rt, alloc);
+    let text = recording_of(alloc, plan, &world).expect(&rt, "memory");
+    let mut target = MemoryDevice::new(alloc, Vec::new(alloc)).expect(&rt, "memory");
+    let mut errors = Vec::new(alloc);
+    let status = write_recording(alloc, plan, &world, &mut target, &mut errors);
+    let told = b"error: the run has no text\n";
+    let is_told = errors.as_slice() == told.as_slice();
+    assert!(&rt; text.is_none() && status == 1 && is_told && target.content().is_empty());
 }
