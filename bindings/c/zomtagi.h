@@ -10,8 +10,10 @@
  *     ... the same, then zomtagi_reply, and zomtagi_frame with zomtagi_sent until it is 38 ...
  *
  * An export returns 0, or the number of a refusal. Refusals are listed in their order: if several
- * apply, the first is returned. 99 Memory may come in place of any but 80. Unless it is said
- * otherwise, a call that is refused leaves the node as it was.
+ * apply, the first is returned. 99 Memory comes only of exports at which it is listed. It may come
+ * in place of any that is listed with it but 80, 82, 38, 43 and the 3 of a number above 15; of 34
+ * and 37 see the steps. Unless it is said otherwise, a call that is refused leaves the node as it
+ * was.
  */
 #ifndef ZOMTAGI_H
 #define ZOMTAGI_H
@@ -68,7 +70,7 @@ enum {
     ZOMTAGI_STOPPED = 34,
     ZOMTAGI_INCARNATION_SPENT = 35, /* there is no further life */
     ZOMTAGI_OLD_VERSION = 36,     /* the file is of version 1 */
-    ZOMTAGI_PENDING = 37,         /* a record isn't stored, or a frame isn't fetched */
+    ZOMTAGI_PENDING = 37, /* a record isn't stored, or zomtagi_sent wasn't called for each frame */
     ZOMTAGI_NOTHING = 38,         /* there is nothing to hand out */
     ZOMTAGI_NOT_ADDRESSED = 40,   /* the frame is addressed to another node */
     ZOMTAGI_NO_SUCH_READ = 43,    /* there is no context of this number */
@@ -92,7 +94,8 @@ uint16_t zomtagi_new(zomtagi_slot *slot, uint16_t node, uint32_t life);
  * Puts the node of this number into the slot, served from the bytes of its file: it holds the
  * file's table, in the life after the last one in the file. A node that was in the slot is freed.
  * The record of the life is to be stored first (zomtagi_record, zomtagi_stored); until then steps
- * are refused with 37. The bytes aren't used after the call.
+ * are refused with 37. The bytes are those that the disk holds: sync the file and its folder before
+ * you read it. They aren't used after the call.
  * Refused with 3 BadNode; 31 Damaged, 32 OtherNode, 31 Damaged at a gate, 25 StoreFull;
  * 36 OldVersion, 35 IncarnationSpent, 33 FileFull; 99 Memory: the slot is then as it was.
  */
@@ -117,7 +120,8 @@ uint16_t zomtagi_empty_file(uint16_t node, uint8_t *buffer, size_t buffer_len, s
  * Each is refused with 80 NoNode; then with what stands at it before "step"; then, as a step, with:
  *   34 Stopped, 37 Pending; what the step refuses, listed at the export;
  *   33 FileFull: the step was made, but its record doesn't fit in the file, which stops the node;
- *   99 Memory: nothing changed, or the node is stopped (zomtagi_about says which).
+ *   99 Memory: nothing changed, or the node is stopped (zomtagi_about says which). In place of 34
+ *   or 37 it comes only where the step names a key or a full prefix, or brings bytes.
  * Only a write and zomtagi_keep have a record, and only where the node was served from a file. A
  * step of any other kind is never refused with 33.
  *
@@ -225,7 +229,7 @@ uint16_t zomtagi_changes(zomtagi_slot *slot, uint64_t number);
  * all its bytes but the first at *gate + 1, sync, write the first at *gate, sync; then
  * zomtagi_stored.
  * Make these calls once for a record; if one fails, repeat none, and call zomtagi_stored with 0.
- * Refused with 80 NoNode, 38 Nothing, 81 ShortBuffer: what *gate says then means nothing.
+ * Refused with 80 NoNode, 38 Nothing, 81 ShortBuffer: *gate is then as it was.
  */
 uint16_t zomtagi_record(zomtagi_slot *slot, size_t *gate, uint8_t *buffer, size_t buffer_len,
                         size_t *len);
@@ -297,7 +301,8 @@ uint16_t zomtagi_list(zomtagi_slot *slot, const uint8_t *prefix, size_t prefix_l
 uint16_t zomtagi_root(zomtagi_slot *slot, uint8_t *buffer, size_t buffer_len, size_t *len);
 
 /*
- * The node's number, the number of its life, and 1 if it is stopped, or 0. Refused with 80 NoNode.
+ * The node's number, the number of its life, and 1 if it is stopped, or 0. Refused with 80 NoNode:
+ * all three are then as they were.
  */
 uint16_t zomtagi_about(zomtagi_slot *slot, uint16_t *number, uint32_t *life,
                        uint8_t *is_stopped);

@@ -35,6 +35,9 @@ impl FileStore {
             }
             opened => {
                 let mut store = opened?;
+                // Whoever wrote the file may have died before its own syncs.
+                store.file.sync_all()?;
+                sync_folder(path)?;
                 store.file.read_to_end(&mut bytes)?;
                 Node::serve(node, &bytes, store)
             }
