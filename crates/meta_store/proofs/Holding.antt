@@ -10,10 +10,10 @@ use Rattle.meta_types.specs.Order.{bytes_cmp, prefix_cmp, key_cmp}
 use Rattle.dvvset.specs.Object.{Entry}
 use Rattle.meta_store.specs.Table.{Table, IsHeld, IsTable, with_object}
 use Rattle.meta_store.specs.Step.{is_full_for}
-use Rattle.meta_store.specs.Kept.{AreParts, Parts, Rows, rows_at, table_of}
+use Rattle.meta_store.specs.Kept.{AreParts, AreRows, Parts, Rows, rows_at, table_of}
 use Rattle.meta_store.proofs.Keys.{key_total}
-use Rattle.meta_store.proofs.Kept.{Filled, find_row, prefix_total, put_part}
-use Rattle.meta_store.proofs.Maps.{All-put, is_true}
+use Rattle.meta_store.proofs.Kept.{Filled, IsNamed, bytes_total, find_row, prefix_total, put_part}
+use Rattle.meta_store.proofs.Maps.{All-put, All-put-found, is_true}
 use Rattle.meta_store.proofs.Tables.{found_row, table_put}
 
 never_empty : (n : List ℕ) (o : List Entry) (rows : Rows) → put bytes_cmp n o rows ≢ []
@@ -52,6 +52,15 @@ module _ (k : Key) (o : List Entry) (parts new : Parts) (are : AreParts parts) (
       ∙ ap (λ f. cond (is_some f) (length (table_of parts)) (length (table_of parts) + 1)) (sym (find_row k parts sorted))
       ∙ sym (length-put key_cmp key_total k o (table_of parts) (passes (is_sorted key_cmp (table_of parts)) are.table.rising))
       ∙ ap length (sym table_after)
+
+-- rows with another object under a key that is among them
+pub rows_with : (n : List ℕ) (held o : List Entry) (rows : Rows) → find bytes_cmp n rows ≡ Some held → AreRows rows → AreRows (put bytes_cmp n o rows)
+rows_with n held o rows found are =
+    let sorted : T (is_sorted bytes_cmp rows) = passes (is_sorted bytes_cmp rows) are.rising in
+    record {
+      rising = is_true (is_sorted bytes_cmp (put bytes_cmp n o rows)) (is_sorted-put bytes_cmp bytes_total n o rows sorted);
+      named = All-put-found bytes_cmp bytes_total IsNamed n held o rows sorted found are.named (λ row named. named);
+    }
 
 -- what is found under a key may be held
 pub held_if_found : (k : Key) (table : Table) (r : Option (Bor (List Entry))) → IsTable table → option_copied r ≡ find key_cmp k table → IfSome r (λ object. IsHeld object.now)

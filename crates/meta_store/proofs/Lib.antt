@@ -16,3 +16,5 @@ pub mod Tables
 pub mod Sizes
 -- a merge holds the object of the union
 mod Unions
+-- a store after a write through a borrow of an object
+mod Writing

@@ -111,6 +111,16 @@ module _ {K X : Type 0} (R : K → K → Ordering) where
           | Greater ↦ λ later is. ap (λ ys. x ∷ ys) (written q v w xs (rest_sorted x xs sorted) is)
         ] refl e
 
+    -- what is written where a key was found: no key is new
+    pub All-put-found : (P : K × X → Type 0) (q : K) (v w : X) (es : List (K × X)) → T (is_sorted R es) → find R q es ≡ Some v → All P es → ((e : K × X) → P e → P (e.0, w)) → All P (put R q w es)
+    All-put-found P q v w [] sorted e all each = absurd (some_or_none v (sym e))
+    All-put-found P q v w (x ∷ xs) sorted e all each =
+        elim (R q x.0) as (λ r. R q x.0 ≡ r → cond (is_eq r) (Some x.1) (find R q xs) ≡ Some v → All P (by_order r ((q, w) ∷ x ∷ xs) ((x.0, w) ∷ xs) (x ∷ put R q w xs))) [
+          | Less ↦ λ less is. absurd (some_or_none v (sym is ∙ find_below q xs (second (is_lt (R q x.0)) (below_all R q xs) (before_all q w x xs sorted less))))
+          | Equal ↦ λ tied is. All-cons P (x.0, w) xs (each x (All-head P x xs all)) (All-tail P x xs all)
+          | Greater ↦ λ later is. All-cons P x (put R q w xs) (All-head P x xs all) (All-put-found P q v w xs (rest_sorted x xs sorted) is (All-tail P x xs all) each)
+        ] refl e
+
 pub none_of : {A : Type 0} (x : Option A) (b : Bool) → is_some x ≡ not b → b ≡ is_none x
 none_of None true e = refl
 none_of None false e = cc

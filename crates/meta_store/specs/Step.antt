@@ -6,7 +6,7 @@ use Rattle.meta_types.specs.Name.{Key}
 use Rattle.meta_types.specs.Value.{ValueParts}
 use Rattle.meta_types.specs.Order.{key_cmp}
 use Rattle.meta_types.specs.First.{first_that_applies}
-use Rattle.dvvset.specs.Object.{Entry}
+use Rattle.dvvset.specs.Object.{Counter, Entry}
 use Rattle.dvvset.specs.Clock.{count_for, join, sync, update}
 use Rattle.dvvset.specs.Writer.{count_of}
 use Rattle.frame_fields.specs.Field.{has_value, greatest_count}
@@ -38,6 +38,14 @@ is_of_another_key key (Some context) = not (key_eq context.key key)
 abbrev pub is_spent : Table → ℕ → Key → Option Reading → Bool
 is_spent table id key context =
     max (count_for (vector_read context) id) (count_of (object_at table key) id) == greatest_count
+
+-- the refusals of a write that is of the key of its context, where there is room, by the object that
+-- is held
+abbrev pub refusal_of_write : List Counter → List Entry → ℕ → ValueParts → Option StoreFault
+refusal_of_write read held id value = first_that_applies (
+    (max (count_for read id) (count_of held id) == greatest_count, CounterSpent)
+    ∷ (not (is_small_enough most_written (update read held id value)), ObjectTooLarge)
+    ∷ [])
 
 abbrev pub refusal_of_put : Table → ℕ → Key → ValueParts → Option Reading → Option StoreFault
 refusal_of_put table id key value context = first_that_applies (

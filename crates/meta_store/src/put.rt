@@ -1,11 +1,13 @@
 //! Writes.
 
-ghost use Rattle.std.specs.Prelude.{◌≡◌, ◌≢◌, None, IfOk, OnOk, OnErr};
+ghost use Rattle.std.specs.Prelude.{◌≡◌, ◌≢◌, [], None, IfOk, OnOk, OnErr};
 ghost use Rattle.meta_types.specs.Failing.{FailsBy};
 ghost use Rattle.std.specs.Option.{option_copied};
 ghost use Rattle.meta_types.specs.Name.{Key};
 ghost use Rattle.meta_store.specs.Table.{IsHeld, object_at, with_object};
-ghost use Rattle.meta_store.specs.Step.{refusal_of_put, object_after_put};
+ghost use Rattle.dvvset.specs.Clock.{update};
+ghost use Rattle.meta_store.specs.Context.{vector_read};
+ghost use Rattle.meta_store.specs.Step.{is_of_another_key, refusal_of_put, refusal_of_write, object_after_put};
 ghost use Rattle.meta_store.specs.declared.fault.StoreFault.TheVariants.{Memory};
 
 use crate::context::Context;
@@ -14,6 +16,7 @@ use crate::size::is_small_enough;
 use crate::store::Store;
 use dvvset::{Entries, Vector, update};
 use meta_types::{Actor, MetaKey, Value};
+use std::alloc::Global;
 
 /// The most bytes of an object after a write, as its field of a frame.
 pub const MAX_WRITTEN_LEN: usize = 1_048_576;
@@ -37,7 +40,7 @@ impl Store {
         ensures fault { FailsBy Memory
             (refusal_of_put self.now id key.now value (option_copied context.entry)) result }
     {
-        if context.is_some_and(|context| context.key() != key) {
+        if is_of_another_key(key, context) {
             return Err(StoreFault::WrongKey);
         }
         if !self.has_room_for(key) {
@@ -45,12 +48,8 @@ impl Store {
         }
         let alloc = self.allocator();
         let (nothing, absent) = (Vector::empty(alloc), Entries::empty(alloc));
-        let read = context.map_or(&nothing, |context| context.vector());
-        let object = update(alloc, read, self.object_or(key, &absent), id, value)?;
-        if !is_small_enough(&object, MAX_WRITTEN_LEN) {
-            return Err(StoreFault::ObjectTooLarge);
-        }
-        Ok(object)
+        let read = vector_read(context, &nothing);
+        written(alloc, read, self.object_or(key, &absent), id, value)
     }
 
     /// A write by `id`. It has read what its context says, or nothing where it has no context: the
@@ -86,8 +85,50 @@ impl Store {
             (refusal_of_put self.old id key value (option_copied context.entry)) result }
         ensures same { OnErr result (self.new ≡ self.old) }
     {
+        if is_of_another_key(&key, context) {
+            return Err(StoreFault::WrongKey);
+        }
+        let nothing = Vector::empty(self.allocator());
+        let Some(value) = self.put_held(id, &key, value, vector_read(context, &nothing))? else {
+            return Ok(());
+        };
         let object = self.preview_put(id, &key, value, context)?;
         self.hold(key, object)?;
         Ok(())
     }
+}
+
+/// Returns whether there is a context, and it is of another key.
+fn is_of_another_key(key: &MetaKey, context: Option<&Context>) -> bool
+    ensures { result ≡ is_of_another_key key.now (option_copied context.entry) }
+{
+    context.is_some_and(|context| context.key() != key)
+}
+
+/// The vector of the context, or `nothing` where there is none.
+fn vector_read<'a>(context: Option<&'a Context>, nothing: &'a Vector) -> &'a Vector
+    requires { nothing.now ≡ [] }
+    ensures { result.now ≡ vector_read (option_copied context.entry) }
+{
+    context.map_or(nothing, |context| context.vector())
+}
+
+/// The object that a write leaves of the one that is held, or of the absent one.
+pub(crate) fn written(
+    alloc: Global,
+    read: &Vector,
+    held: &Entries,
+    id: Actor,
+    value: Value,
+) -> Result<Entries, StoreFault>
+    ensures value { IfOk result (λ object. object ≡ update read.now held.now id value) }
+    ensures held { IfOk result IsHeld }
+    ensures no_refusal { OnOk result (refusal_of_write read.now held.now id value ≡ None) }
+    ensures fault { FailsBy Memory (refusal_of_write read.now held.now id value) result }
+{
+    let object = update(alloc, read, held, id, value)?;
+    if !is_small_enough(&object, MAX_WRITTEN_LEN) {
+        return Err(StoreFault::ObjectTooLarge);
+    }
+    Ok(object)
 }

@@ -1,14 +1,21 @@
 //! The rows under one full prefix.
 
-ghost use Rattle.std.specs.Prelude.{◌≡◌, [], ◌∷◌, length, map, IfOk, OnOk, OnErr, None, is_none, is_some};
+ghost use Rattle.std.specs.Prelude.{◌≡◌, [], ◌∷◌, length, map, false, IfOk, IfNone, IfSome, OnOk, OnErr, None, is_none, is_some};
 ghost use Rattle.std.specs.Option.{option_copied};
 ghost use Rattle.std.specs.FinMap.{find, put};
 ghost use Rattle.meta_types.specs.Name.{IsName};
 ghost use Rattle.meta_types.specs.Order.{bytes_cmp};
-ghost use Rattle.meta_store.specs.Kept.{AreRows, without_row};
+ghost use Rattle.meta_types.specs.Failing.{FailsBy};
+ghost use Rattle.dvvset.specs.Clock.{update};
+ghost use Rattle.meta_store.specs.Kept.{AreRows, object_in, without_row};
+ghost use Rattle.meta_store.specs.Table.{IsHeld};
+ghost use Rattle.meta_store.specs.Step.{refusal_of_write};
+ghost use Rattle.meta_store.specs.declared.fault.StoreFault.TheVariants.{Memory};
 
-use dvvset::Entries;
-use meta_types::{ByteString, FullPrefix, MetaKey};
+use crate::fault::StoreFault;
+use crate::put::written;
+use dvvset::{Entries, Vector};
+use meta_types::{Actor, ByteString, FullPrefix, MetaKey, Value};
 use std::alloc::{AllocError, Global};
 use std::collections::BTreeMap;
 use std::collections::btree_map::Iter;
@@ -57,6 +64,41 @@ impl Rows {
     {
         let before = self.by_key.insert(key, object)?;
         Ok(before.is_none())
+    }
+
+    /// A write by `id` to the key, with what it has read, where the key is held: it is searched
+    /// once. Where it isn't, the value comes back. Where it is refused, or the value comes back,
+    /// nothing changes.
+    pub(crate) fn put_held(
+        &mut self,
+        alloc: Global,
+        id: Actor,
+        key: &ByteString,
+        value: Value,
+        read: &Vector,
+    ) -> Result<Option<Value>, StoreFault>
+        ensures value { IfOk result (λ left. IfNone left
+            (self.new ≡ put bytes_cmp key.now
+            (update read.now (object_in key.now self.old) id value) self.old)) }
+        ensures held { IfOk result (λ left. IfNone left
+            (IsHeld (update read.now (object_in key.now self.old) id value))) }
+        ensures no_refusal { IfOk result (λ left. IfNone left
+            (refusal_of_write read.now (object_in key.now self.old) id value ≡ None)) }
+        ensures found { IfOk result (λ left. IfNone left
+            (is_none (find bytes_cmp key.now self.old) ≡ false)) }
+        ensures left { IfOk result (λ left. IfSome left
+            (λ back. (back ≡ value) × (self.new ≡ self.old))) }
+        ensures fault { FailsBy Memory
+            (refusal_of_write read.now (object_in key.now self.old) id value) result }
+        ensures refused { OnErr result (is_none (find bytes_cmp key.now self.old) ≡ false) }
+        ensures same { OnErr result (self.new ≡ self.old) }
+    {
+        let Some(held) = self.by_key.get_mut(key) else {
+            return Ok(Some(value));
+        };
+        let object = written(alloc, read, held, id, value)?;
+        *held = object;
+        Ok(None)
     }
 
     /// Takes the key and its object out, and returns whether it was held. It takes no memory.

@@ -1,19 +1,22 @@
-ghost use Rattle.std.specs.Prelude.{◌≡◌, [], length, None, IfOk, OnOk, OnErr, IfSome, false, IsTrue, ◌↔◌};
+ghost use Rattle.std.specs.Prelude.{◌≡◌, [], length, None, IfOk, OnOk, OnErr, IfSome, IfNone, false, IsTrue, ◌↔◌};
 ghost use Rattle.std.specs.Option.{option_copied};
 ghost use Rattle.std.specs.FinMap.{find};
 ghost use Rattle.meta_types.specs.Order.{key_cmp};
-ghost use Rattle.dvvset.specs.Clock.{join, values_of};
+ghost use Rattle.meta_types.specs.Failing.{FailsBy};
+ghost use Rattle.dvvset.specs.Clock.{join, update, values_of};
 ghost use Rattle.meta_store.specs.Table.{IsHeld, IsTable, is_stale, keys_under, object_at, prefixes_of, with_object, without_object};
 ghost use Rattle.meta_store.specs.Kept.{AreParts, table_of};
 ghost use Rattle.meta_store.specs.Context.{reading_at};
-ghost use Rattle.meta_store.specs.Step.{is_full_for};
+ghost use Rattle.meta_store.specs.Step.{is_full_for, refusal_of_write};
+ghost use Rattle.meta_store.specs.declared.fault.StoreFault.TheVariants.{Memory};
 
 use crate::context::Context;
+use crate::fault::StoreFault;
 use crate::parts::{copy_parts, put_part, remove_part};
 use crate::rows::Rows;
 use crate::source::Source;
 use dvvset::{Entries, Vector, has_read, join, knows, values};
-use meta_types::{FullPrefix, MetaKey, Value};
+use meta_types::{Actor, FullPrefix, MetaKey, Value};
 use std::alloc::{AllocError, Global};
 use std::collections::BTreeMap;
 use std::collections::btree_map::Iter;
@@ -165,6 +168,37 @@ impl Store {
             self.len += 1;
         }
         Ok(())
+    }
+
+    /// A write by `id` to the key, with what it has read, where the key is held: it is searched
+    /// once. Where it isn't, the value comes back. Where it is refused, or the value comes back,
+    /// nothing changes.
+    pub(crate) fn put_held(
+        &mut self,
+        id: Actor,
+        key: &MetaKey,
+        value: Value,
+        read: &Vector,
+    ) -> Result<Option<Value>, StoreFault>
+        ensures value { IfOk result (λ left. IfNone left
+            (self.new ≡ with_object key.now
+            (update read.now (object_at self.old key.now) id value) self.old)) }
+        ensures no_refusal { IfOk result (λ left. IfNone left
+            (refusal_of_write read.now (object_at self.old key.now) id value ≡ None)) }
+        ensures found { IfOk result (λ left. IfNone left
+            (is_full_for self.old key.now ≡ false)) }
+        ensures left { IfOk result (λ left. IfSome left
+            (λ back. (back ≡ value) × (self.new ≡ self.old))) }
+        ensures fault { FailsBy Memory
+            (refusal_of_write read.now (object_at self.old key.now) id value) result }
+        ensures refused { OnErr result (is_full_for self.old key.now ≡ false) }
+        ensures same { OnErr result (self.new ≡ self.old) }
+    {
+        let alloc = self.alloc;
+        let Some(rows) = self.parts.get_mut(key.prefix()) else {
+            return Ok(Some(value));
+        };
+        rows.put_held(alloc, id, key.own_bytes(), value, read)
     }
 
     /// Takes the key and its object out again; nothing changes where the key isn't held. It takes

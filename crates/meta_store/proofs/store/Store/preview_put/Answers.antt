@@ -1,13 +1,16 @@
-use Rattle.std.proofs.Common.{sym, ◌∙◌, arith}
-use Rattle.meta_store.proofs.Sizes.{has_value_from_values, small_more}
+use Rattle.std.proofs.Common.{subst}
+use Rattle.meta_types.specs.Failing.{FailsBy}
+use Rattle.meta_store.specs.declared.fault.StoreFault.TheVariants.{Memory}
+use Rattle.std.specs.Option.{option_copied}
+use Rattle.std.proofs.Common.{◌≡◌, false, sym, ◌∙◌}
+use Rattle.meta_store.specs.Step.{is_full_for}
+use Rattle.meta_store.proofs.Writing.{refusal_by_object}
 use Rattle.meta_store.proofs.store.Store.preview_put.Goals as goal
 
-pub is_small_enough-requires : goal.is_small_enough-requires
-is_small_enough-requires c = has_value_from_values c.in_ok-object.object c.in_ok-object.ensures.shows
-
-pub returns-clause-held : goal.returns-clause-held
-returns-clause-held c = record {
-  lawful = c.in_ok-object.ensures.lawful;
-  shows = has_value_from_values c.in_ok-object.object c.in_ok-object.ensures.shows;
-  small = small_more c.in_ok-object.object 1048576 16000000 (omega arith) (sym c.is_small_enough.ensures ∙ c.if-not-is_small_enough.false);
-}
+pub returns-clause-fault : goal.returns-clause-fault
+returns-clause-fault c =
+    let room : is_full_for c.args.self.now c.args.key.now ≡ false = c.has_room_for.ensures.0 c.if-not-has_room_for.false in
+    subst (λ refusal. FailsBy Memory refusal c.written.result)
+    (refusal_by_object c.args.self.now c.args.id c.args.key.now c.args.value (option_copied c.args.context) c.vector_read-read.result.now c.object_or.result.now
+    (sym c.is_of_another_key.ensures ∙ c.if-is_of_another_key.false) room c.vector_read-read.ensures c.object_or.ensures)
+    c.written.ensures.fault
