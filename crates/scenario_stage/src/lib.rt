@@ -10,12 +10,13 @@
 //! ```
 //!
 //! The language is the crate `scenario_text`; a whole text is run by the crate `scenario`. Read
-//! `stage`, `event`, `deliver`, `look`, `write`, `print`, then `fault` and `laws`.
+//! `stage`, `event`, `deliver`, `look`, `write`, `kinds`, `print`, then `fault` and `laws`.
 #![tactic(auto)]
 
 mod deliver;
 mod event;
 pub mod fault;
+mod kinds;
 pub mod laws;
 mod look;
 mod print;

@@ -3,6 +3,7 @@
 
 ghost use Rattle.std.specs.Prelude.{◌≡◌, ◌↔◌, ◌≤◌, ◌++◌, ◌∷◌, [], ℕ, List, Err, IsTrue, OnOk, length, map, true, decimal, codes, if◌then◌else◌};
 ghost use Rattle.meta_frame.specs.Frame.{Spells};
+ghost use Rattle.meta_frame.specs.Header.{header_of};
 ghost use Rattle.meta_frame.specs.declared.message.Frame.{Frame as F};
 ghost use Rattle.printing.specs.Field.{bytes_text};
 ghost use Rattle.printing.specs.Joined.{joined, separated};
@@ -13,8 +14,9 @@ ghost use Rattle.scenario_stage.specs.Coded.{AreThere, HasSent, PrintsOutcome};
 ghost use Rattle.world_core.specs.Refusal.{IsFrameOf};
 ghost use Rattle.world_core.specs.declared.fault.WorldFault.TheVariants.{Memory};
 
+use crate::kinds::name_of_kind;
 use dvvset::Vector;
-use meta_frame::{Frame, FrameFault, decode, kind_name};
+use meta_frame::{Header, read_header};
 use meta_types::{ByteString, MetaKey, TypeFault, Value};
 use node_events::Reply;
 use printing::{print_name, print_number, print_values, print_vector};
@@ -184,40 +186,30 @@ fn print_reply(out: &mut Vec<u8>, read: Option<u64>, reply: &Reply) -> Result<()
     }
 }
 
-/// Adds the line of a frame that was sent.
-fn print_sent(out: &mut Vec<u8>, number: u64, frame: &Frame) -> Result<(), AllocError>
-    ensures { OnOk result (out.new.items ≡ out.old.items ++ frame_line number frame.now) }
+/// Adds the line of the frame of this header.
+fn print_sent(out: &mut Vec<u8>, number: u64, header: Header) -> Result<(), AllocError>
+    requires { (frame : F) × (header ≡ header_of frame) }
+    ensures { (frame : F) → header ≡ header_of frame
+        → OnOk result (out.new.items ≡ out.old.items ++ frame_line number frame) }
 {
     out.extend_from_slice(b"frame ")?;
     print_number(out, number)?;
     out.extend_from_slice(b" ")?;
-    out.extend_from_slice(kind_name(&frame.message).as_bytes())?;
+    out.extend_from_slice(name_of_kind(header.kind).as_bytes())?;
     out.extend_from_slice(b" ")?;
-    print_number(out, u64::from(frame.from.number()))?;
-    print_count(out, " ", u64::from(frame.to.number()))
+    print_number(out, u64::from(header.from.number()))?;
+    print_count(out, " ", u64::from(header.to.number()))
 }
 
-/// Adds the line of the frame that these bytes spell.
-fn print_frame_line(
-    alloc: Global,
-    out: &mut Vec<u8>,
-    number: u64,
-    bytes: &ByteString,
-) -> Result<(), AllocError>
+/// Adds the line of the frame that these bytes spell. It reads the header alone.
+fn print_frame_line(out: &mut Vec<u8>, number: u64, bytes: &ByteString) -> Result<(), AllocError>
     requires { (frame : F) × Spells frame bytes.now }
     ensures { OnOk result ((frame : F) × (Spells frame bytes.now
         × (out.new.items ≡ out.old.items ++ frame_line number frame))) }
 {
-    match decode(alloc, bytes.as_slice()) {
-        Ok(frame) => {
-            let done = print_sent(out, number, &frame);
-            drop(frame);
-            done
-        }
-        Err(fault) => match fault {
-            FrameFault::Memory => Err(AllocError),
-            _ => unreachable!(),
-        },
+    match read_header(bytes.as_slice()) {
+        Ok(header) => print_sent(out, number, header),
+        Err(_) => unreachable!(),
     }
 }
 
@@ -233,7 +225,7 @@ pub fn print_frame_of(
         × (out.new.items ≡ out.old.items ++ frame_line number frame))) }
 {
     match world.frame(number)? {
-        Some(bytes) => print_frame_line(alloc, out, number, &bytes),
+        Some(bytes) => print_frame_line(out, number, &bytes),
         None => unreachable!(),
     }
 }
