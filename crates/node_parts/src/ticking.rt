@@ -1,10 +1,12 @@
-//! A tick of the overlay: the broadcast's, and then a shuffle, if it is due.
+//! A tick of the overlay: the broadcast's, and then a shuffle, if it is due. All that may fail is
+//! made first, so that the broadcast makes its tick in place, and copies nothing of what waits.
 
 ghost use Rattle.std.specs.Prelude.{◌≡◌, ◌++◌, All, IfOk, OnOk, OnErr};
 ghost use Rattle.hyparview.specs.Views.{draft_after, views_of};
 ghost use Rattle.hyparview.specs.declared.event.ViewEvent.TheVariants.{ShuffleDue};
 ghost use Rattle.plumtree.specs.Broadcast.{Tick};
 ghost use Rattle.plumtree.specs.Lawful.{after_call};
+ghost use Rattle.plumtree.specs.Ticking.{peers_of};
 ghost use Rattle.node_parts.specs.Origin.{overlay_after_tick, sent_by_tick, whole_messages};
 ghost use Rattle.node_parts.specs.Outbox.{AreFramesOf, MaySend};
 ghost use Rattle.node_parts.specs.Overlay.{out_of, overlay_after_call, overlay_after_view};
@@ -18,7 +20,7 @@ use crate::together::both;
 use hyparview::{ViewEvent, Views};
 use meta_types::NodeId;
 use node_events::Outbox;
-use plumtree::Cast;
+use plumtree::TickedPeers;
 use std::alloc::{AllocError, Global};
 
 /// How many ticks there are from one shuffle of the views to the next.
@@ -53,10 +55,10 @@ impl Overlay {
             (whole_messages (out_of Tick self.old))) }
         ensures unchanged { OnErr result (self.new ≡ self.old) }
     {
-        let (cast, sent) = self.after_broadcast_tick(alloc)?;
+        let (peers, sent) = self.after_broadcast_tick(alloc)?;
         let outbox = outbox(alloc, self.views.node(), number, sent);
-        let (cast, outbox) = both(Ok(cast), outbox)?;
-        self.cast = cast;
+        let (peers, outbox) = both(Ok(peers), outbox)?;
+        self.cast.make_tick(peers);
         Ok(outbox)
     }
 
@@ -74,24 +76,28 @@ impl Overlay {
         ensures unchanged { OnErr result (self.new ≡ self.old) }
     {
         let ticked = self.after_broadcast_tick(alloc);
-        let ((cast, sent), (views, more)) = both(ticked, self.after_shuffle(alloc, word))?;
+        let ((peers, sent), (views, more)) = both(ticked, self.after_shuffle(alloc, word))?;
         let outbox = joined_outbox(alloc, self.views.node(), number, sent, more);
-        let ((cast, views), outbox) = both(Ok((cast, views)), outbox)?;
-        self.cast = cast;
+        let ((peers, views), outbox) = both(Ok((peers, views)), outbox)?;
+        self.cast.make_tick(peers);
         self.views = views;
         Ok(outbox)
     }
 
-    /// The broadcast after a tick, and the messages that go out.
-    fn after_broadcast_tick(&self, alloc: Global) -> Result<(Cast, Vec<Envelope>), AllocError>
-        ensures cast { IfOk result (λ after. after.0 ≡ after_call self.now.cast Tick) }
+    /// The peers of the broadcast after a tick, and the messages that go out.
+    fn after_broadcast_tick(
+        &self,
+        alloc: Global,
+    ) -> Result<(TickedPeers, Vec<Envelope>), AllocError>
+        ensures peers { IfOk result
+            (λ after. after.0 ≡ peers_of (after_call self.now.cast Tick)) }
         ensures sent { IfOk result
             (λ after. after.1.items ≡ whole_messages (out_of Tick self.now)) }
         ensures may { IfOk result (λ after. All (MaySend self.now.views.node) after.1.items) }
     {
-        let (cast, outs) = self.cast.after_tick()?;
+        let (peers, outs) = self.cast.foresee_tick()?;
         let sent = whole_messages(alloc, outs);
-        both(Ok(cast), sent)
+        both(Ok(peers), sent)
     }
 
     /// The views after a shuffle, and the messages that go out.

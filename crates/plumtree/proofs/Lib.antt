@@ -8,3 +8,5 @@ pub mod Standing
 pub mod Sending
 -- calls are taken back
 pub mod TakingBack
+-- a tick in two steps
+pub mod Ticking

@@ -13,3 +13,5 @@ pub mod Broadcast
 pub mod Lawful
 -- coming back to where it stood
 pub mod Savepoint
+-- a tick in two steps: foreseen, and then made
+pub mod Ticking

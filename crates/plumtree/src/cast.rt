@@ -6,10 +6,9 @@ ghost use Rattle.plumtree.specs.Broadcast.{gossip_call};
 use crate::entry::{Announcement, Announcer, CastOut, MissingObject};
 use crate::links::{become_eager, become_lazy};
 use crate::missing::{
-    announced, announcements, copy_missing, copy_queue, gossips, leave_known, leave_queue,
+    announcements, copy_missing, copy_queue, gossips, leave_known, leave_queue,
     lose_announcer, note,
 };
-use crate::tick::Draft;
 use dvvset::Vector;
 use indexmap::IndexSet;
 use meta_frame::Message;
@@ -27,7 +26,7 @@ use std::marker::Model;
 /// A round counts how often an object was passed on, and stays at 65,535.
 #[derive(Drop)]
 pub struct Cast {
-    alloc: Global,
+    pub(crate) alloc: Global,
     pub(crate) eager: IndexSet<NodeId>,
     pub(crate) lazy: IndexSet<NodeId>,
     pub(crate) queue: Vec<Announcement>,
@@ -53,7 +52,6 @@ impl Model for Cast {
 impl Cast {
     ghost use Rattle.plumtree.specs.Broadcast.{broadcast_of, draft_of, empty};
     ghost use Rattle.plumtree.specs.Draft.{becomes_lazy};
-    ghost use Rattle.plumtree.specs.Rows.{none_missing, on_tick, send_announcements};
     ghost use Rattle.plumtree.specs.Lawful.{AreLinks};
 
     /// The broadcast of a node without peers. It takes no memory.
@@ -267,58 +265,15 @@ impl Cast {
         leave_known(&mut self.missing, key, vector);
     }
 
-    /// A tick: announcements go out, and what is overdue is asked for.
-    #[tactic(auto, unfolding(crate::specs::Rows::on_tick))]
+    /// A tick: announcements go out, and what is overdue is asked for. What waits is changed in
+    /// place.
     pub fn on_tick(&mut self) -> Result<Vec<CastOut>, AllocError>
         ensures row { IfOk result (λ out. IsCall Tick self.old self.new out.items) }
         ensures unchanged { OnErr result (self.new ≡ self.old) }
     {
-        let draft = self.draft_after_tick()?;
-        self.eager = draft.eager;
-        self.lazy = draft.lazy;
-        self.missing = draft.missing;
-        self.queue.clear();
-        Ok(draft.out)
-    }
-
-    /// The broadcast after a tick, and what the tick gives out, while this one stays as it is.
-    /// Fails only when memory runs out. What waits for the tick isn't copied.
-    #[tactic(auto, unfolding(crate::specs::Rows::on_tick))]
-    pub fn after_tick(&self) -> Result<(Cast, Vec<CastOut>), AllocError>
-        ensures { IfOk result (λ after. IsCall Tick self.now after.0 after.1.items) }
-    {
-        let ticked = self.draft_after_tick()?;
-        let cast = Cast {
-            alloc: self.alloc,
-            eager: ticked.eager,
-            lazy: ticked.lazy,
-            queue: Vec::new(self.alloc),
-            missing: ticked.missing,
-        };
-        Ok((cast, ticked.out))
-    }
-
-    #[tactic(auto, unfolding(crate::specs::Rows::on_tick))]
-    fn draft_after_tick(&self) -> Result<Draft, AllocError>
-        ensures { IfOk result (λ draft. draft ≡ on_tick (draft_of self.now)) }
-    {
-        let mut draft = self.begin_tick()?;
-        draft.tick_each(self.missing.as_slice())?;
-        Ok(draft)
-    }
-
-    /// A tick begins: announcements go out, and no object is missing yet.
-    fn begin_tick(&self) -> Result<Draft, AllocError>
-        ensures { IfOk result
-            (λ draft. draft ≡ none_missing (send_announcements (draft_of self.now))) }
-    {
-        Ok(Draft {
-            alloc: self.alloc,
-            eager: self.eager.clone()?,
-            lazy: self.lazy.clone()?,
-            missing: Vec::new(self.alloc),
-            out: announced(self.alloc, self.queue.as_slice())?,
-        })
+        let (peers, out) = self.foresee_tick()?;
+        self.make_tick(peers);
+        Ok(out)
     }
 
     /// Fails only when memory runs out.

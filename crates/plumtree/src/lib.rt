@@ -30,8 +30,9 @@ pub mod laws;
 mod links;
 mod missing;
 pub mod savepoint;
-mod tick;
+pub mod tick;
 
 pub use cast::Cast;
 pub use entry::{CastOut, PeerChange};
 pub use savepoint::Savepoint;
+pub use tick::TickedPeers;

@@ -1,12 +1,13 @@
 //! The objects that a node waits for, and the announcements that wait for a tick.
 
-ghost use Rattle.std.specs.Prelude.{◌≡◌, ◌<◌, length, map, IfOk, IfSome, OnOk, OnErr};
+ghost use Rattle.std.specs.Prelude.{◌≡◌, ◌<◌, drop, length, map, IfOk, IfSome, OnOk, OnErr};
 ghost use Rattle.std.specs.List.{filter, position};
 ghost use Rattle.plumtree.specs.declared.entry.CastOut.TheVariants.{Gossip};
 ghost use Rattle.plumtree.specs.Draft.{announcement_to};
 ghost use Rattle.plumtree.specs.Rows.{first_announced, ihave_of, is_announced_by, is_not_by};
 ghost use Rattle.plumtree.specs.Rows.{is_not_to, is_of, is_still_missing, noted, with_announcer};
 ghost use Rattle.plumtree.specs.Rows.{without_announcer};
+ghost use Rattle.plumtree.specs.Ticking.{missing_after, stays_missing, ticked};
 
 use crate::entry::{Announcement, Announcer, CastOut, MissingObject};
 use dvvset::{Vector, descends};
@@ -16,6 +17,9 @@ use std::alloc::{AllocError, Global};
 
 /// How many ticks an announced object has to come by another way, before it is asked for.
 const ANNOUNCED_PATIENCE: u8 = 2;
+
+/// How many ticks an announcer that was asked for an object has, before the next is asked.
+const ASKED_PATIENCE: u8 = 1;
 
 impl MissingObject {
     /// An object that is announced for the first time.
@@ -40,25 +44,18 @@ impl MissingObject {
         })
     }
 
-    /// The same object with other announcers and ticks.
-    pub(crate) fn with(
-        &self,
-        alloc: Global,
-        announcers: &[Announcer],
-        ticks: u8,
-    ) -> Result<Self, AllocError>
-        ensures { IfOk result (λ new.
-            new ≡ record self.now { announcers = announcers.now; ticks = ticks }) }
+    fn copy(&self, alloc: Global) -> Result<Self, AllocError>
+        ensures { IfOk result (λ copy. copy ≡ self.now) }
     {
         let key = self.key.copy()?;
         let vector = self.vector.copy()?;
-        let mut left = Vec::new(alloc);
-        left.extend_from_slice(announcers)?;
+        let mut announcers = Vec::new(alloc);
+        announcers.extend_from_slice(self.announcers.as_slice())?;
         Ok(MissingObject {
             key,
             vector,
-            announcers: left,
-            ticks,
+            announcers,
+            ticks: self.ticks,
         })
     }
 
@@ -91,6 +88,27 @@ impl MissingObject {
         ensures { self.new ≡ without_announcer node self.old }
     {
         leave_announcers(&mut self.announcers, node);
+    }
+
+    /// Returns whether the object is still waited for after a tick: it has a tick left, or there is
+    /// one to ask.
+    fn stays_missing(&self) -> bool
+        ensures { result ≡ stays_missing self.now }
+    {
+        self.ticks > 1 || !self.announcers.is_empty()
+    }
+
+    /// A tick: one less is left, or the first announcer is asked, and the object waits for the next.
+    #[tactic(auto, unfolding(crate::specs::Ticking::ticked))]
+    fn lose_tick(&mut self)
+        ensures { self.new ≡ ticked self.old }
+    {
+        if self.ticks > 1 {
+            self.ticks -= 1;
+        } else {
+            leave_first(&mut self.announcers);
+            self.ticks = ASKED_PATIENCE;
+        }
     }
 }
 
@@ -142,6 +160,31 @@ fn leave_announcers(announcers: &mut Vec<Announcer>, node: NodeId)
     ensures { announcers.new.items ≡ filter (is_not_by node) announcers.old.items }
 {
     announcers.retain(|announcer| node != announcer.peer);
+}
+
+fn leave_first(announcers: &mut Vec<Announcer>)
+    ensures { announcers.new.items ≡ drop 1 announcers.old.items }
+{
+    if !announcers.is_empty() {
+        announcers.remove(0);
+    }
+}
+
+/// A tick of each missing object. It takes no memory.
+pub(crate) fn lose_ticks(missing: &mut Vec<MissingObject>)
+    ensures { missing.new.items ≡ missing_after missing.old.items }
+{
+    leave_overdue(missing);
+    for place in 0..missing.len() {
+        missing[place].lose_tick();
+    }
+}
+
+/// At their last tick objects leave that there is nobody to ask for.
+fn leave_overdue(missing: &mut Vec<MissingObject>)
+    ensures { missing.new.items ≡ filter stays_missing missing.old.items }
+{
+    missing.retain(|object| object.stays_missing());
 }
 
 /// The objects under the key leave that this vector descends.
@@ -228,7 +271,7 @@ pub(crate) fn copy_missing(
 {
     let mut copy = Vec::new(alloc);
     for object in missing {
-        copy.push(object.with(alloc, object.announcers.as_slice(), object.ticks)?)?;
+        copy.push(object.copy(alloc)?)?;
     }
     Ok(copy)
 }

@@ -1,27 +1,91 @@
-//! A tick, which is made on copies: it changes many things and may fail on the way.
+//! A tick, in two steps. What it gives out, and who is eager and lazy after it, is made first, beside
+//! the broadcast: that takes memory and may fail. Then what waits is changed in place.
 
-ghost use Rattle.std.specs.Prelude.{◌≡◌, OnOk};
+ghost use Rattle.std.specs.Prelude.{◌≡◌, IfOk, OnOk};
+ghost use Rattle.plumtree.specs.Broadcast.{Tick, draft_of, row};
+ghost use Rattle.plumtree.specs.Lawful.{after_call};
+ghost use Rattle.plumtree.specs.Ticking.{peers_of};
 
+use crate::cast::Cast;
 use crate::entry::{Announcer, CastOut, MissingObject};
 use crate::links::become_eager;
+use crate::missing::{announced, lose_ticks};
 use indexmap::IndexSet;
 use meta_frame::Message;
 use meta_types::NodeId;
-use std::alloc::{AllocError, Global};
+use std::alloc::AllocError;
 use std::marker::Model;
 
-/// How many ticks an announcer that was asked for an object has, before the next is asked.
-const ASKED_PATIENCE: u8 = 1;
+/// Who is eager and who is lazy after a tick that is still to be made.
+#[derive(Drop)]
+pub struct TickedPeers {
+    eager: IndexSet<NodeId>,
+    lazy: IndexSet<NodeId>,
+}
 
-/// The broadcast in the midst of a tick, whose announcements have gone out. A tick that fails drops
-/// it.
+impl Model for TickedPeers {
+    ghost use Rattle.plumtree.specs.Lawful.{AreLinks};
+    ghost use Rattle.plumtree.specs.Ticking.{Peers};
+
+    ghost Value = { Peers };
+
+    ghost view = { λ p. record { eager = p.eager.keys; lazy = p.lazy.keys } };
+
+    ghost invariant = { λ p. AreLinks p.eager.keys p.lazy.keys };
+}
+
+impl Cast {
+    ghost use Rattle.plumtree.specs.Rows.{none_missing, send_announcements};
+    ghost use Rattle.plumtree.specs.Ticking.{graft_each};
+
+    /// What a tick gives out, and the peers after it, for `make_tick`; the broadcast stays as it is.
+    /// Fails only when memory runs out.
+    pub fn foresee_tick(&self) -> Result<(TickedPeers, Vec<CastOut>), AllocError>
+        ensures peers { IfOk result (λ seen. seen.0 ≡ peers_of (after_call self.now Tick)) }
+        ensures out { IfOk result (λ seen. seen.1.items ≡ (row Tick (draft_of self.now)).out) }
+    {
+        let draft = self.tick_draft()?;
+        let peers = TickedPeers {
+            eager: draft.eager,
+            lazy: draft.lazy,
+        };
+        Ok((peers, draft.out))
+    }
+
+    /// Makes the tick that was foreseen. It never fails, takes no memory, and copies nothing of
+    /// what waits.
+    pub fn make_tick(&mut self, peers: TickedPeers)
+        requires { peers ≡ peers_of (after_call self.old Tick) }
+        ensures { self.new ≡ after_call self.old Tick }
+    {
+        self.eager = peers.eager;
+        self.lazy = peers.lazy;
+        self.queue.clear();
+        lose_ticks(&mut self.missing);
+    }
+
+    /// All that goes out at a tick: what is announced, and then what is asked for.
+    fn tick_draft(&self) -> Result<Draft, AllocError>
+        ensures { IfOk result (λ draft. draft
+            ≡ graft_each self.now.missing (none_missing (send_announcements (draft_of self.now)))) }
+    {
+        let mut draft = Draft {
+            eager: self.eager.clone()?,
+            lazy: self.lazy.clone()?,
+            out: announced(self.alloc, self.queue.as_slice())?,
+        };
+        draft.graft_each(self.missing.as_slice())?;
+        Ok(draft)
+    }
+}
+
+/// The broadcast in the midst of a tick, whose announcements have gone out; what waits isn't in it.
+/// A tick that fails drops it.
 #[derive(Drop)]
 pub(crate) struct Draft {
-    pub(crate) alloc: Global,
-    pub(crate) eager: IndexSet<NodeId>,
-    pub(crate) lazy: IndexSet<NodeId>,
-    pub(crate) missing: Vec<MissingObject>,
-    pub(crate) out: Vec<CastOut>,
+    eager: IndexSet<NodeId>,
+    lazy: IndexSet<NodeId>,
+    out: Vec<CastOut>,
 }
 
 impl Model for Draft {
@@ -35,7 +99,7 @@ impl Model for Draft {
       eager = d.eager.keys;
       lazy = d.lazy.keys;
       queue = [];
-      missing = d.missing.items;
+      missing = [];
       out = d.out.items;
     } };
 
@@ -46,39 +110,29 @@ impl Draft {
     ghost use Rattle.meta_frame.specs.declared.message.Message.TheVariants.{Graft};
     ghost use Rattle.plumtree.specs.Draft.{becomes_eager, send};
     ghost use Rattle.meta_types.specs.Chain.{◌▷◌};
-    ghost use Rattle.plumtree.specs.Rows.{ask_first, keep, tick_each, tick_one};
+    ghost use Rattle.plumtree.specs.Ticking.{graft_each, graft_one};
 
-    /// Each missing object loses a tick, in order.
-    pub(crate) fn tick_each(&mut self, missing: &[MissingObject]) -> Result<(), AllocError>
-        ensures { OnOk result (self.new ≡ tick_each missing.now self.old) }
+    /// Each missing object whose last tick this is, in order, is asked for.
+    fn graft_each(&mut self, missing: &[MissingObject]) -> Result<(), AllocError>
+        ensures { OnOk result (self.new ≡ graft_each missing.now self.old) }
     {
         for object in missing {
-            self.tick_one(object)?;
+            self.graft_one(object)?;
         }
         Ok(())
     }
 
-    #[tactic(auto, unfolding(crate::specs::Rows::tick_one))]
-    fn tick_one(&mut self, object: &MissingObject) -> Result<(), AllocError>
-        ensures { OnOk result (self.new ≡ tick_one object.now self.old) }
+    /// The first that announced the object is asked for it, if this tick is the last.
+    #[tactic(auto, unfolding(crate::specs::Ticking::graft_one))]
+    fn graft_one(&mut self, object: &MissingObject) -> Result<(), AllocError>
+        ensures { OnOk result (self.new ≡ graft_one object.now self.old) }
     {
         if object.ticks > 1 {
-            self.keep(object, object.announcers.as_slice(), object.ticks - 1)
-        } else {
-            self.ask_first(object)
+            return Ok(());
         }
-    }
-
-    /// The first that announced the object is asked for it. Without one it is forgotten.
-    fn ask_first(&mut self, object: &MissingObject) -> Result<(), AllocError>
-        ensures { OnOk result (self.new ≡ ask_first object.now object.now.announcers self.old) }
-    {
         match object.announcers.as_slice() {
             [] => Ok(()),
-            [first, others @ ..] => {
-                self.graft(object, *first)?;
-                self.keep(object, others, ASKED_PATIENCE)
-            }
+            [first, ..] => self.graft(object, *first),
         }
     }
 
@@ -93,21 +147,6 @@ impl Draft {
         self.eager.reserve(1)?;
         become_eager(announcer.peer, &mut self.eager, &mut self.lazy);
         self.out.push(CastOut::Send(announcer.peer, Message::Graft { round, key, vector }))?;
-        Ok(())
-    }
-
-    /// The object stays missing, with these announcers and ticks.
-    fn keep(
-        &mut self,
-        object: &MissingObject,
-        announcers: &[Announcer],
-        ticks: u8,
-    ) -> Result<(), AllocError>
-        ensures { OnOk result (self.new
-            ≡ keep (record object.now { announcers = announcers.now; ticks = ticks }) self.old) }
-    {
-        self.missing
-            .push(object.with(self.alloc, announcers, ticks)?)?;
         Ok(())
     }
 }

@@ -1,6 +1,7 @@
-use Rattle.std.proofs.Common.{◌≡◌, Vec, Global, All, ap, subst}
+use Rattle.std.proofs.Common.{◌≡◌, Vec, Global, All, refl, ap, subst}
 use Rattle.std.proofs.lemmas.Result.{IfOk-at_ok, IfOk-weaker}
 use Rattle.std.proofs.lemmas.List.Elements.{All-same}
+use Rattle.plumtree.specs.Broadcast.{Tick}
 use Rattle.plumtree.specs.Lawful.{MayBeSent}
 use Rattle.node_parts.specs.declared.envelope.Envelope.{Envelope}
 use Rattle.node_parts.specs.Origin.{whole_messages}
@@ -12,9 +13,9 @@ use Rattle.node_parts.proofs.overlay.Overlay.after_broadcast_tick.Goals as goal
 pub returns-clause-may : goal.returns-clause-may
 returns-clause-may c =
     let node = c.args.self.now.views.node in
-    let outs = c.in_ok-cast.outs.items in
+    let outs = c.in_ok-peers.outs.items in
     let own = ap (λ (o : Overlay). o.views.node) c.self.view_is in
-    let may = subst (λ n. All (MayBeSent n) outs) own (call_may c.self.view_is c.self.invariant c.in_ok-cast.ensures tt) in
+    let may = subst (λ n. All (MayBeSent n) outs) own (call_may {call = Tick} c.self.view_is c.self.invariant (record { broadcast = refl; gives = c.in_ok-peers.ensures.out }) tt) in
     IfOk-weaker c.both.result _ _
     (λ after is.
     let sent = IfOk-at_ok (λ (v : Vec Envelope Global). v.items ≡ whole_messages outs) is.1 c.whole_messages-sent.ensures in

@@ -1,34 +1,16 @@
-use Rattle.std.proofs.Common.{◌≡◌, All, rules, refl, sym, ap, subst, ◌∙◌}
-use Rattle.std.proofs.lemmas.Result.{IfOk-at_ok}
-use Rattle.plumtree.specs.Broadcast.{Tick}
-use Rattle.node_parts.specs.Origin.{whole_messages}
-use Rattle.node_parts.specs.Outbox.{AreFramesOf, MaySend}
-use Rattle.node_parts.specs.Overlay.{IsOverlay, Overlay, out_of, overlay_after_call, overlay_of}
-use Rattle.node_parts.proofs.Naming.{framed, names_others_on, same_frames}
 use Rattle.node_parts.proofs.overlay.Overlay.on_quiet_tick.Goals as goal
-use Rattle.node_parts.proofs.overlay.Overlay.on_quiet_tick.Goals.{After-drop-self-inside-10}
-
-is_after : (c : After-drop-self-inside-10)
-    → overlay_of c.self.inside.views c.in_ok-cast-2.cast ≡ overlay_after_call Tick c.args.self.now
-is_after c = search rules
 
 pub outbox-outbox-requires : goal.outbox-outbox-requires
-outbox-outbox-requires c =
-    let own = c.node.ensures ∙ ap (λ (o : Overlay). o.views.node) c.self.view_is in
-    subst (λ n. All (MaySend n) c.in_ok-cast.sent.items) (sym own) c.in_ok-cast.ensures.may
+outbox-outbox-requires c = ?
 
 pub invariant_of-self : goal.invariant_of-self
-invariant_of-self c =
-    let was = subst IsOverlay c.self.view_is c.self.invariant in
-    subst IsOverlay (sym (is_after c)) (names_others_on.calls c.args.self.now Tick tt tt was)
+invariant_of-self c = ?
 
 pub returns-clause-overlay : goal.returns-clause-overlay
-returns-clause-overlay c = is_after c
+returns-clause-overlay c = ?
 
 pub returns-clause-sends : goal.returns-clause-sends
-returns-clause-sends c =
-    let call = c.outbox-outbox in
-    let own = c.node.ensures ∙ ap (λ (o : Overlay). o.views.node) c.self.view_is in
-    let frames = framed call.result c.node.result c.args.number c.in_ok-cast.ensures.sent call.ensures.frames call.ensures.lawful in
-    same_frames own refl
-    (IfOk-at_ok (AreFramesOf c.node.result c.args.number (whole_messages (out_of Tick c.args.self.now))) c.in_ok-cast-2.ensures.value.1 frames)
+returns-clause-sends c = ?
+
+pub make_tick-requires : goal.make_tick-requires
+make_tick-requires c = ?

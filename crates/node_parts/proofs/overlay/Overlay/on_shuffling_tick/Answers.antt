@@ -1,76 +1,19 @@
-use Rattle.std.proofs.Common.{◌≡◌, ◌++◌, Vec, Global, All, sym, ap, subst, ◌∙◌}
-use Rattle.std.proofs.lemmas.Result.{IfOk-at_ok}
-use Rattle.hyparview.specs.declared.event.ViewEvent.TheVariants.{ShuffleDue}
-use Rattle.hyparview.specs.Views.{NodeViews, draft_after, views_of}
-use Rattle.plumtree.specs.Broadcast.{Broadcast, Tick}
-use Rattle.plumtree.specs.Lawful.{after_call}
-use Rattle.node_parts.specs.declared.envelope.Envelope.{Envelope}
-use Rattle.node_parts.specs.Origin.{whole_messages}
-use Rattle.node_parts.specs.Outbox.{AreFramesOf, MaySend}
-use Rattle.node_parts.specs.Overlay.{IsOverlay, Overlay, out_of, overlay_after_call, overlay_after_view, overlay_of, sent_by_view}
-use Rattle.node_parts.proofs.Naming.{names_others_on, same_frames}
-use Rattle.node_parts.proofs.Shuffling.{after_shuffling}
 use Rattle.node_parts.proofs.overlay.Overlay.on_shuffling_tick.Goals as goal
-use Rattle.node_parts.proofs.overlay.Overlay.on_shuffling_tick.Goals.{After-drop-self-inside-23}
-
--- what the two made
-cast_is : (c : After-drop-self-inside-23) → c.in_ok-cast.cast ≡ after_call c.args.self.now.cast Tick
-cast_is c =
-    IfOk-at_ok (λ (t : Broadcast × Vec Envelope Global). t.0 ≡ after_call c.args.self.now.cast Tick) c.in_ok-cast.ensures.value.0
-    c.after_broadcast_tick-ticked.ensures.cast
-
-views_is : (c : After-drop-self-inside-23) → c.in_ok-cast.views ≡ views_of (draft_after ShuffleDue c.args.word c.args.self.now.views)
-views_is c =
-    IfOk-at_ok (λ (t : NodeViews × Vec Envelope Global). t.0 ≡ views_of (draft_after ShuffleDue c.args.word c.args.self.now.views))
-    c.in_ok-cast.ensures.value.1 c.after_shuffle.ensures.views
-
-is_sent : (c : After-drop-self-inside-23) → c.in_ok-cast.sent.items ++ c.in_ok-cast.more.items
-    ≡ whole_messages (out_of Tick c.args.self.now) ++ sent_by_view ShuffleDue c.args.word c.args.self.now
-is_sent c =
-    let o = c.args.self.now in
-    let front = IfOk-at_ok (λ (t : Broadcast × Vec Envelope Global). t.1.items ≡ whole_messages (out_of Tick o)) c.in_ok-cast.ensures.value.0
-    c.after_broadcast_tick-ticked.ensures.sent in
-    let back = IfOk-at_ok (λ (t : NodeViews × Vec Envelope Global). t.1.items ≡ sent_by_view ShuffleDue c.args.word o) c.in_ok-cast.ensures.value.1
-    c.after_shuffle.ensures.sent in
-    λ i. front i ++ back i
-
-is_after : (c : After-drop-self-inside-23) → overlay_of c.in_ok-cast-2.views c.in_ok-cast-2.cast
-    ≡ overlay_after_view ShuffleDue c.args.word (overlay_after_call Tick c.args.self.now)
-is_after c =
-    let o = c.args.self.now in
-    IfOk-at_ok (λ (t : Broadcast × NodeViews). overlay_of t.1 t.0 ≡ overlay_after_view ShuffleDue c.args.word (overlay_after_call Tick o))
-    c.in_ok-cast-2.ensures.value.0
-    ((λ i. overlay_of (views_is c i) (cast_is c i)) ∙ after_shuffling c.args.word o)
 
 pub joined_outbox-outbox-requires-clause-front : goal.joined_outbox-outbox-requires-clause-front
-joined_outbox-outbox-requires-clause-front c =
-    let o = c.args.self.now in
-    let own = c.node.ensures ∙ ap (λ (o : Overlay). o.views.node) c.self.view_is in
-    subst (λ n. All (MaySend n) c.in_ok-cast.sent.items) (sym own)
-    (IfOk-at_ok (λ (t : Broadcast × Vec Envelope Global). All (MaySend o.views.node) t.1.items) c.in_ok-cast.ensures.value.0
-    c.after_broadcast_tick-ticked.ensures.may)
+joined_outbox-outbox-requires-clause-front c = ?
 
 pub joined_outbox-outbox-requires-clause-back : goal.joined_outbox-outbox-requires-clause-back
-joined_outbox-outbox-requires-clause-back c =
-    let o = c.args.self.now in
-    let own = c.node.ensures ∙ ap (λ (o : Overlay). o.views.node) c.self.view_is in
-    subst (λ n. All (MaySend n) c.in_ok-cast.more.items) (sym own)
-    (IfOk-at_ok (λ (t : NodeViews × Vec Envelope Global). All (MaySend o.views.node) t.1.items) c.in_ok-cast.ensures.value.1
-    c.after_shuffle.ensures.may)
+joined_outbox-outbox-requires-clause-back c = ?
 
 pub invariant_of-self : goal.invariant_of-self
-invariant_of-self c =
-    let o = c.args.self.now in
-    let was = subst IsOverlay c.self.view_is c.self.invariant in
-    subst IsOverlay (sym (is_after c))
-    (names_others_on.views (overlay_after_call Tick o) ShuffleDue c.args.word tt (names_others_on.calls o Tick tt tt was))
+invariant_of-self c = ?
 
 pub returns-clause-overlay : goal.returns-clause-overlay
-returns-clause-overlay c = is_after c
+returns-clause-overlay c = ?
 
 pub returns-clause-sends : goal.returns-clause-sends
-returns-clause-sends c =
-    let own = c.node.ensures ∙ ap (λ (o : Overlay). o.views.node) c.self.view_is in
-    same_frames own (is_sent c)
-    (IfOk-at_ok (AreFramesOf c.node.result c.args.number (c.in_ok-cast.sent.items ++ c.in_ok-cast.more.items)) c.in_ok-cast-2.ensures.value.1
-    c.joined_outbox-outbox.ensures)
+returns-clause-sends c = ?
+
+pub make_tick-requires : goal.make_tick-requires
+make_tick-requires c = ?
