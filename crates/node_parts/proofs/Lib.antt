@@ -10,3 +10,5 @@ mod Hearing
 pub mod Numbering
 -- a message that a node may send has a spelling, and not a long one
 pub mod Sendable
+-- frames that differ in the addressee and the number alone
+pub mod Respelling

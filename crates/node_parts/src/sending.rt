@@ -1,11 +1,15 @@
 //! Messages become frames.
 
-ghost use Rattle.std.specs.Prelude.{◌≡◌, ◌≤◌, ◌<◌, ◌^◌, length, map, All, IfOk};
+ghost use Rattle.std.specs.Prelude.{◌≡◌, ◌≤◌, ◌<◌, ◌+◌, ◌^◌, [], ◌∷◌, ◌++◌, length, map, take, drop, All, IfOk, IsTrue};
+ghost use Rattle.std.specs.Int.{w16, w64, to_be_bytes};
 ghost use Rattle.frame_fields.specs.Field.{digest, digests, key, keys, life, node, nodes, prefix, prefixes};
-ghost use Rattle.meta_frame.specs.Frame.{IsLawful, IsMessage, Spells, limit, spelling};
+ghost use Rattle.meta_frame.specs.Frame.{IsMessage, spelling};
+ghost use Rattle.meta_frame.specs.declared.message.Message.TheVariants.{Gossip, IHave};
 ghost use Rattle.node_parts.specs.Outbox.{HasSpelling, IsSendable, MaySend, frame_of, frames_from};
 
 use crate::envelope::Envelope;
+use dvvset::{Entries, Vector};
+use frame_fields::writing::{write_node, write_u64};
 use frame_fields::{Digest, Digests, KeyDigests, Nodes, PrefixDigests};
 use meta_frame::{Frame, Message, encode};
 use meta_types::{ByteString, FullPrefix, MetaKey, NodeId};
@@ -26,25 +30,40 @@ pub fn outbox(
     ensures lawful { IfOk result
         (λ _. All HasSpelling (frames_from from number sent.items)) }
 {
+    let frames = numbered(alloc, from, number, sent)?;
+    let spelled = spelled_each(alloc, frames.as_slice());
+    drop(frames);
+    Ok(Outbox::new(spelled?))
+}
+
+/// The messages as frames. They are spelled later, since each is first compared with the one before
+/// it.
+fn numbered(
+    alloc: Global,
+    from: NodeId,
+    number: u64,
+    sent: Vec<Envelope>,
+) -> Result<Vec<Frame>, AllocError>
+    requires { All (MaySend from) sent.items }
+    ensures frames { IfOk result
+        (λ frames. frames.items ≡ frames_from from number sent.items) }
+    ensures lawful { IfOk result
+        (λ _. All HasSpelling (frames_from from number sent.items)) }
+{
     let mut number = number;
     let mut frames = Vec::with_capacity(alloc, sent.len())?;
     for envelope in sent {
         number = number.saturating_add(1);
-        frames.push(spelled(alloc, from, number, envelope)?)?;
+        frames.push(lawful_frame(from, number, envelope))?;
     }
-    Ok(Outbox::new(frames))
+    Ok(frames)
 }
 
-/// The message as the bytes of its frame.
-fn spelled(
-    alloc: Global,
-    from: NodeId,
-    number: u64,
-    envelope: Envelope,
-) -> Result<ByteString, AllocError>
+/// The frame of the message.
+fn lawful_frame(from: NodeId, number: u64, envelope: Envelope) -> Frame
     requires { MaySend from envelope }
-    ensures frame { IfOk result (λ bytes. bytes ≡ spelling (frame_of from number envelope)) }
-    ensures lawful { IfOk result (λ _. HasSpelling (frame_of from number envelope)) }
+    ensures frame { result ≡ frame_of from number envelope }
+    ensures lawful { HasSpelling (frame_of from number envelope) }
 {
     let frame = Frame {
         from,
@@ -55,13 +74,140 @@ fn spelled(
     // Read for what their type says: both are nodes.
     let _nodes = (frame.from.number(), frame.to.number());
     reveal_message(&frame.message);
-    bytes_of(alloc, &frame)
+    frame
+}
+
+/// The bytes of each frame. A broadcast hands one message to many peers, so its body is spelled
+/// once, and copied for each further peer.
+fn spelled_each(alloc: Global, frames: &[Frame]) -> Result<Vec<ByteString>, AllocError>
+    requires { All HasSpelling frames.now }
+    ensures { IfOk result (λ spelled. spelled.items ≡ map spelling frames.now) }
+{
+    let mut spelled = Vec::with_capacity(alloc, frames.len())?;
+    for at in 0..frames.len() {
+        let bytes = spelled_at(alloc, frames, at, spelled.as_slice())?;
+        spelled.push(bytes)?;
+    }
+    Ok(spelled)
+}
+
+/// The bytes of the frame at this place, where those of the frames before it are given.
+fn spelled_at(
+    alloc: Global,
+    frames: &[Frame],
+    at: usize,
+    spelled: &[ByteString],
+) -> Result<ByteString, AllocError>
+    requires within { at < length frames.now }
+    requires lawful { All HasSpelling frames.now }
+    requires before { spelled.now ≡ map spelling (take at frames.now) }
+    ensures { IfOk result
+        (λ bytes. spelled.now ++ bytes ∷ [] ≡ map spelling (take (at + 1) frames.now)) }
+{
+    if at == 0 {
+        return bytes_of(alloc, &frames[at]);
+    }
+    spelled_after(
+        alloc,
+        &frames[at - 1],
+        spelled[at - 1].as_slice(),
+        &frames[at],
+    )
+}
+
+/// The bytes of a frame. Where the frame before it says the same, its bytes `last` are copied as a
+/// block, and no body is spelled field by field.
+fn spelled_after(
+    alloc: Global,
+    before: &Frame,
+    last: &[u8],
+    frame: &Frame,
+) -> Result<ByteString, AllocError>
+    requires lawful { HasSpelling frame.now }
+    requires last { last.now ≡ spelling before.now }
+    ensures { IfOk result (λ bytes. bytes ≡ spelling frame.now) }
+{
+    if says_the_same(before, frame) {
+        return readdressed(alloc, last, frame.to, frame.number);
+    }
+    bytes_of(alloc, frame)
+}
+
+/// Whether the frames differ in their addressees and numbers alone.
+fn says_the_same(frame: &Frame, other: &Frame) -> bool
+    ensures from { IsTrue result → frame.now.from ≡ other.now.from }
+    ensures message { IsTrue result → frame.now.message ≡ other.now.message }
+{
+    frame.from == other.from && is_same_broadcast(&frame.message, &other.message)
+}
+
+/// Whether both are one message of a broadcast. Of other messages it says no without a look at them:
+/// they go to one peer, or are so short that a copy saves nothing.
+fn is_same_broadcast(message: &Message, other: &Message) -> bool
+    ensures { IsTrue result → message.now ≡ other.now }
+{
+    match message {
+        Message::Gossip { round, key, object } => is_gossip(other, *round, key, object),
+        Message::IHave { round, key, vector } => is_announcement(other, *round, key, vector),
+        _ => false,
+    }
+}
+
+fn is_gossip(message: &Message, round: u16, key: &MetaKey, object: &Entries) -> bool
+    ensures { IsTrue result → Gossip round key.now object.now ≡ message.now }
+{
+    match message {
+        Message::Gossip {
+            round: r,
+            key: k,
+            object: o,
+        } => is_same_keyed(round, key, *r, k) && object == o,
+        _ => false,
+    }
+}
+
+fn is_announcement(message: &Message, round: u16, key: &MetaKey, vector: &Vector) -> bool
+    ensures { IsTrue result → IHave round key.now vector.now ≡ message.now }
+{
+    match message {
+        Message::IHave {
+            round: r,
+            key: k,
+            vector: v,
+        } => is_same_keyed(round, key, *r, k) && vector == v,
+        _ => false,
+    }
+}
+
+fn is_same_keyed(round: u16, key: &MetaKey, other_round: u16, other_key: &MetaKey) -> bool
+    ensures round { IsTrue result → round ≡ other_round }
+    ensures key { IsTrue result → key.now ≡ other_key.now }
+{
+    round == other_round && key == other_key
+}
+
+/// The bytes of a frame with another addressee and number, which stand in the bytes 6 to 15.
+fn readdressed(
+    alloc: Global,
+    frame: &[u8],
+    to: NodeId,
+    number: u64,
+) -> Result<ByteString, AllocError>
+    requires { 16 ≤ length frame.now }
+    ensures { IfOk result (λ bytes. bytes ≡ take 6 frame.now
+        ++ to_be_bytes w16 to ++ to_be_bytes w64 number ++ drop 16 frame.now) }
+{
+    let mut bytes = Vec::with_capacity(alloc, frame.len())?;
+    bytes.extend_from_slice(frame.split_at(6).0)?;
+    write_node(&mut bytes, to)?;
+    write_u64(&mut bytes, number)?;
+    bytes.extend_from_slice(frame.split_at(16).1)?;
+    Ok(ByteString::new(bytes))
 }
 
 fn bytes_of(alloc: Global, frame: &Frame) -> Result<ByteString, AllocError>
-    requires lawful { IsLawful frame.now }
-    requires short { length (spelling frame.now) ≤ limit }
-    ensures spells { IfOk result (λ bytes. Spells frame.now bytes) }
+    requires { HasSpelling frame.now }
+    ensures { IfOk result (λ bytes. bytes ≡ spelling frame.now) }
 {
     match encode(alloc, frame) {
         Ok(bytes) => Ok(ByteString::new(bytes)),

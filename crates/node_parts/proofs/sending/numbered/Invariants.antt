@@ -1,14 +1,13 @@
-use Rattle.std.proofs.Common.{◌≡◌, ◌++◌, map, All}
-use Rattle.meta_frame.specs.Frame.{spelling}
+use Rattle.std.proofs.Common.{◌≡◌, ◌++◌, All}
 use Rattle.node_parts.specs.Outbox.{HasSpelling, MaySend, frames_from}
-use Rattle.node_parts.proofs.sending.outbox.Given as goal
+use Rattle.node_parts.proofs.sending.numbered.Given as goal
 
 abbrev pub invariant-loop-envelope : goal.invariant-loop-envelope
 invariant-loop-envelope l =
     let rest = l.envelope-iterator.rest.items in
     record {
-      frames : l.frames.items ++ map spelling (frames_from l.fn.from l.number rest)
-          ≡ map spelling (frames_from l.fn.from l.fn.number l.fn.sent.items);
+      frames : l.frames.items ++ frames_from l.fn.from l.number rest
+          ≡ frames_from l.fn.from l.fn.number l.fn.sent.items;
       lawful : All HasSpelling (frames_from l.fn.from l.number rest)
           → All HasSpelling (frames_from l.fn.from l.fn.number l.fn.sent.items);
       left : All (MaySend l.fn.from) rest;
