@@ -13,8 +13,8 @@ use Rattle.meta_types.specs.Value.{ValueParts}
 use Rattle.dvvset.specs.Object.{Counter, Entry}
 use Rattle.meta_store.specs.Context.{Reading, vector_read}
 use Rattle.meta_store.specs.Table.{Table, IsHeld, most_keys, object_at, with_object}
-use Rattle.meta_store.specs.Kept.{AreParts, Parts, Rows, object_in, rows_at, table_of}
-use Rattle.meta_store.specs.Step.{is_full_for, is_of_another_key, refusal_of_put, refusal_of_write}
+use Rattle.meta_store.specs.Kept.{AreParts, Parts, Rows, object_of_row, rows_at, table_of}
+use Rattle.meta_store.specs.Step.{is_full_for, is_of_another_key, refusal_of_put, refusal_of_update}
 use Rattle.meta_store.specs.declared.fault.StoreFault.TheVariants.{WrongKey, StoreFull}
 use Rattle.meta_store.proofs.Holding.{length_after, parts_after, table_after}
 use Rattle.meta_store.proofs.Kept.{find_row, prefix_total, rows_found}
@@ -52,11 +52,11 @@ passed_by false x rest e = refl
 
 -- where its key is that of its context and there is room, a write has the refusals by its object
 pub refusal_by_object : (table : Table) (id : ℕ) (key : Key) (value : ValueParts) (context : Option Reading) (read : List Counter) (held : List Entry) → is_of_another_key key context ≡ false → is_full_for table key ≡ false → read ≡ vector_read context → held ≡ object_at table key
-    → refusal_of_write read held id value ≡ refusal_of_put table id key value context
+    → refusal_of_update read held id value ≡ refusal_of_put table id key value context
 refusal_by_object table id key value context read held own room reads holds =
-    let by_object = refusal_of_write (vector_read context) (object_at table key) id value in
-    ap (λ r. refusal_of_write r held id value) reads
-    ∙ ap (λ h. refusal_of_write (vector_read context) h id value) holds
+    let by_object = refusal_of_update (vector_read context) (object_at table key) id value in
+    ap (λ r. refusal_of_update r held id value) reads
+    ∙ ap (λ h. refusal_of_update (vector_read context) h id value) holds
     ∙ sym (passed_by (is_full_for table key) StoreFull by_object room)
     ∙ sym (passed_by (is_of_another_key key context) WrongKey (if is_full_for table key then Some StoreFull else by_object) own)
 
@@ -69,7 +69,7 @@ module _ (k : Key) (parts : Parts) (are : AreParts parts) (before : Rows) (found
   abbrev there : find prefix_cmp k.prefix parts ≡ Some before
   there = sym (looked_up prefix_cmp k.prefix parts) ∙ sym found
 
-  pub object_there : object_in k.key before ≡ object_at (table_of parts) k
+  pub object_there : object_of_row k.key before ≡ object_at (table_of parts) k
   object_there = ap (λ x. unwrap_or x []) (ap (find bytes_cmp k.key) (sym (rows_found k.prefix before parts found)) ∙ sym (find_row k parts sorted))
 
   pub room_there : is_none (find bytes_cmp k.key before) ≡ false → is_full_for (table_of parts) k ≡ false

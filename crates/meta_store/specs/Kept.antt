@@ -38,8 +38,8 @@ abbrev pub rows_at : {X : Type 0} → Prefix → PartsOf X → RowsOf X
 rows_at prefix parts = unwrap_or (find prefix_cmp prefix parts) []
 
 -- the object of a row, the absent one where there is no such row
-abbrev pub object_in : List ℕ → Rows → List Entry
-object_in key rows = unwrap_or (find bytes_cmp key rows) []
+abbrev pub object_of_row : List ℕ → Rows → List Entry
+object_of_row key rows = unwrap_or (find bytes_cmp key rows) []
 
 -- the rows without the row of the key
 abbrev pub without_row : {X : Type 0} → List ℕ → RowsOf X → RowsOf X

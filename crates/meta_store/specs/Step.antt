@@ -41,8 +41,8 @@ is_spent table id key context =
 
 -- the refusals of a write that is of the key of its context, where there is room, by the object that
 -- is held
-abbrev pub refusal_of_write : List Counter → List Entry → ℕ → ValueParts → Option StoreFault
-refusal_of_write read held id value = first_that_applies (
+abbrev pub refusal_of_update : List Counter → List Entry → ℕ → ValueParts → Option StoreFault
+refusal_of_update read held id value = first_that_applies (
     (max (count_for read id) (count_of held id) == greatest_count, CounterSpent)
     ∷ (not (is_small_enough most_written (update read held id value)), ObjectTooLarge)
     ∷ [])

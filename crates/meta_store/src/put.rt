@@ -7,7 +7,7 @@ ghost use Rattle.meta_types.specs.Name.{Key};
 ghost use Rattle.meta_store.specs.Table.{IsHeld, object_at, with_object};
 ghost use Rattle.dvvset.specs.Clock.{update};
 ghost use Rattle.meta_store.specs.Context.{vector_read};
-ghost use Rattle.meta_store.specs.Step.{is_of_another_key, refusal_of_put, refusal_of_write, object_after_put};
+ghost use Rattle.meta_store.specs.Step.{is_of_another_key, refusal_of_put, refusal_of_update, object_after_put};
 ghost use Rattle.meta_store.specs.declared.fault.StoreFault.TheVariants.{Memory};
 
 use crate::context::Context;
@@ -123,8 +123,8 @@ pub(crate) fn written(
 ) -> Result<Entries, StoreFault>
     ensures value { IfOk result (λ object. object ≡ update read.now held.now id value) }
     ensures held { IfOk result IsHeld }
-    ensures no_refusal { OnOk result (refusal_of_write read.now held.now id value ≡ None) }
-    ensures fault { FailsBy Memory (refusal_of_write read.now held.now id value) result }
+    ensures no_refusal { OnOk result (refusal_of_update read.now held.now id value ≡ None) }
+    ensures fault { FailsBy Memory (refusal_of_update read.now held.now id value) result }
 {
     let object = update(alloc, read, held, id, value)?;
     if !is_small_enough(&object, MAX_WRITTEN_LEN) {

@@ -7,9 +7,9 @@ ghost use Rattle.meta_types.specs.Name.{IsName};
 ghost use Rattle.meta_types.specs.Order.{bytes_cmp};
 ghost use Rattle.meta_types.specs.Failing.{FailsBy};
 ghost use Rattle.dvvset.specs.Clock.{update};
-ghost use Rattle.meta_store.specs.Kept.{AreRows, object_in, without_row};
+ghost use Rattle.meta_store.specs.Kept.{AreRows, object_of_row, without_row};
 ghost use Rattle.meta_store.specs.Table.{IsHeld};
-ghost use Rattle.meta_store.specs.Step.{refusal_of_write};
+ghost use Rattle.meta_store.specs.Step.{refusal_of_update};
 ghost use Rattle.meta_store.specs.declared.fault.StoreFault.TheVariants.{Memory};
 
 use crate::fault::StoreFault;
@@ -79,17 +79,17 @@ impl Rows {
     ) -> Result<Option<Value>, StoreFault>
         ensures value { IfOk result (λ left. IfNone left
             (self.new ≡ put bytes_cmp key.now
-            (update read.now (object_in key.now self.old) id value) self.old)) }
+            (update read.now (object_of_row key.now self.old) id value) self.old)) }
         ensures held { IfOk result (λ left. IfNone left
-            (IsHeld (update read.now (object_in key.now self.old) id value))) }
+            (IsHeld (update read.now (object_of_row key.now self.old) id value))) }
         ensures no_refusal { IfOk result (λ left. IfNone left
-            (refusal_of_write read.now (object_in key.now self.old) id value ≡ None)) }
+            (refusal_of_update read.now (object_of_row key.now self.old) id value ≡ None)) }
         ensures found { IfOk result (λ left. IfNone left
             (is_none (find bytes_cmp key.now self.old) ≡ false)) }
         ensures left { IfOk result (λ left. IfSome left
             (λ back. (back ≡ value) × (self.new ≡ self.old))) }
         ensures fault { FailsBy Memory
-            (refusal_of_write read.now (object_in key.now self.old) id value) result }
+            (refusal_of_update read.now (object_of_row key.now self.old) id value) result }
         ensures refused { OnErr result (is_none (find bytes_cmp key.now self.old) ≡ false) }
         ensures same { OnErr result (self.new ≡ self.old) }
     {

@@ -7,7 +7,7 @@ ghost use Rattle.dvvset.specs.Clock.{join, update, values_of};
 ghost use Rattle.meta_store.specs.Table.{IsHeld, IsTable, is_stale, keys_under, object_at, prefixes_of, with_object, without_object};
 ghost use Rattle.meta_store.specs.Kept.{AreParts, table_of};
 ghost use Rattle.meta_store.specs.Context.{reading_at};
-ghost use Rattle.meta_store.specs.Step.{is_full_for, refusal_of_write};
+ghost use Rattle.meta_store.specs.Step.{is_full_for, refusal_of_update};
 ghost use Rattle.meta_store.specs.declared.fault.StoreFault.TheVariants.{Memory};
 
 use crate::context::Context;
@@ -184,13 +184,13 @@ impl Store {
             (self.new ≡ with_object key.now
             (update read.now (object_at self.old key.now) id value) self.old)) }
         ensures no_refusal { IfOk result (λ left. IfNone left
-            (refusal_of_write read.now (object_at self.old key.now) id value ≡ None)) }
+            (refusal_of_update read.now (object_at self.old key.now) id value ≡ None)) }
         ensures found { IfOk result (λ left. IfNone left
             (is_full_for self.old key.now ≡ false)) }
         ensures left { IfOk result (λ left. IfSome left
             (λ back. (back ≡ value) × (self.new ≡ self.old))) }
         ensures fault { FailsBy Memory
-            (refusal_of_write read.now (object_at self.old key.now) id value) result }
+            (refusal_of_update read.now (object_at self.old key.now) id value) result }
         ensures refused { OnErr result (is_full_for self.old key.now ≡ false) }
         ensures same { OnErr result (self.new ≡ self.old) }
     {

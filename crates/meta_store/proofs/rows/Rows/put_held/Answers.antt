@@ -4,9 +4,9 @@ use Rattle.std.specs.FinMap.{find, is_sorted, put}
 use Rattle.std.specs.Option.{unwrap_or}
 use Rattle.dvvset.specs.Clock.{update}
 use Rattle.meta_types.specs.Order.{bytes_cmp}
-use Rattle.meta_store.specs.Kept.{AreRows, object_in}
+use Rattle.meta_store.specs.Kept.{AreRows, object_of_row}
 use Rattle.meta_store.specs.Table.{IsHeld}
-use Rattle.meta_store.specs.Step.{refusal_of_write}
+use Rattle.meta_store.specs.Step.{refusal_of_update}
 use Rattle.meta_store.proofs.Kept.{bytes_total}
 use Rattle.meta_store.proofs.Maps.{always, looked_up, written, written_back}
 use Rattle.meta_store.proofs.Holding.{rows_with}
@@ -26,11 +26,11 @@ returns-in_err-object-clause-fault c =
     let es = c.self.inside.by_key.entries in
     let key = c.args.key.now in
     let found : find bytes_cmp key es ≡ Some c.in-Some.held.now = sym (looked_up bytes_cmp key es) ∙ sym c.in-Some.ensures.value in
-    let is : object_in key es ≡ c.in-Some.held.now = ap (λ x. unwrap_or x []) found in
+    let is : object_of_row key es ≡ c.in-Some.held.now = ap (λ x. unwrap_or x []) found in
     rw (← c.self.view_is) (fault_passed c.from_residual.result Memory _
-    (refusal_of_write c.args.read.now c.in-Some.held.now c.args.id c.args.value)
-    (refusal_of_write c.args.read.now (object_in key es) c.args.id c.args.value)
-    (ap (λ held. refusal_of_write c.args.read.now held c.args.id c.args.value) (sym is))
+    (refusal_of_update c.args.read.now c.in-Some.held.now c.args.id c.args.value)
+    (refusal_of_update c.args.read.now (object_of_row key es) c.args.id c.args.value)
+    (ap (λ held. refusal_of_update c.args.read.now held c.args.id c.args.value) (sym is))
     c.in_err-object.ensures.fault c.from_residual.ensures.1)
 
 pub returns-in_err-object-clause-refused : goal.returns-in_err-object-clause-refused
@@ -63,7 +63,7 @@ returns-clause-value c =
     let key = c.args.key.now in
     let sorted : T (is_sorted bytes_cmp es) = passes (is_sorted bytes_cmp es) c.self.invariant.rising in
     let found : find bytes_cmp key es ≡ Some c.in-Some.held.now = sym (looked_up bytes_cmp key es) ∙ sym c.in-Some.ensures.value in
-    let is : object_in key es ≡ c.in-Some.held.now = ap (λ x. unwrap_or x []) found in
+    let is : object_of_row key es ≡ c.in-Some.held.now = ap (λ x. unwrap_or x []) found in
     rw (← c.self.view_is) (
     (c.get_mut.follows.holds c.in_ok-object.object).0
     ∙ written bytes_cmp bytes_total key c.in-Some.held.now c.in_ok-object.object es sorted found
@@ -74,7 +74,7 @@ returns-clause-held c =
     let es = c.self.inside.by_key.entries in
     let key = c.args.key.now in
     let found : find bytes_cmp key es ≡ Some c.in-Some.held.now = sym (looked_up bytes_cmp key es) ∙ sym c.in-Some.ensures.value in
-    let is : object_in key es ≡ c.in-Some.held.now = ap (λ x. unwrap_or x []) found in
+    let is : object_of_row key es ≡ c.in-Some.held.now = ap (λ x. unwrap_or x []) found in
     rw (← c.self.view_is) (subst IsHeld (c.in_ok-object.ensures.value ∙ ap (λ held. update c.args.read.now held c.args.id c.args.value) (sym is)) c.in_ok-object.ensures.held)
 
 pub returns-clause-no_refusal : goal.returns-clause-no_refusal
@@ -82,8 +82,8 @@ returns-clause-no_refusal c =
     let es = c.self.inside.by_key.entries in
     let key = c.args.key.now in
     let found : find bytes_cmp key es ≡ Some c.in-Some.held.now = sym (looked_up bytes_cmp key es) ∙ sym c.in-Some.ensures.value in
-    let is : object_in key es ≡ c.in-Some.held.now = ap (λ x. unwrap_or x []) found in
-    rw (← c.self.view_is) (ap (λ held. refusal_of_write c.args.read.now held c.args.id c.args.value) is ∙ c.in_ok-object.ensures.no_refusal)
+    let is : object_of_row key es ≡ c.in-Some.held.now = ap (λ x. unwrap_or x []) found in
+    rw (← c.self.view_is) (ap (λ held. refusal_of_update c.args.read.now held c.args.id c.args.value) is ∙ c.in_ok-object.ensures.no_refusal)
 
 pub returns-clause-found : goal.returns-clause-found
 returns-clause-found c =

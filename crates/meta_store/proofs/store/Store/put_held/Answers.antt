@@ -5,9 +5,9 @@ use Rattle.std.specs.Map.{lookup, set_value}
 use Rattle.dvvset.specs.Clock.{update}
 use Rattle.meta_types.specs.Failing.{FailsBy}
 use Rattle.meta_types.specs.Order.{bytes_cmp, prefix_cmp}
-use Rattle.meta_store.specs.Kept.{object_in, table_of}
+use Rattle.meta_store.specs.Kept.{object_of_row, table_of}
 use Rattle.meta_store.specs.Table.{IsHeld, object_at, with_object}
-use Rattle.meta_store.specs.Step.{is_full_for, refusal_of_write}
+use Rattle.meta_store.specs.Step.{is_full_for, refusal_of_update}
 use Rattle.meta_store.specs.declared.fault.StoreFault.TheVariants.{Memory}
 use Rattle.meta_store.proofs.Maps.{on_err_more}
 use Rattle.meta_store.proofs.Writing.{if_none_more, if_some_more, kept_after, object_there, parts_left, room_there, table_put_there}
@@ -22,7 +22,7 @@ invariant_of-self-2 c =
     let after = c.put_held.new.self in
     let new = (c.get_mut.follows.lender after).entries in
     let lent : new ≡ set_value (is_at (prefix_cmp k.prefix)) parts after = rw (← c.prefix.ensures.value) (c.get_mut.follows.holds after).0 in
-    let object = update c.args.read.now (object_in k.key before) c.args.id c.args.value in
+    let object = update c.args.read.now (object_of_row k.key before) c.args.id c.args.value in
     let written : IfOk c.put_held.result (λ left. IfNone left (after ≡ put bytes_cmp k.key object before)) = rw (← c.own_bytes.ensures.value) c.put_held.ensures.value in
     let held : IfOk c.put_held.result (λ left. IfNone left (IsHeld object)) = rw (← c.own_bytes.ensures.value) c.put_held.ensures.held in
     let is : IfOk c.put_held.result (λ left. IfNone left (is_none (find bytes_cmp k.key before) ≡ false)) = rw (← c.own_bytes.ensures.value) c.put_held.ensures.found in
@@ -39,9 +39,9 @@ returns-clause-value c =
     let after = c.put_held.new.self in
     let new = (c.get_mut.follows.lender after).entries in
     let lent : new ≡ set_value (is_at (prefix_cmp k.prefix)) parts after = rw (← c.prefix.ensures.value) (c.get_mut.follows.holds after).0 in
-    let object = update c.args.read.now (object_in k.key before) c.args.id c.args.value in
+    let object = update c.args.read.now (object_of_row k.key before) c.args.id c.args.value in
     let written : IfOk c.put_held.result (λ left. IfNone left (after ≡ put bytes_cmp k.key object before)) = rw (← c.own_bytes.ensures.value) c.put_held.ensures.value in
-    let same : object_in k.key before ≡ object_at c.args.self.now k = object_there k parts c.self.invariant.parts before found ∙ ap (λ table. object_at table k) c.self.view_is in
+    let same : object_of_row k.key before ≡ object_at c.args.self.now k = object_there k parts c.self.invariant.parts before found ∙ ap (λ table. object_at table k) c.self.view_is in
     if_none_more c.put_held.result (λ is.
     table_put_there k parts c.self.invariant.parts before found after new lent object is
     ∙ ap (with_object k object) c.self.view_is
@@ -54,10 +54,10 @@ returns-clause-no_refusal c =
     let k = c.args.key.now in
     let before = c.in-Some.rows.now in
     let found : Some before ≡ lookup (is_at (prefix_cmp k.prefix)) parts = rw (← c.prefix.ensures.value) c.in-Some.ensures.value in
-    let same : object_in k.key before ≡ object_at c.args.self.now k = object_there k parts c.self.invariant.parts before found ∙ ap (λ table. object_at table k) c.self.view_is in
-    let none : IfOk c.put_held.result (λ left. IfNone left (refusal_of_write c.args.read.now (object_in k.key before) c.args.id c.args.value ≡ None)) =
+    let same : object_of_row k.key before ≡ object_at c.args.self.now k = object_there k parts c.self.invariant.parts before found ∙ ap (λ table. object_at table k) c.self.view_is in
+    let none : IfOk c.put_held.result (λ left. IfNone left (refusal_of_update c.args.read.now (object_of_row k.key before) c.args.id c.args.value ≡ None)) =
     rw (← c.own_bytes.ensures.value) c.put_held.ensures.no_refusal in
-    if_none_more c.put_held.result (λ is. ap (λ held. refusal_of_write c.args.read.now held c.args.id c.args.value) (sym same) ∙ is) none
+    if_none_more c.put_held.result (λ is. ap (λ held. refusal_of_update c.args.read.now held c.args.id c.args.value) (sym same) ∙ is) none
 
 pub returns-clause-found : goal.returns-clause-found
 returns-clause-found c =
@@ -85,9 +85,9 @@ returns-clause-fault c =
     let k = c.args.key.now in
     let before = c.in-Some.rows.now in
     let found : Some before ≡ lookup (is_at (prefix_cmp k.prefix)) parts = rw (← c.prefix.ensures.value) c.in-Some.ensures.value in
-    let same : object_in k.key before ≡ object_at c.args.self.now k = object_there k parts c.self.invariant.parts before found ∙ ap (λ table. object_at table k) c.self.view_is in
-    let fails : FailsBy Memory (refusal_of_write c.args.read.now (object_in k.key before) c.args.id c.args.value) c.put_held.result = rw (← c.own_bytes.ensures.value) c.put_held.ensures.fault in
-    subst (λ held. FailsBy Memory (refusal_of_write c.args.read.now held c.args.id c.args.value) c.put_held.result) same fails
+    let same : object_of_row k.key before ≡ object_at c.args.self.now k = object_there k parts c.self.invariant.parts before found ∙ ap (λ table. object_at table k) c.self.view_is in
+    let fails : FailsBy Memory (refusal_of_update c.args.read.now (object_of_row k.key before) c.args.id c.args.value) c.put_held.result = rw (← c.own_bytes.ensures.value) c.put_held.ensures.fault in
+    subst (λ held. FailsBy Memory (refusal_of_update c.args.read.now held c.args.id c.args.value) c.put_held.result) same fails
 
 pub returns-clause-refused : goal.returns-clause-refused
 returns-clause-refused c =
