@@ -6,8 +6,8 @@ ghost use Rattle.plumtree.specs.Broadcast.{gossip_call};
 use crate::entry::{Announcement, Announcer, CastOut, MissingObject};
 use crate::links::{become_eager, become_lazy};
 use crate::missing::{
-    announcements, copy_missing, copy_queue, gossips, leave_known, leave_queue,
-    lose_announcer, note,
+    announcements, copy_missing, copy_queue, gossips, leave_known, leave_queue, lose_announcer,
+    note,
 };
 use dvvset::Vector;
 use indexmap::IndexSet;
