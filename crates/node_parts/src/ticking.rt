@@ -79,8 +79,8 @@ impl Overlay {
         let ((peers, sent), (views, more)) = both(ticked, self.after_shuffle(alloc, word))?;
         let outbox = joined_outbox(alloc, self.views.node(), number, sent, more);
         let ((peers, views), outbox) = both(Ok((peers, views)), outbox)?;
-        self.cast.make_tick(peers);
         self.views = views;
+        self.cast.make_tick(peers);
         Ok(outbox)
     }
 
