@@ -46,9 +46,9 @@ pub record IsKnownTo (held stored : Table) : Type 0 where
   pub keys : KeepsKeys stored held
   pub events : Descends stored held
 
--- The file is this node's: its closed gate stands where the node says, it is of version 2 and of the
--- node's number, and what it has is known to the node. It can take what is to be stored, and then
--- its last life is the node's.
+-- The file is this node's: its closed gate stands where the node says, it is of version 2 and of
+-- the node's number, and what it has is known to the node. It can take what is to be stored, and
+-- then its last life is the node's.
 pub record IsFileOf (file : List ℕ) (n : HostedParts) : Type 0 where
   pub gate : ℕ
   pub its_gate : n.gate ≡ Some gate

@@ -20,8 +20,8 @@ use Rattle.hosted_node.specs.HostFile.{IsFileOf, host_calls, written_key}
 
 -- ---- what is left where the host's calls break off
 
--- the calls as they are noted where the first of these, the newest, failed; a sync that failed isn't
--- noted
+-- the calls as they are noted where the first of these, the newest, failed; a sync that failed
+-- isn't noted
 abbrev pub as_failed : DeviceCall → List DeviceCall → List DeviceCall
 as_failed (wrote at bytes) calls = failed_to_write at (length bytes) ∷ calls
 as_failed (cut_to n) calls = failed_to_cut n ∷ calls
@@ -116,8 +116,8 @@ pub record GoesOn (first last : Moment) : Type 0 where
   pub its_file : IsFileOf last.file last.node
   pub has_all : HasAllOf (file_state first.file) (file_state last.file)
 
--- a node with this file made a write of the key, which left the object there, and since then, in the
--- same life, its reply or a frame has been handed out
+-- a node with this file made a write of the key, which left the object there, and since then, in
+-- the same life, its reply or a frame has been handed out
 pub record IsAcknowledged (key : Key) (object : List Entry) (now : Moment) : Type 0 where
   pub old : Moment
   pub its_file : IsFileOf old.file old.node

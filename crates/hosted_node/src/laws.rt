@@ -1,6 +1,6 @@
 //! Laws of a hosted node and its host's file. The contract of a function is the law; its body does
-//! nothing, or reads what the types of its arguments say: that what a node holds is a table, and that
-//! what an event has read is a vector.
+//! nothing, or reads what the types of its arguments say: that what a node holds is a table, and
+//! that what an event has read is a vector.
 
 ghost use Rattle.std.specs.Prelude.{◌≡◌, ◌≢◌, ◌++◌, List, length, ℕ, Option, None, Ok, Some, true};
 ghost use Rattle.std.specs.FinMap.{find};
@@ -81,8 +81,8 @@ pub fn a_stored_write_is_in_the_file()
         → CrashLeaves file (host_calls old) c → HasObjectOf key new c }
 {}
 
-/// Where a crash, or a call that failed, breaks off the host's calls, what is left opens as the file
-/// did, or with the record that was to be stored, and has all that the file had.
+/// Where a crash, or a call that failed, breaks off the host's calls, what is left opens as the
+/// file did, or with the record that was to be stored, and has all that the file had.
 pub fn what_is_left_has_all()
     ensures opens { (file c : List ℕ) (n : HostedParts)
         → IsFileOf file n → IsLeft file n c → OpensWithOrWithout file n c }
@@ -110,8 +110,9 @@ pub fn a_file_and_its_node_go_on()
         → IsFileOf first.file first.node → Later first last → GoesOn first last }
 {}
 
-/// **No acknowledged write is lost**: once the reply of a write, or a frame after it, has been handed
-/// out, file and node know the write, at every later moment of this life and of those to come.
+/// **No acknowledged write is lost**: once the reply of a write, or a frame after it, has been
+/// handed out, file and node know the write, at every later moment of this life and of those to
+/// come.
 pub fn an_acknowledged_write_stays()
     ensures { (key : Key) (object : List Entry) (now last : Moment)
         → IsAcknowledged key object now → Later now last → Knows key object last }

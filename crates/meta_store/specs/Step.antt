@@ -39,8 +39,8 @@ abbrev pub is_spent : Table → ℕ → Key → Option Reading → Bool
 is_spent table id key context =
     max (count_for (vector_read context) id) (count_of (object_at table key) id) == greatest_count
 
--- the refusals of a write that is of the key of its context, where there is room, by the object that
--- is held
+-- the refusals of a write that is of the key of its context, where there is room, by the object
+-- that is held
 abbrev pub refusal_of_update : List Counter → List Entry → ℕ → ValueParts → Option StoreFault
 refusal_of_update read held id value = first_that_applies (
     (max (count_for read id) (count_of held id) == greatest_count, CounterSpent)

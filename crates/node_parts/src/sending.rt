@@ -141,8 +141,8 @@ fn says_the_same(frame: &Frame, other: &Frame) -> bool
     frame.from == other.from && is_same_broadcast(&frame.message, &other.message)
 }
 
-/// Whether both are one message of a broadcast. Of other messages it says no without a look at them:
-/// they go to one peer, or are so short that a copy saves nothing.
+/// Whether both are one message of a broadcast. Of other messages it says no without a look at
+/// them: they go to one peer, or are so short that a copy saves nothing.
 fn is_same_broadcast(message: &Message, other: &Message) -> bool
     ensures { IsTrue result → message.now ≡ other.now }
 {

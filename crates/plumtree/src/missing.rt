@@ -98,7 +98,8 @@ impl MissingObject {
         self.ticks > 1 || !self.announcers.is_empty()
     }
 
-    /// A tick: one less is left, or the first announcer is asked, and the object waits for the next.
+    /// A tick: one less is left, or the first announcer is asked, and the object waits for the
+    /// next.
     #[tactic(auto, unfolding(crate::specs::Ticking::ticked))]
     fn lose_tick(&mut self)
         ensures { self.new ≡ ticked self.old }

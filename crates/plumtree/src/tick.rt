@@ -1,5 +1,5 @@
-//! A tick, in two steps. What it gives out, and who is eager and lazy after it, is made first, beside
-//! the broadcast: that takes memory and may fail. Then what waits is changed in place.
+//! A tick, in two steps. What it gives out, and who is eager and lazy after it, is made first,
+//! beside the broadcast: that takes memory and may fail. Then what waits is changed in place.
 
 ghost use Rattle.std.specs.Prelude.{◌≡◌, IfOk, OnOk};
 ghost use Rattle.plumtree.specs.Broadcast.{Tick, draft_of, row};
@@ -38,8 +38,8 @@ impl Cast {
     ghost use Rattle.plumtree.specs.Rows.{none_missing, send_announcements};
     ghost use Rattle.plumtree.specs.Ticking.{graft_each};
 
-    /// What a tick gives out, and the peers after it, for `make_tick`; the broadcast stays as it is.
-    /// Fails only when memory runs out.
+    /// What a tick gives out, and the peers after it, for `make_tick`; the broadcast stays as it
+    /// is. Fails only when memory runs out.
     pub fn foresee_tick(&self) -> Result<(TickedPeers, Vec<CastOut>), AllocError>
         ensures peers { IfOk result (λ seen. seen.0 ≡ peers_of (after_call self.now Tick)) }
         ensures out { IfOk result (λ seen. seen.1.items ≡ (row Tick (draft_of self.now)).out) }

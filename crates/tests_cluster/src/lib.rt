@@ -1,6 +1,7 @@
 //! The tests of clusters of threads, of their runs as texts and of what is wrong with one, and of
 //! `plumctl live` and `plumctl file`, over the public calls of `cluster`, `run_replay`,
-//! `run_explain`, `plumctl_live` and `plumctl_file` and apart from them: a crate is proved once more with its tests. No crate uses this one.
+//! `run_explain`, `plumctl_live` and `plumctl_file` and apart from them: a crate is proved once
+//! more with its tests. No crate uses this one.
 #![tactic(auto)]
 
 // What is asserted doesn't depend on which thread comes first, but where a gate holds one of them.
