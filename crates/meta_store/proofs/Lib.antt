@@ -16,5 +16,7 @@ pub mod Tables
 pub mod Sizes
 -- a merge holds the object of the union
 mod Unions
+-- a merge by what is held under its key
+mod Merging
 -- a store after a write through a borrow of an object
 mod Writing

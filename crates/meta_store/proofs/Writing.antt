@@ -98,14 +98,14 @@ module _ (k : Key) (parts : Parts) (are : AreParts parts) (before : Rows) (found
 
     changed : {A F : Type 0} (value : A) (o : List Entry) (r : Result (Option A) F)
         → IfOk r (λ left. IfNone left (after ≡ put bytes_cmp k.key o before)) → IfOk r (λ left. IfNone left (IsHeld o)) → IfOk r (λ left. IfNone left (is_none (find bytes_cmp k.key before) ≡ false))
-        → IfOk r (λ left. IfSome left (λ back. (back ≡ value) × (after ≡ before))) → OnErr r (after ≡ before)
+        → IfOk r (λ left. IfSome left (λ back. (back ≡ value) × ((object_of_row k.key before ≡ []) × (after ≡ before)))) → OnErr r (after ≡ before)
         → (after ≡ before) ⊎ ((after ≡ put bytes_cmp k.key o before) × (IsHeld o × (is_none (find bytes_cmp k.key before) ≡ false)))
     changed value o (Ok None) written held is left same = inr (written, (held, is))
-    changed value o (Ok (Some x)) written held is left same = inl left.1
+    changed value o (Ok (Some x)) written held is left same = inl left.1.1
     changed value o (Err e) written held is left same = inl same
 
     pub kept_after : {A F : Type 0} (value : A) (o : List Entry) (r : Result (Option A) F) (len : ℕ) → IsKey k → len ≡ length (table_of parts)
         → IfOk r (λ left. IfNone left (after ≡ put bytes_cmp k.key o before)) → IfOk r (λ left. IfNone left (IsHeld o)) → IfOk r (λ left. IfNone left (is_none (find bytes_cmp k.key before) ≡ false))
-        → IfOk r (λ left. IfSome left (λ back. (back ≡ value) × (after ≡ before))) → OnErr r (after ≡ before)
+        → IfOk r (λ left. IfSome left (λ back. (back ≡ value) × ((object_of_row k.key before ≡ []) × (after ≡ before)))) → OnErr r (after ≡ before)
         → AreParts new × (len ≡ length (table_of new))
     kept_after value o r len key counted written held is left same = kept_or_put o len key counted (changed value o r written held is left same)

@@ -84,10 +84,16 @@ table_after_merge table key came =
 abbrev pub answer_of_merge : Table → Key → List Entry → Merged
 answer_of_merge table key came = if is_stale table key (join came) then Stale else Fresh
 
+-- the refusals of a merge of what is held under a key and what came, which isn't stale there
+abbrev pub refusal_of_sync : List Entry → List Entry → Bool → Option StoreFault
+refusal_of_sync held came is_full = first_that_applies (
+    (not (has_value (sync held came)), BadEntries)
+    ∷ (is_full, StoreFull)
+    ∷ (not (is_small_enough most_merged (sync held came)), ObjectTooLarge)
+    ∷ [])
+
 abbrev pub refusal_of_merge : Table → Key → List Entry → Option StoreFault
 refusal_of_merge table key came =
-    if is_stale table key (join came) then None else first_that_applies (
-    (not (has_value (merge_of table key came)), BadEntries)
-    ∷ (is_full_for table key, StoreFull)
-    ∷ (not (is_small_enough most_merged (merge_of table key came)), ObjectTooLarge)
-    ∷ [])
+    if is_stale table key (join came)
+    then None
+    else refusal_of_sync (object_at table key) came (is_full_for table key)

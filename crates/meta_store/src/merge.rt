@@ -1,25 +1,26 @@
 //! Merges.
 
-ghost use Rattle.std.specs.Prelude.{◌≡◌, ◌≢◌, true, false, List, Ok, Some, None, IfOk, IfSome, OnOk, OnErr};
+ghost use Rattle.std.specs.Prelude.{◌≡◌, ◌≢◌, true, not, [], List, Ok, None, IfOk, IfSome, OnOk, OnErr};
 ghost use Rattle.meta_types.specs.Failing.{FailsBy};
 ghost use Rattle.meta_types.specs.Name.{Key};
-ghost use Rattle.dvvset.specs.Clock.{join};
+ghost use Rattle.dvvset.specs.Clock.{join, sync};
 ghost use Rattle.past_model.specs.declared.happening.Happening.{Happening};
 ghost use Rattle.past_model.specs.Sets.{Places, union};
 ghost use Rattle.past_model.specs.Past.{writes};
 ghost use Rattle.past_model.specs.History.{IsHistory};
 ghost use Rattle.past_model.specs.Shown.{IsObjectOf};
 ghost use Rattle.meta_store.specs.Table.{IsHeld, is_stale, object_at};
-ghost use Rattle.meta_store.specs.Step.{table_after_merge, answer_of_merge, merge_of, merged_if_fresh, object_after_merge, refusal_of_merge};
+ghost use Rattle.meta_store.specs.Step.{is_full_for, table_after_merge, answer_of_merge, merged_if_fresh, object_after_merge, refusal_of_merge, refusal_of_sync};
 ghost use Rattle.meta_store.specs.declared.fault.StoreFault.TheVariants.{Memory};
 ghost use Rattle.meta_store.specs.declared.merge.Merged.TheVariants.{Stale};
 
 use crate::fault::StoreFault;
 use crate::size::is_small_enough;
-use crate::store::Store;
-use dvvset::{Entries, sync};
+use crate::store::{MAX_KEYS, Store};
+use dvvset::{Entries, knows, sync};
 use frame_fields::lawful::all_are_bare;
 use meta_types::MetaKey;
+use std::alloc::Global;
 
 /// The most bytes of an object after a merge, as its field of a frame.
 pub const MAX_MERGED_LEN: usize = 16_000_000;
@@ -61,10 +62,9 @@ impl Store {
         ensures fault { FailsBy Memory (refusal_of_merge self.old key object) result }
         ensures same { OnErr result (self.new ≡ self.old) }
     {
-        if self.knows(&key, &object) {
+        let Some(merged) = self.preview_merge(&key, &object)? else {
             return Ok(Merged::Stale);
-        }
-        let merged = self.merged(&key, &object)?;
+        };
         self.hold(key, merged)?;
         Ok(Merged::Fresh)
     }
@@ -83,32 +83,51 @@ impl Store {
         ensures no_refusal { OnOk result (refusal_of_merge self.now key.now came.now ≡ None) }
         ensures fault { FailsBy Memory (refusal_of_merge self.now key.now came.now) result }
     {
-        if self.knows(key, came) {
-            return Ok(None);
-        }
-        Ok(Some(self.merged(key, came)?))
-    }
-
-    /// The merge of what is held under the key and what came, which isn't stale.
-    fn merged(&self, key: &MetaKey, came: &Entries) -> Result<Entries, StoreFault>
-        requires { is_stale self.now key.now (join came.now) ≡ false }
-        ensures value { IfOk result (λ object. object ≡ merge_of self.now key.now came.now) }
-        ensures held { IfOk result IsHeld }
-        ensures no_refusal { OnOk result (refusal_of_merge self.now key.now came.now ≡ None) }
-        ensures fault { FailsBy Memory (refusal_of_merge self.now key.now came.now) result }
-    {
         let alloc = self.allocator();
         let absent = Entries::empty(alloc);
-        let merged = sync(alloc, self.object_or(key, &absent), came)?;
-        if all_are_bare(merged.entries()) {
-            return Err(StoreFault::BadEntries);
+        let (held, has_room) = self.held_or(key, &absent);
+        if knows(held, came) {
+            return Ok(None);
         }
-        if !self.has_room_for(key) {
-            return Err(StoreFault::StoreFull);
-        }
-        if !is_small_enough(&merged, MAX_MERGED_LEN) {
-            return Err(StoreFault::ObjectTooLarge);
-        }
-        Ok(merged)
+        Ok(Some(synced(alloc, held, came, has_room)?))
     }
+
+    /// The object under the key, the absent one where nothing is held, for which `absent` is
+    /// borrowed; and whether an object may be held there.
+    fn held_or<'a>(&'a self, key: &MetaKey, absent: &'a Entries) -> (&'a Entries, bool)
+        requires { absent.now ≡ [] }
+        ensures object { result.0.now ≡ object_at self.now key.now }
+        ensures room { not result.1 ≡ is_full_for self.now key.now }
+    {
+        match self.object(key) {
+            Some(held) => (held, true),
+            None => (absent, self.len() < MAX_KEYS),
+        }
+    }
+}
+
+/// The merge of what is held and what came.
+fn synced(
+    alloc: Global,
+    held: &Entries,
+    came: &Entries,
+    has_room: bool,
+) -> Result<Entries, StoreFault>
+    ensures value { IfOk result (λ object. object ≡ sync held.now came.now) }
+    ensures held { IfOk result IsHeld }
+    ensures no_refusal { OnOk result
+        (refusal_of_sync held.now came.now (not has_room) ≡ None) }
+    ensures fault { FailsBy Memory (refusal_of_sync held.now came.now (not has_room)) result }
+{
+    let merged = sync(alloc, held, came)?;
+    if all_are_bare(merged.entries()) {
+        return Err(StoreFault::BadEntries);
+    }
+    if !has_room {
+        return Err(StoreFault::StoreFull);
+    }
+    if !is_small_enough(&merged, MAX_MERGED_LEN) {
+        return Err(StoreFault::ObjectTooLarge);
+    }
+    Ok(merged)
 }

@@ -89,10 +89,15 @@ impl Store {
             return Err(StoreFault::WrongKey);
         }
         let nothing = Vector::empty(self.allocator());
-        let Some(value) = self.put_held(id, &key, value, vector_read(context, &nothing))? else {
+        let vector = vector_read(context, &nothing);
+        let Some(value) = self.put_held(id, &key, value, vector)? else {
             return Ok(());
         };
-        let object = self.preview_put(id, &key, value, context)?;
+        if !self.has_room_for(&key) {
+            return Err(StoreFault::StoreFull);
+        }
+        let absent = Entries::empty(self.allocator());
+        let object = written(self.allocator(), vector, &absent, id, value)?;
         self.hold(key, object)?;
         Ok(())
     }

@@ -87,7 +87,8 @@ impl Rows {
         ensures found { IfOk result (λ left. IfNone left
             (is_none (find bytes_cmp key.now self.old) ≡ false)) }
         ensures left { IfOk result (λ left. IfSome left
-            (λ back. (back ≡ value) × (self.new ≡ self.old))) }
+            (λ back. (back ≡ value)
+            × ((object_of_row key.now self.old ≡ []) × (self.new ≡ self.old)))) }
         ensures fault { FailsBy Memory
             (refusal_of_update read.now (object_of_row key.now self.old) id value) result }
         ensures refused { OnErr result (is_none (find bytes_cmp key.now self.old) ≡ false) }

@@ -15,7 +15,7 @@ use crate::fault::StoreFault;
 use crate::parts::{copy_parts, put_part, remove_part};
 use crate::rows::Rows;
 use crate::source::Source;
-use dvvset::{Entries, Vector, has_read, join, knows, values};
+use dvvset::{Entries, Vector, has_read, join, values};
 use meta_types::{Actor, FullPrefix, MetaKey, Value};
 use std::alloc::{AllocError, Global};
 use std::collections::BTreeMap;
@@ -136,15 +136,6 @@ impl Store {
         has_read(self.object_or(key, &absent), vector)
     }
 
-    /// Returns whether the object under the key knows each event that the other knows. It takes no
-    /// memory.
-    pub(crate) fn knows(&self, key: &MetaKey, other: &Entries) -> bool
-        ensures { result ≡ is_stale self.now key.now (join other.now) }
-    {
-        let absent = Entries::empty(self.alloc);
-        knows(self.object_or(key, &absent), other)
-    }
-
     /// Returns whether an object may be held under the key: it is held, or there are fewer keys
     /// than 8,192. It takes no memory.
     pub fn has_room_for(&self, key: &MetaKey) -> bool
@@ -188,7 +179,8 @@ impl Store {
         ensures found { IfOk result (λ left. IfNone left
             (is_full_for self.old key.now ≡ false)) }
         ensures left { IfOk result (λ left. IfSome left
-            (λ back. (back ≡ value) × (self.new ≡ self.old))) }
+            (λ back. (back ≡ value)
+            × ((object_at self.old key.now ≡ []) × (self.new ≡ self.old)))) }
         ensures fault { FailsBy Memory
             (refusal_of_update read.now (object_at self.old key.now) id value) result }
         ensures refused { OnErr result (is_full_for self.old key.now ≡ false) }

@@ -1,5 +1,7 @@
-use Rattle.std.proofs.Common.{◌≡◌, [], Some, T, is_none, sym, ap, subst, ◌∙◌}
+use Rattle.std.proofs.Common.{◌≡◌, [], Some, T, is_none, sym, ap, subst, ◌∙◌, List, ℕ, refl}
 use Rattle.std.specs.Bool.{passes}
+use Rattle.std.specs.BTreeMap.{BTreeMap}
+use Rattle.dvvset.specs.Object.{Entry}
 use Rattle.std.specs.FinMap.{find, is_sorted, put}
 use Rattle.std.specs.Option.{unwrap_or}
 use Rattle.dvvset.specs.Clock.{update}
@@ -46,6 +48,14 @@ returns-in_err-object-clause-same c =
     let key = c.args.key.now in
     let found : find bytes_cmp key es ≡ Some c.in-Some.held.now = sym (looked_up bytes_cmp key es) ∙ sym c.in-Some.ensures.value in
     always c.from_residual.result (rw (← c.self.view_is) ((c.get_mut.follows.holds c.in-Some.held.now).0 ∙ written_back bytes_cmp key c.in-Some.held.now es found))
+
+pub returns-in_default-clause-left : goal.returns-in_default-clause-left
+returns-in_default-clause-left c =
+    let es = c.self.inside.by_key.entries in
+    let key = c.args.key.now in
+    let absent : object_of_row key es ≡ [] = ap (λ x. unwrap_or x []) (sym (looked_up bytes_cmp key es) ∙ sym c.in_default.ensures.value) in
+    let same : c.get_mut.follows.lender-at-none.entries ≡ es = ap (λ (m : BTreeMap (List ℕ) (List Entry)). m.entries) c.get_mut.follows.holds-at-none in
+    (refl, (ap (object_of_row key) (sym c.self.view_is) ∙ absent, same ∙ c.self.view_is))
 
 pub invariant_of-self-2 : goal.invariant_of-self-2
 invariant_of-self-2 c =
