@@ -200,11 +200,30 @@ fn begun<J: Naming, T: Trial, R: Wait + Abort>(
     requires served { IsFileOf (⟦<MemoryDevice as Device>⟧.content)
         J.node J.incarnation J.opening file }
 {
-    let started: Result<Started<MemoryDevice, J, &R>, NotStarted<MemoryDevice>> = Node::start(
+    let started = started(rt, alloc, tokens, file, table, capacity)?;
+    Ok(leave::<J, T, R>(rt, alloc, started))
+}
+
+/// Starts the node of this file. Returns the number of the refusal where it isn't started.
+pub(crate) fn started<'a, D: Device + Drop, J: Naming, R: Wait + Abort>(
+    rt: &'a R,
+    alloc: Global,
+    tokens: (Blank, Beginning),
+    file: NodeFile<D>,
+    table: Store,
+    capacity: Capacity,
+) -> Result<Started<D, J, &'a R>, u16>
+    requires ledger { (tokens.0.name ≡ J.name) × (tokens.0.parts ≡ J.parts) }
+    requires book { tokens.1 ≡ J.book }
+    requires enough { 9 ≤ J.parts }
+    requires opening { table ≡ J.opening }
+    requires served { IsFileOf D.content J.node J.incarnation J.opening file }
+{
+    let started: Result<Started<D, J, &R>, NotStarted<D>> = Node::start(
         rt, alloc, tokens, file, table, capacity,
     );
     match started {
-        Ok(started) => Ok(leave::<J, T, R>(rt, alloc, started)),
+        Ok(started) => Ok(started),
         Err(not) => {
             let code = not.fault.code();
             drop(not);
@@ -271,21 +290,20 @@ fn close_with<J: Naming, R: Wait + Abort>(
     } = not;
     assert!(rt; fault.code() == 54);
     seats.push(seat).ok().expect(rt, "memory");
-    close(rt, node, seats, readers)
+    let (closed, device) = close(rt, node, seats, readers);
+    drop(device);
+    closed
 }
 
-/// Closes the node.
-pub(crate) fn close<J: Naming, R: Wait + Abort>(
+/// Closes the node. Returns what it leaves, and its device.
+pub(crate) fn close<D: Device + Drop, J: Naming, R: Wait + Abort>(
     rt: &R,
-    node: Node<MemoryDevice, J, &R>,
+    node: Node<D, J, &R>,
     writers: Vec<WriteSeat<J>>,
     readers: &[ReadSeat<J>],
-) -> Closed {
+) -> (Closed, D) {
     match node.close(writers, readers) {
-        Ok((closed, device)) => {
-            drop(device);
-            closed
-        }
+        Ok(left) => left,
         Err(_) => panic!(rt; "a node that is closed"),
     }
 }

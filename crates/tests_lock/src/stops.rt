@@ -3,13 +3,11 @@
 ghost use Rattle.std.specs.Prelude.{◌≡◌, ◌≤◌};
 ghost use Rattle.node_desk.specs.Starting.{IsFileOf};
 
-use crate::parts::{key, next_life, open_first, put};
+use crate::parts::{close, key, next_life, open_first, put, started};
 use devices::{Device, FailsAfter, MemoryDevice};
 use meta_store::Store;
 use node_file::NodeFile;
-use node_lock::{
-    Beginning, Capacity, LockFault, Naming, Node, NotStarted, ReadSeat, Started, WriteSeat,
-};
+use node_lock::{Beginning, Capacity, LockFault, Naming, Started};
 use std::alloc::Global;
 use std::marker::Brand;
 use std::process::Abort;
@@ -23,23 +21,6 @@ struct Came {
     answers: [Result<u64, u16>; 3],
     entries: usize,
     device: MemoryDevice,
-}
-
-/// Closes the node. Returns how many entries the journal had, and the device.
-fn close<J: Naming, R: Wait + Abort>(
-    rt: &R,
-    node: Node<Failing, J, &R>,
-    writers: Vec<WriteSeat<J>>,
-    readers: &[ReadSeat<J>],
-) -> (usize, MemoryDevice) {
-    match node.close(writers, readers) {
-        Ok((closed, device)) => {
-            let entries = closed.journal().len();
-            drop(closed);
-            (entries, device.into_inner())
-        }
-        Err(_) => panic!(rt; "a node that is closed"),
-    }
 }
 
 /// The number of the refusal, 0 for none.
@@ -71,12 +52,14 @@ fn write<J: Naming, R: Wait + Abort>(
     ];
     assert!(rt; code(node.cut(rt, &seat)) == 34 && code(node.new_seat(rt)) == 34);
     writers.push(seat).ok().expect(rt, "memory");
-    let (entries, device) = close(rt, node, writers, readers.as_slice());
+    let (closed, device) = close(rt, node, writers, readers.as_slice());
     drop(readers);
+    let entries = closed.journal().len();
+    drop(closed);
     Came {
         answers,
         entries,
-        device,
+        device: device.into_inner(),
     }
 }
 
@@ -93,7 +76,7 @@ fn begun<J: Naming, R: Wait + Abort>(
     requires opening { table ≡ J.opening }
     requires served { IsFileOf (⟦<Failing as Device>⟧.content) J.node J.incarnation J.opening file }
 {
-    let started: Result<Started<Failing, J, &R>, NotStarted<Failing>> = Node::start(
+    let started: Result<Started<Failing, J, &R>, u16> = started(
         rt,
         alloc,
         tokens,
@@ -101,10 +84,7 @@ fn begun<J: Naming, R: Wait + Abort>(
         table,
         Capacity::new(1, 0),
     );
-    match started {
-        Ok(started) => write(rt, alloc, started),
-        Err(_) => panic!(rt; "a node"),
-    }
+    write(rt, alloc, started.ok().expect(rt, "a node"))
 }
 
 /// What comes of three writes on a device that passes `passed` of their calls.

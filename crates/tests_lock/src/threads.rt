@@ -3,11 +3,11 @@
 ghost use Rattle.std.specs.Prelude.{◌≡◌, ◌≤◌};
 ghost use Rattle.node_desk.specs.Starting.{IsFileOf};
 
-use crate::parts::{close, next_life, open_first, put, put_and_learn, shown};
+use crate::parts::{close, next_life, open_first, put, put_and_learn, shown, started};
 use devices::{Device, MemoryDevice};
 use meta_store::Store;
 use node_file::NodeFile;
-use node_lock::{Beginning, Capacity, Naming, Node, NotStarted, ReadSeat, Started, WriteSeat};
+use node_lock::{Beginning, Capacity, Naming, Node, ReadSeat, Started, WriteSeat};
 use std::alloc::Global;
 use std::marker::Brand;
 use std::process::Abort;
@@ -114,10 +114,10 @@ fn used<J: Naming + Send + Sync, R: Threads + Wait + Abort + Sync>(
     } = started;
     let places = write_both(rt, alloc, &node, &mut writers);
     let seen = write_and_look(rt, alloc, &node, &mut writers, &mut readers);
-    let closed = close(rt, node, writers, readers.as_slice());
+    let left = close(rt, node, writers, readers.as_slice());
     drop(readers);
-    let entries = closed.journal().len();
-    drop(closed);
+    let entries = left.0.journal().len();
+    drop(left);
     Came {
         places,
         seen,
@@ -140,7 +140,7 @@ fn begun<J: Naming + Send + Sync, R: Threads + Wait + Abort + Sync>(
     requires served { IsFileOf (⟦<MemoryDevice as Device>⟧.content)
         J.node J.incarnation J.opening file }
 {
-    let started: Result<Started<MemoryDevice, J, &R>, NotStarted<MemoryDevice>> = Node::start(
+    let started: Result<Started<MemoryDevice, J, &R>, u16> = started(
         rt,
         alloc,
         tokens,
@@ -148,10 +148,7 @@ fn begun<J: Naming + Send + Sync, R: Threads + Wait + Abort + Sync>(
         table,
         Capacity::new(2, 1),
     );
-    match started {
-        Ok(started) => used(rt, alloc, started),
-        Err(_) => panic!(rt; "a node"),
-    }
+    used(rt, alloc, started.ok().expect(rt, "a node"))
 }
 
 /// Returns whether these are the places from 0 on, each once.

@@ -3,11 +3,11 @@
 ghost use Rattle.std.specs.Prelude.{◌≡◌, ◌≤◌};
 ghost use Rattle.node_desk.specs.Starting.{IsFileOf};
 
-use crate::parts::{next_life, open_first, put, put_and_learn, shown};
+use crate::parts::{close, next_life, open_first, put, put_and_learn, shown, started};
 use devices::{Device, DeviceFault, MemoryDevice};
 use meta_store::Store;
 use node_file::NodeFile;
-use node_lock::{Beginning, Capacity, Naming, Node, NotStarted, ReadSeat, Started, WriteSeat};
+use node_lock::{Beginning, Capacity, Naming, Node, ReadSeat, Started, WriteSeat};
 use std::alloc::Global;
 use std::marker::Brand;
 use std::process::Abort;
@@ -143,23 +143,6 @@ fn looked<J: Naming + Send + Sync, R: Threads + Wait + Abort + Sync>(
     (seen, shown(rt, alloc, reader))
 }
 
-/// Closes the node. Returns how many entries the journal had.
-fn close<J: Naming, R: Wait + Abort>(
-    rt: &R,
-    node: Node<WaitsAt<MemoryDevice, R>, J, &R>,
-    writers: Vec<WriteSeat<J>>,
-    readers: &[ReadSeat<J>],
-) -> usize {
-    match node.close(writers, readers) {
-        Ok(left) => {
-            let entries = left.0.journal().len();
-            drop(left);
-            entries
-        }
-        Err(_) => panic!(rt; "a node that is closed"),
-    }
-}
-
 /// Lends the node and a seat of each kind, and closes it.
 fn used<J: Naming + Send + Sync, R: Threads + Wait + Abort + Sync>(
     rt: &R,
@@ -177,8 +160,10 @@ fn used<J: Naming + Send + Sync, R: Threads + Wait + Abort + Sync>(
     let came = looked(rt, alloc, gate, &node, &mut writer, &mut reader);
     writers.push(writer).ok().expect(rt, "memory");
     readers.push(reader).ok().expect(rt, "memory");
-    let entries = close(rt, node, writers, readers.as_slice());
+    let left = close(rt, node, writers, readers.as_slice());
     drop(readers);
+    let entries = left.0.journal().len();
+    drop(left);
     (came, entries)
 }
 
@@ -197,14 +182,15 @@ fn begun<'g, J: Naming + Send + Sync, R: Threads + Wait + Abort + Sync>(
     requires served { IsFileOf (⟦<WaitsAt<'g, MemoryDevice, R> as Device>⟧.content)
         J.node J.incarnation J.opening file }
 {
-    let started: Result<
-        Started<WaitsAt<'g, MemoryDevice, R>, J, &R>,
-        NotStarted<WaitsAt<'g, MemoryDevice, R>>,
-    > = Node::start(rt, alloc, tokens, file, table, Capacity::new(1, 1));
-    match started {
-        Ok(started) => used(rt, alloc, gate, started),
-        Err(_) => panic!(rt; "a node"),
-    }
+    let started: Result<Started<WaitsAt<'g, MemoryDevice, R>, J, &R>, u16> = started(
+        rt,
+        alloc,
+        tokens,
+        file,
+        table,
+        Capacity::new(1, 1),
+    );
+    used(rt, alloc, gate, started.ok().expect(rt, "a node"))
 }
 
 /// Runs the trial on a device that waits. Returns what the reader is shown meanwhile and at last,
