@@ -43,27 +43,58 @@ use world_core::World;
 
 /// Tries all rows, and prints what comes of them.
 pub fn run(rt: &HostRuntime, text: &str) -> io::Result<()> {
-    let mut scenario = String::new(rt.alloc());
-    let mut nodes: Option<Nodes> = None;
-    for line in text.lines() {
-        if let Some(change) = line.strip_prefix(": ") {
-            if nodes.is_none() {
-                nodes = Nodes::driven(rt.alloc(), scenario.as_str())?;
+    let mut row = Row {
+        scenario: String::new(rt.alloc()),
+        nodes: None,
+    };
+    let done = row.take_all(rt, text);
+    drop(row);
+    done
+}
+
+/// A row so far: its scenario, and the nodes that this left, once a line was tried.
+#[derive(Drop)]
+struct Row {
+    scenario: String,
+    nodes: Option<Nodes>,
+}
+
+impl Row {
+    /// Takes each line.
+    fn take_all(&mut self, rt: &HostRuntime, text: &str) -> io::Result<()> {
+        for line in text.lines() {
+            match line.strip_prefix(": ") {
+                Some(change) => self.try_change(rt, change)?,
+                None if line.starts_with("==") => self.begin(rt, line)?,
+                None => self.add(line)?,
             }
-            match &nodes {
-                Some(nodes) => try_line(rt, nodes, change)?,
-                None => println!(rt; "no scenario")?,
-            }
-        } else if line.starts_with("==") {
-            println!(rt; "{line}")?;
-            scenario = String::new(rt.alloc());
-            nodes = None;
-        } else {
-            scenario.push_str(line)?;
-            scenario.push('\n')?;
+        }
+        Ok(())
+    }
+
+    /// Tries a line on the nodes that the scenario left.
+    fn try_change(&mut self, rt: &HostRuntime, change: &str) -> io::Result<()> {
+        if self.nodes.is_none() {
+            self.nodes = Nodes::driven(rt.alloc(), self.scenario.as_str())?;
+        }
+        match &self.nodes {
+            Some(nodes) => try_line(rt, nodes, change),
+            None => println!(rt; "no scenario"),
         }
     }
-    Ok(())
+
+    /// Begins the row of this name.
+    fn begin(&mut self, rt: &HostRuntime, name: &str) -> io::Result<()> {
+        self.scenario = String::new(rt.alloc());
+        self.nodes = None;
+        println!(rt; "{name}")
+    }
+
+    /// Adds a line to the scenario.
+    fn add(&mut self, line: &str) -> io::Result<()> {
+        self.scenario.push_str(line)?;
+        Ok(self.scenario.push('\n')?)
+    }
 }
 
 /// Tries one line.

@@ -14,9 +14,9 @@ use std::collections::BTreeMap;
 pub fn output_of_events(alloc: Global, lines: &[u8]) -> Result<Vec<u8>, AllocError> {
     let mut text = Vec::new(alloc);
     let mut nodes = Nodes::new(alloc);
-    for line in text_of(lines).lines() {
-        nodes.take(alloc, line, &mut text)?;
-    }
+    let done = nodes.take_all(alloc, text_of(lines), &mut text);
+    drop(nodes);
+    done?;
     Ok(text)
 }
 
@@ -33,6 +33,19 @@ impl Nodes {
             by_number: BTreeMap::new(alloc),
             at: None,
         }
+    }
+
+    /// Adds what each line gives out.
+    fn take_all(
+        &mut self,
+        alloc: Global,
+        lines: &str,
+        text: &mut Vec<u8>,
+    ) -> Result<(), AllocError> {
+        for line in lines.lines() {
+            self.take(alloc, line, text)?;
+        }
+        Ok(())
     }
 
     /// Adds what a line gives out.

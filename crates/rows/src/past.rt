@@ -1,12 +1,14 @@
 //! Comparisons of nodes with the past by sets, and with one another.
 
+ghost use Rattle.past_model.specs.History.{IsHistory};
+
 use crate::rows::print_line;
 use crate::schedule::NODES;
 use dvvset::Vector;
 use meta_types::{FullPrefix, MetaKey, NodeId, Value};
 use node_core::NodeState;
 use node_parts::both;
-use past_model::Plain;
+use past_model::{Happening, Plain};
 use std::alloc::{AllocError, Global};
 use world_core::World;
 
@@ -30,10 +32,36 @@ fn key(alloc: Global, sub: u8, letter: u8) -> Result<MetaKey, AllocError> {
 /// Returns whether each node shows under each key what the past by sets does.
 pub fn is_right(alloc: Global, world: &World, keys: &[MetaKey]) -> Result<bool, AllocError> {
     let history = world.history(alloc)?;
-    let plain = Plain::replay(alloc, history.as_slice())?;
+    let is_right = is_as_told(alloc, history.as_slice(), world, keys);
+    drop(history);
+    is_right
+}
+
+/// Returns whether it does by this history.
+fn is_as_told(
+    alloc: Global,
+    history: &[Happening],
+    world: &World,
+    keys: &[MetaKey],
+) -> Result<bool, AllocError>
+    requires { IsHistory history.now }
+{
+    let plain = Plain::replay(alloc, history)?;
+    let is_right = is_as_replayed(alloc, &plain, world, keys);
+    drop(plain);
+    is_right
+}
+
+/// Returns whether it does by this past.
+fn is_as_replayed(
+    alloc: Global,
+    plain: &Plain<'_>,
+    world: &World,
+    keys: &[MetaKey],
+) -> Result<bool, AllocError> {
     for node in 0..NODES {
         for key in keys {
-            if !is_right_under(alloc, &plain, world, node, key)? {
+            if !is_right_under(alloc, plain, world, node, key)? {
                 return Ok(false);
             }
         }

@@ -66,6 +66,7 @@ fn is_made_again<R: Threads + Wait + Abort + Sync>(
     let output = output(rt, alloc, plan, &world);
     let events = world.accepted().len() as u64;
     let all = events.saturating_add(world.frame_count());
+    drop(world);
     lines(output.as_slice()) == all.saturating_add(plan.nodes).saturating_add(1)
 }
 
@@ -120,6 +121,7 @@ fn is_recorded<R: Threads + Wait + Abort + Sync>(
     };
     let world = live(rt, alloc, plan).ok().expect(rt, "a run of the world");
     let text = recording_of(alloc, plan, &world).expect(rt, "memory");
+    drop(world);
     text.expect(rt, "a text").as_slice() == wanted
 }
 
@@ -128,6 +130,28 @@ fn is_recorded<R: Threads + Wait + Abort + Sync>(
 fn one_node_has_one_recording(rt: HostRuntime) {
     assert!(&rt; is_recorded(&rt, rt.alloc(), 1, OF_SEED_1));
     assert!(&rt; is_recorded(&rt, rt.alloc(), 7, OF_SEED_7));
+}
+
+/// Writes a recording to a device that fails after `passed` calls. Returns the status, whether the
+/// device holds the text, and what is printed at standard error.
+fn written(
+    rt: &impl Abort,
+    alloc: Global,
+    plan: ClusterPlan,
+    world: &World,
+    passed: u64,
+) -> (u8, bool, Vec<u8>)
+    requires { IsOfARun plan.nodes world.now }
+{
+    let device = MemoryDevice::new(alloc, Vec::new(alloc)).expect(rt, "memory");
+    let mut target = FailsAfter::new(device, passed);
+    let mut errors = Vec::new(alloc);
+    let status = write_recording(alloc, plan, world, &mut target, &mut errors);
+    let text = recording_of(alloc, plan, world).expect(rt, "memory");
+    let is_there = text.as_deref() == Some(target.inner().content());
+    drop(text);
+    drop(target);
+    (status, is_there, errors)
 }
 
 /// Returns whether a recording is written to a device that fails after `passed` calls with this
@@ -145,12 +169,8 @@ fn is_written<R: Threads + Wait + Abort + Sync>(
         seed: 3,
     };
     let world = live(rt, alloc, plan).ok().expect(rt, "a run of the world");
-    let text = recording_of(alloc, plan, &world).expect(rt, "memory");
-    let device = MemoryDevice::new(alloc, Vec::new(alloc)).expect(rt, "memory");
-    let mut target = FailsAfter::new(device, passed);
-    let mut errors = Vec::new(alloc);
-    let ended = write_recording(alloc, plan, &world, &mut target, &mut errors);
-    let is_there = text.expect(rt, "a text").as_slice() == target.inner().content();
+    let (ended, is_there, errors) = written(rt, alloc, plan, &world, passed);
+    drop(world);
     ended == status && errors.as_slice() == told && (is_there || status != 0)
 }
 
@@ -215,5 +235,10 @@ fn a_run_without_a_command_has_no_recording(rt: HostRuntime) {
     let status = write_recording(alloc, plan, &world, &mut target, &mut errors);
     let told = b"error: the run has no text\n";
     let is_told = errors.as_slice() == told.as_slice();
-    assert!(&rt; text.is_none() && status == 1 && is_told && target.content().is_empty());
+    let is_refused = text.is_none() && status == 1 && target.content().is_empty();
+    drop(errors);
+    drop(target);
+    drop(text);
+    drop(world);
+    assert!(&rt; is_refused && is_told);
 }

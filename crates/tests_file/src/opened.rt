@@ -105,11 +105,16 @@ fn another_node_is_refused(rt: HostRuntime) -> Result<(), Fail> {
 fn a_read_that_fails_is_told_once(rt: HostRuntime) -> Result<(), Fail> {
     let device = FailsOnce::new(device(rt.alloc(), ONE)?, 0);
     match open_node(rt.alloc(), device, None) {
-        Ok(_) => Err(Fail::new("a file was opened that wasn't read")),
+        Ok(opened) => {
+            drop(opened);
+            Err(Fail::new("a file was opened that wasn't read"))
+        }
         Err((device, fault)) => {
-            assert!(rt; told(&fault) == (30, 0));
+            let told = told(&fault);
             let again = open_node(rt.alloc(), device, None);
-            assert!(rt; again.is_ok());
+            let is_read = again.is_ok();
+            drop(again);
+            assert!(rt; told == (30, 0) && is_read);
             Ok(())
         }
     }

@@ -28,7 +28,9 @@ fn each_happens(rt: &impl Abort, alloc: Global, world: &mut World) -> bool {
 #[test]
 fn each_kind_of_event_happens_again_under_refused_memory(rt: HostRuntime) {
     let mut world = new_world(&rt, rt.alloc());
-    assert!(rt; each_happens(&rt, rt.alloc(), &mut world));
+    let each_happens = each_happens(&rt, rt.alloc(), &mut world);
+    drop(world);
+    assert!(rt; each_happens);
 }
 
 /// What comes of the events. They are run once more where there was no memory for the outcomes:
@@ -62,5 +64,9 @@ fn a_run_goes_on_under_refused_memory(rt: HostRuntime) {
     let mut world = new_world(&rt, rt.alloc());
     let outcomes = outcomes(&rt, rt.alloc(), &mut world, events.as_slice());
     let goes_on = (outcomes.len() == COUNT) & (world.accepted().len() >= 11);
-    assert!(rt; goes_on & (refused(outcomes.as_slice()) <= 1));
+    let refused = refused(outcomes.as_slice());
+    drop(outcomes);
+    drop(world);
+    drop(events);
+    assert!(rt; goes_on & (refused <= 1));
 }

@@ -48,5 +48,7 @@ fn is_told(rt: &impl Abort, alloc: Global, world: &mut World) -> bool {
 #[test]
 fn two_nodes_join_write_and_deliver(rt: HostRuntime) {
     let mut world = new_world(&rt, rt.alloc());
-    assert!(rt; is_told(&rt, rt.alloc(), &mut world));
+    let is_told = is_told(&rt, rt.alloc(), &mut world);
+    drop(world);
+    assert!(rt; is_told);
 }

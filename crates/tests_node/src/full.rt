@@ -36,7 +36,9 @@ fn is_filled(rt: &impl Abort, alloc: Global, world: &mut World) -> bool {
 #[test]
 fn a_full_node_takes_no_new_key(rt: HostRuntime) {
     let mut world = World::new(rt.alloc(), 1).expect(&rt, "memory");
-    assert!(rt; is_filled(&rt, rt.alloc(), &mut world));
-    assert_eq!(rt; write(&rt, rt.alloc(), &mut world, 8_192), 25);
-    assert_eq!(rt; write(&rt, rt.alloc(), &mut world, 8_191), 0);
+    let is_filled = is_filled(&rt, rt.alloc(), &mut world);
+    let new = write(&rt, rt.alloc(), &mut world, 8_192);
+    let old = write(&rt, rt.alloc(), &mut world, 8_191);
+    drop(world);
+    assert!(rt; is_filled & (new == 25) & (old == 0));
 }

@@ -104,12 +104,21 @@ fn change(rt: &impl Abort, alloc: Global, store: &Store) -> Option<(MetaKey, Ent
     ensures { IfSome result (λ change. IsHeld change.1) }
 {
     let key = key(rt, alloc, b"a", b"b", b"k");
-    let object = store
-        .object(&key)?
-        .copy()
-        .or(store.object(&key)?.copy())
-        .ok()?;
-    Some((key, object))
+    match object(store, &key) {
+        Some(object) => Some((key, object)),
+        None => {
+            drop(key);
+            None
+        }
+    }
+}
+
+/// A copy of the object under the key. It is made once more where memory is refused.
+fn object(store: &Store, key: &MetaKey) -> Option<Entries>
+    ensures { IfSome result IsHeld }
+{
+    let object = store.object(key)?;
+    object.copy().or(object.copy()).ok()
 }
 
 /// Adds an image of what is in the store, once more where memory is refused.
@@ -150,4 +159,7 @@ fn images_show_what_was_added_under_refused_memory(rt: HostRuntime) {
         make(&rt, alloc, &mut again, each);
         assert!(rt; shows(&rt, &images, at, &again), "image {at}");
     }
+    drop(again);
+    drop(store);
+    drop(images);
 }

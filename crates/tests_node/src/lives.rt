@@ -16,8 +16,9 @@ fn written(rt: &impl Abort, alloc: Global) -> Store {
     let is_done = node.step_on(&event).is_ok();
     drop(event);
     let counts = node.steps() == 1 && !node.is_opening();
+    let store = node.into_store();
     assert!(rt; was_opening && is_done && counts);
-    node.into_store()
+    store
 }
 
 #[test]

@@ -34,7 +34,9 @@ fn two_join(rt: &impl Abort, views: &mut Views) -> bool {
 #[test]
 fn steps_are_made_again_under_refused_memory(rt: HostRuntime) {
     let mut views = Views::new(rt.alloc(), node(&rt, 0));
-    assert!(rt; two_join(&rt, &mut views));
+    let two_join = two_join(&rt, &mut views);
+    drop(views);
+    assert!(rt; two_join);
 }
 
 /// The broadcast of a node with one peer, which is lazy.
@@ -80,5 +82,9 @@ fn a_broadcast_goes_on_under_refused_memory(rt: HostRuntime) {
     let key = key(&rt, rt.alloc(), b"a", b"b", b"k");
     let vector = vector(&rt, rt.alloc());
     let mut cast = Cast::new(rt.alloc());
-    assert!(rt; is_announced(&rt, &mut cast, &key, &vector));
+    let is_announced = is_announced(&rt, &mut cast, &key, &vector);
+    drop(cast);
+    drop(vector);
+    drop(key);
+    assert!(rt; is_announced);
 }

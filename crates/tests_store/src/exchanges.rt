@@ -1,13 +1,13 @@
 //! Exchanges of stores of numbered keys, whole and by single messages.
 
-use crate::parts::{actor, either, key, value};
+use crate::parts::{actor, key, value};
 use crate::trees::write;
 use dvvset::Counter;
 use exchange::{answer, reconcile, start};
 use hash_tree::Held;
 use meta_frame::Message;
 use meta_store::{Source, Store, StoreFault};
-use meta_types::MetaKey;
+use meta_types::{Actor, MetaKey};
 use std::alloc::Global;
 use std::process::Abort;
 
@@ -87,21 +87,23 @@ fn an_exchange_succeeds_again_under_refused_memory(rt: HostRuntime) {
     assert!(rt; is_exchanged(&rt, rt.alloc(), numbers, &DONE, (2, 2)));
 }
 
+/// The actor writes a letter under key 0, over what is shown there.
+fn overwrite(rt: &impl Abort, alloc: Global, store: &mut Store, actor: Actor, letter: u8) {
+    let key = numbered(rt, alloc, 0);
+    let context = store
+        .context(&key, Source { actor, step: 1 })
+        .expect(rt, "memory");
+    let written = store.put(actor, key, value(rt, alloc, letter, 1), Some(&context));
+    drop(context);
+    written.expect(rt, "a write");
+}
+
 /// A side on which the node, in its first life, wrote these letters under key 0, one value each,
 /// having read what was shown.
 fn overwritten(rt: &impl Abort, alloc: Global, node: u16, letters: &[u8]) -> Held {
     let mut store = Store::new(alloc);
-    let (actor, key) = (actor(rt, node, 1), numbered(rt, alloc, 0));
     for letter in letters {
-        let context = store
-            .context(&key, Source { actor, step: 1 })
-            .expect(rt, "memory");
-        let (key, value) = (
-            either(rt, key.copy(), key.copy()),
-            value(rt, alloc, *letter, 1),
-        );
-        let written = store.put(actor, key, value, Some(&context));
-        written.expect(rt, "a write");
+        overwrite(rt, alloc, &mut store, actor(rt, node, 1), *letter);
     }
     built(rt, alloc, store)
 }
@@ -126,8 +128,11 @@ fn siblings_are_reconciled(rt: HostRuntime) {
     let alloc = rt.alloc();
     let mut here = overwritten(&rt, alloc, 0, b"xy");
     let mut there = overwritten(&rt, alloc, 1, b"z");
-    assert!(rt; reconcile(alloc, &mut here, &mut there).is_ok());
-    assert!(rt; shows_siblings(&rt, alloc, &here) & shows_siblings(&rt, alloc, &there));
+    let is_done = reconcile(alloc, &mut here, &mut there).is_ok();
+    let are_shown = shows_siblings(&rt, alloc, &here) & shows_siblings(&rt, alloc, &there);
+    drop(there);
+    drop(here);
+    assert!(rt; is_done & are_shown);
 }
 
 // Messages stay in lists here: a message alone has a drop of many cases.
@@ -147,7 +152,9 @@ fn answers(rt: &impl Abort, alloc: Global, side: &Held, message: Option<&Message
 /// Returns how many answers a side that holds nothing gives to a message.
 fn count(rt: &impl Abort, alloc: Global, message: Option<&Message>) -> usize {
     let side = built(rt, alloc, Store::new(alloc));
-    answers(rt, alloc, &side, message).len()
+    let answers = answers(rt, alloc, &side, message);
+    drop(side);
+    answers.len()
 }
 
 /// The leaves with which `there` answers, in an exchange that `here` began.

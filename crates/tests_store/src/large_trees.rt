@@ -38,6 +38,10 @@ fn calls_succeed_on_large_trees(rt: HostRuntime) {
     let mut tree = tree_of(&rt, alloc, &store);
     let key = numbered(&rt, alloc, 0);
     grow(&rt, alloc, &mut store, &mut tree, &key, b'x');
-    assert!(rt; is_whole(&rt, alloc, &tree, &store, 41));
-    assert!(rt; listed(&rt, &tree, key.prefix()) == 8_001);
+    let is_whole = is_whole(&rt, alloc, &tree, &store, 41);
+    let listed = listed(&rt, &tree, key.prefix());
+    drop(key);
+    drop(tree);
+    drop(store);
+    assert!(rt; is_whole & (listed == 8_001));
 }

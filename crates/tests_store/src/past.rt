@@ -101,5 +101,7 @@ fn are_told(rt: &impl Abort, alloc: Global, history: &[Happening]) -> bool {
 #[test]
 fn the_past_is_told_again_under_refused_memory(rt: HostRuntime) {
     let history = history(&rt, rt.alloc());
-    assert!(rt; are_told(&rt, rt.alloc(), &history));
+    let are_told = are_told(&rt, rt.alloc(), &history);
+    drop(history);
+    assert!(rt; are_told);
 }

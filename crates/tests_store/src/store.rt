@@ -314,14 +314,23 @@ fn writes_merges_and_reads_succeed_again_under_refused_memory(rt: HostRuntime) {
     assert!(rt; is_played(&rt, rt.alloc(), &EACH_CALL));
 }
 
+/// Returns whether nothing is held, and what is read under the key is empty.
+fn holds_nothing(rt: &impl Abort, store: &Store, at: &MetaKey) -> bool {
+    let (values, vector) = store.get(at).expect(rt, "memory");
+    let is_empty = values.is_empty() & vector.is_empty();
+    drop(values);
+    drop(vector);
+    is_empty & store.is_empty() & store.has_room_for(at)
+}
+
 #[test]
 fn a_previewed_write_changes_nothing(rt: HostRuntime) {
     let alloc = rt.alloc();
-    let store = Store::new(alloc);
-    let (at, red) = (long_key(&rt, alloc, b'k', 1), value(&rt, alloc, b'r', 1));
-    let previewed = store.preview_put(actor(&rt, 0, 1), &at, red, None);
-    assert!(rt; previewed.is_ok());
-    let (values, vector) = store.get(&at).expect(&rt, "memory");
-    assert!(rt; values.is_empty() & vector.is_empty());
-    assert!(rt; store.has_room_for(&at) & (store == Store::new(alloc)));
+    let (store, at) = (Store::new(alloc), long_key(&rt, alloc, b'k', 1));
+    let red = value(&rt, alloc, b'r', 1);
+    let is_previewed = store.preview_put(actor(&rt, 0, 1), &at, red, None).is_ok();
+    let is_new = holds_nothing(&rt, &store, &at) & (store == Store::new(alloc));
+    drop(at);
+    drop(store);
+    assert!(rt; is_previewed & is_new);
 }

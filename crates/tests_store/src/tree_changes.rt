@@ -69,6 +69,10 @@ fn after_each_of_1000_writes_and_merges_the_root_is_that_of_all_keys(rt: HostRun
     let alloc = rt.alloc();
     let (mut here, mut there) = (Store::new(alloc), Store::new(alloc));
     let mut tree = tree_of(&rt, alloc, &here);
-    assert!(rt; is_followed(&rt, alloc, &mut here, &mut there, &mut tree));
-    assert!(rt; prefixes(&rt, &tree) == 30);
+    let is_followed = is_followed(&rt, alloc, &mut here, &mut there, &mut tree);
+    let prefixes = prefixes(&rt, &tree);
+    drop(tree);
+    drop(there);
+    drop(here);
+    assert!(rt; is_followed & (prefixes == 30));
 }

@@ -94,8 +94,10 @@ fn is(rt: &impl Abort, alloc: Global, digest: &Digest, digits: &str) -> bool {
 }
 
 fn is_root(rt: &impl Abort, alloc: Global, keys: &[Letters], digits: &str) -> bool {
-    let tree = tree_of(rt, alloc, &filled(rt, alloc, keys));
-    is(rt, alloc, &tree.root(), digits)
+    let store = filled(rt, alloc, keys);
+    let root = tree_of(rt, alloc, &store).root();
+    drop(store);
+    is(rt, alloc, &root, digits)
 }
 
 #[test]

@@ -23,6 +23,9 @@ fn trees_succeed_again_under_refused_memory(rt: HostRuntime) {
     let mut store = filled(&rt, alloc, &FIRST);
     let mut tree = tree_of(&rt, alloc, &store);
     grow_later(&rt, alloc, &mut store, &mut tree);
-    assert!(rt; is_whole(&rt, alloc, &tree, &store, 2));
-    assert!(rt; listed(&rt, &tree, &prefix(&rt, alloc, b"a", b"b")) == 3);
+    let is_whole = is_whole(&rt, alloc, &tree, &store, 2);
+    let listed = listed(&rt, &tree, &prefix(&rt, alloc, b"a", b"b"));
+    drop(tree);
+    drop(store);
+    assert!(rt; is_whole & (listed == 3));
 }
