@@ -1,4 +1,4 @@
-//! Writing fields at the end of bytes.
+//! Writing fields at the end of bytes. The smallest writers are inlined: a call takes as long as they do.
 
 ghost use Rattle.std.specs.Prelude.{◌≡◌, ◌++◌, [], ◌<◌, ◌^◌, length, OnOk, All};
 ghost use Rattle.std.specs.Int.{w8, w16, w32, w64, to_be_bytes};
@@ -16,30 +16,35 @@ use dvvset::{Counter, Entries, Entry, Vector};
 use meta_types::{Actor, FullPrefix, MetaKey, NodeId, Value};
 use std::alloc::AllocError;
 
+#[inline(always)]
 pub fn write_u8(out: &mut Vec<u8>, number: u8) -> Result<(), AllocError>
     ensures { OnOk result (out.new.items ≡ out.old.items ++ to_be_bytes w8 number) }
 {
     out.extend_from_slice(&number.to_be_bytes())
 }
 
+#[inline(always)]
 pub fn write_u16(out: &mut Vec<u8>, number: u16) -> Result<(), AllocError>
     ensures { OnOk result (out.new.items ≡ out.old.items ++ to_be_bytes w16 number) }
 {
     out.extend_from_slice(&number.to_be_bytes())
 }
 
+#[inline(always)]
 pub fn write_u32(out: &mut Vec<u8>, number: u32) -> Result<(), AllocError>
     ensures { OnOk result (out.new.items ≡ out.old.items ++ to_be_bytes w32 number) }
 {
     out.extend_from_slice(&number.to_be_bytes())
 }
 
+#[inline(always)]
 pub fn write_u64(out: &mut Vec<u8>, number: u64) -> Result<(), AllocError>
     ensures { OnOk result (out.new.items ≡ out.old.items ++ to_be_bytes w64 number) }
 {
     out.extend_from_slice(&number.to_be_bytes())
 }
 
+#[inline(always)]
 pub fn write_node(out: &mut Vec<u8>, node: NodeId) -> Result<(), AllocError>
     ensures { OnOk result (out.new.items ≡ out.old.items ++ to_be_bytes w16 node) }
 {
@@ -64,6 +69,7 @@ pub fn write_answer(out: &mut Vec<u8>, a: NeighborAnswer) -> Result<(), AllocErr
     }
 }
 
+#[inline(always)]
 fn write_name(out: &mut Vec<u8>, bytes: &[u8]) -> Result<(), AllocError>
     requires { length bytes.now < 2 ^ 16 }
     ensures { OnOk result (out.new.items ≡ out.old.items ++ (name 0 65535).spell bytes.now) }
@@ -73,6 +79,7 @@ fn write_name(out: &mut Vec<u8>, bytes: &[u8]) -> Result<(), AllocError>
     Ok(())
 }
 
+#[inline(always)]
 pub fn write_prefix(out: &mut Vec<u8>, p: &FullPrefix) -> Result<(), AllocError>
     ensures { OnOk result (out.new.items ≡ out.old.items ++ prefix.spell p.now) }
 {
@@ -81,6 +88,7 @@ pub fn write_prefix(out: &mut Vec<u8>, p: &FullPrefix) -> Result<(), AllocError>
     Ok(())
 }
 
+#[inline(always)]
 pub fn write_key(out: &mut Vec<u8>, k: &MetaKey) -> Result<(), AllocError>
     ensures { OnOk result (out.new.items ≡ out.old.items ++ key.spell k.now) }
 {
@@ -89,6 +97,7 @@ pub fn write_key(out: &mut Vec<u8>, k: &MetaKey) -> Result<(), AllocError>
     Ok(())
 }
 
+#[inline(always)]
 fn write_writer(out: &mut Vec<u8>, writer: Actor) -> Result<(), AllocError>
     ensures { OnOk result (out.new.items ≡ out.old.items ++ (writer_from 0).spell writer) }
 {
@@ -97,6 +106,7 @@ fn write_writer(out: &mut Vec<u8>, writer: Actor) -> Result<(), AllocError>
     Ok(())
 }
 
+#[inline(always)]
 fn write_counter(out: &mut Vec<u8>, counter: Counter) -> Result<(), AllocError>
     ensures { OnOk result (out.new.items ≡ out.old.items ++ (counter_form 0).spell counter) }
 {
@@ -197,6 +207,7 @@ pub fn write_nodes(out: &mut Vec<u8>, n: &Nodes) -> Result<(), AllocError>
     Ok(())
 }
 
+#[inline(always)]
 pub fn write_digest(out: &mut Vec<u8>, d: &Digest) -> Result<(), AllocError>
     ensures { OnOk result (out.new.items ≡ out.old.items ++ digest.spell d.now) }
 {

@@ -146,10 +146,10 @@ fn prefix_digest(
     ensures { IfOk result (λ row. row
         ≡ record { prefix = record { prefix = first.now; sub = sub.now }; digest = digest }) }
 {
-    let first = Vec::from_slice(alloc, first)?;
-    let sub = Vec::from_slice(alloc, sub)?;
+    let first = ByteString::from_slice(alloc, first)?;
+    let sub = ByteString::from_slice(alloc, sub)?;
     Ok(PrefixDigest {
-        prefix: FullPrefix::new(first, sub).unwrap(),
+        prefix: FullPrefix::of(first, sub),
         digest: Digest::new(digest),
     })
 }
@@ -238,7 +238,7 @@ fn key_row<'a>(
     let (key, rest) = key_above(low, bytes)?;
     let (digest, rest) = read_digest(rest)?;
     let row = KeyDigest {
-        key: ByteString::new(Vec::from_slice(alloc, key)?),
+        key: ByteString::from_slice(alloc, key)?,
         digest: Digest::new(digest),
     };
     Ok((row, key, rest))

@@ -13,7 +13,7 @@ use dvvset::{Counter, Entries, Entry, Vector};
 use frame_fields::lawful::all_are_bare;
 use frame_fields::{NeighborAnswer, Priority};
 use meta_types::actor::INCARNATIONS;
-use meta_types::{Actor, FullPrefix, MetaKey, NodeId, Value};
+use meta_types::{Actor, ByteString, FullPrefix, MetaKey, NodeId, Value};
 use std::alloc::Global;
 
 /// One more than the greatest number of a writer.
@@ -144,13 +144,13 @@ fn read_name(
     low: u16,
     high: u64,
     bytes: &[u8],
-) -> Result<(Vec<u8>, &[u8]), FieldFault>
-    ensures value { Gives (λ x. (x.0.items, x.1.now)) result (name_reader low high bytes.now) }
-    ensures range { IfOk result (λ x. (low ≤ length x.0.items) × (length x.0.items ≤ high)) }
+) -> Result<(ByteString, &[u8]), FieldFault>
+    ensures value { MatchesReader result (name_reader low high bytes.now) }
+    ensures range { IfOk result (λ x. (low ≤ length x.0) × (length x.0 ≤ high)) }
 {
     let (len, rest) = u16_within(low, high, bytes)?;
     let (name, rest) = read_bytes(usize::from(len), rest)?;
-    Ok((Vec::from_slice(alloc, name)?, rest))
+    Ok((ByteString::from_slice(alloc, name)?, rest))
 }
 
 #[tactic(auto, unfolding(crate::specs::Reader::node_reader))]
@@ -235,7 +235,7 @@ pub fn read_prefix(alloc: Global, bytes: &[u8]) -> Result<(FullPrefix, &[u8]), F
 {
     let (prefix, rest) = read_name(alloc, 1, 64, bytes)?;
     let (sub, rest) = read_name(alloc, 1, 64, rest)?;
-    Ok((FullPrefix::new(prefix, sub).unwrap(), rest))
+    Ok((FullPrefix::of(prefix, sub), rest))
 }
 
 #[tactic(auto, unfolding(crate::specs::Reader::key_reader))]
@@ -244,7 +244,7 @@ pub fn read_key(alloc: Global, bytes: &[u8]) -> Result<(MetaKey, &[u8]), FieldFa
 {
     let (prefix, rest) = read_prefix(alloc, bytes)?;
     let (key, rest) = read_name(alloc, 1, 256, rest)?;
-    Ok((MetaKey::new(prefix, key).unwrap(), rest))
+    Ok((MetaKey::under(prefix, key), rest))
 }
 
 /// The node of the writer before `low`.
@@ -301,10 +301,10 @@ fn read_value(alloc: Global, bytes: &[u8]) -> Result<(Value, &[u8]), FieldFault>
     let (tag, rest) = u8_within(0, 1, bytes)?;
     let (stamp, rest) = read_u64(rest)?;
     if tag == 0 {
-        return Ok((Value::new(stamp, None).unwrap(), rest));
+        return Ok((Value::of(stamp, None), rest));
     }
     let (body, rest) = read_name(alloc, 0, 1024, rest)?;
-    Ok((Value::new(stamp, Some(body)).unwrap(), rest))
+    Ok((Value::of(stamp, Some(body)), rest))
 }
 
 #[tactic(auto, unfolding(crate::specs::Reader::values_reader))]

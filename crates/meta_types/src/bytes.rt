@@ -1,10 +1,14 @@
-ghost use Rattle.std.specs.Prelude.{◌≡◌, ◌+◌, ◌*◌, ◌<◌, ℕ, List, IfOk};
+ghost use Rattle.std.specs.Prelude.{◌≡◌, ◌+◌, ◌*◌, ◌<◌, ◌≤◌, ℕ, List, length, IfOk, IsOk};
 ghost use Rattle.meta_types.specs.Head.{IsHeadOf, byte_at, four_from};
 ghost use Rattle.meta_types.specs.Order.{bytes_cmp};
 
-use std::alloc::AllocError;
+use smallvec::SmallVec;
+use std::alloc::{AllocError, Global};
 use std::cmp::Ordering;
 use std::marker::Model;
+
+/// The most bytes of a byte string that stand in it, without an allocation of their own.
+pub const SHORT_LEN: usize = 16;
 
 /// A byte string that contracts see as the list of its bytes, so that names and values are compared
 /// lawfully, in byte order.
@@ -13,7 +17,7 @@ use std::marker::Model;
 /// a search of a map reads the bytes of a key only where the heads are equal.
 #[derive(Debug, Drop)]
 pub struct ByteString {
-    bytes: Vec<u8>,
+    bytes: SmallVec<u8, SHORT_LEN>,
     head: u64,
 }
 
@@ -79,18 +83,36 @@ fn order(mine: &[u8], others: &[u8], head: u64, other_head: u64) -> Ordering
 }
 
 impl ByteString {
+    /// The bytes that are handed in. It takes no memory.
     pub fn new(bytes: Vec<u8>) -> Self
         ensures { result ≡ bytes.items }
     {
         let head = head_of(bytes.as_slice());
+        let bytes = if bytes.len() <= SHORT_LEN {
+            SmallVec::from_slice(*bytes.allocator(), bytes.as_slice()).unwrap()
+        } else {
+            SmallVec::from_vec(bytes)
+        };
         ByteString { bytes, head }
     }
 
-    /// The bytes, without taking memory.
-    pub fn into_vec(self) -> Vec<u8>
-        ensures { result.items ≡ self }
+    /// A copy of these bytes. It takes memory where there are more than `SHORT_LEN` of them.
+    pub fn from_slice(alloc: Global, bytes: &[u8]) -> Result<Self, AllocError>
+        ensures value { IfOk result (λ string. string ≡ bytes.now) }
+        ensures short { length bytes.now ≤ 16 → IsOk result }
     {
-        self.bytes
+        let head = head_of(bytes);
+        Ok(ByteString {
+            bytes: SmallVec::from_slice(alloc, bytes)?,
+            head,
+        })
+    }
+
+    /// The bytes as a vector. It takes memory where there are at most `SHORT_LEN` of them.
+    pub fn into_vec(self) -> Result<Vec<u8>, AllocError>
+        ensures { IfOk result (λ bytes. bytes.items ≡ self) }
+    {
+        Ok(self.bytes.into_vec()?)
     }
 
     pub fn as_slice(&self) -> &[u8]
@@ -104,7 +126,7 @@ impl ByteString {
         ensures { IfOk result (λ copy. copy ≡ self.now) }
     {
         Ok(ByteString {
-            bytes: Vec::from_slice(*self.bytes.allocator(), self.bytes.as_slice())?,
+            bytes: SmallVec::from_slice(*self.bytes.allocator(), self.bytes.as_slice())?,
             head: self.head,
         })
     }

@@ -62,6 +62,14 @@ impl FullPrefix {
         }
     }
 
+    /// The full prefix of two parts whose lengths are in range. It takes no memory.
+    pub fn of(prefix: ByteString, sub: ByteString) -> Self
+        requires in_range { IsFullPrefix (record { prefix = prefix; sub = sub }) }
+        ensures { result ≡ record { prefix = prefix; sub = sub } }
+    {
+        FullPrefix { prefix, sub }
+    }
+
     pub fn prefix(&self) -> &[u8]
         ensures value { result.now ≡ self.now.prefix }
         ensures in_range { IsFullPrefix self.now }

@@ -58,6 +58,14 @@ impl Value {
         }
     }
 
+    /// The value of a stamp and a body whose length is in range. It takes no memory.
+    pub fn of(stamp: u64, body: Option<ByteString>) -> Self
+        requires in_range { IsBody body }
+        ensures { result ≡ record { stamp = stamp; body = body } }
+    {
+        Value { stamp, body }
+    }
+
     pub fn stamp(&self) -> u64
         ensures value { result ≡ self.now.stamp }
         ensures in_range { IsValue self.now }

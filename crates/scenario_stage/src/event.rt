@@ -83,10 +83,10 @@ fn value_of(alloc: Global, bytes: Option<&BytesWord<'_>>, stamp: u64) -> Result<
         ≡ record { stamp = stamp; body = option_map (λ b. bytes_word b.now) bytes.entry }) }
 {
     let body = match bytes {
-        Some(bytes) => Some(bytes.to_bytes(alloc)?.into_vec()),
+        Some(bytes) => Some(bytes.to_bytes(alloc)?),
         None => None,
     };
-    Ok(Value::new(stamp, body).unwrap())
+    Ok(Value::of(stamp, body))
 }
 
 /// A write, of a tombstone where there are no bytes.

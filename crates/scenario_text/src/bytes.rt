@@ -81,7 +81,7 @@ impl<'a> BytesWord<'a> {
         ensures { IfOk result (λ bytes. bytes ≡ bytes_word self.now) }
     {
         if !self.digits {
-            return Ok(ByteString::new(self.text.to_vec(alloc)?));
+            return ByteString::from_slice(alloc, self.text);
         }
         match hex::decode(alloc, self.text) {
             Ok(bytes) => Ok(ByteString::new(bytes)),

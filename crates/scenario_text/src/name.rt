@@ -10,7 +10,7 @@ ghost use Rattle.scenario_text.specs.Word.{key_of, full_prefix_of};
 use crate::split::split_once;
 use meta_types::key::MAX_KEY_LEN;
 use meta_types::prefix::MAX_PREFIX_LEN;
-use meta_types::{FullPrefix, MetaKey};
+use meta_types::{ByteString, FullPrefix, MetaKey};
 use printing::are_plain;
 use std::alloc::{AllocError, Global};
 
@@ -74,9 +74,9 @@ impl<'a> PrefixWord<'a> {
         requires { IsFullPrefix (prefix_word self.now) }
         ensures { IfOk result (λ prefix. prefix ≡ prefix_word self.now) }
     {
-        let prefix = self.prefix.to_vec(alloc)?;
-        let sub = self.sub.to_vec(alloc)?;
-        Ok(FullPrefix::new(prefix, sub).unwrap())
+        let prefix = ByteString::from_slice(alloc, self.prefix)?;
+        let sub = ByteString::from_slice(alloc, self.sub)?;
+        Ok(FullPrefix::of(prefix, sub))
     }
 }
 
@@ -94,7 +94,7 @@ impl<'a> KeyWord<'a> {
         ensures { IfOk result (λ key. key ≡ key_word self.now) }
     {
         let prefix = self.prefix.to_prefix(alloc)?;
-        let key = self.key.to_vec(alloc)?;
-        Ok(MetaKey::new(prefix, key).unwrap())
+        let key = ByteString::from_slice(alloc, self.key)?;
+        Ok(MetaKey::under(prefix, key))
     }
 }

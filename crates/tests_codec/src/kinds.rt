@@ -57,8 +57,19 @@ const XOBJECT: &[u8] = b"\0\x01a\0\x01b\0\x01k\0\x03\
 
 const XWANT: &[u8] = b"\0\x01a\0\x01b\0\x01k";
 
+// A key of three names of 17 bytes, each of which takes an allocation.
+const LONG_XWANT: &[u8] = b"\0\x11aaaaaaaaaaaaaaaaa\0\x11bbbbbbbbbbbbbbbbb\0\x11kkkkkkkkkkkkkkkkk";
+
+// A prefix of two such names, with a digest.
+const LONG_XPREFIXES: &[u8] = b"\0\x01\0\x11aaaaaaaaaaaaaaaaa\0\x11bbbbbbbbbbbbbbbbb\
+    0123456789abcdef0123456789abcdef";
+
+// A key of such a name in leaf 202 of such a prefix, with a digest.
+const LONG_XBUCKET: &[u8] = b"\0\x11aaaaaaaaaaaaaaaaa\0\x11bbbbbbbbbbbbbbbbb\xca\0\x01\
+    \0\x11kkkkkkkkkkkkkkkkk0123456789abcdef0123456789abcdef";
+
 // The kinds with their numbers; the priority high, and the answer no.
-pub(crate) static BODIES: [(u8, &[u8]); 21] = [
+pub(crate) static BODIES: [(u8, &[u8]); 24] = [
     (1, GOSSIP),
     (2, IHAVE),
     (3, IHAVE),
@@ -72,11 +83,14 @@ pub(crate) static BODIES: [(u8, &[u8]); 21] = [
     (11, b"\0\x01\0\x07"),
     (12, XROOT),
     (13, XPREFIXES),
+    (13, LONG_XPREFIXES),
     (14, XINNER),
     (15, XLEAVES),
     (16, XBUCKET),
+    (16, LONG_XBUCKET),
     (17, XOBJECT),
     (18, XWANT),
+    (18, LONG_XWANT),
     (19, b"\0\0\0\x01"),
     (19, b"\xff\xff\xff\xff"),
     (20, b""),

@@ -158,7 +158,7 @@ fn other_reply(reply: &Reply) -> Reply {
 
 /// A copy of the frame with one bit of the byte at the place changed.
 fn flipped(frame: &ByteString, byte: usize) -> Result<ByteString, AllocError> {
-    let mut bytes = frame.copy()?.into_vec();
+    let mut bytes = frame.copy()?.into_vec()?;
     if byte < bytes.len() {
         bytes[byte] ^= 1;
     }

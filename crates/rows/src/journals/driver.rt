@@ -185,7 +185,7 @@ impl Nodes {
         stamp: u64,
     ) -> Result<Option<Value>, AllocError> {
         let body = match bytes {
-            Some(bytes) => Some(bytes.to_bytes(self.alloc)?.into_vec()),
+            Some(bytes) => Some(bytes.to_bytes(self.alloc)?.into_vec()?),
             None => None,
         };
         Ok(Value::new(stamp, body).ok())

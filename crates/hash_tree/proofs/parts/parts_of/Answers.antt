@@ -26,7 +26,7 @@ loop-prefix-preserved-in_ok-insert c =
     let i = c.loop-prefix.invariant in (
       i.0,
       (
-        part_taken c.loop-prefix.parts.entries c.insert.new.self.entries c.in-Some.prefix.now c.in-Some.rows.now c.in_ok-of_rows.field-0 c.next.new.self c.loop-prefix.prefix-iterator i.0 i.1.1.1.0.rising i.1.0 c.in-Some.ensures.steps
+        part_taken c.loop-prefix.parts.entries c.insert-in-loop-prefix.new.self.entries c.in-Some.prefix.now c.in-Some.rows.now c.in_ok-of_rows.field-0 c.next.new.self c.loop-prefix.prefix-iterator i.0 i.1.1.1.0.rising i.1.0 c.in-Some.ensures.steps
             c.in_ok-of_rows.ensures (rw (← c.in_ok-copy.ensures) c.in_ok-insert.ensures.entries),
         (i.1.1.0, (i.1.1.1.0, All-tail HeldPart (c.in-Some.prefix.now, c.in-Some.rows.now) c.next.new.self (subst (All HeldPart) c.in-Some.ensures.steps i.1.1.1.1))),
       ),
@@ -37,7 +37,7 @@ loop-prefix-preserved c =
     let i = c.loop-prefix.invariant in (
       i.0,
       (
-        part_taken c.loop-prefix.parts.entries c.insert.new.self.entries c.in-Some.prefix.now c.in-Some.rows.now c.in_ok-of_rows.field-0 c.next.new.self c.loop-prefix.prefix-iterator i.0 i.1.1.1.0.rising i.1.0 c.in-Some.ensures.steps
+        part_taken c.loop-prefix.parts.entries c.insert-in-loop-prefix.new.self.entries c.in-Some.prefix.now c.in-Some.rows.now c.in_ok-of_rows.field-0 c.next.new.self c.loop-prefix.prefix-iterator i.0 i.1.1.1.0.rising i.1.0 c.in-Some.ensures.steps
             c.in_ok-of_rows.ensures (rw (← c.in_ok-copy.ensures) c.in_ok-insert.ensures.entries),
         (i.1.1.0, (i.1.1.1.0, All-tail HeldPart (c.in-Some.prefix.now, c.in-Some.rows.now) c.next.new.self (subst (All HeldPart) c.in-Some.ensures.steps i.1.1.1.1))),
       ),

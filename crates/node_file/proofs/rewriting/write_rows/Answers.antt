@@ -39,3 +39,15 @@ loop-key-preserved g c =
       named = All-tail IsNamed (c.in-Some.key.now, c.in-Some.object.now) c.next.new.self (subst (All IsNamed) c.in-Some.ensures.steps c.loop-key.invariant.named);
       still = c.in-Ok.ensures.still ∙ c.loop-key.invariant.still;
     }
+
+pub loop-key-preserved-in-Ok : goal.loop-key-preserved-in-Ok
+loop-key-preserved-in-Ok g c =
+    let left : Table → Type 0 = λ rest. IsWritten (g.D.Device.content c.args.device.now) (g.D.Device.content c.loop-key.device) ((file_state (g.D.Device.content c.args.device.now)).contents.table ++ rows_under c.args.prefix.now c.args.rows.now) rest c.loop-key.gate in
+    let rest = rows_under c.args.prefix.now c.next.new.self in
+    let key : record { prefix = c.args.prefix.now; key = c.in-Some.key.now } ≡ c.under-key.result = search rules in
+    let w = subst (λ (k : Key). left ((k, c.in-Some.object.now) ∷ rest)) key (subst (λ (rows : RowsOf (List Entry)). left (rows_under c.args.prefix.now rows)) c.in-Some.ensures.steps c.loop-key.invariant.written) in
+    record {
+      written = next_written c.under-key.result c.in-Some.object.now w (g.D.Device.content c.write_object.new.device) c.in-Ok.end c.in-Ok.ensures.opens c.in-Ok.ensures.end;
+      named = All-tail IsNamed (c.in-Some.key.now, c.in-Some.object.now) c.next.new.self (subst (All IsNamed) c.in-Some.ensures.steps c.loop-key.invariant.named);
+      still = c.in-Ok.ensures.still ∙ c.loop-key.invariant.still;
+    }

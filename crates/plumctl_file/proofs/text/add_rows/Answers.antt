@@ -32,6 +32,17 @@ loop-key-preserved c =
       text = row_added c.args.prefix.now c.under-key.result c.in-Some.key.now c.in-Some.object.now c.next.new.self c.loop-key.text.items c.add_key.new.text.items whole added key before;
     }
 
+pub loop-key-preserved-in_ok-add_key : goal.loop-key-preserved-in_ok-add_key
+loop-key-preserved-in_ok-add_key c =
+    let whole = c.args.text.now.items ++ flat_map key_line (rows_under c.args.prefix.now c.args.rows.now) in
+    let added : c.add_key.new.text.items ≡ c.loop-key.text.items ++ key_line (c.under-key.result, c.in-Some.object.now) = search rules in
+    let key : c.under-key.result ≡ record { prefix = c.args.prefix.now; key = c.in-Some.key.now } = search rules in
+    let before = subst (λ (rows : RowsOf (List Entry)). c.loop-key.text.items ++ flat_map key_line (rows_under c.args.prefix.now rows) ≡ whole) c.in-Some.ensures.steps c.loop-key.invariant.text in
+    record {
+      named = All-tail IsNamed (c.in-Some.key.now, c.in-Some.object.now) c.next.new.self (subst (All IsNamed) c.in-Some.ensures.steps c.loop-key.invariant.named);
+      text = row_added c.args.prefix.now c.under-key.result c.in-Some.key.now c.in-Some.object.now c.next.new.self c.loop-key.text.items c.add_key.new.text.items whole added key before;
+    }
+
 pub returns : goal.returns
 returns c =
     let whole = c.args.text.now.items ++ flat_map key_line (rows_under c.args.prefix.now c.args.rows.now) in

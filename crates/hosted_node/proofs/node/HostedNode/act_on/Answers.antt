@@ -1,5 +1,6 @@
 use Rattle.std.proofs.Common.{◌≡◌, ℕ, Option, true, rules, subst}
 use Rattle.meta_store.specs.Table.{Table}
+use Rattle.node_core.specs.Step.{IsNodeStep}
 use Rattle.desk_parts.specs.Stored.{record_after}
 use Rattle.hosted_node.specs.Hosting.{MayStep, RefusesSpelling, StopsAfter}
 use Rattle.hosted_node.proofs.Stopping.{stops}
@@ -17,7 +18,13 @@ returns-in-Err-clause-refused c =
       | in-Changed-1 w ↦ search rules
       | in-Took-1 w ↦ search rules
     ] in
-    let after : StopsAfter old c.args.event.now new = record { ready = ready; stepped = c.in_ok-reply.field-0; step = search rules; rest = is } in
+    let step : IsNodeStep old.state c.args.event.now new.state c.in_ok-reply.field-0 = elim c.match-reply.branch [
+      | in-Looked-1 w ↦ search rules
+      | in-Wrote-1 w ↦ search rules
+      | in-Changed-1 w ↦ search rules
+      | in-Took-1 w ↦ search rules
+    ] in
+    let after : StopsAfter old c.args.event.now new = record { ready = ready; stepped = c.in_ok-reply.field-0; step = step; rest = is } in
     let of : Option ℕ → Table → Type 0 = λ gate held. RefusesSpelling gate (record_after c.args.event.now held) c.in-Err.fault in
     let gate_is : c.self.inside.gate ≡ old.gate = search rules in
     let table_is : c.store.result.now ≡ new.state.table = elim c.match-reply.branch [

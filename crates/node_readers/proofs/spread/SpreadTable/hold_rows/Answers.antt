@@ -40,8 +40,8 @@ loop-own-preserved c =
     let object = c.in-Some.object.now in
     let steps = c.in-Some.ensures.steps in
     let key : Key = record { prefix = p; key = own } in
-    let key_is : c.under.result ≡ key = c.under.ensures ∙ (λ i. record { prefix = c.in_ok-copy.ensures i; key = c.in_ok-copy-2.ensures i }) in
-    let put : c.hold.new.self ≡ with_spread key object c.loop-own.self = c.in_ok-hold.ensures.value ∙ (λ i. with_spread (key_is i) (c.in_ok-copy-3.ensures i) c.loop-own.self) in
+    let key_is : c.under-in-loop-own.result ≡ key = c.under-in-loop-own.ensures ∙ (λ i. record { prefix = c.in_ok-copy.ensures i; key = c.in_ok-copy-2.ensures i }) in
+    let put : c.hold-in-loop-own.new.self ≡ with_spread key object c.loop-own.self = c.in_ok-hold.ensures.value ∙ (λ i. with_spread (key_is i) (c.in_ok-copy-3.ensures i) c.loop-own.self) in
     let room : bucket_of key < length c.loop-own.self = subst (λ (k : Key). bucket_of k < length c.loop-own.self) key_is c.in_ok-hold.ensures.room in (
       (λ table is.
           let got = c.loop-own.invariant.0 table is in
