@@ -68,8 +68,12 @@ const LONG_XPREFIXES: &[u8] = b"\0\x01\0\x11aaaaaaaaaaaaaaaaa\0\x11bbbbbbbbbbbbb
 const LONG_XBUCKET: &[u8] = b"\0\x11aaaaaaaaaaaaaaaaa\0\x11bbbbbbbbbbbbbbbbb\xca\0\x01\
     \0\x11kkkkkkkkkkkkkkkkk0123456789abcdef0123456789abcdef";
 
+// Key a/b/k with one value of 17 bytes, and stamp 9.
+const LONG_XOBJECT: &[u8] = b"\0\x01a\0\x01b\0\x01k\0\x01\
+    \0\x00\0\0\0\x07\0\0\0\0\0\0\0\x01\0\x01\x01\0\0\0\0\0\0\0\x09\0\x11vvvvvvvvvvvvvvvvv";
+
 // The kinds with their numbers; the priority high, and the answer no.
-pub(crate) static BODIES: [(u8, &[u8]); 24] = [
+pub(crate) static BODIES: [(u8, &[u8]); 25] = [
     (1, GOSSIP),
     (2, IHAVE),
     (3, IHAVE),
@@ -89,6 +93,7 @@ pub(crate) static BODIES: [(u8, &[u8]); 24] = [
     (16, XBUCKET),
     (16, LONG_XBUCKET),
     (17, XOBJECT),
+    (17, LONG_XOBJECT),
     (18, XWANT),
     (18, LONG_XWANT),
     (19, b"\0\0\0\x01"),
