@@ -1,13 +1,13 @@
 //! Writes.
 
-ghost use Rattle.std.specs.Prelude.{◌≡◌, ◌≢◌, [], None, IfOk, OnOk, OnErr};
+ghost use Rattle.std.specs.Prelude.{◌≡◌, ◌≢◌, [], None, false, IfOk, IfSome, IfNone, OnOk, OnErr};
 ghost use Rattle.meta_types.specs.Failing.{FailsBy};
 ghost use Rattle.std.specs.Option.{option_copied};
 ghost use Rattle.meta_types.specs.Name.{Key};
 ghost use Rattle.meta_store.specs.Table.{IsHeld, object_at, with_object};
 ghost use Rattle.dvvset.specs.Clock.{update};
 ghost use Rattle.meta_store.specs.Context.{vector_read};
-ghost use Rattle.meta_store.specs.Step.{is_of_another_key, refusal_of_put, refusal_of_update, object_after_put};
+ghost use Rattle.meta_store.specs.Step.{is_full_for, is_of_another_key, refusal_of_put, refusal_of_update, object_after_put};
 ghost use Rattle.meta_store.specs.declared.fault.StoreFault.TheVariants.{Memory};
 
 use crate::context::Context;
@@ -85,21 +85,57 @@ impl Store {
             (refusal_of_put self.old id key value (option_copied context.entry)) result }
         ensures same { OnErr result (self.new ≡ self.old) }
     {
-        if is_of_another_key(&key, context) {
+        // The key is dropped by a call: what drops it in place makes room for its parts in each
+        // write.
+        match self.put_or_make(id, &key, value, context) {
+            Ok(Some(object)) => Ok(self.hold(key, object)?),
+            Ok(None) => {
+                drop(key);
+                Ok(())
+            }
+            Err(fault) => {
+                drop(key);
+                Err(fault)
+            }
+        }
+    }
+
+    /// `put` where the key is held. Where it isn't, nothing changes, and the object comes back that
+    /// is to be held under it.
+    fn put_or_make(
+        &mut self,
+        id: Actor,
+        key: &MetaKey,
+        value: Value,
+        context: Option<&Context>,
+    ) -> Result<Option<Entries>, StoreFault>
+        ensures put { IfOk result (λ left. IfNone left
+            (self.new ≡ with_object key.now
+            (object_after_put self.old id key.now value (option_copied context.entry)) self.old)) }
+        ensures made { IfOk result (λ left. IfSome left (λ object. IsHeld object
+            × (object ≡ object_after_put self.old id key.now value (option_copied context.entry))
+            × (is_full_for self.old key.now ≡ false))) }
+        ensures unchanged { IfOk result (λ left. IfSome left (λ object. self.new ≡ self.old)) }
+        ensures no_refusal { OnOk result
+            (refusal_of_put self.old id key.now value (option_copied context.entry) ≡ None) }
+        ensures fault { FailsBy Memory
+            (refusal_of_put self.old id key.now value (option_copied context.entry)) result }
+        ensures same { OnErr result (self.new ≡ self.old) }
+    {
+        if is_of_another_key(key, context) {
             return Err(StoreFault::WrongKey);
         }
         let nothing = Vector::empty(self.allocator());
         let vector = vector_read(context, &nothing);
-        let Some(value) = self.put_held(id, &key, value, vector)? else {
-            return Ok(());
+        let Some(value) = self.put_held(id, key, value, vector)? else {
+            return Ok(None);
         };
-        if !self.has_room_for(&key) {
+        if !self.has_room_for(key) {
             return Err(StoreFault::StoreFull);
         }
         let absent = Entries::empty(self.allocator());
         let object = written(self.allocator(), vector, &absent, id, value)?;
-        self.hold(key, object)?;
-        Ok(())
+        Ok(Some(object))
     }
 }
 

@@ -105,9 +105,8 @@ impl Store {
             (λ read. read.0.items ≡ values_of (object_at self.now key.now)) }
         ensures context { IfOk result (λ read. read.1 ≡ reading_at self.now key.now source) }
     {
-        let key_read = key.copy()?;
         let (values, vector) = self.get(key)?;
-        Ok((values, Context::new(key_read, vector, source)))
+        Ok((values, Context::new(key.copy()?, vector, source)))
     }
 
     /// A context for a later write that has read what is under the key; where nothing is held its
