@@ -2,11 +2,11 @@
 //! buffer one after another, and each export goes over all of them.
 #![tactic(auto)]
 
-ghost use Rattle.std.specs.Prelude.{◌≡◌, ◌≢◌, ◌⊎◌, ◌≤◌, ◌<◌, ◌+◌, ◌*◌, List, All, length, min, take, drop, IfOk, IfErr};
+ghost use Rattle.std.specs.Prelude.{◌≡◌, ◌≢◌, ◌⊎◌, ◌≤◌, ◌<◌, ◌+◌, ◌*◌, List, All, length, min, take, drop, IfOk, IfErr, OnOk};
 ghost use Rattle.meta_types.specs.Failing.{FailsWith};
 ghost use Rattle.std.specs.Int.{w32};
 ghost use Rattle.std.specs.List.{flat_map};
-ghost use Rattle.meta_frame.specs.Frame.{Spells, spelling, number_in, len_in};
+ghost use Rattle.meta_frame.specs.Frame.{Spells, RefusesBytes, spelling, number_in, len_in};
 ghost use Rattle.bench_codec.specs.Frames.{AreSpelled, AreFrames};
 
 use meta_frame::{Frame, FrameFault, HEADER_LEN, decode, encode};
@@ -50,6 +50,18 @@ fn split(bytes: &[u8]) -> Result<(&[u8], &[u8]), FrameFault>
     Ok(bytes.split_at(HEADER_LEN + body_len))
 }
 
+/// Reads the bytes as one frame, which is dropped where it stands, so that no move of it is
+/// measured.
+fn read_once(alloc: Global, bytes: &[u8]) -> Result<(), FrameFault>
+    ensures read { OnOk result ((frame : Frame) × Spells frame bytes.now) }
+    ensures refused { FailsWith FrameFault.Memory (RefusesBytes bytes.now) result }
+{
+    match decode(alloc, bytes) {
+        Ok(_) => Ok(()),
+        Err(fault) => Err(fault),
+    }
+}
+
 /// Returns how many frames the bytes are, each dropped once it is read.
 fn count_frames(alloc: Global, bytes: &[u8]) -> Result<u64, FrameFault>
     ensures counted { IfOk result (λ count. (frames : List Frame) × AreSpelled frames bytes.now
@@ -61,7 +73,7 @@ fn count_frames(alloc: Global, bytes: &[u8]) -> Result<u64, FrameFault>
     let mut rest = bytes;
     while !rest.is_empty() {
         let (front, after) = split(rest)?;
-        drop(decode(alloc, front)?);
+        read_once(alloc, front)?;
         count += 1;
         rest = after;
     }

@@ -9,12 +9,12 @@ returns-in_err-front-clause-refused c =
     let r = c.loop-rest.invariant in
     rw (p.1, p.2) (inr (read_short r.frames c.args.bytes.now c.loop-rest.rest.now c.in_err-front.ensures.short (λ none. search rules) r.read))
 
-pub returns-in_err-decode-clause-refused : goal.returns-in_err-decode-clause-refused
-returns-in_err-decode-clause-refused c =
-    let p = err_from_is_err_and c.from_residual-in_err-decode.result c.from_residual-in_err-decode.ensures.1 in
+pub returns-in_err-read_once-clause-refused : goal.returns-in_err-read_once-clause-refused
+returns-in_err-read_once-clause-refused c =
+    let p = err_from_is_err_and c.from_residual-in_err-read_once.result c.from_residual-in_err-read_once.ensures.1 in
     let r = c.loop-rest.invariant in
-    rw (p.1, p.2) (read_fails r.frames c.args.bytes.now c.loop-rest.rest.now c.in_ok-front.front.now c.in_err-decode.field-0.0 c.in_ok-front.ensures.front c.in_ok-front.ensures.enough c.in_err-decode.ensures.refused r.read)
+    rw (p.1, p.2) (read_fails r.frames c.args.bytes.now c.loop-rest.rest.now c.in_ok-front.front.now c.in_err-read_once.field-0.0 c.in_ok-front.ensures.front c.in_ok-front.ensures.enough c.in_err-read_once.ensures.refused r.read)
 
 pub loop-rest-preserved : goal.loop-rest-preserved
 loop-rest-preserved c =
-    count_more c.loop-rest.count c.args.bytes.now c.loop-rest.rest.now c.in_ok-front.front.now c.in_ok-front.after.now c.in_ok-decode.field-0 c.in_ok-front.ensures.front c.in_ok-front.ensures.rest c.in_ok-front.ensures.enough c.in_ok-decode.ensures.found c.loop-rest.invariant
+    count_more c.loop-rest.count c.args.bytes.now c.loop-rest.rest.now c.in_ok-front.front.now c.in_ok-front.after.now c.in_ok-read_once.ensures.read.0 c.in_ok-front.ensures.front c.in_ok-front.ensures.rest c.in_ok-front.ensures.enough c.in_ok-read_once.ensures.read.1 c.loop-rest.invariant
