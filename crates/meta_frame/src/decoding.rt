@@ -27,7 +27,8 @@ fn read(alloc: Global, bytes: &[u8]) -> Result<Frame, FrameFault>
         Err(fault) => return Err(offset(bytes, fault)),
     };
     if !rest.is_empty() {
-        // By a call: what drops a message in place makes room for its parts in each call of `read`.
+        // By a call: where a message is dropped in place, each call of `read` clears the room of
+        // its parts.
         drop(message);
         return Err(offset(bytes, FieldFault::Left(rest.len())));
     }

@@ -85,8 +85,8 @@ impl Store {
             (refusal_of_put self.old id key value (option_copied context.entry)) result }
         ensures same { OnErr result (self.new ≡ self.old) }
     {
-        // The key is dropped by a call: what drops it in place makes room for its parts in each
-        // write.
+        // The key is dropped by calls: where it is dropped in place, each call of this function
+        // clears the room of its parts.
         match self.put_or_make(id, &key, value, context) {
             Ok(Some(object)) => Ok(self.hold(key, object)?),
             Ok(None) => {

@@ -1,5 +1,5 @@
--- Heads that differ compare as the byte strings do.
-use Rattle.std.proofs.Common.{ℕ, zero, suc, ◌≡◌, ◌+◌, ◌*◌, ◌<◌, List, [], ◌∷◌, refl, sym, ap, subst, ◌∙◌, length, ◌≤◌, arith}
+-- Byte strings compare as their heads; at equal heads as their lengths, or as what is past the heads.
+use Rattle.std.proofs.Common.{ℕ, zero, suc, ◌≡◌, ◌+◌, ◌*◌, ◌<◌, List, [], ◌∷◌, refl, sym, ap, subst, ◌∙◌, length, drop, ◌≤◌, ◌⊎◌, inl, inr, arith}
 use Rattle.std.specs.declared.cmp.Ordering.{Ordering}
 use Rattle.std.specs.declared.cmp.Ordering.TheVariants.{Less, Equal, Greater}
 use Rattle.std.specs.Ordering.{nat_cmp, ordering_reverse, ordering_then, MatchOrdering}
@@ -74,16 +74,16 @@ head_is (a ∷ b ∷ c ∷ d ∷ e ∷ f ∷ []) = omega arith
 head_is (a ∷ b ∷ c ∷ d ∷ e ∷ f ∷ g ∷ []) = omega arith
 head_is (a ∷ b ∷ c ∷ d ∷ e ∷ f ∷ g ∷ h ∷ xs) = omega arith
 
--- where so many bytes spell the same, and there are no others, the lengths decide
-same_step : (n a x y : ℕ) (xs ys : List ℕ) (o : Ordering) → MatchOrdering o (x < y) (x ≡ y) (y < x)
-    → AreBytes xs → AreBytes ys → (spelled n (a * 256 + y) xs ≡ spelled n (a * 256 + y) ys → bytes_cmp xs ys ≡ nat_cmp (length xs) (length ys))
-    → spelled n (a * 256 + x) xs ≡ spelled n (a * 256 + y) ys → ordering_then o (bytes_cmp xs ys) ≡ nat_cmp (length xs) (length ys)
-same_step n a x y xs ys Less less p q rest h =
+-- where what both spell is the same, first bytes that are equal decide nothing
+same_step : (n a x y : ℕ) (xs ys : List ℕ) (r o : Ordering) → MatchOrdering o (x < y) (x ≡ y) (y < x)
+    → AreBytes xs → AreBytes ys → (spelled n (a * 256 + y) xs ≡ spelled n (a * 256 + y) ys → bytes_cmp xs ys ≡ r)
+    → spelled n (a * 256 + x) xs ≡ spelled n (a * 256 + y) ys → ordering_then o (bytes_cmp xs ys) ≡ r
+same_step n a x y xs ys r Less less p q rest h =
     let below : x < y = less in
     absurd (omega (arith, rises n (a * 256 + x) (a * 256 + y) xs ys p (omega arith), h))
-same_step n a x y xs ys Equal same p q rest h =
+same_step n a x y xs ys r Equal same p q rest h =
     rest (subst (λ d. spelled n (a * 256 + d) xs ≡ spelled n (a * 256 + y) ys) same h)
-same_step n a x y xs ys Greater more p q rest h =
+same_step n a x y xs ys r Greater more p q rest h =
     let above : y < x = more in
     absurd (omega (arith, rises n (a * 256 + y) (a * 256 + x) ys xs q (omega arith), h))
 
@@ -95,21 +95,41 @@ after a b Greater more = let h : b < a = more in omega arith
 rank_after : (a b : ℕ) → nat_cmp a b ≡ nat_cmp (suc a) (suc b)
 rank_after a b = nat_cmp_is (suc a) (suc b) (nat_cmp a b) (after a b (nat_cmp a b) (ranked a b (nat_cmp a b) refl))
 
-by_lengths : (n a : ℕ) (xs ys : List ℕ) → AreBytes xs → AreBytes ys → length xs ≤ n → length ys ≤ n → spelled n a xs ≡ spelled n a ys → bytes_cmp xs ys ≡ nat_cmp (length xs) (length ys)
+-- where so many bytes spell the same, and one string has no others, the lengths decide
+by_lengths : (n a : ℕ) (xs ys : List ℕ) → AreBytes xs → AreBytes ys → (length xs ≤ n) ⊎ (length ys ≤ n) → spelled n a xs ≡ spelled n a ys → bytes_cmp xs ys ≡ nat_cmp (length xs) (length ys)
 unfolding spelled
-by_lengths n a [] [] p q k l h = refl
-by_lengths n a [] (y ∷ ys) p q k l h = nat_cmp_is 0 (suc (length ys)) Less (omega arith)
-by_lengths n a (x ∷ xs) [] p q k l h = nat_cmp_is (suc (length xs)) 0 Greater (omega arith)
-by_lengths zero a (x ∷ xs) (y ∷ ys) p q k l h = absurd (omega arith)
-by_lengths (suc n) a (x ∷ xs) (y ∷ ys) p q k l h =
-    same_step n a x y xs ys (nat_cmp x y) (ranked x y (nat_cmp x y) refl) (λ at. p (suc at)) (λ at. q (suc at))
-    (by_lengths n (a * 256 + y) xs ys (λ at. p (suc at)) (λ at. q (suc at)) (omega arith) (omega arith)) h
+by_lengths n a [] [] p q k h = refl
+by_lengths n a [] (y ∷ ys) p q k h = nat_cmp_is 0 (suc (length ys)) Less (omega arith)
+by_lengths n a (x ∷ xs) [] p q k h = nat_cmp_is (suc (length xs)) 0 Greater (omega arith)
+by_lengths zero a (x ∷ xs) (y ∷ ys) p q (inl k) h = absurd (omega arith)
+by_lengths zero a (x ∷ xs) (y ∷ ys) p q (inr k) h = absurd (omega arith)
+by_lengths (suc n) a (x ∷ xs) (y ∷ ys) p q k h =
+    let rest : (length xs ≤ n) ⊎ (length ys ≤ n) = elim k [ inl l ↦ inl (omega arith) | inr l ↦ inr (omega arith) ] in
+    same_step n a x y xs ys (nat_cmp (length xs) (length ys)) (nat_cmp x y) (ranked x y (nat_cmp x y) refl) (λ at. p (suc at)) (λ at. q (suc at))
+    (by_lengths n (a * 256 + y) xs ys (λ at. p (suc at)) (λ at. q (suc at)) rest) h
     ∙ rank_after (length xs) (length ys)
 
--- byte strings of at most eight bytes that have the same head compare as their lengths
-pub by_short : (xs ys : List ℕ) (head other : ℕ) → IsHeadOf head xs → IsHeadOf other ys → head ≡ other → length xs ≤ 8 → length ys ≤ 8 → bytes_cmp xs ys ≡ nat_cmp (length xs) (length ys)
-by_short xs ys head other p q same k l =
-    by_lengths 8 0 xs ys p.in_range q.in_range k l (sym (head_is xs) ∙ sym p.value ∙ same ∙ q.value ∙ head_is ys)
+-- where so many bytes spell the same, and both strings have as many, those after them decide
+by_rest : (n a : ℕ) (xs ys : List ℕ) → AreBytes xs → AreBytes ys → n ≤ length xs → n ≤ length ys → spelled n a xs ≡ spelled n a ys → bytes_cmp xs ys ≡ bytes_cmp (drop n xs) (drop n ys)
+unfolding spelled
+by_rest zero a xs ys p q k l h = refl
+by_rest (suc n) a [] ys p q k l h = absurd (omega arith)
+by_rest (suc n) a (x ∷ xs) [] p q k l h = absurd (omega arith)
+by_rest (suc n) a (x ∷ xs) (y ∷ ys) p q k l h =
+    same_step n a x y xs ys (bytes_cmp (drop n xs) (drop n ys)) (nat_cmp x y) (ranked x y (nat_cmp x y) refl) (λ at. p (suc at)) (λ at. q (suc at))
+    (by_rest n (a * 256 + y) xs ys (λ at. p (suc at)) (λ at. q (suc at)) (omega arith) (omega arith)) h
+
+module _ (xs ys : List ℕ) (head other : ℕ) (p : IsHeadOf head xs) (q : IsHeadOf other ys) (same : head ≡ other) where
+  spelled_same : spelled 8 0 xs ≡ spelled 8 0 ys
+  spelled_same = sym (head_is xs) ∙ sym p.value ∙ same ∙ q.value ∙ head_is ys
+
+  -- where one of the byte strings has at most eight bytes, they compare as their lengths
+  pub by_short : (length xs ≤ 8) ⊎ (length ys ≤ 8) → bytes_cmp xs ys ≡ nat_cmp (length xs) (length ys)
+  by_short k = by_lengths 8 0 xs ys p.in_range q.in_range k spelled_same
+
+  -- where both have more, they compare as what is past their heads
+  pub by_long : 8 < length xs → 8 < length ys → bytes_cmp xs ys ≡ bytes_cmp (drop 8 xs) (drop 8 ys)
+  by_long k l = by_rest 8 0 xs ys p.in_range q.in_range (omega arith) (omega arith) spelled_same
 
 module _ (xs ys : List ℕ) (head other : ℕ) (p : IsHeadOf head xs) (q : IsHeadOf other ys) (differ : head ≡ other → ⊥) where
   by_rank : (o : Ordering) → MatchOrdering o (head < other) (head ≡ other) (other < head) → bytes_cmp xs ys ≡ o

@@ -68,7 +68,7 @@ fn head_of(bytes: &[u8]) -> u64
 }
 
 /// The order of two byte strings that have these heads. Bytes are read only where the heads are
-/// equal and a string has more than eight.
+/// equal and both have more than eight, and then those past the heads.
 fn order(mine: &[u8], others: &[u8], head: u64, other_head: u64) -> Ordering
     requires { IsHeadOf head mine.now × IsHeadOf other_head others.now }
     ensures { result ≡ bytes_cmp mine.now others.now }
@@ -76,10 +76,10 @@ fn order(mine: &[u8], others: &[u8], head: u64, other_head: u64) -> Ordering
     if head != other_head {
         return head.cmp(&other_head);
     }
-    if mine.len() <= 8 && others.len() <= 8 {
+    if mine.len() <= 8 || others.len() <= 8 {
         return mine.len().cmp(&others.len());
     }
-    mine.cmp(others)
+    mine[8..].cmp(&others[8..])
 }
 
 impl ByteString {
@@ -143,7 +143,8 @@ impl PartialEq for ByteString {
     ghost laws = { Prim.search (comparing, rules) };
 
     fn eq(&self, other: &ByteString) -> bool {
-        self.head == other.head && self.bytes.as_slice() == other.bytes.as_slice()
+        let (mine, others) = (self.bytes.as_slice(), other.bytes.as_slice());
+        order(mine, others, self.head, other.head).is_eq()
     }
 }
 

@@ -42,10 +42,9 @@ pub(crate) fn put_over(
     key: &MetaKey,
     value: &Value,
 ) -> io::Result<()> {
-    let (values, context) = store.look(key, Source { actor, step: 1 })?;
-    drop(values);
-    let done = put_read(store, actor, key, value, &context);
-    drop(context);
+    let read = store.look(key, Source { actor, step: 1 })?;
+    let done = put_read(store, actor, key, value, &read.1);
+    drop(read);
     done
 }
 
@@ -57,13 +56,9 @@ fn put_read(
     value: &Value,
     context: &Context,
 ) -> io::Result<()> {
-    let (key, value) = both(key.copy(), value.copy())?;
-    drop(
-        store
-            .put(actor, key, value, Some(context))
-            .map_err(refused)?,
-    );
-    Ok(())
+    let value = value.copy()?;
+    let key = key.copy()?;
+    store.put(actor, key, value, Some(context)).map_err(refused)
 }
 
 /// Takes what is held under the key into the tree.
