@@ -1,4 +1,4 @@
--- Byte strings compare as their heads; at equal heads as their lengths, or as what is past the heads.
+-- Byte strings compare as their heads; at equal heads as their lengths, or as what is past them.
 use Rattle.std.proofs.Common.{ℕ, zero, suc, ◌≡◌, ◌+◌, ◌*◌, ◌<◌, List, [], ◌∷◌, refl, sym, ap, subst, ◌∙◌, length, drop, ◌≤◌, ◌⊎◌, inl, inr, arith}
 use Rattle.std.specs.declared.cmp.Ordering.{Ordering}
 use Rattle.std.specs.declared.cmp.Ordering.TheVariants.{Less, Equal, Greater}

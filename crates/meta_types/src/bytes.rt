@@ -10,6 +10,9 @@ use std::marker::Model;
 /// The most bytes of a byte string that stand in it, without an allocation of their own.
 pub const SHORT_LEN: usize = 16;
 
+/// The bytes that the head of a byte string holds.
+const HEAD_LEN: usize = 8;
+
 /// A byte string that contracts see as the list of its bytes, so that names and values are compared
 /// lawfully, in byte order.
 ///
@@ -76,10 +79,10 @@ fn order(mine: &[u8], others: &[u8], head: u64, other_head: u64) -> Ordering
     if head != other_head {
         return head.cmp(&other_head);
     }
-    if mine.len() <= 8 || others.len() <= 8 {
+    if mine.len() <= HEAD_LEN || others.len() <= HEAD_LEN {
         return mine.len().cmp(&others.len());
     }
-    mine[8..].cmp(&others[8..])
+    mine[HEAD_LEN..].cmp(&others[HEAD_LEN..])
 }
 
 impl ByteString {
