@@ -138,6 +138,9 @@ pub(crate) fn read_bytes(len: usize, bytes: &[u8]) -> Result<(&[u8], &[u8]), Fie
     Ok(bytes.split_at(len))
 }
 
+// The readers of names are inlined as far as `read_key`: each return from one moves its bytes, and
+// waits for what was just written.
+#[inline(always)]
 #[tactic(auto, unfolding(crate::specs::Reader::name_reader))]
 fn read_name(
     alloc: Global,
@@ -229,6 +232,7 @@ pub fn read_place(bytes: &[u8]) -> Result<(u8, &[u8]), FieldFault>
     u8_within(0, 15, bytes)
 }
 
+#[inline(always)]
 #[tactic(auto, unfolding(crate::specs::Reader::prefix_reader))]
 pub fn read_prefix(alloc: Global, bytes: &[u8]) -> Result<(FullPrefix, &[u8]), FieldFault>
     ensures { MatchesReader result (prefix_reader bytes.now) }
@@ -238,6 +242,7 @@ pub fn read_prefix(alloc: Global, bytes: &[u8]) -> Result<(FullPrefix, &[u8]), F
     Ok((FullPrefix::of(prefix, sub), rest))
 }
 
+#[inline(never)]
 #[tactic(auto, unfolding(crate::specs::Reader::key_reader))]
 pub fn read_key(alloc: Global, bytes: &[u8]) -> Result<(MetaKey, &[u8]), FieldFault>
     ensures { MatchesReader result (key_reader bytes.now) }

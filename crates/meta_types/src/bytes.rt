@@ -100,6 +100,7 @@ impl ByteString {
     }
 
     /// A copy of these bytes. It takes memory where there are more than `SHORT_LEN` of them.
+    #[inline(always)]
     pub fn from_slice(alloc: Global, bytes: &[u8]) -> Result<Self, AllocError>
         ensures value { IfOk result (λ string. string ≡ bytes.now) }
         ensures short { length bytes.now ≤ 16 → IsOk result }
