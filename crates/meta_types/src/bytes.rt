@@ -10,7 +10,7 @@ use std::marker::Model;
 /// The most bytes of a byte string that stand in it, without an allocation of their own.
 pub const SHORT_LEN: usize = 16;
 
-/// The bytes that the head of a byte string holds.
+/// How many bytes of a byte string its head holds.
 const HEAD_LEN: usize = 8;
 
 /// A byte string that contracts see as the list of its bytes, so that names and values are compared
