@@ -138,8 +138,8 @@ pub(crate) fn read_bytes(len: usize, bytes: &[u8]) -> Result<(&[u8], &[u8]), Fie
     Ok(bytes.split_at(len))
 }
 
-// The readers of names are inlined as far as `read_key`: it saves calls, and moves of the bytes of a
-// name where each returns.
+// The readers of names are inlined as far as `read_key`: it saves calls, and moves of the bytes of
+// a name where each returns.
 #[inline(always)]
 #[tactic(auto, unfolding(crate::specs::Reader::name_reader))]
 fn read_name(
