@@ -6,16 +6,19 @@
 //! ```
 //! use zomtagi::{Key, Node, Value};
 //!
-//! let mut zero = Node::new(0, 1)?;
-//! let mut one = Node::new(1, 1)?;
-//! for frame in one.join(0, 7)? {
-//!     zero.take(frame.bytes(), 7)?;
-//! }
+//! let (mut zero, mut one) = (Node::new(0, 1)?, Node::new(1, 1)?); // nodes 0 and 1, in their first lives
 //! let colour = Key::new("app", "flags", "colour");
-//! for frame in zero.write_over(&colour, &Value::text("red"))? {
-//!     one.take(frame.bytes(), 7)?;
+//! zero.write_over(&colour, &Value::text("red"))?;
+//! one.write_over(&colour, &Value::text("blue"))?; // neither has heard of the other's write
+//! let mut frames = zero.exchange(1)?;
+//! while let Some(frame) = frames.pop() {
+//!     let node = if frame.to() == 0 { &mut zero } else { &mut one };
+//!     frames.extend(node.take(frame.bytes(), 7)?.1); // (7 stands for a random word)
 //! }
-//! assert_eq!(one.read(&colour)?.values, [Value::text("red")]);
+//! let read = one.read(&colour)?;
+//! assert_eq!(read.values, [Value::text("red"), Value::text("blue")]); // siblings
+//! one.write(&colour, &Value::text("green"), Some(&read.context))?; // has read both, and replaces them
+//! assert_eq!(one.read(&colour)?.values, [Value::text("green")]);
 //! # Ok::<(), zomtagi::Error>(())
 //! ```
 
