@@ -9,7 +9,9 @@ Such a page is of one machine and one date. Its first lines say which, and the c
 import datetime
 import os
 import re
+import subprocess
 import sys
+import tempfile
 
 TOP = os.path.dirname(os.path.dirname(os.path.abspath(__file__)))
 COMMAND = " ".join([os.path.relpath(os.path.abspath(sys.argv[0]), TOP), *sys.argv[1:]])
@@ -32,6 +34,16 @@ def table(head, rows):
         return "|" + "|".join(f" {it} " if it else " " for it in texts) + "|\n"
 
     return line(head) + "|" + "---|" * len(head) + "\n" + "".join(map(line, rows))
+
+
+def cost(words, text):
+    """What a run over this text prints, its processor seconds and its most megabytes: by GNU time, since the memory of a
+    process counts what the one had that began it, and GNU time is small."""
+    with tempfile.NamedTemporaryFile("r") as took:
+        timed = ["/usr/bin/time", "-q", "-o", took.name, "-f", "%U %S %M", *words]
+        printed = subprocess.run(timed, input=text, stdout=subprocess.PIPE, text=True, check=True).stdout
+        user, system, most = map(float, took.read().split())
+    return printed, user + system, most / 1024
 
 
 def machine():
