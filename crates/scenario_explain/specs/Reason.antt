@@ -3,8 +3,8 @@ use Rattle.std.specs.Prelude.{ℕ, ◌==◌, if◌then◌else◌, List, [], ◌�
 use Rattle.scenario_text.specs.Word.{Word, number_of, words_of}
 
 -- the cause that a number stands for; nothing for other numbers
-abbrev pub cause_of : ℕ → List ℕ
-cause_of n =
+abbrev pub sentence_of : ℕ → List ℕ
+sentence_of n =
     if n == 1 then codes "a part of a name is longer than 64, 64 or 256 bytes" else
     if n == 2 then codes "a value has more than 1,024 bytes" else
     if n == 3 then codes "a node can't join through itself, call itself down, exchange with itself, or say hello to itself" else
@@ -36,7 +36,7 @@ line_of_cause (b ∷ cause) = (b ∷ cause) ∷ []
 
 abbrev pub reasons_of_number : Option ℕ → List (List ℕ)
 reasons_of_number None = []
-reasons_of_number (Some n) = line_of_cause (cause_of n)
+reasons_of_number (Some n) = line_of_cause (sentence_of n)
 
 abbrev pub reasons_of_words : List Word → List (List ℕ)
 reasons_of_words (first ∷ second ∷ words) =

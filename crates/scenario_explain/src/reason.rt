@@ -1,7 +1,7 @@
 //! Why a command was refused, in words.
 
 ghost use Rattle.std.specs.Prelude.{◌≡◌, ◌++◌, OnOk, drop};
-ghost use Rattle.scenario_explain.specs.Reason.{cause_of, line_of_cause, reasons_of};
+ghost use Rattle.scenario_explain.specs.Reason.{sentence_of, line_of_cause, reasons_of};
 ghost use Rattle.scenario_explain.specs.Told.{told_lines};
 
 use crate::line::add_line;
@@ -9,8 +9,8 @@ use scenario_text::Words;
 use std::alloc::AllocError;
 
 /// The cause that a number stands for; nothing for other numbers.
-fn cause_of(number: u64) -> &'static str
-    ensures { result.now ≡ cause_of number }
+fn sentence_of(number: u64) -> &'static str
+    ensures { result.now ≡ sentence_of number }
 {
     match number {
         1 => "a part of a name is longer than 64, 64 or 256 bytes",
@@ -47,7 +47,7 @@ fn cause_in(results: &[u8]) -> &'static str
 {
     let mut words = Words::of(results);
     match (words.next(), words.number()) {
-        (Some(b"refused"), Some(number)) => cause_of(number),
+        (Some(b"refused"), Some(number)) => sentence_of(number),
         _ => "",
     }
 }

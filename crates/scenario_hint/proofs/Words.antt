@@ -6,18 +6,19 @@ use Rattle.std.specs.Option.{unwrap_or}
 use Rattle.scenario_text.specs.declared.verb.Verb.{Verb}
 use Rattle.scenario_text.specs.Coded.{verb_word}
 use Rattle.scenario_text.specs.Word.{Word}
-use Rattle.scenario_hint.specs.Hint.{IsHintOfWords, is_near, near_of}
+use Rattle.scenario_hint.specs.Hint.{IsHintOfWords, NoneWrong, WrongAt, WrongWords, behind_slot, is_near, left_over, near_of, swapped, wrong_in}
 use Rattle.scenario_hint.specs.declared.hint.Hint.TheVariants.{Unknown}
+use Rattle.scenario_hint.specs.declared.wrong.Slot.{Slot}
 
 -- ---- words
 
 pub near_same : (xs ys : List ℕ) (a b : ℕ) (cs ds : List ℕ) → xs ≡ a ∷ cs → ys ≡ b ∷ ds → a ≡ b → is_near xs ys ≡ is_near cs ds
 unfolding is_near
-near_same xs ys a b cs ds x y same = rw (x, y) (ap (λ (t : Bool). if t then is_near cs ds else (bytes_eq cs ds || (bytes_eq cs (b ∷ ds) || bytes_eq (a ∷ cs) ds))) (eq-eqb a b same))
+near_same xs ys a b cs ds x y same = rw (x, y) (ap (λ (t : Bool). if t then is_near cs ds else (bytes_eq cs ds || (bytes_eq cs (b ∷ ds) || (bytes_eq (a ∷ cs) ds || swapped (a ∷ cs) (b ∷ ds))))) (eq-eqb a b same))
 
-pub near_other : (xs ys : List ℕ) (a b : ℕ) (cs ds : List ℕ) → xs ≡ a ∷ cs → ys ≡ b ∷ ds → a ≢ b → is_near xs ys ≡ (bytes_eq cs ds || (bytes_eq cs ys || bytes_eq xs ds))
+pub near_other : (xs ys : List ℕ) (a b : ℕ) (cs ds : List ℕ) → xs ≡ a ∷ cs → ys ≡ b ∷ ds → a ≢ b → is_near xs ys ≡ (bytes_eq cs ds || (bytes_eq cs ys || (bytes_eq xs ds || swapped xs ys)))
 unfolding is_near
-near_other xs ys a b cs ds x y other = rw (x, y) (ap (λ (t : Bool). if t then is_near cs ds else (bytes_eq cs ds || (bytes_eq cs (b ∷ ds) || bytes_eq (a ∷ cs) ds))) (ne_eqb a b other))
+near_other xs ys a b cs ds x y other = rw (x, y) (ap (λ (t : Bool). if t then is_near cs ds else (bytes_eq cs ds || (bytes_eq cs (b ∷ ds) || (bytes_eq (a ∷ cs) ds || swapped (a ∷ cs) (b ∷ ds))))) (ne_eqb a b other))
 
 and_true : (b : Bool) → (b && true) ≡ b
 and_true true = refl
@@ -62,6 +63,34 @@ pub is_unknown : (words : List Word) (word : Word) (near : Option Verb) → Some
 is_unknown [] word near first is = cc
 is_unknown (other ∷ words) word near first is =
     let same : other ≡ word = ap (λ (o : Option Word). unwrap_or o []) (sym first) in subst (λ (w : Word). IsHintOfWords (w ∷ words) (Unknown near)) (sym same) is
+
+-- ---- slots
+
+-- a slot that can't be read is where the words are wrong
+pub wrong_here : (slots : List Slot) (i : ℕ) (slot : Slot) (words : List Word) → i < length slots → behind_slot (get_or slots i slot) words ≡ None
+    → wrong_in (drop i slots) words ≡ WrongAt (get_or slots i slot) (slice_get words 0)
+unfolding wrong_in
+wrong_here slots i slot words lt none =
+    ap (λ (ss : List Slot). wrong_in ss words) (drop_more slots i slot lt)
+    ∙ ap (λ (o : Option (List Word)). elim o [
+      | None ↦ WrongAt (get_or slots i slot) (slice_get words 0)
+      | Some left ↦ wrong_in (drop (i + 1) slots) left
+    ]) none
+
+-- a slot that can be read is passed
+pub wrong_next : (slots : List Slot) (i : ℕ) (slot : Slot) (words left : List Word) → i < length slots → behind_slot (get_or slots i slot) words ≡ Some left
+    → wrong_in (drop i slots) words ≡ wrong_in (drop (i + 1) slots) left
+unfolding wrong_in
+wrong_next slots i slot words left lt some =
+    ap (λ (ss : List Slot). wrong_in ss words) (drop_more slots i slot lt)
+    ∙ ap (λ (o : Option (List Word)). elim o [
+      | None ↦ WrongAt (get_or slots i slot) (slice_get words 0)
+      | Some left ↦ wrong_in (drop (i + 1) slots) left
+    ]) some
+
+pub wrong_over : (words : List Word) → wrong_in [] words ≡ left_over words
+unfolding wrong_in
+wrong_over words = refl
 
 -- ---- texts
 

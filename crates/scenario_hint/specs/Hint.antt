@@ -144,7 +144,7 @@ pub data WrongWords : Type 0 where
   WrongAt : Slot → Option Word → WrongWords
   OneMore : Word → WrongWords
 
-abbrev left_over : List Word → WrongWords
+abbrev pub left_over : List Word → WrongWords
 left_over [] = NoneWrong
 left_over (word ∷ words) = OneMore word
 

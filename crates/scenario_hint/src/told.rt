@@ -26,7 +26,7 @@ fn add_near(out: &mut Vec<u8>, verb: Verb) -> Result<(), AllocError>
 
 /// Adds what is wrong with the words behind a verb.
 fn add_wrong(out: &mut Vec<u8>, wrong: Wrong<'_>) -> Result<(), AllocError>
-    ensures { OnOk result (out.new.items ≡ out.old.items ++ wrong_text (wrong_words wrong)) }
+    ensures { OnOk result (out.new.items ≡ out.old.items ++ wrong_text (wrong_words wrong.entry)) }
 {
     match wrong {
         Wrong::Nothing => Ok(()),
@@ -50,7 +50,7 @@ fn add_wrong(out: &mut Vec<u8>, wrong: Wrong<'_>) -> Result<(), AllocError>
 
 /// Adds the form of a command, and what is wrong with the words behind its verb.
 fn add_wanted(out: &mut Vec<u8>, verb: Verb, wrong: Wrong<'_>) -> Result<(), AllocError>
-    ensures { OnOk result (out.new.items ≡ out.old.items ++ hint_text (Form verb wrong)) }
+    ensures { OnOk result (out.new.items ≡ out.old.items ++ hint_text (Form verb wrong.entry)) }
 {
     out.extend_from_slice(b"wanted: ")?;
     out.extend_from_slice(form_of(verb).as_bytes())?;
@@ -59,7 +59,7 @@ fn add_wanted(out: &mut Vec<u8>, verb: Verb, wrong: Wrong<'_>) -> Result<(), All
 
 /// Adds what is wrong with a line.
 fn add_hint(out: &mut Vec<u8>, hint: Hint<'_>) -> Result<(), AllocError>
-    ensures { OnOk result (out.new.items ≡ out.old.items ++ hint_text hint) }
+    ensures { OnOk result (out.new.items ≡ out.old.items ++ hint_text hint.entry) }
 {
     match hint {
         Hint::ByteOrderMark => out.extend_from_slice(
@@ -83,7 +83,7 @@ fn add_hint(out: &mut Vec<u8>, hint: Hint<'_>) -> Result<(), AllocError>
 /// Adds two lines: the one at fault, and what it wants.
 #[tactic(auto, unfolding(crate::specs::Hint::hint_lines))]
 fn add_lines(out: &mut Vec<u8>, number: u64, line: &[u8], hint: Hint<'_>) -> Result<(), AllocError>
-    ensures { OnOk result (out.new.items ≡ out.old.items ++ hint_lines number line.now hint) }
+    ensures { OnOk result (out.new.items ≡ out.old.items ++ hint_lines number line.now hint.entry) }
 {
     out.extend_from_slice(b"line ")?;
     print_number(out, number)?;

@@ -6,7 +6,7 @@ use Rattle.scenario_hint.proofs.near.is_near.Goals.{in_default, in_default-2}
 pub returns-then-a-b : goal.returns-then-a-b
 returns-then-a-b c =
     let pair = c.in-Some-Some in
-    rw (c.eq.ensures, c.eq-then-a-b.ensures, c.eq-then-a-b-2.ensures)
+    rw (c.eq.ensures, c.eq-then-a-b.ensures, c.eq-then-a-b-2.ensures, c.swapped.ensures)
     (sym (c.loop-a.invariant ∙ near_other _ _ pair.a.now pair.b.now _ _ (pair.ensures).cases.0 (pair.ensures').cases.0 c.if-a-b.true))
 
 pub loop-a-preserved : goal.loop-a-preserved
