@@ -74,7 +74,7 @@ def head_of(text):
     if text[place] == "<":
         place = after(text, place, "<", ">")
     place = after(text, place, "(", ")")
-    end = re.compile(r"\n *(?:requires|ensures|where)\b| *\{|;").search(text, place)
+    end = re.compile(r"\n *(?:requires|ensures|where)\b| *\{|;$", re.M).search(text, place)
     result = text[place : end.start() if end else len(text)].partition("->")[2].strip()
     found, place = [], end.start() if end else len(text)
     if re.match(r"\s*where\b", text[place:]):
