@@ -1,11 +1,13 @@
 -- Lines that are told, one after the other.
-use Rattle.std.proofs.Common.{◌≡◌, ℕ, List, [], ◌∷◌, ◌++◌, inl, inr, map, refl, sym, ap, ◌∙◌, append_assoc}
+use Rattle.std.proofs.Common.{◌≡◌, ℕ, List, [], ◌∷◌, ◌++◌, length, drop, inl, inr, map, refl, sym, ap, ◌∙◌, append_assoc}
 use Rattle.std.specs.Prelude.{codes, decimal}
 use Rattle.std.proofs.lemmas.List.{append-nil, map-append}
+use Rattle.std.proofs.Math.Seq.{drop-append_seam}
 use Rattle.scenario_text.specs.Commands.{Command}
 use Rattle.scenario_stage.specs.Marking.{all_waiting}
 use Rattle.scenario_stage.specs.Obeying.{Choices, Obeys, Stage}
 use Rattle.scenario_explain.specs.OnTheWay.{way_lines}
+use Rattle.scenario_explain.specs.Reason.{reasons_of}
 use Rattle.scenario_explain.specs.Told.{AddsCommand, AddsOfNodes, AreOfNodes, AreTold, Explains, IsOfCommand, told_line, told_lines, told_way}
 
 pub none_told : AreTold []
@@ -82,13 +84,21 @@ begins_still front now next more b is = record {
 -- ---- a command
 
 -- what is told before a command, its results, and what is told after it
-pub explains : (choices : Choices) (old new : Stage) (command : Command) (text now later mid last frames : List ℕ) → AddsCommand text now → ((added : List ℕ) × Obeys choices old command added new × (later ≡ now ++ added))
-    → frames ≡ all_waiting 1 new.given → mid ≡ later ++ told_lines (way_lines frames) → AddsOfNodes mid last → (added : List ℕ) × Explains choices old command added new × (last ≡ text ++ added)
-explains choices old new command text now later mid last frames before does frames_are way after =
+pub explains : (choices : Choices) (old new : Stage) (command : Command) (text now later why mid last frames : List ℕ) → AddsCommand text now
+    → (does : (added : List ℕ) × Obeys choices old command added new × (later ≡ now ++ added)) → why ≡ later ++ told_lines (reasons_of (drop (length now) later))
+    → frames ≡ all_waiting 1 new.given → mid ≡ why ++ told_lines (way_lines frames) → AddsOfNodes mid last → (added : List ℕ) × Explains choices old command added new × (last ≡ text ++ added)
+explains choices old new command text now later why mid last frames before does reasoned frames_are way after =
     let results = does.0 in
-    let named : mid ≡ later ++ told_way new = way ∙ ap (λ (fs : List ℕ). later ++ told_lines (way_lines fs)) frames_are in
+    let behind : drop (length now) later ≡ results = ap (drop (length now)) does.2 ∙ drop-append_seam now results in
+    let both : told_lines (reasons_of results) ++ told_lines (way_lines (all_waiting 1 new.given)) ≡ told_way results new = sym (lines_then (reasons_of results) (way_lines (all_waiting 1 new.given))) in
+    let told : why ≡ later ++ told_lines (reasons_of results) = reasoned ∙ ap (λ (xs : List ℕ). later ++ told_lines (reasons_of xs)) behind in
+    let ways : mid ≡ why ++ told_lines (way_lines (all_waiting 1 new.given)) = way ∙ ap (λ (fs : List ℕ). why ++ told_lines (way_lines fs)) frames_are in
+    let named : mid ≡ later ++ told_way results new =
+    ways ∙ ap (λ (xs : List ℕ). xs ++ told_lines (way_lines (all_waiting 1 new.given))) told
+    ∙ append_assoc later (told_lines (reasons_of results)) (told_lines (way_lines (all_waiting 1 new.given)))
+    ∙ ap (λ (xs : List ℕ). later ++ xs) both in
     let begun : later ≡ text ++ (before.added ++ results) = does.2 ∙ ap (λ (xs : List ℕ). xs ++ results) before.text_is ∙ append_assoc text before.added results in (
-      before.added ++ (results ++ (told_way new ++ after.added)),
+      before.added ++ (results ++ (told_way results new ++ after.added)),
       record {
         before = before.added;
         of_command = before.of_command;
@@ -98,14 +108,14 @@ explains choices old new command text now later mid last frames before does fram
         of_nodes = after.of_nodes;
         text_is = refl;
       },
-      after.text_is ∙ ap (λ (xs : List ℕ). xs ++ after.added) (named ∙ ap (λ (xs : List ℕ). xs ++ told_way new) begun)
-          ∙ append_assoc (text ++ (before.added ++ results)) (told_way new) after.added
-          ∙ append_assoc text (before.added ++ results) (told_way new ++ after.added)
-          ∙ ap (λ (xs : List ℕ). text ++ xs) (append_assoc before.added results (told_way new ++ after.added)),
+      after.text_is ∙ ap (λ (xs : List ℕ). xs ++ after.added) (named ∙ ap (λ (xs : List ℕ). xs ++ told_way results new) begun)
+          ∙ append_assoc (text ++ (before.added ++ results)) (told_way results new) after.added
+          ∙ append_assoc text (before.added ++ results) (told_way results new ++ after.added)
+          ∙ ap (λ (xs : List ℕ). text ++ xs) (append_assoc before.added results (told_way results new ++ after.added)),
     )
 
 -- all that is told after a command
-pub told_after : (new : Stage) (after : List ℕ) → AreOfNodes after → AreTold (told_way new ++ after)
-told_after new after of_nodes =
-    told_then (told_way new) after (record { lines = way_lines (all_waiting 1 new.given); text_is = refl })
+pub told_after : (results : List ℕ) (new : Stage) (after : List ℕ) → AreOfNodes after → AreTold (told_way results new ++ after)
+told_after results new after of_nodes =
+    told_then (told_way results new) after (record { lines = reasons_of results ++ way_lines (all_waiting 1 new.given); text_is = refl })
     (record { lines = map (λ (line : List ℕ). codes "node " ++ line) of_nodes.lines; text_is = of_nodes.text_is })

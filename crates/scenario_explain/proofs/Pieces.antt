@@ -46,7 +46,7 @@ runs choices old (command ∷ commands) text ended (inr (first, rest, between, d
     let later = runs choices between commands rest ended others in (
       does.results ++ later.0,
       inr (does.results, later.0, between, does.obeys, later.1, refl),
-      command_then does.before does.results (told_way between ++ does.after) first rest later.0 text (command_told does.before does.of_command) (told_after between does.after does.of_nodes) does.text_is later.2 text_is,
+      command_then does.before does.results (told_way does.results between ++ does.after) first rest later.0 text (command_told does.before does.of_command) (told_after does.results between does.after does.of_nodes) does.text_is later.2 text_is,
     )
 
 plays : (choices : Choices) (scenario : Scenario) (text : List ℕ) (ended : Option ScenarioFault) → Plays (explained choices) scenario text ended

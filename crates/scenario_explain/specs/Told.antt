@@ -9,6 +9,7 @@ use Rattle.scenario_stage.specs.Obeying.{Choices, Obeys, Stage}
 use Rattle.scenario_stage.specs.Printed.{line}
 use Rattle.scenario.specs.Output.{Manner, manner_of}
 use Rattle.scenario_explain.specs.OnTheWay.{way_lines}
+use Rattle.scenario_explain.specs.Reason.{reasons_of}
 
 -- a line that is told: two spaces, and then its bytes, with `?` for what can't be printed
 unfoldable pub told_line : List ℕ → List ℕ
@@ -34,12 +35,13 @@ pub record AreOfNodes (text : List ℕ) : Type 0 where
   pub lines : List (List ℕ)
   pub text_is : text ≡ told_lines (map (λ line. codes "node " ++ line) lines)
 
--- what is told of the frames that were never given to their addressees
-abbrev pub told_way : Stage → List ℕ
-told_way s = told_lines (way_lines (all_waiting 1 s.given))
+-- what is told between the results of a command and lines of nodes: why it was refused, if it was,
+-- and the frames that were never given to their addressees
+abbrev pub told_way : List ℕ → Stage → List ℕ
+told_way results s = told_lines (reasons_of results ++ way_lines (all_waiting 1 s.given))
 
--- the line of a command, its results as a run prints them, the frames that are on their way after
--- it, and what nodes show; nothing else is told
+-- the line of a command, its results as a run prints them, why it was refused, the frames that are
+-- on their way after it, and what nodes show; nothing else is told
 pub record Explains (choices : Choices) (old : Stage) (command : Command) (text : List ℕ)
     (new : Stage) : Type 0 where
   pub before : List ℕ
@@ -48,7 +50,7 @@ pub record Explains (choices : Choices) (old : Stage) (command : Command) (text 
   pub obeys : Obeys choices old command results new
   pub after : List ℕ
   pub of_nodes : AreOfNodes after
-  pub text_is : text ≡ before ++ (results ++ (told_way new ++ after))
+  pub text_is : text ≡ before ++ (results ++ (told_way results new ++ after))
 
 -- of `nodes`: what is told before its `ok`
 pub record OpensExplained (text : List ℕ) : Type 0 where

@@ -6,6 +6,7 @@ ghost use Rattle.scenario_explain.specs.Noting.{NotesAll};
 ghost use Rattle.scenario_explain.specs.Told.{AddsCommand, Explains, OpensExplained, explained};
 
 use crate::line::add_line;
+use crate::reason::add_reason;
 use crate::told::Told;
 use crate::waiting::Waiting;
 use printing::print_number;
@@ -91,7 +92,9 @@ impl<'a> Runner for Explainer<'a> {
         text: &mut Vec<u8>,
     ) -> Result<(), StageFault> {
         self.tell_line(text)?;
+        let start = text.len();
         stage.obey(command, resolvers, text)?;
+        add_reason(text, start)?;
         self.waiting.note(stage, command)?;
         self.waiting.add_frames(text)?;
         self.told.add_news(stage.world(), command, text)?;
@@ -100,8 +103,8 @@ impl<'a> Runner for Explainer<'a> {
 }
 
 /// Runs a text as `run_over` does, and writes the same lines. Before those of each command stands,
-/// indented by two spaces, the number and the text of its line; after them a line with the numbers
-/// of the first sixteen frames that are on their way, which are those that were never given to
+/// indented by two spaces, the number and the text of its line; after them, if the command was
+/// refused, a line that says why; a line with the numbers of the first sixteen frames that are on their way, which are those that were never given to
 /// their addressees, and how many more there are; and a line for each key under which a node shows
 /// other siblings or another context than before, `ctx - values -` where a restart has taken them
 /// away. The contract says which frames are named, but not what is told of lines and of nodes.

@@ -1,6 +1,6 @@
 //! Scenarios, explained: what `scenario` prints of each command, and besides, indented, the command
-//! with the number of its line, the frames that are on their way after it, and what nodes show
-//! anew.
+//! with the number of its line, why it was refused, the frames that are on their way after it, and
+//! what nodes show anew.
 //!
 //! ```
 //! let text = b"nodes 2\njoin 1 0\n";
@@ -15,13 +15,14 @@
 //! ```
 //!
 //! Without its indented lines the output is that of `run_over`. Read `explain` (`Explainer`,
-//! `explain_over`), `told` (what was told of nodes), `waiting` (frames on their way), `line`, then
-//! `laws`.
+//! `explain_over`), `reason` (why a command was refused), `told` (what was told of nodes), `waiting`
+//! (frames on their way), `line`, then `laws`.
 #![tactic(auto)]
 
 mod explain;
 pub mod laws;
 mod line;
+mod reason;
 mod told;
 mod waiting;
 

@@ -1,23 +1,27 @@
 //! What is wrong with a line.
 
 ghost use Rattle.std.specs.Prelude.{◌≡◌, ◌↔◌, IsTrue};
-ghost use Rattle.scenario_hint.specs.Hint.{Found, IsHint, IsHintOfWords, ends_returned, starts_marked};
+ghost use Rattle.scenario_hint.specs.Hint.{Found, IsHint, IsHintOfWords, ends_returned, has_tab, starts_marked};
 ghost use Rattle.scenario_text.specs.Word.{words_of};
 
 use crate::near::near_verb;
+use crate::wrong::{Wrong, wrong_in};
 use scenario_text::{Verb, Words, verb_of};
 
 /// What is wrong with a line that breaks a rule.
 #[derive(Clone, Copy)]
-pub enum Hint {
+pub enum Hint<'a> {
     /// It begins with bytes that some editors put at the front of a text.
     ByteOrderMark,
     /// Its last byte is a carriage return, which is no part of a command.
     CarriageReturn,
+    /// It has a tab, which is a part of a word.
+    Tab,
     /// No command stands before it, and it doesn't say how many nodes there are.
     NodesFirst,
-    /// It begins with this verb, and hasn't its form, or names a resolver that isn't at hand.
-    Form(Verb),
+    /// It begins with this verb, and hasn't its form: this is wrong with the words behind it. Of
+    /// `nodes` behind the first command, and of a resolver that isn't at hand, nothing else is.
+    Form(Verb, Wrong<'a>),
     /// It begins with no verb. This one is near.
     Unknown(Option<Verb>),
 }
@@ -39,29 +43,38 @@ fn ends_returned(line: &[u8]) -> bool
     }
 }
 
+/// Whether a line has a tab.
+fn has_tab(line: &[u8]) -> bool
+    ensures { result ≡ has_tab line.now }
+{
+    line.contains(&b'\t')
+}
+
 /// What is wrong with a line by its words.
-fn hint_of_words(line: &[u8]) -> Hint
+fn hint_of_words(line: &[u8]) -> Hint<'_>
     ensures { IsHintOfWords (words_of line.now) result }
 {
-    let words = Words::of(line);
-    let Some(word) = words.peek() else {
+    let mut words = Words::of(line);
+    let Some(word) = words.next() else {
         return Hint::Unknown(None);
     };
     match verb_of(word) {
-        Some(verb) => Hint::Form(verb),
+        Some(verb) => Hint::Form(verb, wrong_in(verb, &mut words)),
         None => Hint::Unknown(near_verb(word)),
     }
 }
 
 /// Returns what is wrong with a line that breaks a rule; `begun` says whether a command stands
 /// before it.
-pub(crate) fn hint_of(begun: bool, line: &[u8]) -> Hint
+pub(crate) fn hint_of(begun: bool, line: &[u8]) -> Hint<'_>
     ensures { IsHint (record { begun = begun; line = line.now }) result }
 {
     if starts_marked(line) {
         Hint::ByteOrderMark
     } else if ends_returned(line) {
         Hint::CarriageReturn
+    } else if has_tab(line) {
+        Hint::Tab
     } else if begun {
         hint_of_words(line)
     } else {

@@ -1,12 +1,22 @@
 //! Words that are near each other.
 
 ghost use Rattle.std.specs.Prelude.{◌≡◌};
-ghost use Rattle.scenario_hint.specs.Hint.{all_verbs, is_near, near_of};
+ghost use Rattle.scenario_hint.specs.Hint.{all_verbs, is_near, near_of, swapped};
 
 use scenario_text::{VERBS, Verb, word_of};
 
+/// Whether the first two bytes of one are those of the other in turn, and all else is equal.
+fn swapped(word: &[u8], other: &[u8]) -> bool
+    ensures { result ≡ swapped word.now other.now }
+{
+    match (word, other) {
+        ([a, b, word @ ..], [c, d, other @ ..]) => (a == d) & ((b == c) & (word == other)),
+        _ => false,
+    }
+}
+
 /// Returns whether words are equal, or differ in one byte, which is another one, missing or too
-/// many.
+/// many, or in two neighbours, which are swapped.
 fn is_near(word: &[u8], other: &[u8]) -> bool
     ensures { result ≡ is_near word.now other.now }
 {
@@ -16,7 +26,8 @@ fn is_near(word: &[u8], other: &[u8]) -> bool
         right.split_first(),
     ) {
         if a != b {
-            return (left_rest == right_rest) | ((left_rest == right) | (left == right_rest));
+            return (left_rest == right_rest)
+                | ((left_rest == right) | ((left == right_rest) | swapped(left, right)));
         }
         left = left_rest;
         right = right_rest;

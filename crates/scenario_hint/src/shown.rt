@@ -8,18 +8,18 @@ use std::alloc::AllocError;
 /// The most bytes of a line that are shown.
 const MOST_SHOWN: usize = 80;
 
-/// Space to `~` as they are, all else as `?`.
+/// Space to `~` and a tab as they are, all else as `?`.
 fn shown_byte(byte: u8) -> u8
     ensures { result ≡ shown_byte byte }
 {
-    if (b' '..=b'~').contains(&byte) {
+    if (b' '..=b'~').contains(&byte) || byte == b'\t' {
         byte
     } else {
         b'?'
     }
 }
 
-/// Adds bytes: space to `~` as they are, all else as `?`.
+/// Adds bytes: space to `~` and a tab as they are, all else as `?`.
 pub fn add_printable(out: &mut Vec<u8>, bytes: &[u8]) -> Result<(), AllocError>
     ensures { OnOk result (out.new.items ≡ out.old.items ++ map shown_byte bytes.now) }
 {

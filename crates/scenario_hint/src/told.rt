@@ -1,13 +1,14 @@
 //! The two lines about a line that breaks a rule.
 
 ghost use Rattle.std.specs.Prelude.{◌≡◌, ◌++◌, OnOk, IfOk, Some};
-ghost use Rattle.scenario_hint.specs.Hint.{IsTold, hint_lines, hint_text};
-ghost use Rattle.scenario_hint.specs.declared.hint.Hint.TheVariants.{Unknown};
+ghost use Rattle.scenario_hint.specs.Hint.{IsTold, hint_lines, hint_text, wrong_text, wrong_words};
+ghost use Rattle.scenario_hint.specs.declared.hint.Hint.TheVariants.{Form, Unknown};
 
 use crate::form::form_of;
 use crate::found::found_behind;
 use crate::hint::{Hint, hint_of};
 use crate::shown::add_shown;
+use crate::wrong::{Wrong, slot_text};
 use printing::print_number;
 use scenario_text::{Verb, word_of};
 use std::alloc::{AllocError, Global};
@@ -23,8 +24,41 @@ fn add_near(out: &mut Vec<u8>, verb: Verb) -> Result<(), AllocError>
     Ok(())
 }
 
+/// Adds what is wrong with the words behind a verb.
+fn add_wrong(out: &mut Vec<u8>, wrong: Wrong<'_>) -> Result<(), AllocError>
+    ensures { OnOk result (out.new.items ≡ out.old.items ++ wrong_text (wrong_words wrong)) }
+{
+    match wrong {
+        Wrong::Nothing => Ok(()),
+        Wrong::At(slot, None) => {
+            out.extend_from_slice(b"; a word is missing: ")?;
+            out.extend_from_slice(slot_text(slot).as_bytes())
+        }
+        Wrong::At(slot, Some(word)) => {
+            out.extend_from_slice(b"; ")?;
+            add_shown(out, word)?;
+            out.extend_from_slice(b" is wrong: ")?;
+            out.extend_from_slice(slot_text(slot).as_bytes())
+        }
+        Wrong::TooMany(word) => {
+            out.extend_from_slice(b"; ")?;
+            add_shown(out, word)?;
+            out.extend_from_slice(b" is too many")
+        }
+    }
+}
+
+/// Adds the form of a command, and what is wrong with the words behind its verb.
+fn add_wanted(out: &mut Vec<u8>, verb: Verb, wrong: Wrong<'_>) -> Result<(), AllocError>
+    ensures { OnOk result (out.new.items ≡ out.old.items ++ hint_text (Form verb wrong)) }
+{
+    out.extend_from_slice(b"wanted: ")?;
+    out.extend_from_slice(form_of(verb).as_bytes())?;
+    add_wrong(out, wrong)
+}
+
 /// Adds what is wrong with a line.
-fn add_hint(out: &mut Vec<u8>, hint: Hint) -> Result<(), AllocError>
+fn add_hint(out: &mut Vec<u8>, hint: Hint<'_>) -> Result<(), AllocError>
     ensures { OnOk result (out.new.items ≡ out.old.items ++ hint_text hint) }
 {
     match hint {
@@ -34,13 +68,13 @@ fn add_hint(out: &mut Vec<u8>, hint: Hint) -> Result<(), AllocError>
         Hint::CarriageReturn => out.extend_from_slice(
             b"the line ends with a carriage return: end lines with a line feed alone",
         ),
+        Hint::Tab => out.extend_from_slice(
+            b"the line has a tab: words are separated by spaces alone",
+        ),
         Hint::NodesFirst => out.extend_from_slice(
             b"the first command is nodes COUNT; COUNT is 1 to 16",
         ),
-        Hint::Form(verb) => {
-            out.extend_from_slice(b"wanted: ")?;
-            out.extend_from_slice(form_of(verb).as_bytes())
-        }
+        Hint::Form(verb, wrong) => add_wanted(out, verb, wrong),
         Hint::Unknown(Some(verb)) => add_near(out, verb),
         Hint::Unknown(None) => out.extend_from_slice(b"no such command"),
     }
@@ -48,7 +82,7 @@ fn add_hint(out: &mut Vec<u8>, hint: Hint) -> Result<(), AllocError>
 
 /// Adds two lines: the one at fault, and what it wants.
 #[tactic(auto, unfolding(crate::specs::Hint::hint_lines))]
-fn add_lines(out: &mut Vec<u8>, number: u64, line: &[u8], hint: Hint) -> Result<(), AllocError>
+fn add_lines(out: &mut Vec<u8>, number: u64, line: &[u8], hint: Hint<'_>) -> Result<(), AllocError>
     ensures { OnOk result (out.new.items ≡ out.old.items ++ hint_lines number line.now hint) }
 {
     out.extend_from_slice(b"line ")?;

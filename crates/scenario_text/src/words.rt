@@ -71,7 +71,7 @@ impl<'a> Words<'a> {
     }
 
     /// The next word.
-    pub(crate) fn next(&mut self) -> Option<&'a [u8]>
+    pub fn next(&mut self) -> Option<&'a [u8]>
         ensures { Takes self.old result self.new }
     {
         let (word, rest) = split_word(self.left)?;
@@ -86,38 +86,44 @@ impl<'a> Words<'a> {
         self.peek().is_none()
     }
 
-    pub(crate) fn number(&mut self) -> Option<u64>
+    /// Reads a number. Of this and of what follows: returns nothing if the next word isn't that, or
+    /// there is none; nothing is said then of the words that are left.
+    pub fn number(&mut self) -> Option<u64>
         ensures { ReadsWords forms.a_number self.old result self.new }
     {
         number(self.next()?)
     }
 
-    pub(crate) fn key(&mut self) -> Option<KeyWord<'a>>
+    /// Reads a key, as `a/b/k`.
+    pub fn key(&mut self) -> Option<KeyWord<'a>>
         ensures { ReadsWords forms.a_key self.old (option_map key_word result) self.new }
     {
         key_word(self.next()?)
     }
 
-    pub(crate) fn prefix(&mut self) -> Option<PrefixWord<'a>>
+    /// Reads a full prefix, as `a/b`.
+    pub fn prefix(&mut self) -> Option<PrefixWord<'a>>
         ensures { ReadsWords forms.a_prefix self.old (option_map prefix_word result) self.new }
     {
         prefix_word(self.next()?)
     }
 
-    pub(crate) fn value(&mut self) -> Option<BytesWord<'a>>
+    /// Reads a value, as `red-1` or `hex:ff`.
+    pub fn value(&mut self) -> Option<BytesWord<'a>>
         ensures { ReadsWords forms.a_value self.old (option_map bytes_word result) self.new }
     {
         BytesWord::of_value(self.next()?)
     }
 
-    pub(crate) fn junk(&mut self) -> Option<BytesWord<'a>>
+    /// Reads hexadecimal digits, two at least.
+    pub fn junk(&mut self) -> Option<BytesWord<'a>>
         ensures { ReadsWords forms.junk self.old (option_map bytes_word result) self.new }
     {
         BytesWord::of_junk(self.next()?)
     }
 
-    /// A number from 1 to 16.
-    pub(crate) fn node_count(&mut self) -> Option<u64>
+    /// Reads a number from 1 to 16.
+    pub fn node_count(&mut self) -> Option<u64>
         ensures { ReadsWords forms.node_count self.old result self.new }
     {
         let count = self.number()?;
@@ -129,7 +135,7 @@ impl<'a> Words<'a> {
     }
 
     /// Reads the next word, a resolver's name, and returns its place, if that is below `resolvers`.
-    pub(crate) fn resolver(&mut self, resolvers: usize) -> Option<usize>
+    pub fn resolver(&mut self, resolvers: usize) -> Option<usize>
         ensures { ReadsWords (forms.resolver resolvers) self.old result self.new }
     {
         let place = match self.next()? {
@@ -142,7 +148,7 @@ impl<'a> Words<'a> {
 
     /// Reads the number that the next word is. Where it is no number, returns none and reads no
     /// word.
-    pub(crate) fn number_or_none(&mut self) -> Option<u64>
+    pub fn number_or_none(&mut self) -> Option<u64>
         ensures { ReadsWords number_or_none self.old (Some result) self.new }
     {
         let found = number(self.peek()?)?;
@@ -171,21 +177,21 @@ impl<'a> Words<'a> {
     }
 
     /// `stamp S`, or nothing for stamp 0.
-    pub(crate) fn stamp(&mut self) -> Option<u64>
+    pub fn stamp(&mut self) -> Option<u64>
         ensures { ReadsWords forms.stamp self.old result self.new }
     {
         self.labelled_or_zero(b"stamp")
     }
 
     /// `read R`, or nothing.
-    pub(crate) fn read(&mut self) -> Option<Option<u64>>
+    pub fn read(&mut self) -> Option<Option<u64>>
         ensures { ReadsWords forms.read self.old result self.new }
     {
         self.labelled(b"read")
     }
 
     /// `word W`, or nothing for word 0.
-    pub(crate) fn random(&mut self) -> Option<u64>
+    pub fn random(&mut self) -> Option<u64>
         ensures { ReadsWords forms.random self.old result self.new }
     {
         self.labelled_or_zero(b"word")

@@ -20,7 +20,7 @@ struct Run {
     told: &'static [u8],
 }
 
-static RUNS: [Run; 12] = [
+static RUNS: [Run; 17] = [
     Run {
         text: b"nodes 1\n",
         end: End::Over,
@@ -56,7 +56,7 @@ static RUNS: [Run; 12] = [
         output: b"error 70 BadLine 2\n",
         explained: b"error 70 BadLine 2\n",
         told: b"line 2: put 0 a/b x\n\
-wanted: put N KEY VALUE [stamp S] [read R]; KEY is as a/b/k, VALUE as red-1 or hex:ff\n",
+wanted: put N KEY VALUE [stamp S] [read R]; a/b is wrong: KEY is as a/b/k, of letters, digits, . _ and -\n",
     },
     Run {
         text: b"nodes 1\nget 0 a/b/k\n",
@@ -74,7 +74,7 @@ wanted: put N KEY VALUE [stamp S] [read R]; KEY is as a/b/k, VALUE as red-1 or h
         status: 1,
         output: b"error 70 BadLine 2\n",
         explained: b"error 70 BadLine 2\n",
-        told: b"line 2: ?puts 0?x?\nno such command\n",
+        told: b"line 2: \tputs 0\tx?\nthe line has a tab: words are separated by spaces alone\n",
     },
     Run {
         text: b"nodes 1\nputs 0 x\n",
@@ -84,6 +84,56 @@ wanted: put N KEY VALUE [stamp S] [read R]; KEY is as a/b/k, VALUE as red-1 or h
         output: b"error 70 BadLine 2\n",
         explained: b"error 70 BadLine 2\n",
         told: b"line 2: puts 0 x\nno such command; did you mean put?\n",
+    },
+    Run {
+        text: b"nodes 1\nshwo 0 a/b/k\n",
+        end: End::Over,
+        room: 200,
+        status: 1,
+        output: b"error 70 BadLine 2\n",
+        explained: b"error 70 BadLine 2\n",
+        told: b"line 2: shwo 0 a/b/k\n\
+no such command; did you mean show?\n",
+    },
+    Run {
+        text: b"nodes 1\nput 0 a/b/k red car\n",
+        end: End::Over,
+        room: 200,
+        status: 1,
+        output: b"error 70 BadLine 2\n",
+        explained: b"error 70 BadLine 2\n",
+        told: b"line 2: put 0 a/b/k red car\n\
+wanted: put N KEY VALUE [stamp S] [read R]; car is too many\n",
+    },
+    Run {
+        text: b"nodes 1\nwatch 0 a/b\n",
+        end: End::Over,
+        room: 200,
+        status: 1,
+        output: b"error 70 BadLine 2\n",
+        explained: b"error 70 BadLine 2\n",
+        told: b"line 2: watch 0 a/b\n\
+wanted: watch N PREFIX CAP; a word is missing: a number has 1 to 20 digits, and is below 2^64\n",
+    },
+    Run {
+        text: b"nodes 1\nresolve 0 a/b/k lwww\n",
+        end: End::Over,
+        room: 200,
+        status: 1,
+        output: b"error 70 BadLine 2\n",
+        explained: b"error 70 BadLine 2\n",
+        told: b"line 2: resolve 0 a/b/k lwww\n\
+wanted: resolve N KEY lww|largest; lwww is wrong: a resolver is lww or largest\n",
+    },
+    Run {
+        text: b"nodes 1\ndel 0 a/b/k stamp x\n",
+        end: End::Over,
+        room: 200,
+        status: 1,
+        output: b"error 70 BadLine 2\n",
+        explained: b"error 70 BadLine 2\n",
+        told: b"line 2: del 0 a/b/k stamp x\n\
+wanted: del N KEY [stamp S] [read R]; stamp is wrong: a number follows it\n",
     },
     Run {
         text: b"nodes 1\nroot 0\r\n",
@@ -113,7 +163,7 @@ the line begins with a byte order mark: save the text without one\n",
         output: b"error 70 BadLine 3\n",
         explained: b"error 70 BadLine 3\n",
         told: b"line 3: nodes 1\n\
-wanted: nodes COUNT, once, as the first command; COUNT is 1 to 16\n",
+wanted: nodes COUNT, once, as the first command\n",
     },
     Run {
         text: b"nodes 1\n",
