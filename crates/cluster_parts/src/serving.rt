@@ -64,8 +64,8 @@ fn begin<D: Device + Drop>(
     }
 }
 
-/// Begins a life of each of the nodes 0, 1 and so on, in the order of their devices, up to the
-/// first that is refused.
+/// Begins a life of each of the nodes 0, 1 and so on, in the order of their devices. Refused as
+/// `node_file::serve` is, of the first device that can't be served.
 pub fn begin_all<D: Device + Drop>(
     alloc: Global,
     devices: Vec<D>,

@@ -40,7 +40,8 @@ pub struct Worked {
     pub is_stopped: bool,
 }
 
-/// Does a job: refused with what ends the whole run.
+/// Does a job. Refused with what ends the whole run: 54 `SeatsMissing`, for which no cause is
+/// known, and 99 `Memory`.
 pub fn work<D: Device + Drop, R: Wait, G: Gate>(
     shared: &Shared<R, G>,
     job: Job<D>,

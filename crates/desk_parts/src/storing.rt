@@ -16,7 +16,9 @@ use node_events::NodeEvent;
 use node_file::{FileFault, NodeFile};
 use std::alloc::Global;
 
-/// Puts what the event stores into the file, out of what the store then holds.
+/// Puts what the event stores into the file, out of what the store then holds. Refused with 33
+/// `FileFull`; with 30 `Device`, which stops the file; or with 99 `Memory`, which stops it or
+/// leaves what it held.
 pub fn store_in<D: Device>(
     alloc: Global,
     file: &mut NodeFile<D>,

@@ -19,7 +19,7 @@ fn make_even(state: &NodeState, spare: &mut NodeState, is_even: bool) -> Result<
     Ok(())
 }
 
-/// The step of an event, on the spare. A refused step leaves both even.
+/// The step of an event, on the spare. Refused as the step is, and then both are even.
 pub fn try_step(
     state: &NodeState,
     spare: &mut NodeState,

@@ -49,7 +49,8 @@ enum Sharing {
 
 impl FileDevice {
     /// Opens the file at the path to be read. It may be shared with others that only read, and a
-    /// write, a cut or a sync of it may fail.
+    /// write, a cut or a sync of it may fail. Refused with `Missing`, `NotAFile`, `InUse`, `Failed`
+    /// or `Memory`.
     pub fn open_to_read(
         rt: &HostRuntime,
         alloc: Global,
@@ -63,7 +64,7 @@ impl FileDevice {
         take_over(rt, alloc, file, path, Sharing::Readers)
     }
 
-    /// Opens the file at the path, for this device alone.
+    /// Opens the file at the path, for this device alone. Refused as `open_to_read` is.
     pub fn open(rt: &HostRuntime, alloc: Global, path: &str) -> Result<FileDevice, OpenFault>
         ensures { IfOk result (λ d. IsDurable
             (⟦<FileDevice as Device>⟧.content d) (⟦<FileDevice as Device>⟧.may_leave d)) }
@@ -74,7 +75,8 @@ impl FileDevice {
     }
 
     /// Makes an empty file at the path, where nothing is, not even a link, for this device alone.
-    /// Where that fails it removes what it made.
+    /// Refused with `Exists`, `Missing` of its folder, `Failed` or `Memory`; it removes what it
+    /// made then.
     pub fn create_new(rt: &HostRuntime, alloc: Global, path: &str) -> Result<FileDevice, OpenFault>
         ensures { IfOk result (λ d. IsDurable
             (⟦<FileDevice as Device>⟧.content d) (⟦<FileDevice as Device>⟧.may_leave d)) }
@@ -93,7 +95,8 @@ impl FileDevice {
     }
 
     /// Opens the file at the path, for this device alone, and makes an empty one where nothing is.
-    /// A mistyped path is made too: call `open` where a file is known to be there.
+    /// A mistyped path is made too: call `open` where a file is known to be there. Refused as
+    /// `open` is, and where nothing is there as `create_new`.
     pub fn open_or_create(
         rt: &HostRuntime,
         alloc: Global,
@@ -111,7 +114,7 @@ impl FileDevice {
 
 /// Reads the first bytes of the file at the path into the buffer, as many as fit or as there are,
 /// and returns how many. The file is opened and locked as `open_to_read` does, and closed again. It
-/// takes no memory.
+/// takes no memory. Refused as `open_to_read` is, but for `Memory`.
 pub fn read_front(rt: &HostRuntime, path: &str, buffer: &mut [u8]) -> Result<usize, OpenFault>
     ensures within { IfOk result (λ n. n ≤ length buffer.old) }
     ensures len { length buffer.new ≡ length buffer.old }

@@ -90,7 +90,7 @@ pub extern "C" fn zomtagi_free(alloc: Global, slot: &mut Slot)
 }
 
 /// The bytes of a file of a node that had no life yet. The program writes and syncs them before it
-/// serves the node. Refused with 3 `BadNode`, 81 `ShortBuffer` and 99 `Memory`.
+/// serves the node. Refused with 3 `BadNode`, 99 `Memory` and 81 `ShortBuffer`.
 #[unsafe(no_mangle)]
 pub extern "C" fn zomtagi_empty_file(
     alloc: Global,

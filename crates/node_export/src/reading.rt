@@ -17,7 +17,7 @@ use node_handle::Slot;
 use std::alloc::{AllocError, Global};
 
 /// The keys under a full prefix, in order, each as a frame has it. What the node holds may not be
-/// stored yet. Refused with 80 `NoNode`, 1 `BadName`, 81 `ShortBuffer` and 99 `Memory`.
+/// stored yet. Refused with 80 `NoNode`, 1 `BadName`, 99 `Memory` and 81 `ShortBuffer`.
 #[unsafe(no_mangle)]
 pub extern "C" fn zomtagi_list(
     alloc: Global,

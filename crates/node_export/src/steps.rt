@@ -53,7 +53,8 @@ pub(crate) fn key_of(
     MetaKey::new(prefix, key.to_vec(alloc)?)
 }
 
-/// The node is read; `zomtagi_reply` has what it shows.
+/// The node is read; `zomtagi_reply` has what it shows. Refused with 80 `NoNode`, 1 `BadName`, then
+/// as `HostedNode::act` is; 99 `Memory` of a copy may come in place of 34 and 37 too.
 #[unsafe(no_mangle)]
 pub extern "C" fn zomtagi_read(
     alloc: Global,
@@ -72,7 +73,7 @@ pub extern "C" fn zomtagi_read(
     }
 }
 
-/// What is held under the key is to be stored.
+/// What is held under the key is to be stored. Refused as `zomtagi_read` is.
 #[unsafe(no_mangle)]
 pub extern "C" fn zomtagi_keep(
     alloc: Global,
@@ -91,7 +92,9 @@ pub extern "C" fn zomtagi_keep(
     }
 }
 
-/// Bytes came that should be a frame for the node. The word is a random number.
+/// Bytes came that should be a frame for the node. The word is a random number. Refused with 80
+/// `NoNode`, then as `HostedNode::act` is; 99 `Memory` of a copy may come in place of 34 and 37
+/// too.
 #[unsafe(no_mangle)]
 pub extern "C" fn zomtagi_take(alloc: Global, slot: &mut Slot, frame: &[u8], word: u64) -> u16
     ensures { InSlot (AnswersCopied (Take frame.now word))
@@ -106,7 +109,7 @@ pub extern "C" fn zomtagi_take(alloc: Global, slot: &mut Slot, frame: &[u8], wor
     }
 }
 
-/// Time passes.
+/// Time passes. Refused with 80 `NoNode`, then as `HostedNode::act` is.
 #[unsafe(no_mangle)]
 pub extern "C" fn zomtagi_tick(alloc: Global, slot: &mut Slot, word: u64) -> u16
     ensures { Answers slot.old.handle.held (Tick word) slot.new.handle.held result }
@@ -114,7 +117,8 @@ pub extern "C" fn zomtagi_tick(alloc: Global, slot: &mut Slot, word: u64) -> u16
     act_in(alloc, slot, NodeEvent::Tick { word })
 }
 
-/// The node joins the cluster through a contact.
+/// The node joins the cluster through a contact. Refused with 80 `NoNode`, 3 `BadNode`, then as
+/// `HostedNode::act` is.
 #[unsafe(no_mangle)]
 pub extern "C" fn zomtagi_join(alloc: Global, slot: &mut Slot, contact: u16, word: u64) -> u16
     ensures { InSlot (AnswersPeer contact (Join contact word))
@@ -126,7 +130,7 @@ pub extern "C" fn zomtagi_join(alloc: Global, slot: &mut Slot, contact: u16, wor
     }
 }
 
-/// Somebody found that a peer doesn't answer.
+/// Somebody found that a peer doesn't answer. Refused as `zomtagi_join` is.
 #[unsafe(no_mangle)]
 pub extern "C" fn zomtagi_peer_down(alloc: Global, slot: &mut Slot, peer: u16, word: u64) -> u16
     ensures { InSlot (AnswersPeer peer (PeerDown peer word))
@@ -138,7 +142,7 @@ pub extern "C" fn zomtagi_peer_down(alloc: Global, slot: &mut Slot, peer: u16, w
     }
 }
 
-/// The node begins an exchange with a peer.
+/// The node begins an exchange with a peer. Refused as `zomtagi_join` is.
 #[unsafe(no_mangle)]
 pub extern "C" fn zomtagi_exchange(alloc: Global, slot: &mut Slot, peer: u16) -> u16
     ensures { InSlot (AnswersPeer peer (Exchange peer))
@@ -150,7 +154,7 @@ pub extern "C" fn zomtagi_exchange(alloc: Global, slot: &mut Slot, peer: u16) ->
     }
 }
 
-/// The node tells a peer which life it is in.
+/// The node tells a peer which life it is in. Refused as `zomtagi_join` is.
 #[unsafe(no_mangle)]
 pub extern "C" fn zomtagi_hello(alloc: Global, slot: &mut Slot, peer: u16) -> u16
     ensures { InSlot (AnswersPeer peer (Hello peer))
@@ -162,7 +166,7 @@ pub extern "C" fn zomtagi_hello(alloc: Global, slot: &mut Slot, peer: u16) -> u1
     }
 }
 
-/// The node leaves the cluster.
+/// The node leaves the cluster. Refused as `zomtagi_tick` is.
 #[unsafe(no_mangle)]
 pub extern "C" fn zomtagi_leave(alloc: Global, slot: &mut Slot) -> u16
     ensures { Answers slot.old.handle.held Leave slot.new.handle.held result }
@@ -170,7 +174,8 @@ pub extern "C" fn zomtagi_leave(alloc: Global, slot: &mut Slot) -> u16
     act_in(alloc, slot, NodeEvent::Leave)
 }
 
-/// Somebody wants to hear of the changes under a full prefix, the last `capacity` of them.
+/// Somebody wants to hear of the changes under a full prefix, the last `capacity` of them. Refused
+/// as `zomtagi_read` is.
 #[unsafe(no_mangle)]
 pub extern "C" fn zomtagi_watch(
     alloc: Global,
@@ -200,7 +205,7 @@ pub(crate) fn prefix_of(alloc: Global, prefix: &[u8], sub: &[u8]) -> Result<Full
     FullPrefix::new(prefix.to_vec(alloc)?, sub.to_vec(alloc)?)
 }
 
-/// The watch of that number hands out what it has noted.
+/// The watch of that number hands out what it has noted. Refused as `zomtagi_tick` is.
 #[unsafe(no_mangle)]
 pub extern "C" fn zomtagi_changes(alloc: Global, slot: &mut Slot, number: u64) -> u16
     ensures { Answers slot.old.handle.held (Changes number) slot.new.handle.held result }

@@ -125,6 +125,7 @@ fn write_over_in(
 
 /// Writes a value, which has read what the context of this number says, or nothing for 0. Refused
 /// with 80 `NoNode`; 43 `NoSuchRead`; 1 `BadName`, 2 `ValueTooLong`; then as `HostedNode::act` is.
+/// 99 `Memory` of a copy may come in place of 34 and 37 too.
 #[unsafe(no_mangle)]
 pub extern "C" fn zomtagi_write(
     alloc: Global,
@@ -143,7 +144,7 @@ pub extern "C" fn zomtagi_write(
     write_in(alloc, slot, (prefix, sub, key), Some(body), stamp, context)
 }
 
-/// Writes a tombstone, as `zomtagi_write` writes a value.
+/// Writes a tombstone, as `zomtagi_write` writes a value. Refused as `zomtagi_write` is, but for 2.
 #[unsafe(no_mangle)]
 pub extern "C" fn zomtagi_delete(
     alloc: Global,
@@ -178,7 +179,8 @@ pub extern "C" fn zomtagi_write_over(
     write_over_in(alloc, slot, (prefix, sub, key), Some(body), stamp)
 }
 
-/// Writes a tombstone over all that the node shows.
+/// Writes a tombstone over all that the node shows. Refused as `zomtagi_write` is, but for 43 and
+/// 2.
 #[unsafe(no_mangle)]
 pub extern "C" fn zomtagi_delete_over(
     alloc: Global,

@@ -67,7 +67,8 @@ impl<D: Device + Drop, J: Naming, H: Wait + Drop> Node<D, J, H> {
         self.desk.lock(rt).act(rt, seat, event)
     }
 
-    /// A write: the value stands under the key, in place of all that the context has read.
+    /// A write: the value stands under the key, in place of all that the context has read. Refused
+    /// as [`Desk::act`] is.
     pub fn put<R: Wait>(
         &self,
         rt: &R,
@@ -94,6 +95,7 @@ impl<D: Device + Drop, J: Naming, H: Wait + Drop> Node<D, J, H> {
     }
 
     /// A read, by a step of the node: its reply has the values and the context for a later write.
+    /// Refused as [`Desk::act`] is.
     pub fn get<R: Wait>(
         &self,
         rt: &R,
@@ -107,7 +109,7 @@ impl<D: Device + Drop, J: Naming, H: Wait + Drop> Node<D, J, H> {
         self.act(rt, seat, NodeEvent::Read { key })
     }
 
-    /// A write in place of all that the node holds under the key.
+    /// A write in place of all that the node holds under the key. Refused as [`Desk::act`] is.
     pub fn put_over<R: Wait>(
         &self,
         rt: &R,
@@ -124,7 +126,7 @@ impl<D: Device + Drop, J: Naming, H: Wait + Drop> Node<D, J, H> {
         self.act(rt, seat, NodeEvent::PutOver { key, value })
     }
 
-    /// A frame comes in.
+    /// A frame comes in. Refused as [`Desk::act`] is.
     pub fn take<R: Wait>(
         &self,
         rt: &R,
@@ -141,7 +143,7 @@ impl<D: Device + Drop, J: Naming, H: Wait + Drop> Node<D, J, H> {
         self.act(rt, seat, NodeEvent::Take { frame, word })
     }
 
-    /// Time goes on.
+    /// Time goes on. Refused as [`Desk::act`] is.
     pub fn tick<R: Wait>(
         &self,
         rt: &R,
@@ -155,7 +157,7 @@ impl<D: Device + Drop, J: Naming, H: Wait + Drop> Node<D, J, H> {
         self.act(rt, seat, NodeEvent::Tick { word })
     }
 
-    /// Joins the cluster by a contact.
+    /// Joins the cluster by a contact. Refused as [`Desk::act`] is.
     pub fn join<R: Wait>(
         &self,
         rt: &R,
@@ -172,7 +174,7 @@ impl<D: Device + Drop, J: Naming, H: Wait + Drop> Node<D, J, H> {
         self.act(rt, seat, NodeEvent::Join { contact, word })
     }
 
-    /// A peer is known to be down.
+    /// A peer is known to be down. Refused as [`Desk::act`] is.
     pub fn peer_down<R: Wait>(
         &self,
         rt: &R,
@@ -189,7 +191,7 @@ impl<D: Device + Drop, J: Naming, H: Wait + Drop> Node<D, J, H> {
         self.act(rt, seat, NodeEvent::PeerDown { peer, word })
     }
 
-    /// Begins an exchange with a peer.
+    /// Begins an exchange with a peer. Refused as [`Desk::act`] is.
     pub fn exchange<R: Wait>(
         &self,
         rt: &R,
@@ -204,7 +206,8 @@ impl<D: Device + Drop, J: Naming, H: Wait + Drop> Node<D, J, H> {
         self.act(rt, seat, NodeEvent::Exchange { peer })
     }
 
-    /// What is held under the key is stored in the file once more, or for the first time.
+    /// What is held under the key is stored in the file once more, or for the first time. Refused
+    /// as [`Desk::act`] is.
     pub fn keep<R: Wait>(
         &self,
         rt: &R,
@@ -218,7 +221,7 @@ impl<D: Device + Drop, J: Naming, H: Wait + Drop> Node<D, J, H> {
         self.act(rt, seat, NodeEvent::Keep { key })
     }
 
-    /// Tells a peer which life this is.
+    /// Tells a peer which life this is. Refused as [`Desk::act`] is.
     pub fn hello<R: Wait>(
         &self,
         rt: &R,
@@ -232,7 +235,7 @@ impl<D: Device + Drop, J: Naming, H: Wait + Drop> Node<D, J, H> {
         self.act(rt, seat, NodeEvent::Hello { peer })
     }
 
-    /// Takes leave of all peers.
+    /// Takes leave of all peers. Refused as [`Desk::act`] is.
     pub fn leave<R: Wait>(
         &self,
         rt: &R,
@@ -245,7 +248,8 @@ impl<D: Device + Drop, J: Naming, H: Wait + Drop> Node<D, J, H> {
         self.act(rt, seat, NodeEvent::Leave)
     }
 
-    /// Watches the keys under a prefix: the last changes, `capacity` at most.
+    /// Watches the keys under a prefix: the last changes, `capacity` at most. Refused as
+    /// [`Desk::act`] is.
     pub fn watch<R: Wait>(
         &self,
         rt: &R,
@@ -262,7 +266,7 @@ impl<D: Device + Drop, J: Naming, H: Wait + Drop> Node<D, J, H> {
         self.act(rt, seat, NodeEvent::Watch { prefix, capacity })
     }
 
-    /// Takes what a watch has noted.
+    /// Takes what a watch has noted. Refused as [`Desk::act`] is.
     pub fn changes<R: Wait>(
         &self,
         rt: &R,
@@ -300,7 +304,7 @@ impl<D: Device + Drop, J: Naming, H: Wait + Drop> Node<D, J, H> {
         self.desk.lock(rt).give_up(seat);
     }
 
-    /// Starts a node, as [`Desk::start`] makes a desk.
+    /// Starts a node, as [`Desk::start`] makes a desk. Refused as `Desk::start` is.
     pub fn start(
         handle: H,
         alloc: Global,

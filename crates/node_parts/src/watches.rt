@@ -52,7 +52,8 @@ impl Watches {
         self.list.as_slice()
     }
 
-    /// Adds a watch. Returns its number.
+    /// Adds a watch. Returns its number. Refused with 28 `BadWatch` where there are sixteen, or the
+    /// capacity is out of range, and with 99 `Memory`.
     pub fn add(&mut self, prefix: &FullPrefix, capacity: usize) -> Result<u64, StepFault>
         ensures value { OnOk result (self.new ≡ self.old ++ empty prefix.now capacity ∷ []) }
         ensures number { IfOk result (λ number. number ≡ length self.old + 1) }
@@ -78,7 +79,8 @@ impl Watches {
         Ok(Watch::new(self.alloc, prefix, capacity)?)
     }
 
-    /// Hands out what the watch of this number has noted.
+    /// Hands out what the watch of this number has noted. Refused with 29 `NoSuchWatch` and 99
+    /// `Memory`.
     pub fn hand_out(&mut self, number: u64) -> Result<Reply, StepFault>
         ensures value { OnOk result (self.new ≡ hand_out number self.old) }
         ensures reply { IfOk result

@@ -14,8 +14,8 @@ use std::sync::Wait;
 use std::thread::{Threads, join};
 
 /// Publishes a change in one thread and looks in another, and returns what each took, with its
-/// result: a publisher and a seat may go to other threads. Whether the look shows the change isn't
-/// known.
+/// result: a publisher and a seat may go to other threads. Refused as `publish` and `peek` are.
+/// Whether the look shows the change isn't known.
 pub fn side_by_side<J: Naming + Send + Sync, H: Wait + Drop + Send, R: Threads + Wait + Sync>(
     rt: &R,
     tail: &Tail<J>,

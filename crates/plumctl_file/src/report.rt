@@ -30,7 +30,7 @@ pub enum Reported<D: Device> {
     Stopped(D, StreamFault),
 }
 
-/// Writes a text and passes it on. Where that fails, a front of it was written.
+/// Writes a text and passes it on. Refused as `streams::write_whole` is.
 pub fn print<W: Sink>(writer: &mut W, text: &[u8]) -> Result<(), StreamFault>
     ensures ok { OnOk result (WritesOut (W.at writer.old) (W.at writer.new) text.now) }
     ensures err { IfErr result (λ fault. WritesFront (W.at writer.old) (W.at writer.new) text.now

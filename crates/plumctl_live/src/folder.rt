@@ -28,7 +28,8 @@ fn new_file(rt: &HostRuntime, folder: &str, node: u64) -> Result<FileDevice, Ope
 }
 
 /// Makes a folder, where nothing is, and in it an empty file for each of `nodes` nodes: `node-0`,
-/// `node-1` and so on. Where one can't be made, what was made stays.
+/// `node-1` and so on. Refused with `Exists`, `Missing` of the folder above it, `Failed` or
+/// `Memory`; what was made stays.
 pub fn new_files(rt: &HostRuntime, folder: &str, nodes: u64) -> Result<Vec<FileDevice>, OpenFault>
     ensures many { IfOk result (λ devices. length devices.items ≡ nodes) }
     ensures durable { IfOk result (λ devices. All (λ d. IsDurable

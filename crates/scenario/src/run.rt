@@ -195,12 +195,13 @@ pub fn run_text<P: Runner, W: Sink>(
 
 /// Reads a text to its end, runs it over a new world, and writes what it prints. The whole text is
 /// read first: where a line breaks a rule, `error 70 BadLine` and its number is all that is
-/// written, and the call ends with that fault. It ends with 71 `Limit`, which is written too, where
-/// a `settle` would deliver more than 100,000 frames. It ends with 7 `Read` at the first error of
-/// the reader, an interruption too, and with 8 `InputTooLong` past 67,108,864 bytes, and then
-/// nothing was written; with `Write` or `BrokenPipe` where the writer fails, and with 99 `Memory`,
-/// and then a front of the output was written. It takes memory for the text, for what one command
-/// prints, and for the world.
+/// written. It takes memory for the text, for what one command prints, and for the world.
+///
+/// Refused in this order: 7 `Read` at the first error of the reader, an interruption too, or 8
+/// `InputTooLong` past 67,108,864 bytes, and then nothing was written; 70 `BadLine`; 71 `Limit`,
+/// which is written too, where a `settle` would deliver more than 100,000 frames, or `Write` or
+/// `BrokenPipe` where the writer fails. 99 `Memory` may come at any time. After 99 or a fault of
+/// the writer a front of the output was written.
 pub fn run_over<R: Source, W: Sink>(
     alloc: Global,
     reader: &mut R,

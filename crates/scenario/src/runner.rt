@@ -28,7 +28,7 @@ pub trait Runner {
         ensures opened { OnOk result (Opens opens text.old.items text.new.items) }
         ensures begins { OnOk result (follows self.new stage.now) };
 
-    /// Does what a command says, and adds what is printed of it. Ends as [`Stage::obey`] does.
+    /// Does what a command says, and adds what is printed of it. Refused as [`Stage::obey`] is.
     fn obey(
         &mut self,
         stage: &mut Stage,

@@ -110,6 +110,7 @@ impl<'a> Runner for Explainer<'a> {
 /// away. The contract says which frames are named, but not what is told of lines and of nodes.
 /// Where two tables have the same root they are taken to show the same. Where it comes to its end,
 /// or to 70 or 71, so does `run_over`. It takes memory besides for a copy of what each node holds.
+/// Refused as `run_over` is.
 pub fn explain_over<R: Source, W: Sink>(
     alloc: Global,
     reader: &mut R,

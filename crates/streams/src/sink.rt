@@ -100,8 +100,9 @@ pub fn write_fault(kind: ErrorKind) -> StreamFault
     }
 }
 
-/// Writes all the bytes; after a fault a front of them was written. The first error ends it, an
-/// interruption too.
+/// Writes all the bytes. Refused with `BrokenPipe`, 99 `Memory` or `Write`, by the kind of the
+/// writer's first error, an interruption too, and with `Write` where it takes nothing; a front of
+/// the bytes was written then.
 pub fn write_whole<W: Sink>(writer: &mut W, bytes: &[u8]) -> Result<(), StreamFault>
     ensures ok { OnOk result
         (Appends (W.at writer.old).contents (W.at writer.new).contents bytes.now) }
@@ -122,7 +123,7 @@ pub fn write_whole<W: Sink>(writer: &mut W, bytes: &[u8]) -> Result<(), StreamFa
     Ok(())
 }
 
-/// Passes on what the writer holds back.
+/// Passes on what the writer holds back. Refused as `write_whole` is; nothing was written then.
 pub fn flush<W: Sink>(writer: &mut W) -> Result<(), StreamFault>
     ensures bytes { Keeps (W.at writer.old).contents (W.at writer.new).contents }
     ensures cause { IfErr result (λ fault. IsWriterFault (W.at writer.old).failed
