@@ -75,8 +75,8 @@ pub extern "C" fn zomtagi_stored(alloc: Global, slot: &mut Slot, is_stored: u8) 
     answer_of(stored)
 }
 
-/// What the last step replied, as bytes: see `docs/EMBEDDING.md`. Refused as `zomtagi_record` is,
-/// and with 99 `Memory`.
+/// What the last step replied, as bytes: see `bindings/c/zomtagi.h`. Refused as `zomtagi_record`
+/// is, and with 99 `Memory`.
 #[unsafe(no_mangle)]
 pub extern "C" fn zomtagi_reply(
     alloc: Global,
