@@ -75,7 +75,7 @@ pub extern "C" fn zomtagi_stored(alloc: Global, slot: &mut Slot, is_stored: u8) 
     answer_of(stored)
 }
 
-/// What the last step replied, as bytes: see `docs/EMBEDDING.md`. Refused with 80 `NoNode`, 38
+/// What the last step replied, as bytes: see `bindings/c/zomtagi.h`. Refused with 80 `NoNode`, 38
 /// `Nothing`, 99 `Memory` and 81 `ShortBuffer`, as `zomtagi_record` is.
 #[unsafe(no_mangle)]
 pub extern "C" fn zomtagi_reply(
