@@ -6,7 +6,7 @@ use Rattle.std.specs.Option.{unwrap_or}
 use Rattle.scenario_text.specs.declared.verb.Verb.{Verb}
 use Rattle.scenario_text.specs.Coded.{verb_word}
 use Rattle.scenario_text.specs.Word.{Word}
-use Rattle.scenario_hint.specs.Hint.{IsHintOfWords, NoneWrong, WrongAt, WrongWords, behind_slot, is_near, left_over, near_of, swapped, wrong_in}
+use Rattle.scenario_hint.specs.Hint.{IsHintOfWords, NoneWrong, OneMore, WrongAt, WrongWords, behind_slot, is_near, left_over, near_of, swapped, wrong_in}
 use Rattle.scenario_hint.specs.declared.hint.Hint.TheVariants.{Unknown}
 use Rattle.scenario_hint.specs.declared.wrong.Slot.{Slot}
 
@@ -87,6 +87,14 @@ wrong_next slots i slot words left lt some =
       | None ↦ WrongAt (get_or slots i slot) (slice_get words 0)
       | Some left ↦ wrong_in (drop (i + 1) slots) left
     ]) some
+
+pub nothing_left : (words : List Word) → None ≡ slice_get words 0 → left_over words ≡ NoneWrong
+nothing_left [] none = refl
+nothing_left (word ∷ words) none = cc
+
+pub one_left : (words : List Word) (word : Word) → Some word ≡ slice_get words 0 → left_over words ≡ OneMore word
+one_left [] word some = cc
+one_left (other ∷ words) word some = ap OneMore (ap (λ (o : Option Word). unwrap_or o []) (sym some))
 
 pub wrong_over : (words : List Word) → wrong_in [] words ≡ left_over words
 unfolding wrong_in

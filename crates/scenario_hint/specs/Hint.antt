@@ -2,7 +2,7 @@
 -- it stands, and what it wants. This is printed at standard error; the output of a run has the
 -- number alone. The texts are this project's own.
 use Rattle.std.specs.List.{list_any}
-use Rattle.std.specs.Option.{option_map}
+use Rattle.std.specs.Option.{option_copied}
 use Rattle.std.specs.Prelude.{◌≡◌, ◌≢◌, ◌-◌, ℕ, zero, suc, ◌==◌, nat_le, Bool, true, false, not, ◌||◌, ◌&&◌, if◌then◌else◌, MatchBool, List, [], ◌∷◌, ◌++◌, length, take, map, slice_get, Option, Some, None, bytes_eq, codes, decimal}
 use Rattle.streams.specs.Line.{lines_of}
 use Rattle.scenario_text.specs.declared.verb.Verb.{Verb}
@@ -157,7 +157,7 @@ wrong_in (slot ∷ slots) words = elim (behind_slot slot words) [
 
 abbrev pub wrong_words : Wrong → WrongWords
 wrong_words Nothing = NoneWrong
-wrong_words (At slot word) = WrongAt slot (option_map (λ w. w.now) word)
+wrong_words (At slot word) = WrongAt slot (option_copied word)
 wrong_words (TooMany word) = OneMore word.now
 
 -- ---- near words

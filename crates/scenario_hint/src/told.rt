@@ -1,14 +1,14 @@
 //! The two lines about a line that breaks a rule.
 
-ghost use Rattle.std.specs.Prelude.{◌≡◌, ◌++◌, OnOk, IfOk, Some};
-ghost use Rattle.scenario_hint.specs.Hint.{IsTold, hint_lines, hint_text, wrong_text, wrong_words};
+ghost use Rattle.std.specs.Prelude.{◌≡◌, ◌++◌, OnOk, IfOk, None, Some};
+ghost use Rattle.scenario_hint.specs.Hint.{IsTold, OneMore, WrongAt, hint_lines, hint_text, wrong_text, wrong_words};
 ghost use Rattle.scenario_hint.specs.declared.hint.Hint.TheVariants.{Form, Unknown};
 
 use crate::form::form_of;
 use crate::found::found_behind;
 use crate::hint::{Hint, hint_of};
 use crate::shown::add_shown;
-use crate::wrong::{Wrong, slot_text};
+use crate::wrong::{Slot, Wrong, slot_text};
 use printing::print_number;
 use scenario_text::{Verb, word_of};
 use std::alloc::{AllocError, Global};
@@ -24,27 +24,46 @@ fn add_near(out: &mut Vec<u8>, verb: Verb) -> Result<(), AllocError>
     Ok(())
 }
 
+/// Adds that a word is missing, and what it may be.
+fn add_missing(out: &mut Vec<u8>, slot: Slot) -> Result<(), AllocError>
+    ensures { OnOk result (out.new.items ≡ out.old.items ++ wrong_text (WrongAt slot None)) }
+{
+    out.extend_from_slice(b"; a word is missing: ")?;
+    out.extend_from_slice(slot_text(slot).as_bytes())?;
+    Ok(())
+}
+
+/// Adds that a word is wrong, and what may stand there.
+fn add_bad(out: &mut Vec<u8>, slot: Slot, word: &[u8]) -> Result<(), AllocError>
+    ensures { OnOk result
+        (out.new.items ≡ out.old.items ++ wrong_text (WrongAt slot (Some word.now))) }
+{
+    out.extend_from_slice(b"; ")?;
+    add_shown(out, word)?;
+    out.extend_from_slice(b" is wrong: ")?;
+    out.extend_from_slice(slot_text(slot).as_bytes())?;
+    Ok(())
+}
+
+/// Adds that a word is too many.
+fn add_more(out: &mut Vec<u8>, word: &[u8]) -> Result<(), AllocError>
+    ensures { OnOk result (out.new.items ≡ out.old.items ++ wrong_text (OneMore word.now)) }
+{
+    out.extend_from_slice(b"; ")?;
+    add_shown(out, word)?;
+    out.extend_from_slice(b" is too many")?;
+    Ok(())
+}
+
 /// Adds what is wrong with the words behind a verb.
 fn add_wrong(out: &mut Vec<u8>, wrong: Wrong<'_>) -> Result<(), AllocError>
     ensures { OnOk result (out.new.items ≡ out.old.items ++ wrong_text (wrong_words wrong.entry)) }
 {
     match wrong {
         Wrong::Nothing => Ok(()),
-        Wrong::At(slot, None) => {
-            out.extend_from_slice(b"; a word is missing: ")?;
-            out.extend_from_slice(slot_text(slot).as_bytes())
-        }
-        Wrong::At(slot, Some(word)) => {
-            out.extend_from_slice(b"; ")?;
-            add_shown(out, word)?;
-            out.extend_from_slice(b" is wrong: ")?;
-            out.extend_from_slice(slot_text(slot).as_bytes())
-        }
-        Wrong::TooMany(word) => {
-            out.extend_from_slice(b"; ")?;
-            add_shown(out, word)?;
-            out.extend_from_slice(b" is too many")
-        }
+        Wrong::At(slot, None) => add_missing(out, slot),
+        Wrong::At(slot, Some(word)) => add_bad(out, slot, word),
+        Wrong::TooMany(word) => add_more(out, word),
     }
 }
 
