@@ -102,6 +102,12 @@ wrong_over words = refl
 
 -- ---- texts
 
+pub two_added : (o p q a b : List ℕ) → p ≡ o ++ a → q ≡ p ++ b → q ≡ o ++ (a ++ b)
+two_added o p q a b first second = rw (second, first) (append_assoc o a b)
+
+pub three_added : (o p q r a b c : List ℕ) → p ≡ o ++ a → q ≡ p ++ b → r ≡ q ++ c → r ≡ o ++ (a ++ (b ++ c))
+three_added o p q r a b c first second third = rw (third, second, first) (append_assoc (o ++ a) b c ∙ append_assoc o a (b ++ c))
+
 pub four_added : (o p q r s a b c d : List ℕ) → p ≡ o ++ a → q ≡ p ++ b → r ≡ q ++ c → s ≡ r ++ d → s ≡ o ++ (a ++ (b ++ (c ++ d)))
 four_added o p q r s a b c d first second third fourth = rw (fourth, third, second, first)
     (append_assoc ((o ++ a) ++ b) c d ∙ append_assoc (o ++ a) b (c ++ d) ∙ append_assoc o a (b ++ (c ++ d)))
