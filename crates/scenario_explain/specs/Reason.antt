@@ -1,6 +1,7 @@
 -- Why a command was refused, in words. Its results begin with `refused`, a number and a name then.
 use Rattle.std.specs.Prelude.{ℕ, ◌==◌, if◌then◌else◌, List, [], ◌∷◌, Option, Some, None, codes, bytes_eq}
-use Rattle.scenario_text.specs.Word.{Word, number_of, words_of}
+use Rattle.scenario_text.specs.Commands.{a_number}
+use Rattle.scenario_text.specs.Word.{Word, words_of}
 
 -- the cause that a number stands for; nothing for other numbers
 abbrev pub sentence_of : ℕ → List ℕ
@@ -34,14 +35,15 @@ abbrev pub line_of_cause : List ℕ → List (List ℕ)
 line_of_cause [] = []
 line_of_cause (b ∷ cause) = (b ∷ cause) ∷ []
 
-abbrev pub reasons_of_number : Option ℕ → List (List ℕ)
+-- a number that was read from words
+abbrev pub reasons_of_number : Option (ℕ × List Word) → List (List ℕ)
 reasons_of_number None = []
-reasons_of_number (Some n) = line_of_cause (sentence_of n)
+reasons_of_number (Some read) = line_of_cause (sentence_of read.0)
 
 abbrev pub reasons_of_words : List Word → List (List ℕ)
-reasons_of_words (first ∷ second ∷ words) =
-    if bytes_eq first (codes "refused") then reasons_of_number (number_of second) else []
-reasons_of_words words = []
+reasons_of_words [] = []
+reasons_of_words (first ∷ words) =
+    if bytes_eq first (codes "refused") then reasons_of_number (a_number words) else []
 
 -- a line of why, where results begin with a refusal
 abbrev pub reasons_of : List ℕ → List (List ℕ)

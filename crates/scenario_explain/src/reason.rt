@@ -8,6 +8,9 @@ use crate::line::add_line;
 use scenario_text::Words;
 use std::alloc::AllocError;
 
+/// The first word of a refusal.
+const REFUSED: &[u8] = b"refused";
+
 /// The cause that a number stands for; nothing for other numbers.
 fn sentence_of(number: u64) -> &'static str
     ensures { result.now ≡ sentence_of number }
@@ -46,9 +49,15 @@ fn cause_in(results: &[u8]) -> &'static str
     ensures { reasons_of results.now ≡ line_of_cause result.now }
 {
     let mut words = Words::of(results);
-    match (words.next(), words.number()) {
-        (Some(b"refused"), Some(number)) => sentence_of(number),
-        _ => "",
+    let Some(word) = words.next() else {
+        return "";
+    };
+    if word != REFUSED {
+        return "";
+    }
+    match words.number() {
+        Some(number) => sentence_of(number),
+        None => "",
     }
 }
 
