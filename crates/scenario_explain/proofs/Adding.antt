@@ -84,12 +84,12 @@ begins_still front now next more b is = record {
 -- ---- a command
 
 -- what is told before a command, its results, and what is told after it
-pub explains : (choices : Choices) (old new : Stage) (command : Command) (text now later why mid last frames : List ℕ) → AddsCommand text now
-    → (does : (added : List ℕ) × Obeys choices old command added new × (later ≡ now ++ added)) → why ≡ later ++ told_lines (reasons_of (drop (length now) later))
+pub explains : (choices : Choices) (old new : Stage) (command : Command) (start : ℕ) (text now later why mid last frames : List ℕ) → start ≡ length now → AddsCommand text now
+    → (does : (added : List ℕ) × Obeys choices old command added new × (later ≡ now ++ added)) → why ≡ later ++ told_lines (reasons_of (drop start later))
     → frames ≡ all_waiting 1 new.given → mid ≡ why ++ told_lines (way_lines frames) → AddsOfNodes mid last → (added : List ℕ) × Explains choices old command added new × (last ≡ text ++ added)
-explains choices old new command text now later why mid last frames before does reasoned frames_are way after =
+explains choices old new command start text now later why mid last frames starts before does reasoned frames_are way after =
     let results = does.0 in
-    let behind : drop (length now) later ≡ results = ap (drop (length now)) does.2 ∙ drop-append_seam now results in
+    let behind : drop start later ≡ results = ap (λ (n : ℕ). drop n later) starts ∙ ap (drop (length now)) does.2 ∙ drop-append_seam now results in
     let both : told_lines (reasons_of results) ++ told_lines (way_lines (all_waiting 1 new.given)) ≡ told_way results new = sym (lines_then (reasons_of results) (way_lines (all_waiting 1 new.given))) in
     let told : why ≡ later ++ told_lines (reasons_of results) = reasoned ∙ ap (λ (xs : List ℕ). later ++ told_lines (reasons_of xs)) behind in
     let ways : mid ≡ why ++ told_lines (way_lines (all_waiting 1 new.given)) = way ∙ ap (λ (fs : List ℕ). why ++ told_lines (way_lines fs)) frames_are in
