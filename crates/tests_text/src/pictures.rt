@@ -125,7 +125,7 @@ fn has_literals(alloc: Global) -> bool {
 fn names(alloc: Global, rows: usize) -> Result<usize, AllocError> {
     let mut text = b"nodes 2\n".to_vec(alloc)?;
     for _row in 1..rows {
-        text.extend_from_slice(b"root 1\n")?;
+        text.extend_from_slice(b"images 1\n")?;
     }
     let drawn = draw(alloc, text.as_slice(), 0);
     let found = count(drawn.written.as_slice(), b">node 0<");
