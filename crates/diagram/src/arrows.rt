@@ -20,7 +20,7 @@ const NEVER: &str = "<g class=\"$\"><title>frame % $ from % to %</title>\
 /// The number of a frame, and the name of its message's kind. They stand so near each other that no
 /// line shows between their rims.
 const NAME: &str =
-    "<text class=\"$ name halo$\" x=\"%\" y=\"%\">%<tspan dx=\"3\">$</tspan></text>\n";
+    "<text class=\"$ name halo$\" x=\"%\" y=\"%\">%<tspan dx=\"2\">$</tspan></text>\n";
 
 /// What is drawn of a frame.
 #[derive(Clone, Copy, PartialEq, Eq)]
@@ -169,8 +169,8 @@ fn add_onward(
     }
 }
 
-/// Adds the lines or the names of the frames that a moment sent and that don't arrive at a moment of
-/// their own in what is drawn.
+/// Adds the lines or the names of the frames that a moment sent and that don't arrive, in what is
+/// drawn, at a moment of their own.
 pub(crate) fn add_left(
     out: &mut Vec<u8>,
     notes: &Notes<'_>,

@@ -103,6 +103,8 @@ const GAP: &str = "<rect class=\"paper\" x=\"%\" y=\"%\" width=\"14\" height=\"1
 
 const LABEL_LINE: &str = "<text class=\"halo\" x=\"%\" y=\"%\">$$</text>\n";
 
+const ENDING_LINE: &str = "<text class=\"halo to\" x=\"%\" y=\"%\">$$</text>\n";
+
 const BAND_LINE: &str = "<text class=\"small\" x=\"%\" y=\"%\">$$</text>\n";
 
 /// What is drawn of each moment, the lowest layer first: nothing crosses a box or a text.
@@ -314,7 +316,8 @@ fn add_mark(out: &mut Vec<u8>, mark: Mark, x: u64, y: u64) -> Result<(), AllocEr
     }
 }
 
-/// Adds the label of a moment.
+/// Adds the label of a moment. Beside a lane, and in no box, it ends at the lane where it stands to
+/// the left.
 fn add_label(
     out: &mut Vec<u8>,
     notes: &Notes<'_>,
@@ -322,15 +325,20 @@ fn add_label(
     moment: &Moment,
     place: Place,
 ) -> Result<(), AllocError> {
+    let label = notes.label(moment);
     let base = place.label.saturating_add(13);
     if moment.mark == Mark::Band {
         let (left, _) = grid.band();
         let at = (left.saturating_add(8), base);
-        return add_lines(out, notes.label(moment), BAND_LINE, at, MOST_OF_BAND);
+        return add_lines(out, label, BAND_LINE, at, MOST_OF_BAND);
     }
-    let (left, _) = grid.label(moment.node);
+    let (left, tie) = grid.label(moment.node);
+    if left < tie && !is_boxed(notes, moment) {
+        let at = (tie.saturating_sub(5), base);
+        return add_lines(out, label, ENDING_LINE, at, MOST_OF_LABEL);
+    }
     let at = (left.saturating_add(5), base);
-    add_lines(out, notes.label(moment), LABEL_LINE, at, MOST_OF_LABEL)
+    add_lines(out, label, LABEL_LINE, at, MOST_OF_LABEL)
 }
 
 /// Adds the lines of a label, one under the other: at most so many bytes of each, by this template.

@@ -300,8 +300,8 @@ impl<'a> Observer<'a> {
         self.note_box(first, node, Span { start, end })
     }
 
-    /// Notes that a node shows what this label says: at the moment from `first` on that has the same
-    /// label, or otherwise at one more.
+    /// Notes that a node shows what this label says: at the moment from `first` on that has it too,
+    /// or otherwise at one more.
     fn note_box(&mut self, first: usize, node: u64, label: Span) -> Result<(), AllocError> {
         let Some(place) = self.same_box(first, label) else {
             return self.note_moment(node, Mark::Shown, NONE, label);

@@ -96,8 +96,8 @@ fn fold(alloc: Global, text: &[u8]) -> Drawn {
     draw_part(alloc, text, part)
 }
 
-/// Whether each `settle` is one band, with a line for each frame that was sent before, and a box for
-/// the two nodes that show the write alike.
+/// Whether each `settle` is one band, with a line for each frame that was sent before, and a box
+/// for the two nodes that show the write alike.
 fn is_folded(alloc: Global) -> bool {
     let drawn = fold(alloc, TWO_SETTLES);
     let picture = drawn.written.as_slice();
