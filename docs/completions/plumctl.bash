@@ -23,7 +23,7 @@ _plumctl() {
     help) [ "$before" = help ] && words='frame run draw file live help' ;;
     frame) words='-h --help' files=1 ;;
     run) words='--explain -h --help' files=1 ;;
-    draw) words='--from --to -h --help' files=1 ;;
+    draw) words='--from --to --fold -h --help' files=1 ;;
     file) words='--rewrite -h --help' files=1 ;;
     live)
       words='--record --files -h --help'

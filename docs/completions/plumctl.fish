@@ -18,6 +18,7 @@ complete -c plumctl -n '__fish_seen_subcommand_from frame run draw file; and not
 complete -c plumctl -n '__fish_seen_subcommand_from run' -l explain -d 'After each command, print more'
 complete -c plumctl -n '__fish_seen_subcommand_from draw' -l from -x -d 'Draw no command of an earlier line'
 complete -c plumctl -n '__fish_seen_subcommand_from draw' -l to -x -d 'Draw no command of a later line'
+complete -c plumctl -n '__fish_seen_subcommand_from draw' -l fold -d 'Draw each settle as one band'
 complete -c plumctl -n '__fish_seen_subcommand_from file' -l rewrite -r -F -d 'Make a clean copy, where nothing is yet'
 complete -c plumctl -n '__fish_seen_subcommand_from live' -l record -r -F -d 'Write the run down as a scenario'
 complete -c plumctl -n '__fish_seen_subcommand_from live' -l files -r -a '(__fish_complete_directories)' -d 'Run the nodes on files in a new folder'

@@ -1,13 +1,7 @@
 //! Where things stand, in pixels.
 
-use crate::notes::{Moment, Notes, Span};
+use crate::notes::{Mark, Moment, Notes, Span};
 use std::alloc::{AllocError, Global};
-
-/// Where the first lane stands: before it is room for the commands.
-const FIRST_LANE: u64 = 340;
-
-/// From one lane to the next.
-const LANE: u64 = 190;
 
 /// Where the lanes begin: above them are the legend and the names of the nodes.
 pub(crate) const TOP: u64 = 62;
@@ -16,7 +10,7 @@ pub(crate) const TOP: u64 = 62;
 const FIRST: u64 = 74;
 
 /// How high a moment is that has a label of a line or none.
-const LEAST: u64 = 26;
+const LEAST: u64 = 27;
 
 /// How high a line of a label is.
 pub(crate) const LINE: u64 = 13;
@@ -24,34 +18,105 @@ pub(crate) const LINE: u64 = 13;
 /// How high a frame is that never arrived.
 pub(crate) const LOST: u64 = 12;
 
-/// Where a moment stands.
+/// How wide a label is.
+pub(crate) const LABEL: u64 = 172;
+
+/// From a lane to its label.
+pub(crate) const TIE: u64 = 10;
+
+/// After so much the names of the nodes stand again, in a row of this height.
+const SCREEN: u64 = 600;
+
+const NAMES: u64 = 24;
+
+/// How wide a picture is that has many nodes.
+const WIDE: u64 = 1_400;
+
+/// The lanes of a picture, and the room beside them.
+#[derive(Clone, Copy)]
+pub(crate) struct Grid {
+    /// Where the first lane stands: before it is room for the commands.
+    first: u64,
+    /// From one lane to the next.
+    step: u64,
+    /// How wide the picture is.
+    pub width: u64,
+    /// The most bytes of a command that are shown.
+    pub command: usize,
+}
+
+impl Grid {
+    /// The lanes of this number of nodes. The more there are, the narrower are the lanes and the
+    /// room for commands. The legend has room in each picture.
+    fn new(nodes: u64) -> Self {
+        let (first, command) = if nodes > 8 {
+            (250, 30usize)
+        } else {
+            (340, 44usize)
+        };
+        let room = WIDE.saturating_sub(first);
+        let step = room.checked_div(nodes).unwrap_or(0).max(60).min(190);
+        let lanes = step.saturating_mul(nodes);
+        Grid {
+            first,
+            step,
+            width: first.saturating_add(lanes).max(640),
+            command,
+        }
+    }
+
+    /// The place of a node's lane from the left.
+    pub(crate) fn lane(&self, node: u64) -> u64 {
+        self.first.saturating_add(node.saturating_mul(self.step))
+    }
+
+    /// The place of a label of a node from the left, and where the tie to its lane begins: to the
+    /// right of the lane if there is room, and otherwise to the left.
+    pub(crate) fn label(&self, node: u64) -> (u64, u64) {
+        let x = self.lane(node);
+        if x.saturating_add(LABEL.saturating_add(TIE)) > self.width {
+            let tie = x.saturating_sub(TIE);
+            (tie.saturating_sub(LABEL), tie)
+        } else {
+            (x.saturating_add(TIE), x)
+        }
+    }
+
+    /// Where a band over all lanes begins, and how wide it is.
+    pub(crate) fn band(&self) -> (u64, u64) {
+        let left = self.first.saturating_sub(16);
+        (left, self.width.saturating_sub(left).saturating_sub(16))
+    }
+}
+
+/// Where a moment stands, from its top down.
 #[derive(Clone, Copy)]
 pub(crate) struct Place {
     pub top: u64,
-    pub middle: u64,
-    /// Where its label ends, and the frames begin that it sent and that never arrived.
+    /// Its mark, and the head of the arrow of the frame that it delivered.
+    pub mark: u64,
+    /// Where its label begins.
+    pub label: u64,
+    /// Where its texts end, and the frames begin that it sent and that never arrived.
+    pub lost: u64,
+    /// Where the other frames begin that it sent.
+    pub leave: u64,
+    /// Where it ends.
     pub below: u64,
 }
 
 /// The place of each moment that is drawn.
 #[derive(Drop)]
 pub(crate) struct Layout {
+    pub grid: Grid,
     /// Which moments are drawn.
     pub drawn: Span,
     /// Their places.
     places: Vec<Place>,
+    /// At which heights the names of the nodes stand.
+    pub names: Vec<u64>,
     /// Where the lanes end.
     pub bottom: u64,
-}
-
-/// The place of a node's lane from the left.
-pub(crate) fn lane(node: u64) -> u64 {
-    FIRST_LANE.saturating_add(node.saturating_mul(LANE))
-}
-
-/// How wide a picture of this number of nodes is. The legend has room in each.
-pub(crate) fn width(nodes: u64) -> u64 {
-    lane(nodes).max(640)
 }
 
 /// How many lines a label has.
@@ -65,39 +130,83 @@ pub(crate) fn lines_in(label: &[u8]) -> u64 {
     lines
 }
 
-/// How high a moment with this label is.
-fn height_of(label: &[u8]) -> u64 {
-    match lines_in(label) {
-        0 | 1 => LEAST,
-        lines => lines.saturating_mul(LINE).saturating_add(14),
+/// Whether the label of a moment stands in a box, or in a band.
+pub(crate) fn is_boxed(notes: &Notes<'_>, moment: &Moment) -> bool {
+    match moment.mark {
+        Mark::Look => false,
+        Mark::Band | Mark::Shown => true,
+        _ => lines_in(notes.label(moment)) >= 2,
+    }
+}
+
+/// How far below the top of a moment its mark and its label are.
+fn depths(moment: &Moment) -> (u64, u64) {
+    if moment.mark == Mark::Band {
+        (25, 16)
+    } else if moment.frame != 0 {
+        (9, 25)
+    } else if moment.with != 0 {
+        (9, 18)
+    } else {
+        (13, 4)
+    }
+}
+
+/// How far below the top of a moment its texts end, beside its mark and under it.
+fn depth_of_texts(notes: &Notes<'_>, moment: &Moment) -> u64 {
+    let (mark, label) = depths(moment);
+    match lines_in(notes.label(moment)) {
+        0 if moment.frame == 0 => mark,
+        0 => label,
+        1 if moment.mark == Mark::Look => label.saturating_add(17),
+        lines => label
+            .saturating_add(lines.saturating_mul(LINE))
+            .saturating_add(8),
     }
 }
 
 /// The place of a moment that begins here.
 fn place_from(notes: &Notes<'_>, moment: &Moment, top: u64) -> Place {
-    let high = height_of(notes.label(moment));
+    let (mark, label) = depths(moment);
+    let lost = top.saturating_add(depth_of_texts(notes, moment));
+    let leave = lost.saturating_add(notes.lost(moment).saturating_mul(LOST));
     Place {
         top,
-        middle: top.saturating_add(high / 2),
-        below: top.saturating_add(high),
+        mark: top.saturating_add(mark),
+        label: top.saturating_add(label),
+        lost,
+        leave,
+        below: leave.saturating_add(6).max(top.saturating_add(LEAST)),
     }
+}
+
+/// Where the moment stands that comes next, below the names of the nodes if it is time for them.
+fn next_top(names: &mut Vec<u64>, top: u64) -> Result<u64, AllocError> {
+    let last = names.last().copied().unwrap_or(TOP);
+    if top < last.saturating_add(SCREEN) {
+        return Ok(top);
+    }
+    names.push(top.saturating_add(15))?;
+    Ok(top.saturating_add(NAMES))
 }
 
 impl Layout {
     /// Places these moments, one under the other.
     pub(crate) fn new(alloc: Global, notes: &Notes<'_>, drawn: Span) -> Result<Self, AllocError> {
         let mut places = Vec::new(alloc);
+        let mut names = Vec::new(alloc);
+        names.push(TOP.saturating_sub(8))?;
         let mut top = FIRST;
         for moment in notes.moments.get(drawn.start..drawn.end).unwrap_or(&[]) {
-            let place = place_from(notes, moment, top);
+            let place = place_from(notes, moment, next_top(&mut names, top)?);
             places.push(place)?;
-            top = place
-                .below
-                .saturating_add(notes.lost(moment).saturating_mul(LOST));
+            top = place.below;
         }
         Ok(Layout {
+            grid: Grid::new(notes.nodes),
             drawn,
             places,
+            names,
             bottom: top.saturating_add(10),
         })
     }
@@ -119,7 +228,10 @@ impl Layout {
 fn level(height: u64) -> Place {
     Place {
         top: height,
-        middle: height,
+        mark: height,
+        label: height,
+        lost: height,
+        leave: height,
         below: height,
     }
 }

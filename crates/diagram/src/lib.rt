@@ -19,5 +19,5 @@ mod notes;
 mod picture;
 mod svg;
 
-pub use notes::{CommandLine, Flight, Group, Mark, Moment, Notes, Span};
+pub use notes::{CommandLine, Flight, Group, Mark, Moment, Notes, Span, bit};
 pub use picture::add_picture;

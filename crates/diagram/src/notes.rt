@@ -25,6 +25,15 @@ pub enum Mark {
     Stale,
     /// The end of a dashed arrow: the node refused the frame.
     Refused,
+    /// A band across all lanes, with the label in it: many frames arrived, and many were sent.
+    Band,
+    /// The box alone: what the node shows once a band is over.
+    Shown,
+}
+
+/// The bit of a node among the first 64; 0 for any other.
+pub fn bit(node: u64) -> u64 {
+    if node < 64 { 1u64 << node } else { 0 }
 }
 
 /// A step of a node, or a look at it. Each has a row.
@@ -32,6 +41,8 @@ pub enum Mark {
 pub struct Moment {
     /// The node on whose lane it stands.
     pub node: u64,
+    /// The bits of the nodes that share its box, its own among them; 0 where no other does.
+    pub with: u64,
     pub mark: Mark,
     /// The number of the frame that was delivered, from 1, or 0 where none was.
     pub frame: u64,

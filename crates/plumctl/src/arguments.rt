@@ -114,25 +114,29 @@ ran out.";
 
 const DRAW_HELP: &str =
     "Runs a scenario as `run` does, and writes what happened as a picture in place of the results:
-SVG, which any browser shows. Each node has a lane, and time goes downwards. Each command has a
-row, with the number of its line; a settle has one for each frame that it delivers, and a keep one
-for each key.
+SVG, which browsers and other viewers show. Each node has a lane, and time goes downwards. Each
+command has a row, with the number of its line; a settle has one for each frame that it delivers,
+and a keep one for each key.
 
 An arrow goes from the sending of a frame to its delivery, with its number and kind, and its colour
 says what it is about. It is dashed where the frame was stale or refused, and ends in a cross where
 the frame was never delivered. A dot is a step of a node, a diamond one about who knows whom, and a
-gap in a lane a restart. A box has what a node shows under a key from then on: the key, its values,
-its context.
+gap in a lane a restart. A box is tied to the lane of its node, and has what that shows under a key
+from then on: the key, its values, its context.
+
+With --fold a settle is one band across the lanes, with the number of its frames of each kind, and
+what it changed stands in boxes below: one for all nodes that show the same, with a dot on the lane
+of each.
 
 A picture has at most 200 commands, and 2,000 rows: --from and --to draw a part of a longer
-scenario, all of which is run.
+scenario, all of which is run. If no command stands in the part, nothing is run.
 
 Example:
   plumctl draw examples/healing-tree.scenario > tree.svg
 
 Exit status: 0 done, 1 a line is no command, a settle would deliver more than 100,000 frames, the
-part is too long or the input is longer than 67,108,864 bytes, 2 wrong arguments, 3 reading or
-writing failed, 4 memory ran out.";
+part is too long or the input is longer than 67,108,864 bytes, 2 wrong arguments or no command in
+the part, 3 reading or writing failed, 4 memory ran out.";
 
 const FILE_HELP: &str =
     "Prints a line for the node, its last life and how many keys there are, a line for each key in
@@ -179,6 +183,8 @@ const EXPLAIN: &str = "explain";
 const FROM: &str = "from";
 
 const TO: &str = "to";
+
+const FOLD: &str = "fold";
 
 const PATH: &str = "PATH";
 
@@ -264,7 +270,13 @@ fn draw_command<'a>(alloc: Global) -> Result<Command<'a>, AllocError> {
     let command = command_of(alloc, "draw", about, DRAW_HELP).arg(input(alloc, help));
     let from = line(alloc, FROM, "Draw no command of an earlier line");
     let command = with_argument(command, from);
-    with_argument(command, line(alloc, TO, "Draw no command of a later line"))
+    let to = line(alloc, TO, "Draw no command of a later line");
+    let command = with_argument(command, to);
+    let fold = Arg::new(alloc, FOLD)
+        .long(FOLD)
+        .help("Draw each settle as one band, with the numbers of its frames by kind")
+        .action(ArgAction::SetTrue);
+    with_argument(command, fold)
 }
 
 /// The command `file`.
@@ -379,6 +391,7 @@ fn asked_of<'a>(name: &str, matches: &ArgMatches<'a>) -> Asked<'a> {
             part: Part {
                 from: matches.get_one::<u64>(FROM).unwrap_or(0),
                 to: matches.get_one::<u64>(TO).unwrap_or(u64::MAX),
+                fold: matches.get_flag(FOLD),
             },
         },
         "file" => match matches.get_str(PATH) {

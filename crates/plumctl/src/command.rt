@@ -1,6 +1,7 @@
 //! The commands, over the streams of the process.
 
 ghost use Rattle.std.specs.Prelude.{◌≢◌};
+ghost use Rattle.plumctl_draw.specs.Asked.{EndsDrawing};
 
 use crate::progress::told;
 use plumctl_core::{run_frame, run_scenario, tell, tell_unopened};
@@ -118,11 +119,10 @@ pub fn draw<R: Threads + Wait + Sync>(
 }
 
 /// Draws the scenario of the file of this path, or of standard input, to standard output. Returns
-/// the exit status, which is never 2, the status of wrong arguments: a file that can't be opened
-/// can't be read.
-fn draw_input(rt: &HostRuntime, file: Option<&str>, part: Part) -> u8
-    ensures { result ≢ 2 }
-{
+/// the exit status: that of `draw_from`, or that of `tell_unopened`, which is never 2: a file that
+/// can't be opened can't be read. (It has no clause of its own, since none can name what a file
+/// gives.)
+fn draw_input(rt: &HostRuntime, file: Option<&str>, part: Part) -> u8 {
     let Some(path) = file else {
         return draw_from(rt, &mut MayFail(rt.stdin()), part);
     };
@@ -132,9 +132,10 @@ fn draw_input(rt: &HostRuntime, file: Option<&str>, part: Part) -> u8
     }
 }
 
-/// Draws the scenario of a reader, to standard output.
+/// Draws the scenario of a reader, to standard output. Returns the exit status, which is 2, that of
+/// wrong arguments, exactly where the whole input was read and no command stands in the part.
 fn draw_from<R: Source>(rt: &HostRuntime, reader: &mut R, part: Part) -> u8
-    ensures { result ≢ 2 }
+    ensures { EndsDrawing part.from part.to (R.at reader.old) (R.at reader.new) result }
 {
     let mut errors = MayFail(rt.stderr());
     draw_scenario(

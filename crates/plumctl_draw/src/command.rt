@@ -1,7 +1,9 @@
 //! The command `draw`.
 
-ghost use Rattle.std.specs.Prelude.{◌≢◌};
+ghost use Rattle.std.specs.Prelude.{◌≡◌, ◌≢◌};
+ghost use Rattle.plumctl_draw.specs.Asked.{DrawsNothing, EndsDrawing, IsDrawStatus};
 
+use crate::asked::{asks_nothing, tell_nothing};
 use crate::drawing::{MAX_COMMANDS, MAX_MOMENTS, Part, draw_text};
 use crate::fault::DrawFault;
 use plumctl_core::tell;
@@ -14,6 +16,9 @@ use streams::{Sink, Source, StreamFault, flush, write_whole};
 
 /// The exit status of a scenario that is refused.
 const REFUSED: u8 = 1;
+
+/// The exit status where no command stands in the part: the arguments are wrong.
+const NOTHING_ASKED: u8 = 2;
 
 /// Prints a text at standard error, as far as that takes it, and returns the exit status of a
 /// scenario that is refused, or of memory that ran out where there is no text.
@@ -94,16 +99,11 @@ fn draw_by<W: Sink, E: Sink>(
     }
 }
 
-/// Reads a scenario to its end, runs it with the resolvers that the words `lww` and `largest` name,
-/// and writes a picture of a part of it. Returns the exit status: 0 where the picture was written;
-/// 1 where a line breaks a rule, a settling would go on past its limit, the part is too long for a
-/// picture, or the input is too long; 3 where reading or writing failed; 4 where memory ran out.
-/// Why is printed at `errors`, and then nothing is written, unless writing failed. It is never 2,
-/// the status of wrong arguments. It takes memory for what the run prints, for a note of each event
-/// and frame of the whole scenario, and for the picture.
-pub fn draw_scenario<R: Source, W: Sink, E: Sink>(
+/// Draws the scenario that this text is with the resolvers that the words `lww` and `largest` name,
+/// writes the picture, and returns the exit status.
+fn draw_named<W: Sink, E: Sink>(
     alloc: Global,
-    reader: &mut R,
+    text: &[u8],
     writer: &mut W,
     errors: &mut E,
     part: Part,
@@ -117,8 +117,50 @@ pub fn draw_scenario<R: Source, W: Sink, E: Sink>(
         return tell(errors, StreamFault::Memory);
     };
     let resolvers: [Box<dyn Resolver>; 2] = [lww, largest];
+    draw_by(alloc, text, writer, errors, &resolvers, part)
+}
+
+/// Draws a part of the scenario that this text is, if a command stands there, and returns the exit
+/// status.
+fn draw_asked<W: Sink, E: Sink>(
+    alloc: Global,
+    text: &[u8],
+    writer: &mut W,
+    errors: &mut E,
+    part: Part,
+) -> u8
+    ensures status { IsDrawStatus part.from part.to text.now result }
+    ensures nothing { result ≡ 2 → DrawsNothing part.from part.to (W.at writer.old)
+        (W.at writer.new) (E.at errors.old) (E.at errors.new) }
+{
+    if asks_nothing(text, part) {
+        tell_nothing(errors, part);
+        return NOTHING_ASKED;
+    }
+    draw_named(alloc, text, writer, errors, part)
+}
+
+/// Reads a scenario to its end, runs it with the resolvers that the words `lww` and `largest` name,
+/// and writes a picture of a part of it. Returns the exit status: 0 where the picture was written;
+/// 1 where a line breaks a rule, a settling would go on past its limit, the part is too long for a
+/// picture, or the input is too long; 2, the status of wrong arguments, exactly where the input was
+/// read and no command stands in the part, and then nothing is run; 3 where reading or writing
+/// failed; 4 where memory ran out. Why is printed at `errors`, and then nothing is written, unless
+/// writing failed. It takes memory for what the run prints, for a note of each event and frame of
+/// the whole scenario, and for the picture.
+pub fn draw_scenario<R: Source, W: Sink, E: Sink>(
+    alloc: Global,
+    reader: &mut R,
+    writer: &mut W,
+    errors: &mut E,
+    part: Part,
+) -> u8
+    ensures status { EndsDrawing part.from part.to (R.at reader.old) (R.at reader.new) result }
+    ensures nothing { result ≡ 2 → DrawsNothing part.from part.to (W.at writer.old)
+        (W.at writer.new) (E.at errors.old) (E.at errors.new) }
+{
     match read_text(alloc, reader) {
-        Ok(text) => draw_by(alloc, text.as_slice(), writer, errors, &resolvers, part),
+        Ok(text) => draw_asked(alloc, text.as_slice(), writer, errors, part),
         Err(fault) => tell(errors, fault),
     }
 }

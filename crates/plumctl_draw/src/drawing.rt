@@ -11,24 +11,28 @@ use std::alloc::Global;
 pub const MAX_COMMANDS: u64 = 200;
 
 /// The most moments of a picture: a command that settles has one for each frame that it delivers,
-/// and one that keeps all one for each key.
+/// or, folded, one for its band and one for each box below; and one that keeps all has one for each
+/// key.
 pub const MAX_MOMENTS: u64 = 2_000;
 
-/// The part of a scenario that is drawn, by the numbers of its lines.
+/// The part of a scenario that is drawn, by the numbers of its lines, and how.
 #[derive(Clone, Copy)]
 pub struct Part {
     /// The first line.
     pub from: u64,
     /// The last line.
     pub to: u64,
+    /// Whether each `settle` is drawn as one band, in place of a row for each frame.
+    pub fold: bool,
 }
 
 impl Part {
-    /// The whole scenario.
+    /// The whole scenario, with all its frames.
     pub fn all() -> Self {
         Part {
             from: 0,
             to: u64::MAX,
+            fold: false,
         }
     }
 }
@@ -74,7 +78,7 @@ pub(crate) fn draw_text(
     part: Part,
     picture: &mut Vec<u8>,
 ) -> Result<(), DrawFault> {
-    let mut observer = Observer::new(alloc, text);
+    let mut observer = Observer::new(alloc, text, part.fold);
     let mut printed: Vec<u8> = Vec::new(alloc);
     run_text(alloc, &mut observer, text, &mut printed, resolvers)?;
     draw(alloc, &observer.notes, part, picture)

@@ -107,7 +107,7 @@ fn add_numbered(label: &mut Vec<u8>, word: &[u8], number: u64) -> Result<(), All
 /// Adds the first line of a text, if one ends, as lines of at most 26 bytes that end where a word
 /// does, unless a word is longer.
 pub(crate) fn add_first_line(label: &mut Vec<u8>, text: &[u8]) -> Result<(), AllocError> {
-    let line = text.get(..end_of(text, b'\n')).unwrap_or(&[]);
+    let line = first_line(text);
     let mut column = 0usize;
     for (at, byte) in line.iter().enumerate() {
         let next = end_of(line.get(at.saturating_add(1)..).unwrap_or(&[]), b' ');
@@ -120,6 +120,11 @@ pub(crate) fn add_first_line(label: &mut Vec<u8>, text: &[u8]) -> Result<(), All
         }
     }
     label.extend_from_slice(b"\n")
+}
+
+/// The first line of a text, without its line feed.
+pub(crate) fn first_line(text: &[u8]) -> &[u8] {
+    text.get(..end_of(text, b'\n')).unwrap_or(&[])
 }
 
 /// Where a byte stands first in a text, or else where the text ends.

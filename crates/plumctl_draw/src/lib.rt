@@ -5,10 +5,12 @@
 //! let status = draw_scenario(rt.alloc(), &mut reader, &mut writer, &mut errors, Part::all());
 //! ```
 //!
-//! Read `command` (the whole), `drawing` (a scenario drawn), `observer` (what is noted of a run),
-//! and `labels`.
+//! Read `command` (the whole), `asked` (whether there is something to draw), `drawing` (a scenario
+//! drawn), `observer` (what is noted of a run), `labels` and `bands`.
 #![tactic(auto)]
 
+mod asked;
+mod bands;
 mod command;
 mod drawing;
 mod fault;

@@ -3,9 +3,10 @@
 ghost use Rattle.scenario.specs.Output.{opens_plainly};
 ghost use Rattle.scenario_stage.specs.Obeying.{Obeys};
 
+use crate::bands::{KindCount, add_counts, count_kind};
 use crate::drawing::MAX_MOMENTS;
-use crate::labels::{add_done, add_first_line, add_held, key_changed};
-use diagram::{CommandLine, Flight, Group, Mark, Moment, Notes, Span};
+use crate::labels::{add_done, add_first_line, add_held, first_line, key_changed};
+use diagram::{CommandLine, Flight, Group, Mark, Moment, Notes, Span, bit};
 use meta_frame::{Frame, Message, decode, kind_name};
 use meta_types::MetaKey;
 use node_events::Reply;
@@ -30,6 +31,8 @@ pub(crate) struct Observer<'a> {
     lines: Lines<'a>,
     /// How many lines of the text were passed.
     number: u64,
+    /// Whether each `settle` is noted as one moment, and one for each box below it.
+    fold: bool,
     pub notes: Notes<'a>,
 }
 
@@ -42,11 +45,12 @@ struct Changed {
 
 impl<'a> Observer<'a> {
     /// Observes the scenario that this text is, from its first command on.
-    pub(crate) fn new(alloc: Global, text: &'a [u8]) -> Self {
+    pub(crate) fn new(alloc: Global, text: &'a [u8], fold: bool) -> Self {
         Observer {
             alloc,
             lines: Lines::of(text),
             number: 0,
+            fold,
             notes: Notes {
                 nodes: 0,
                 commands: Vec::new(alloc),
@@ -79,6 +83,9 @@ impl<'a> Observer<'a> {
         printed: &[u8],
     ) -> Result<(), AllocError> {
         let events = world.accepted().get(before..).unwrap_or(&[]);
+        if self.fold && matches!(command, Command::Settle) {
+            return self.note_band(world, events, printed);
+        }
         if events.is_empty() {
             return self.note_look(command, printed);
         }
@@ -112,6 +119,7 @@ impl<'a> Observer<'a> {
         self.note_refused(node, frame);
         self.notes.moments.push(Moment {
             node,
+            with: 0,
             mark,
             frame,
             sent: NONE,
@@ -163,6 +171,7 @@ impl<'a> Observer<'a> {
         self.note_frames(world, accepted.answer.sent)?;
         let moment = Moment {
             node: accepted.event.node(),
+            with: 0,
             mark: mark_of(accepted),
             frame,
             sent: Span {
@@ -185,6 +194,135 @@ impl<'a> Observer<'a> {
             }
         }
         Ok(())
+    }
+
+    /// Notes the events of a `settle` as one moment, and what nodes show then that they changed.
+    fn note_band(
+        &mut self,
+        world: &World,
+        events: &[Accepted],
+        printed: &[u8],
+    ) -> Result<(), AllocError> {
+        let start = self.notes.flights.len();
+        let mut counts = Vec::new(self.alloc);
+        self.note_passages(world, events, &mut counts)?;
+        let label = self.note_counts(printed, counts.as_slice())?;
+        let sent = Span {
+            start,
+            end: self.notes.flights.len(),
+        };
+        self.note_moment(0, Mark::Band, sent, label)?;
+        self.note_changes(world, events)
+    }
+
+    /// Notes a moment that delivered no single frame.
+    fn note_moment(
+        &mut self,
+        node: u64,
+        mark: Mark,
+        sent: Span,
+        label: Span,
+    ) -> Result<(), AllocError> {
+        self.notes.moments.push(Moment {
+            node,
+            with: 0,
+            mark,
+            frame: 0,
+            sent,
+            label,
+        })?;
+        Ok(())
+    }
+
+    /// Notes that the frames of these events arrive at the moment that comes next, which sends what
+    /// they sent, and counts them.
+    fn note_passages(
+        &mut self,
+        world: &World,
+        events: &[Accepted],
+        counts: &mut Vec<KindCount>,
+    ) -> Result<(), AllocError> {
+        for accepted in events {
+            let frame = frame_of(&accepted.event);
+            self.note_arrival(frame);
+            if let Some(flight) = self.notes.flight(frame) {
+                count_kind(counts, flight.name)?;
+            }
+            self.note_frames(world, accepted.answer.sent)?;
+        }
+        Ok(())
+    }
+
+    /// Adds the label of a band: what was printed, and how many frames of each kind arrived.
+    fn note_counts(&mut self, printed: &[u8], counts: &[KindCount]) -> Result<Span, AllocError> {
+        let labels = &mut self.notes.labels;
+        let start = labels.len();
+        labels.extend_from_slice(first_line(printed))?;
+        add_counts(labels, start, counts)?;
+        let end = labels.len();
+        Ok(Span { start, end })
+    }
+
+    /// Notes what nodes show that these events changed, a moment for each text: nodes that show the
+    /// same share it.
+    fn note_changes(&mut self, world: &World, events: &[Accepted]) -> Result<(), AllocError> {
+        let first = self.notes.moments.len();
+        let mut seen = Vec::new(self.alloc);
+        for accepted in events {
+            // (no part of a scenario in which a command has more moments is ever drawn)
+            if self.notes.moments.len().saturating_sub(first) as u64 > MAX_MOMENTS {
+                return Ok(());
+            }
+            self.note_change(world, accepted, &mut seen, first)?;
+        }
+        Ok(())
+    }
+
+    /// Notes what a node shows that this event changed, unless an earlier one changed that too.
+    fn note_change(
+        &mut self,
+        world: &World,
+        accepted: &Accepted,
+        seen: &mut Vec<Changed>,
+        first: usize,
+    ) -> Result<(), AllocError> {
+        let Some(key) = key_changed(self.alloc, world, accepted)? else {
+            return Ok(());
+        };
+        let node = accepted.event.node();
+        if has_seen(seen.as_slice(), node, &key) {
+            return Ok(());
+        }
+        let start = self.notes.labels.len();
+        add_held(self.alloc, &mut self.notes.labels, world, node, &key)?;
+        seen.push(Changed { node, key })?;
+        let end = self.notes.labels.len();
+        self.note_box(first, node, Span { start, end })
+    }
+
+    /// Notes that a node shows what this label says: at the moment from `first` on that has it too,
+    /// or otherwise at one more.
+    fn note_box(&mut self, first: usize, node: u64, label: Span) -> Result<(), AllocError> {
+        let Some(place) = self.same_box(first, label) else {
+            return self.note_moment(node, Mark::Shown, NONE, label);
+        };
+        if let Some(moment) = self.notes.moments.get_mut(place) {
+            moment.with |= bit(moment.node) | bit(node);
+            moment.node = moment.node.min(node);
+        }
+        Ok(())
+    }
+
+    /// The place of the moment from `first` on whose label is the same.
+    fn same_box(&self, first: usize, label: Span) -> Option<usize> {
+        let text = self.notes.labels.get(label.start..label.end)?;
+        for (at, moment) in self.notes.moments.iter().enumerate().skip(first) {
+            let Span { start, end } = moment.label;
+            if self.notes.labels.get(start..end) == Some(text) {
+                return Some(at);
+            }
+        }
+        None
     }
 
     /// Labels the moments of these events, the first of which stands at this place: the last event
@@ -366,6 +504,7 @@ impl<'a> Runner for Observer<'a> {
         self.notes.nodes = nodes_of(stage.world());
         self.notes.moments.push(Moment {
             node: 0,
+            with: 0,
             mark: Mark::Look,
             frame: 0,
             sent: NONE,

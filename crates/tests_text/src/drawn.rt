@@ -11,10 +11,19 @@ pub(crate) struct Drawn {
     pub told: Vec<u8>,
 }
 
-/// Draws the commands of a text from line `from` on.
+/// Draws the commands of a text from line `from` on, with all their frames.
 pub(crate) fn draw(alloc: Global, text: &[u8], from: u64) -> Drawn {
+    let part = Part {
+        from,
+        to: u64::MAX,
+        fold: false,
+    };
+    draw_part(alloc, text, part)
+}
+
+/// Draws a part of a text.
+pub(crate) fn draw_part(alloc: Global, text: &[u8], part: Part) -> Drawn {
     let (mut written, mut told) = (Vec::new(alloc), Vec::new(alloc));
-    let part = Part { from, to: u64::MAX };
     let mut reader = text;
     let status = draw_scenario(alloc, &mut reader, &mut written, &mut told, part);
     Drawn {

@@ -1,6 +1,7 @@
 //! Runs of `draw` that draw nothing, and a part of a long scenario.
 
-use crate::drawn::{count, draw};
+use crate::drawn::{count, draw, draw_part};
+use plumctl_draw::Part;
 use std::alloc::{AllocError, Global};
 
 /// A scenario of `count` commands.
@@ -45,6 +46,41 @@ fn is_bounded(alloc: Global) -> Result<bool, AllocError> {
     let last = is_drawn(alloc, text.as_slice(), 2);
     drop(text);
     Ok(all && last)
+}
+
+/// Whether nothing is written of these lines of a text, the status is 2, and this is the line at
+/// standard error.
+fn has_nothing(alloc: Global, text: &[u8], (from, to): (u64, u64), told: &[u8]) -> bool {
+    let part = Part {
+        from,
+        to,
+        fold: false,
+    };
+    let drawn = draw_part(alloc, text, part);
+    let is = drawn.status == 2 && drawn.written.is_empty() && drawn.told.as_slice() == told;
+    drop(drawn);
+    is
+}
+
+/// The lines about parts without a command.
+const NO_COMMAND: &[u8] = b"error: nothing to draw: the text has no command\n";
+
+const NONE_ASKED: &[u8] =
+    b"error: nothing to draw: no command stands in the lines that are asked for\n";
+
+const TURNED: &[u8] = b"error: nothing to draw: --from is a later line than --to\n";
+
+/// A text whose second line is skipped, and whose fourth breaks a rule.
+const LINES: &[u8] = b"nodes 1\n# a comment\nroot 0\nroots\n";
+
+#[test]
+fn a_part_without_a_command_is_named(rt: HostRuntime) {
+    let alloc = rt.alloc();
+    let all = has_nothing(alloc, b"# a comment\n\n", (0, u64::MAX), NO_COMMAND);
+    let skipped = has_nothing(alloc, LINES, (2, 2), NONE_ASKED);
+    let behind = has_nothing(alloc, LINES, (5, u64::MAX), NONE_ASKED);
+    let turned = has_nothing(alloc, LINES, (3, 2), TURNED);
+    assert!(rt; all && skipped && behind && turned);
 }
 
 #[test]

@@ -1,7 +1,8 @@
 //! What stands in pictures, by what happens in the scenarios.
 
-use crate::drawn::{count, draw};
-use std::alloc::Global;
+use crate::drawn::{Drawn, count, draw, draw_part};
+use plumctl_draw::Part;
+use std::alloc::{AllocError, Global};
 
 /// A scenario, and how much of each there is in its picture.
 struct Story {
@@ -82,6 +83,57 @@ fn ends_once(alloc: Global) -> bool {
     once
 }
 
+/// Two writes of three nodes: the first goes over each link of a triangle, and over that of nodes 1
+/// and 2 both ways. The JOINs and the frames of each write end at a band.
+const TWO_SETTLES: &[u8] = b"nodes 3\njoin 1 0\njoin 2 0\nsettle\nput 0 a/b/k red\nsettle\n";
+
+/// Draws a text with each `settle` as a band.
+fn fold(alloc: Global, text: &[u8]) -> Drawn {
+    let part = Part {
+        fold: true,
+        ..Part::all()
+    };
+    draw_part(alloc, text, part)
+}
+
+/// Whether each `settle` is one band, with a line for each frame that was sent before, and a box
+/// for the two nodes that show the write alike.
+fn is_folded(alloc: Global) -> bool {
+    let drawn = fold(alloc, TWO_SETTLES);
+    let picture = drawn.written.as_slice();
+    let is = drawn.status == 0
+        && count(picture, b"class=\"band\"") == 2
+        && count(picture, b">delivered 6: GOSSIP 4, PRUNE 2<") == 1
+        && count(picture, b"<title>frame ") == 4
+        && count(picture, b"class=\"arrow") == 5
+        && count(picture, b"class=\"box\"") == 2;
+    drop(drawn);
+    is
+}
+
+/// Whether a literal colour stands before each colour that is a variable.
+fn has_literals(alloc: Global) -> bool {
+    let drawn = draw(alloc, b"nodes 1\n", 0);
+    let picture = drawn.written.as_slice();
+    let literals = count(picture, b"fill:#").saturating_add(count(picture, b"stroke:#"));
+    let is = literals > 0 && literals == count(picture, b":var(--");
+    drop(drawn);
+    is
+}
+
+/// How often the name of node 0 stands in a picture of so many rows of one line.
+fn names(alloc: Global, rows: usize) -> Result<usize, AllocError> {
+    let mut text = b"nodes 2\n".to_vec(alloc)?;
+    for _row in 1..rows {
+        text.extend_from_slice(b"images 1\n")?;
+    }
+    let drawn = draw(alloc, text.as_slice(), 0);
+    let found = count(drawn.written.as_slice(), b">node 0<");
+    drop(drawn);
+    drop(text);
+    Ok(found)
+}
+
 /// How many stories aren't drawn as they should be.
 fn wrong(alloc: Global) -> usize {
     let mut wrong = 0usize;
@@ -96,6 +148,23 @@ fn wrong(alloc: Global) -> usize {
 #[test]
 fn a_picture_has_what_happened(rt: HostRuntime) {
     assert_eq!(rt; wrong(rt.alloc()), 0);
+}
+
+#[test]
+fn a_folded_settle_is_a_band(rt: HostRuntime) {
+    assert!(rt; is_folded(rt.alloc()));
+}
+
+#[test]
+fn each_colour_has_a_literal(rt: HostRuntime) {
+    assert!(rt; has_literals(rt.alloc()));
+}
+
+#[test]
+fn the_names_of_lanes_stand_again(rt: HostRuntime) {
+    assert!(rt; names(rt.alloc(), 10) == Ok(1));
+    // 100 rows of 27 pixels
+    assert!(rt; names(rt.alloc(), 100) == Ok(5));
 }
 
 #[test]
