@@ -7,7 +7,7 @@
 //! ```
 //!
 //! Read `status` (`run_frame`), `frame` (`frame_lines`), `line`, `scenario_run`, `opening`
-//! (`tell_unopened`), then `laws`.
+//! (`tell_unopened`, `add_cause`), then `laws`.
 #![tactic(auto)]
 
 mod frame;
@@ -18,6 +18,6 @@ mod scenario_run;
 mod status;
 
 pub use frame::{Ended, frame_lines};
-pub use opening::tell_unopened;
+pub use opening::{add_cause, tell_unopened};
 pub use scenario_run::run_scenario;
 pub use status::{run_frame, status_of_fault, tell};
