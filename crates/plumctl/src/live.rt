@@ -5,7 +5,7 @@ ghost use Rattle.devices.specs.Device.{IsDurable};
 ghost use Rattle.run_record.specs.Record.{IsOfARun};
 
 use crate::command::OUTPUT_LEN;
-use crate::progress::{Turns, told};
+use crate::progress::{Known, Turns, told};
 use cluster::ClusterPlan;
 use devices::{Device, FileDevice, OpenFault};
 use plumctl_core::tell;
@@ -33,7 +33,9 @@ pub fn live<R: Threads + Wait + Sync>(
     asked: LiveArguments<'_>,
 ) -> u8 {
     let turns = Turns::new(asked.plan);
-    told(rt, handle, Some(&turns), || run(rt, handle, asked, &turns))
+    told(rt, handle, Known::Turns(&turns), || {
+        run(rt, handle, asked, &turns)
+    })
 }
 
 /// Makes the file of the recording and the folder of the nodes first, so that no run is lost
