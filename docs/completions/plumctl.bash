@@ -10,16 +10,17 @@ _plumctl_files() {
 
 _plumctl() {
   local current=${COMP_WORDS[COMP_CWORD]} before=${COMP_WORDS[COMP_CWORD - 1]}
-  local words='' index command='' files=0
+  local words='' index command='' files=0 unproved=''
   COMPREPLY=()
-  # the script of the repository takes --unproved in front of the command
+  # --unproved, before the command, is an option of the script ./plumctl alone: it is offered where the command is a path
+  [[ ${COMP_WORDS[0]} = */* ]] && unproved=--unproved
   for ((index = 1; index < COMP_CWORD; index++)); do
-    [ "${COMP_WORDS[index]}" = --unproved ] && continue
+    [ "${COMP_WORDS[index]}" = --unproved ] && unproved='' && continue
     command=${COMP_WORDS[index]}
     break
   done
   case $command in
-    '') words='frame run draw file live help -h --help -V --version' ;;
+    '') words="frame run draw file live help $unproved -h --help -V --version" ;;
     help) [ "$before" = help ] && words='frame run draw file live help' ;;
     frame) words='-h --help' files=1 ;;
     run) words='--explain -h --help' files=1 ;;

@@ -8,6 +8,7 @@ set -l is_first "not __fish_seen_subcommand_from $commands"
 complete -c plumctl -f
 complete -c plumctl -s h -l help -d 'Print help'
 complete -c plumctl -n $is_first -s V -l version -d 'Print the version'
+complete -c plumctl -n $is_first -l unproved -d 'Of the script ./plumctl alone: run what is built without proofs'
 complete -c plumctl -n $is_first -a frame -d 'Print the frames that lines of hexadecimal digits spell'
 complete -c plumctl -n $is_first -a run -d 'Run a scenario over the nodes of a new cluster'
 complete -c plumctl -n $is_first -a draw -d 'Draw a run of a scenario, as an SVG picture'

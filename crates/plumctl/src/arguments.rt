@@ -96,6 +96,8 @@ where words in brackets may be left out, and
   word W   is a random number for what a node chooses by chance, 0 if left out
   stamp S  is a number that is kept beside the value, 0 if left out
 
+The whole text is read before it is run; one that is typed ends with Ctrl-D.
+
 A space separates words, and nothing else does: a line with a tab or a carriage return is no
 command. An empty line is skipped, and so is one that begins with #. Each command prints a line,
 and a line for each frame that it sent. Where a line is no command, error 70 BadLine and its number
@@ -149,7 +151,8 @@ has open is not read.
 
 Where the file is damaged, `error 31 Damaged at 52` names the first byte that is not as a file has
 it; a node can't be started from it. Where it could not be read, or OUT not be written, `error 30
-Device` is printed, and the cause stands at standard error.
+Device` is printed. Standard error then has which path that is and why, and so it has where a file
+does not begin as a node file does.
 
 OUT is a node file once the status is 0: give it the name of the old one then, while no node runs.
 OUT is removed where it could not be written whole. A file of version 1 becomes one of version 2.

@@ -3,8 +3,8 @@
 ghost use Rattle.std.specs.Prelude.{◌≢◌};
 ghost use Rattle.plumctl_draw.specs.Asked.{EndsDrawing};
 
-use crate::progress::told;
-use plumctl_core::{run_frame, run_scenario, tell, tell_unopened};
+use crate::progress::{Known, Place, told};
+use plumctl_core::{NoProgress, Progress, run_frame, run_scenario, tell, tell_unopened};
 use plumctl_draw::{Part, draw_scenario};
 use std::fs::{self, File};
 use std::io::{BufWriter, ErrorKind, IsTerminal};
@@ -15,30 +15,49 @@ use streams::{MayFail, Sink, Source, StreamFault};
 /// The most bytes of one write.
 pub const OUTPUT_LEN: usize = 65_536;
 
-/// Opens the file at a path, to be read. A folder isn't opened, since no read of it would succeed.
-fn open(rt: &HostRuntime, path: &str) -> Result<File, ErrorKind> {
+/// What is read.
+enum Input {
+    File(File),
+    Standard,
+}
+
+/// Opens the file at a path, to be read, or takes standard input where there is none. A folder is
+/// refused, since no read of it would succeed.
+fn open(rt: &HostRuntime, file: Option<&str>) -> Result<Input, ErrorKind> {
+    let Some(path) = file else {
+        return match fs::metadata(rt, "/dev/stdin") {
+            Ok(found) if found.is_dir() => Err(ErrorKind::IsADirectory),
+            _ => Ok(Input::Standard),
+        };
+    };
     let file = match fs::open(rt, path) {
         Ok(file) => file,
         Err(error) => return Err(error.kind()),
     };
     match file.metadata() {
         Ok(found) if found.is_dir() => Err(ErrorKind::IsADirectory),
-        _ => Ok(file),
+        _ => Ok(Input::File(file)),
     }
 }
 
+/// Prints why the file of this path, or standard input, can't be read, and returns the exit status,
+/// which is never 2, the status of wrong arguments.
+fn unopened(rt: &HostRuntime, file: Option<&str>, kind: ErrorKind) -> u8
+    ensures { result ≢ 2 }
+{
+    let name = file.unwrap_or("standard input");
+    tell_unopened(rt.alloc(), &mut MayFail(rt.stderr()), name, kind)
+}
+
 /// Does `frame` for the file of this path, or for standard input, to standard output. Returns the
-/// exit status, which is never 2, the status of wrong arguments: a file that can't be opened can't
-/// be read.
+/// exit status, which is never 2.
 pub fn frame(rt: &HostRuntime, file: Option<&str>) -> u8
     ensures { result ≢ 2 }
 {
-    let Some(path) = file else {
-        return frame_from(rt, &mut MayFail(rt.stdin()));
-    };
-    match open(rt, path) {
-        Ok(file) => frame_from(rt, &mut MayFail(file)),
-        Err(kind) => tell_unopened(rt.alloc(), &mut MayFail(rt.stderr()), path, kind),
+    match open(rt, file) {
+        Ok(Input::File(file)) => frame_from(rt, &mut MayFail(file)),
+        Ok(Input::Standard) => frame_from(rt, &mut MayFail(rt.stdin())),
+        Err(kind) => unopened(rt, file, kind),
     }
 }
 
@@ -53,6 +72,18 @@ fn frame_from<R: Source>(rt: &HostRuntime, reader: &mut R) -> u8
     run_frame(rt.alloc(), reader, &mut MayFail(buffered), &mut errors)
 }
 
+/// Whether a scenario is typed: it isn't in a file, and standard input is a terminal. Says at
+/// standard error how it ends then, since nothing happens before that.
+fn is_typed(rt: &HostRuntime, file: Option<&str>) -> bool {
+    let is_typed = file.is_none() && rt.stdin().is_terminal();
+    if is_typed {
+        let _ = eprintln!(rt;
+            "note: end the scenario with Ctrl-D: it is read whole before it is run"
+        );
+    }
+    is_typed
+}
+
 /// Does `run`, and reports at a terminal that it takes its time, but not where the scenario is
 /// typed. Returns the exit status.
 pub fn run<R: Threads + Wait + Sync>(
@@ -61,47 +92,58 @@ pub fn run<R: Threads + Wait + Sync>(
     file: Option<&str>,
     explain: bool,
 ) -> u8 {
-    if file.is_none() && rt.stdin().is_terminal() {
-        return run_input(rt, file, explain);
+    if is_typed(rt, file) {
+        return run_input(rt, file, explain, &NoProgress);
     }
-    told(rt, handle, None, || run_input(rt, file, explain))
+    let place = Place::new();
+    told(rt, handle, Known::Lines(&place), || {
+        run_input(rt, file, explain, &place)
+    })
 }
 
 /// Runs the scenario of the file of this path, or of standard input, to standard output; explained,
-/// if that is asked for. Returns the exit status, which is never 2, the status of wrong arguments:
-/// a file that can't be opened can't be read.
-fn run_input(rt: &HostRuntime, file: Option<&str>, explain: bool) -> u8
+/// if that is asked for. Returns the exit status, which is never 2.
+fn run_input<G: Progress>(rt: &HostRuntime, file: Option<&str>, explain: bool, progress: &G) -> u8
     ensures { result ≢ 2 }
 {
-    let Some(path) = file else {
-        return run_from(rt, &mut MayFail(rt.stdin()), explain);
-    };
-    match open(rt, path) {
-        Ok(file) => run_from(rt, &mut MayFail(file), explain),
-        Err(kind) => tell_unopened(rt.alloc(), &mut MayFail(rt.stderr()), path, kind),
+    match open(rt, file) {
+        Ok(Input::File(file)) => run_from(rt, &mut MayFail(file), explain, progress),
+        Ok(Input::Standard) => run_from(rt, &mut MayFail(rt.stdin()), explain, progress),
+        Err(kind) => unopened(rt, file, kind),
     }
 }
 
 /// Runs the scenario of a reader, to standard output: at a terminal what each command prints is
 /// shown at once, elsewhere it is written in large pieces.
-fn run_from<R: Source>(rt: &HostRuntime, reader: &mut R, explain: bool) -> u8
+fn run_from<R: Source, G: Progress>(
+    rt: &HostRuntime,
+    reader: &mut R,
+    explain: bool,
+    progress: &G,
+) -> u8
     ensures { result ≢ 2 }
 {
     if rt.stdout().is_terminal() {
-        return run_to(rt, reader, &mut MayFail(rt.stdout()), explain);
+        return run_to(rt, reader, &mut MayFail(rt.stdout()), explain, progress);
     }
     match BufWriter::with_capacity(rt.alloc(), OUTPUT_LEN, rt.stdout()) {
-        Ok(buffered) => run_to(rt, reader, &mut MayFail(buffered), explain),
+        Ok(buffered) => run_to(rt, reader, &mut MayFail(buffered), explain, progress),
         Err(_) => tell(&mut MayFail(rt.stderr()), StreamFault::Memory),
     }
 }
 
 /// Runs the scenario of a reader, to a writer.
-fn run_to<R: Source, W: Sink>(rt: &HostRuntime, reader: &mut R, writer: &mut W, explain: bool) -> u8
+fn run_to<R: Source, W: Sink, G: Progress>(
+    rt: &HostRuntime,
+    reader: &mut R,
+    writer: &mut W,
+    explain: bool,
+    progress: &G,
+) -> u8
     ensures { result ≢ 2 }
 {
     let mut errors = MayFail(rt.stderr());
-    run_scenario(rt.alloc(), reader, writer, &mut errors, explain)
+    run_scenario(rt.alloc(), reader, writer, &mut errors, explain, progress)
 }
 
 /// Does `draw`, and reports at a terminal that it takes its time, but not where the scenario is
@@ -112,10 +154,10 @@ pub fn draw<R: Threads + Wait + Sync>(
     file: Option<&str>,
     part: Part,
 ) -> u8 {
-    if file.is_none() && rt.stdin().is_terminal() {
+    if is_typed(rt, file) {
         return draw_input(rt, file, part);
     }
-    told(rt, handle, None, || draw_input(rt, file, part))
+    told(rt, handle, Known::Nothing, || draw_input(rt, file, part))
 }
 
 /// Draws the scenario of the file of this path, or of standard input, to standard output. Returns
@@ -123,12 +165,10 @@ pub fn draw<R: Threads + Wait + Sync>(
 /// can't be opened can't be read. (It has no clause of its own, since none can name what a file
 /// gives.)
 fn draw_input(rt: &HostRuntime, file: Option<&str>, part: Part) -> u8 {
-    let Some(path) = file else {
-        return draw_from(rt, &mut MayFail(rt.stdin()), part);
-    };
-    match open(rt, path) {
-        Ok(file) => draw_from(rt, &mut MayFail(file), part),
-        Err(kind) => tell_unopened(rt.alloc(), &mut MayFail(rt.stderr()), path, kind),
+    match open(rt, file) {
+        Ok(Input::File(file)) => draw_from(rt, &mut MayFail(file), part),
+        Ok(Input::Standard) => draw_from(rt, &mut MayFail(rt.stdin()), part),
+        Err(kind) => unopened(rt, file, kind),
     }
 }
 

@@ -3,7 +3,7 @@
 ghost use Rattle.std.specs.Prelude.{◌≢◌};
 
 use crate::command::OUTPUT_LEN;
-use crate::progress::told;
+use crate::progress::{Known, told};
 use plumctl_core::tell;
 use plumctl_file::{Reported, copy_to_path, report_path};
 use std::io::BufWriter;
@@ -18,7 +18,7 @@ pub fn file<R: Threads + Wait + Sync>(
     path: &str,
     rewrite: Option<&str>,
 ) -> u8 {
-    told(rt, handle, None, || report(rt, path, rewrite))
+    told(rt, handle, Known::Nothing, || report(rt, path, rewrite))
 }
 
 /// Reports the file at a path, and makes a clean copy at another, where that is asked for and a

@@ -5,7 +5,7 @@ ghost use Rattle.devices.specs.Device.{IsDurable};
 ghost use Rattle.run_record.specs.Record.{IsOfARun};
 
 use crate::command::OUTPUT_LEN;
-use crate::progress::{Turns, told};
+use crate::progress::{Known, Turns, told};
 use cluster::ClusterPlan;
 use devices::{Device, FileDevice, OpenFault};
 use plumctl_core::tell;
@@ -33,7 +33,9 @@ pub fn live<R: Threads + Wait + Sync>(
     asked: LiveArguments<'_>,
 ) -> u8 {
     let turns = Turns::new(asked.plan);
-    told(rt, handle, Some(&turns), || run(rt, handle, asked, &turns))
+    told(rt, handle, Known::Turns(&turns), || {
+        run(rt, handle, asked, &turns)
+    })
 }
 
 /// Makes the file of the recording and the folder of the nodes first, so that no run is lost
@@ -54,13 +56,13 @@ fn run<R: Threads + Wait + Sync>(
     let mut writer = MayFail(buffered);
     let target = match target_of(rt, asked) {
         Ok(target) => target,
-        Err(fault) => return tell_unmade(&mut errors, fault),
+        Err(unmade) => return unmade.tell(rt, &mut errors),
     };
     let devices = match devices_of(rt, asked) {
         Ok(devices) => devices,
-        Err(fault) => {
+        Err(unmade) => {
             remove(rt, asked);
-            return tell_unmade(&mut errors, fault);
+            return unmade.tell(rt, &mut errors);
         }
     };
     let live = run_on(
@@ -72,32 +74,57 @@ fn run<R: Threads + Wait + Sync>(
         &mut writer,
         &mut errors,
     );
-    match target {
-        Some(target) => record(rt, asked, &live, target, &mut errors),
-        None => live.status,
+    match (target, asked.record) {
+        (Some(target), Some(path)) => record(rt, asked.plan, &live, path, target, &mut errors),
+        _ => live.status,
+    }
+}
+
+/// A path where nothing could be made, and why.
+#[derive(Clone, Copy)]
+struct Unmade<'a> {
+    path: &'a str,
+    fault: OpenFault,
+}
+
+impl<'a> Unmade<'a> {
+    /// Prints the path and the cause at standard error, and returns the exit status.
+    fn tell<E: Sink>(self, rt: &HostRuntime, errors: &mut E) -> u8
+        ensures { result ≢ 2 }
+    {
+        tell_unmade(rt.alloc(), errors, self.path, self.fault)
     }
 }
 
 /// The file of the recording, where one is asked for.
-fn target_of(rt: &HostRuntime, asked: LiveArguments<'_>) -> Result<Option<FileDevice>, OpenFault> {
-    match asked.record {
-        Some(path) => Ok(Some(FileDevice::create_new(rt, rt.alloc(), path)?)),
-        None => Ok(None),
+fn target_of<'a>(
+    rt: &HostRuntime,
+    asked: LiveArguments<'a>,
+) -> Result<Option<FileDevice>, Unmade<'a>> {
+    let Some(path) = asked.record else {
+        return Ok(None);
+    };
+    match FileDevice::create_new(rt, rt.alloc(), path) {
+        Ok(target) => Ok(Some(target)),
+        Err(fault) => Err(Unmade { path, fault }),
     }
 }
 
 /// The files of the nodes, where they are asked for.
-fn devices_of(
+fn devices_of<'a>(
     rt: &HostRuntime,
-    asked: LiveArguments<'_>,
-) -> Result<Option<Vec<FileDevice>>, OpenFault>
+    asked: LiveArguments<'a>,
+) -> Result<Option<Vec<FileDevice>>, Unmade<'a>>
     ensures { IfOk result (λ found. IfSome found (λ devices.
         All (λ d. IsDurable (⟦<FileDevice as Device>⟧.content d)
         (⟦<FileDevice as Device>⟧.may_leave d)) devices.items)) }
 {
-    match asked.files {
-        Some(folder) => Ok(Some(new_files(rt, folder, asked.plan.nodes)?)),
-        None => Ok(None),
+    let Some(path) = asked.files else {
+        return Ok(None);
+    };
+    match new_files(rt, path, asked.plan.nodes) {
+        Ok(devices) => Ok(Some(devices)),
+        Err(fault) => Err(Unmade { path, fault }),
     }
 }
 
@@ -127,28 +154,29 @@ fn run_on<R: Threads + Wait + Sync, W: Sink, E: Sink>(
     live
 }
 
-/// Writes down a run that was reported, if it is one of the world and its status is 0. Removes the
-/// file unless all of it was written. Returns the exit status.
+/// Writes down a run that was reported, if it is one of the world and its status is 0, in the file
+/// at this path. Removes the file unless all of it was written. Returns the exit status.
 fn record<E: Sink>(
     rt: &HostRuntime,
-    asked: LiveArguments<'_>,
+    plan: ClusterPlan,
     live: &LiveRun,
+    path: &str,
     target: FileDevice,
     errors: &mut E,
 ) -> u8
     requires not_usage { live.now.status ≢ 2 }
-    requires world { IfOk live.now.judged (IsOfARun asked.plan.nodes) }
+    requires world { IfOk live.now.judged (IsOfARun plan.nodes) }
     ensures { result ≢ 2 }
 {
     let mut target = target;
     let status = match &live.judged {
         Ok(world) if live.status == 0 => {
-            write_recording(rt.alloc(), asked.plan, world, &mut target, errors)
+            write_recording(rt.alloc(), plan, world, path, &mut target, errors)
         }
         _ => live.status,
     };
     if status != 0 {
-        remove(rt, asked);
+        let _ = fs::remove_file(rt, path);
     }
     status
 }

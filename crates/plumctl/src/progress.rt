@@ -2,6 +2,7 @@
 
 use cluster::{ClusterPlan, Gate};
 use meta_types::NodeId;
+use plumctl_core::Progress;
 use plumctl_live::Counts;
 use std::io::IsTerminal;
 use std::sync::Wait;
@@ -50,13 +51,50 @@ impl Gate for Turns {
     }
 }
 
+/// Which line of a scenario is at work, and how many it has; 0 of 0 while it is read.
+#[derive(Drop)]
+pub struct Place {
+    line: AtomicU64,
+    lines: AtomicU64,
+}
+
+impl Place {
+    /// Makes the record of a scenario that wasn't read yet.
+    pub fn new() -> Place {
+        Place {
+            line: AtomicU64::new(0),
+            lines: AtomicU64::new(0),
+        }
+    }
+}
+
+impl Progress for Place {
+    fn begin(&self, lines: u64) {
+        self.lines.store(lines, Ordering::Relaxed);
+    }
+
+    fn reach(&self, line: u64) {
+        self.line.store(line, Ordering::Relaxed);
+    }
+}
+
+/// What is known of how far work is.
+#[derive(Clone, Copy)]
+pub enum Known<'a> {
+    Nothing,
+    /// Of a scenario.
+    Lines(&'a Place),
+    /// Of a cluster.
+    Turns(&'a Turns),
+}
+
 /// Does the work. Where standard error is a terminal, prints there that it is at work, after a
-/// second, and again after 2, 4, 8 seconds and so on, and for a cluster how many turns were made;
-/// and, if that was printed, at last how many calls it made in a second.
+/// second, and again after 2, 4, 8 seconds and so on, and what is known of how far it is; and for a
+/// cluster, if that was printed, at last how many calls it made in a second.
 pub fn told<R: Threads + Wait + Sync, T: Send, F: FnOnce() -> T + Send>(
     rt: &HostRuntime,
     handle: &R,
-    turns: Option<&Turns>,
+    known: Known<'_>,
     work: F,
 ) -> T
     requires { F.IsAlwaysCallable work }
@@ -74,7 +112,7 @@ pub fn told<R: Threads + Wait + Sync, T: Send, F: FnOnce() -> T + Send>(
             parker.unpark();
             result
         },
-        || tell(rt, handle, turns, &over, &parker),
+        || tell(rt, handle, known, &over, &parker),
     );
     result
 }
@@ -84,7 +122,7 @@ pub fn told<R: Threads + Wait + Sync, T: Send, F: FnOnce() -> T + Send>(
 fn tell<R: Wait>(
     rt: &HostRuntime,
     handle: &R,
-    turns: Option<&Turns>,
+    known: Known<'_>,
     over: &AtomicBool,
     parker: &Parker,
 ) {
@@ -96,19 +134,29 @@ fn tell<R: Wait>(
     for _ in handle.forever() {
         parker.park_timeout(handle, Duration::from_millis(100));
         let time = start.elapsed(rt).unwrap_or(Duration::ZERO);
-        if made.is_none() && turns.is_some_and(Turns::are_made) {
+        if made.is_none() && known.are_turns_made() {
             made = Some(time);
         }
         if over.load(Ordering::SeqCst) {
-            if let (Some(turns), Some(made), 2..) = (turns, made, next) {
+            if let (Known::Turns(turns), Some(made), 2..) = (known, made, next) {
                 tell_last(rt, turns, made);
             }
             return;
         }
         let seconds = time.as_secs();
         if seconds >= next {
-            tell_once(rt, seconds, turns);
+            tell_once(rt, seconds, known);
             next = seconds.saturating_mul(2);
+        }
+    }
+}
+
+impl<'a> Known<'a> {
+    /// Whether it is known that all turns of a cluster were made.
+    fn are_turns_made(self) -> bool {
+        match self {
+            Known::Turns(turns) => turns.are_made(),
+            Known::Nothing | Known::Lines(_) => false,
         }
     }
 }
@@ -122,20 +170,37 @@ fn tell_last(rt: &HostRuntime, turns: &Turns, time: Duration) {
     let _ = eprintln!(rt; "{calls} calls, {lost} frames lost, {rate} calls a second");
 }
 
-/// Prints once that the work goes on: for a cluster how many turns were made, each of which is a
-/// call, and how many in a second; once all were made, that they are judged.
-fn tell_once(rt: &HostRuntime, seconds: u64, turns: Option<&Turns>) {
-    let _ = match turns {
-        Some(turns) => {
-            let all = turns.all;
-            let made = turns.made.load(Ordering::Relaxed);
-            if made < all {
-                let rate = made / seconds.max(1);
-                eprintln!(rt; "at work: {seconds} s, {made} of {all} turns, {rate} a second")
-            } else {
-                eprintln!(rt; "at work: {seconds} s, all {all} turns made, and being judged")
-            }
+/// Prints once that the work goes on, and how far it is.
+fn tell_once(rt: &HostRuntime, seconds: u64, known: Known<'_>) {
+    match known {
+        Known::Nothing => {
+            let _ = eprintln!(rt; "at work: {seconds} s");
         }
-        None => eprintln!(rt; "at work: {seconds} s"),
+        Known::Lines(place) => tell_place(rt, seconds, place),
+        Known::Turns(turns) => tell_turns(rt, seconds, turns),
+    }
+}
+
+/// Prints which line of a scenario is at work, of how many; before its first command only that the
+/// work goes on.
+fn tell_place(rt: &HostRuntime, seconds: u64, place: &Place) {
+    let line = place.line.load(Ordering::Relaxed);
+    let lines = place.lines.load(Ordering::Relaxed);
+    let _ = match line {
+        0 => eprintln!(rt; "at work: {seconds} s"),
+        line => eprintln!(rt; "at work: {seconds} s, line {line} of {lines}"),
+    };
+}
+
+/// Prints how many turns of a cluster were made, each of which is a call, and how many in a second;
+/// once all were made, that they are judged.
+fn tell_turns(rt: &HostRuntime, seconds: u64, turns: &Turns) {
+    let all = turns.all;
+    let made = turns.made.load(Ordering::Relaxed);
+    let _ = if made < all {
+        let rate = made / seconds.max(1);
+        eprintln!(rt; "at work: {seconds} s, {made} of {all} turns, {rate} a second")
+    } else {
+        eprintln!(rt; "at work: {seconds} s, all {all} turns made, and being judged")
     };
 }

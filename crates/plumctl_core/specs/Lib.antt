@@ -10,7 +10,7 @@ pub mod Output
 pub mod Run
 -- the exit status of a program, and what it prints at standard error
 pub mod Status
--- what is printed about a file that can't be opened
+-- what is printed about a path that is of no use
 pub mod Opening
 -- what a scenario prints, and how its run ends
 pub use Rattle.scenario.specs.Output as ScenarioOutput

@@ -1,5 +1,5 @@
--- What is printed about a file that can't be opened: the line for input that can't be read, and
--- then the name of the file and the cause.
+-- What is printed about a path that is of no use: its name and the cause; and before that, for a
+-- file that is to be read as a text, the line for input that can't be read.
 use Rattle.std.specs.Prelude.{◌≡◌, ◌≢◌, ◌⊎◌, ℕ, List, [], ◌∷◌, ◌++◌, map, codes}
 use Rattle.std.specs.Io.KnownBytes.{Appends}
 use Rattle.std.specs.declared.io.ErrorKind.{ErrorKind}
@@ -19,10 +19,14 @@ cause_of_kind kinds.FilesystemLoop = codes "is a link that leads in a circle"
 cause_of_kind kinds.InvalidFilename = codes "the name is too long, or none of a file"
 cause_of_kind kind = codes "could not be opened"
 
+-- the line that names a path, and says why it is of no use
+abbrev pub cause_line : (name cause : List ℕ) → List ℕ
+cause_line name cause =
+    codes "cause: " ++ (map shown_byte name ++ (codes ": " ++ (cause ++ 10 ∷ [])))
+
 -- the two lines that are printed
 abbrev pub unopened_text : List ℕ → ErrorKind → List ℕ
-unopened_text name kind = line_of_fault Read ++ (codes "cause: " ++ (map shown_byte name
-    ++ (codes ": " ++ (cause_of_kind kind ++ 10 ∷ []))))
+unopened_text name kind = line_of_fault Read ++ cause_line name (cause_of_kind kind)
 
 -- a text was printed at standard error, as far as that takes it
 abbrev pub TellsText : (errors_old errors_new : SinkAt) → List ℕ → Type 0

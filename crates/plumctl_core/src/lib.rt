@@ -3,21 +3,23 @@
 //!
 //! ```
 //! let status = run_frame(alloc, &mut reader, &mut writer, &mut errors);
-//! let status = run_scenario(alloc, &mut reader, &mut writer, &mut errors, explain);
+//! let status = run_scenario(alloc, &mut reader, &mut writer, &mut errors, explain, &NoProgress);
 //! ```
 //!
-//! Read `status` (`run_frame`), `frame` (`frame_lines`), `line`, `scenario_run`, `opening`
-//! (`tell_unopened`), then `laws`.
+//! Read `status` (`run_frame`), `frame` (`frame_lines`), `line`, `scenario_run` with `progress`,
+//! `opening` (`tell_unopened`, `add_cause`), then `laws`.
 #![tactic(auto)]
 
 mod frame;
 pub mod laws;
 mod line;
 mod opening;
+mod progress;
 mod scenario_run;
 mod status;
 
 pub use frame::{Ended, frame_lines};
-pub use opening::tell_unopened;
+pub use opening::{add_cause, tell_unopened};
+pub use progress::{NoProgress, Progress};
 pub use scenario_run::run_scenario;
 pub use status::{run_frame, status_of_fault, tell};

@@ -1,7 +1,7 @@
-//! What is printed about a file that can't be opened.
+//! What is printed about a path that is of no use.
 
-ghost use Rattle.std.specs.Prelude.{◌≡◌, ◌≢◌, IfOk};
-ghost use Rattle.plumctl_core.specs.Opening.{EndsAtOpening, TellsText, cause_of_kind, unopened_text};
+ghost use Rattle.std.specs.Prelude.{◌≡◌, ◌≢◌, ◌++◌, IfOk, OnOk};
+ghost use Rattle.plumctl_core.specs.Opening.{EndsAtOpening, TellsText, cause_line, cause_of_kind, unopened_text};
 
 use crate::status::{line_of_fault, status_of_fault, tell};
 use scenario_hint::add_printable;
@@ -24,6 +24,19 @@ fn cause_of_kind(kind: ErrorKind) -> &'static str
     }
 }
 
+/// Adds the line that names a path, and says why it is of no use: `cause: node-0: not found`. A
+/// byte of the name that can't be printed is shown as `?`.
+pub fn add_cause(text: &mut Vec<u8>, name: &str, cause: &str) -> Result<(), AllocError>
+    ensures { OnOk result (text.new.items ≡ text.old.items ++ cause_line name.now cause.now) }
+{
+    text.extend_from_slice(b"cause: ")?;
+    add_printable(text, name.as_bytes())?;
+    text.extend_from_slice(b": ")?;
+    text.extend_from_slice(cause.as_bytes())?;
+    text.push(b'\n')?;
+    Ok(())
+}
+
 /// Returns the two lines to print: the line for input that can't be read, and the name with the
 /// cause.
 fn unopened_text(alloc: Global, name: &str, kind: ErrorKind) -> Result<Vec<u8>, AllocError>
@@ -31,11 +44,7 @@ fn unopened_text(alloc: Global, name: &str, kind: ErrorKind) -> Result<Vec<u8>, 
 {
     let mut text = Vec::new(alloc);
     text.extend_from_slice(line_of_fault(StreamFault::Read).as_bytes())?;
-    text.extend_from_slice(b"cause: ")?;
-    add_printable(&mut text, name.as_bytes())?;
-    text.extend_from_slice(b": ")?;
-    text.extend_from_slice(cause_of_kind(kind).as_bytes())?;
-    text.push(b'\n')?;
+    add_cause(&mut text, name, cause_of_kind(kind))?;
     Ok(text)
 }
 

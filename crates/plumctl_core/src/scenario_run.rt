@@ -7,6 +7,7 @@ ghost use Rattle.scenario_explain.specs.Told.{explained};
 ghost use Rattle.plumctl_core.specs.Scenario.{EndsScenario, EndsAndTells, TellsBadLine, TellsScenario, manner_by, named_choices, status_of_scenario};
 
 use crate::opening::tell_text;
+use crate::progress::{Followed, Progress};
 use crate::status::tell;
 use resolvers::{Largest, Lww, Resolver};
 use scenario::{Plain, Runner, ScenarioFault, read_text, run_text};
@@ -49,31 +50,34 @@ fn end_status<E: Sink>(
 }
 
 /// Runs a text in the manner of the runner, reports how that ended, and returns the exit status.
-fn run_as<P: Runner, W: Sink, E: Sink>(
+fn run_as<P: Runner + Drop, W: Sink, E: Sink, G: Progress>(
     alloc: Global,
-    runner: &mut P,
+    runner: P,
     text: &[u8],
     writer: &mut W,
     errors: &mut E,
     resolvers: &[Box<dyn Resolver>],
+    progress: &G,
 ) -> u8
     ensures run { result ≢ 2 }
     ensures ends { EndsAndTells
         (manner_of P.opens P.does (map (λ r. choice r) resolvers.now)) text.now
         (W.at writer.old) (W.at writer.new) (E.at errors.old) (E.at errors.new) result }
 {
-    let ended = run_text(alloc, runner, text, writer, resolvers);
+    let mut followed = Followed::new(runner, text, progress);
+    let ended = run_text(alloc, &mut followed, text, writer, resolvers);
     end_status(alloc, errors, text, ended)
 }
 
 /// Runs a scenario of a reader with these resolvers, prints the results alone, reports how that
 /// ended, and returns the exit status.
-fn run_plain<R: Source, W: Sink, E: Sink>(
+fn run_plain<R: Source, W: Sink, E: Sink, G: Progress>(
     alloc: Global,
     reader: &mut R,
     writer: &mut W,
     errors: &mut E,
     resolvers: &[Box<dyn Resolver>],
+    progress: &G,
 ) -> u8
     ensures run { result ≢ 2 }
     ensures ends { EndsScenario (plain (map (λ r. choice r) resolvers.now))
@@ -83,23 +87,25 @@ fn run_plain<R: Source, W: Sink, E: Sink>(
     match read_text(alloc, reader) {
         Ok(text) => run_as(
             alloc,
-            &mut Plain,
+            Plain,
             text.as_slice(),
             writer,
             errors,
             resolvers,
+            progress,
         ),
         Err(fault) => tell(errors, fault),
     }
 }
 
 /// Does what `run_plain` does, explained.
-fn run_explained<R: Source, W: Sink, E: Sink>(
+fn run_explained<R: Source, W: Sink, E: Sink, G: Progress>(
     alloc: Global,
     reader: &mut R,
     writer: &mut W,
     errors: &mut E,
     resolvers: &[Box<dyn Resolver>],
+    progress: &G,
 ) -> u8
     ensures run { result ≢ 2 }
     ensures ends { EndsScenario (explained (map (λ r. choice r) resolvers.now))
@@ -108,14 +114,15 @@ fn run_explained<R: Source, W: Sink, E: Sink>(
 {
     match read_text(alloc, reader) {
         Ok(text) => {
-            let mut explainer = Explainer::new(alloc, text.as_slice());
+            let explainer = Explainer::new(alloc, text.as_slice());
             run_as(
                 alloc,
-                &mut explainer,
+                explainer,
                 text.as_slice(),
                 writer,
                 errors,
                 resolvers,
+                progress,
             )
         }
         Err(fault) => tell(errors, fault),
@@ -124,13 +131,14 @@ fn run_explained<R: Source, W: Sink, E: Sink>(
 
 /// Runs a scenario of a reader with the resolvers that `lww` and `largest` name, explained or with
 /// the results alone, and returns the exit status.
-fn run_by<R: Source, W: Sink, E: Sink>(
+fn run_by<R: Source, W: Sink, E: Sink, G: Progress>(
     alloc: Global,
     reader: &mut R,
     writer: &mut W,
     errors: &mut E,
     resolvers: &[Box<dyn Resolver>],
     explain: bool,
+    progress: &G,
 ) -> u8
     requires { map (λ r. choice r) resolvers.now ≡ named_choices }
     ensures run { result ≢ 2 }
@@ -139,9 +147,9 @@ fn run_by<R: Source, W: Sink, E: Sink>(
         (E.at errors.old) (E.at errors.new) result }
 {
     if explain {
-        run_explained(alloc, reader, writer, errors, resolvers)
+        run_explained(alloc, reader, writer, errors, resolvers, progress)
     } else {
-        run_plain(alloc, reader, writer, errors, resolvers)
+        run_plain(alloc, reader, writer, errors, resolvers, progress)
     }
 }
 
@@ -150,12 +158,13 @@ fn run_by<R: Source, W: Sink, E: Sink>(
 /// memory, and for the first bad line what it is and what it wants, and returns the exit status: 0
 /// where it was run to its end, 1 where a line breaks a rule, a settling would go on past its limit
 /// or the input is too long, 3 where reading or writing failed, 4 where memory was refused.
-pub fn run_scenario<R: Source, W: Sink, E: Sink>(
+pub fn run_scenario<R: Source, W: Sink, E: Sink, G: Progress>(
     alloc: Global,
     reader: &mut R,
     writer: &mut W,
     errors: &mut E,
     explain: bool,
+    progress: &G,
 ) -> u8
     ensures run { result ≢ 2 }
     ensures ends { EndsScenario (manner_by explain named_choices)
@@ -169,5 +178,5 @@ pub fn run_scenario<R: Source, W: Sink, E: Sink>(
         return tell(errors, StreamFault::Memory);
     };
     let resolvers: [Box<dyn Resolver>; 2] = [lww, largest];
-    run_by(alloc, reader, writer, errors, &resolvers, explain)
+    run_by(alloc, reader, writer, errors, &resolvers, explain, progress)
 }

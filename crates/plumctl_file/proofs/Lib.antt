@@ -4,3 +4,5 @@ pub mod Device
 pub mod Rows
 -- how a copy ends
 pub mod Copying
+-- bytes that begin as no node file does
+mod Beginning

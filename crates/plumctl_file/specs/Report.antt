@@ -1,5 +1,5 @@
 -- What `plumctl file` prints of a node's file: a rule of this project.
-use Rattle.std.specs.Prelude.{ℕ, List, [], ◌++◌, length, Result, Ok, Err, codes, decimal}
+use Rattle.std.specs.Prelude.{ℕ, Bool, nat_eq, nat_lt, if◌then◌else◌, List, [], ◌++◌, length, take, is_none, Result, Ok, Err, codes, decimal}
 use Rattle.std.specs.List.{flat_map}
 use Rattle.dvvset.specs.Object.{Entry}
 use Rattle.meta_types.specs.Name.{Key}
@@ -7,7 +7,7 @@ use Rattle.meta_store.specs.Table.{Table}
 use Rattle.node_file.specs.declared.fault.FileFault.{FileFault}
 use Rattle.node_file.specs.declared.fault.FileFault.TheVariants.{Damaged}
 use Rattle.node_file.specs.Fault.{code_of, fault_name}
-use Rattle.node_file.specs.File.{FileState}
+use Rattle.node_file.specs.File.{FileState, version_of}
 use Rattle.printing.specs.Field.{key_text}
 use Rattle.printing.specs.Object.{object_text}
 use Rattle.scenario_stage.specs.Meaning.{root_text}
@@ -37,6 +37,14 @@ place_text fault = []
 unfoldable pub refusal_line : FileFault → List ℕ
 refusal_line fault = line (codes "error " ++ decimal (code_of fault) ++ codes " "
     ++ fault_name fault ++ place_text fault)
+
+-- no node file begins so: there are no bytes; or there are enough for a front and a gate, and the
+-- first eight are no magic
+abbrev pub begins_otherwise : List ℕ → Bool
+begins_otherwise bytes =
+    if nat_lt (length bytes) 11
+    then nat_eq (length bytes) 0
+    else is_none (version_of (take 8 bytes))
 
 -- of what bytes stand for, or why they are no file
 abbrev pub printed_of : Result (FileState × ℕ) FileFault → List ℕ

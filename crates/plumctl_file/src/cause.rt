@@ -1,57 +1,91 @@
 //! Why a path is of no use, in plain words.
 
-ghost use Rattle.std.specs.Prelude.{◌≡◌};
-ghost use Rattle.plumctl_file.specs.Ends.{EndsWithDevice, cause_of_path, cause_of_out};
+ghost use Rattle.std.specs.Prelude.{◌≡◌, ◌≢◌, IfOk};
+ghost use Rattle.plumctl_core.specs.Opening.{cause_line};
+ghost use Rattle.plumctl_file.specs.Ends.{EndsAtDevice, EndsWithDevice, cause_of_path, cause_of_unmade};
 
 use crate::report::print;
 use devices::OpenFault;
-use plumctl_core::tell;
-use streams::{Sink, write_whole};
+use plumctl_core::{add_cause, tell};
+use std::alloc::{AllocError, Global};
+use streams::{Sink, StreamFault, write_whole};
 
-/// Printed at standard error where a file failed to be read.
-pub(crate) const READ_FAILED: &str = "cause: PATH could not be read\n";
+/// Why a file that was opened is not shown.
+pub(crate) const READ_FAILED: &str = "could not be read";
 
-/// Printed at standard error where a file failed to be written.
-pub(crate) const WRITE_FAILED: &str = "cause: OUT could not be written\n";
+/// Why a file that was made is no copy.
+pub(crate) const WRITE_FAILED: &str = "could not be written";
 
-/// Returns what is printed about the path of a file that couldn't be opened to be read.
+/// Why bytes are no file from their first byte on.
+pub(crate) const BEGINS_OTHERWISE: &str =
+    "does not begin as a node file does; is this the right path?";
+
+/// Returns why the file at a path couldn't be opened to be read.
 pub(crate) fn cause_of_path(fault: OpenFault) -> &'static str
     ensures { result.now ≡ cause_of_path fault }
 {
     match fault {
         OpenFault::Memory => "",
-        OpenFault::Missing => "cause: PATH is not there\n",
-        OpenFault::Exists => "cause: PATH is there already\n",
-        OpenFault::NotAFile => "cause: PATH is no regular file\n",
-        OpenFault::InUse => "cause: PATH is in use by a node, or is being written\n",
-        OpenFault::Failed => "cause: PATH may not be read or locked, or the disk failed\n",
+        OpenFault::Missing => "not found",
+        OpenFault::Exists => "is there already",
+        OpenFault::NotAFile => "is no regular file",
+        OpenFault::InUse => "is in use by a node, or is being written",
+        OpenFault::Failed => "may not be read or locked, or the disk failed",
     }
 }
 
-/// Returns what is printed about the path of a file that couldn't be made.
-pub(crate) fn cause_of_out(fault: OpenFault) -> &'static str
-    ensures { result.now ≡ cause_of_out fault }
+/// Returns why nothing could be made at a path.
+pub fn cause_of_unmade(fault: OpenFault) -> &'static str
+    ensures { result.now ≡ cause_of_unmade fault }
 {
     match fault {
         OpenFault::Memory => "",
-        OpenFault::Missing => "cause: the folder of OUT is not there\n",
-        OpenFault::Exists => "cause: OUT is there already, and nothing is written over\n",
-        OpenFault::NotAFile => "cause: OUT is no regular file\n",
-        OpenFault::InUse => "cause: OUT is in use\n",
-        OpenFault::Failed => "cause: OUT may not be made or locked, or the disk failed\n",
+        OpenFault::Missing => "its folder is not there",
+        OpenFault::Exists => "is there already, and nothing is written over",
+        OpenFault::NotAFile => "is no regular file",
+        OpenFault::InUse => "is in use",
+        OpenFault::Failed => "may not be made or locked, or the disk failed",
     }
 }
 
-/// Prints the line of a device that failed, prints its cause at standard error, and returns the
-/// exit status.
-pub(crate) fn tell_device<W: Sink, E: Sink>(writer: &mut W, errors: &mut E, cause: &str) -> u8
-    ensures { EndsWithDevice cause.now
+/// Returns the line that names a path, and says why it is of no use.
+pub(crate) fn cause_text(alloc: Global, path: &str, cause: &str) -> Result<Vec<u8>, AllocError>
+    ensures { IfOk result (λ text. text.items ≡ cause_line path.now cause.now) }
+{
+    let mut text = Vec::new(alloc);
+    add_cause(&mut text, path, cause)?;
+    Ok(text)
+}
+
+/// Prints the line of a device that failed, prints at standard error which path that is and why,
+/// and returns the exit status.
+pub(crate) fn tell_device<W: Sink, E: Sink>(
+    alloc: Global,
+    writer: &mut W,
+    errors: &mut E,
+    path: &str,
+    cause: &str,
+) -> u8
+    ensures { EndsWithDevice (cause_line path.now cause.now)
+        (record { writer = W.at writer.old; errors = E.at errors.old })
+        (record { writer = W.at writer.new; errors = E.at errors.new }) result }
+{
+    match cause_text(alloc, path, cause) {
+        Ok(told) => print_device(writer, errors, told.as_slice()),
+        Err(_) => tell(errors, StreamFault::Memory),
+    }
+}
+
+/// Prints the line of a device that failed, prints a text at standard error, and returns the exit
+/// status.
+fn print_device<W: Sink, E: Sink>(writer: &mut W, errors: &mut E, told: &[u8]) -> u8
+    ensures { EndsAtDevice told.now
         (record { writer = W.at writer.old; errors = E.at errors.old })
         (record { writer = W.at writer.new; errors = E.at errors.new }) result }
 {
     match print(writer, b"error 30 Device\n") {
         Ok(()) => {
-            let _ = write_whole(errors, cause.as_bytes());
+            let _ = write_whole(errors, told);
             3
         }
         Err(fault) => tell(errors, fault),

@@ -10,16 +10,19 @@
 //! ```
 //!
 //! Read `report` (`file_report`), then `run` (`run_file`, `run_rewrite`) and `paths`
-//! (`report_path`, `copy_to_path`); `text` has the lines, and `cause` what is printed at standard
-//! error about a path. Their rows are paths of the program `rows`.
+//! (`report_path`, `copy_to_path`); `text` has the lines, `cause` what is printed at standard error
+//! about a path, and `laws` when that asks whether the path is right. Their rows are paths of the
+//! program `rows`.
 #![tactic(auto)]
 
 mod cause;
+pub mod laws;
 mod paths;
 mod report;
 mod run;
 mod text;
 
+pub use cause::cause_of_unmade;
 pub use paths::{copy_to_path, report_path};
 pub use report::{Reported, ShownFile, file_report, print};
 pub use run::{run_file, run_rewrite};

@@ -25,15 +25,15 @@ pub fn report_path<W: Sink, E: Sink>(
     match read_front(rt, path, &mut front) {
         Ok(len) if len == front.len() && is_refused_by_front(&front) => {
             let front = front_device(rt, &front);
-            (run_file(rt.alloc(), front, writer, errors).0, None)
+            (run_file(rt.alloc(), path, front, writer, errors).0, None)
         }
         Ok(_) => {
             let found = FileDevice::open_to_read(rt, rt.alloc(), path);
-            run_file(rt.alloc(), found, writer, errors)
+            run_file(rt.alloc(), path, found, writer, errors)
         }
         Err(fault) => {
             let found: Result<FileDevice, OpenFault> = Err(fault);
-            run_file(rt.alloc(), found, writer, errors)
+            run_file(rt.alloc(), path, found, writer, errors)
         }
     }
 }
@@ -66,7 +66,7 @@ pub fn copy_to_path<W: Sink, E: Sink>(
     ensures { result ≢ 2 }
 {
     let target = FileDevice::create_new(rt, rt.alloc(), out);
-    let (status, target) = run_rewrite(rt.alloc(), shown, target, writer, errors);
+    let (status, target) = run_rewrite(rt.alloc(), shown, out, target, writer, errors);
     if status != 0 && target.is_some() {
         let _ = fs::remove_file(rt, out);
     }

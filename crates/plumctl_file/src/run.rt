@@ -2,10 +2,13 @@
 
 ghost use Rattle.std.specs.Prelude.{◌≡◌, ◌≢◌, IfOk};
 ghost use Rattle.devices.specs.Device.{IsDurable};
-ghost use Rattle.plumctl_file.specs.Ends.{EndsCopy, EndsFile, EndsRewrite, HandsBack, HandsOutShown, TellsLine, cause_of, is_memory, status_of_refusal};
+ghost use Rattle.plumctl_file.specs.Ends.{EndsCopy, EndsFile, EndsRewrite, HandsBack, HandsOutShown, TellsRefusal, cause_of, is_memory, status_of_refusal};
 ghost use Rattle.plumctl_file.specs.Reported.{IsUntouched};
 
-use crate::cause::{READ_FAILED, WRITE_FAILED, cause_of_out, cause_of_path, tell_device};
+use crate::cause::{
+    BEGINS_OTHERWISE, READ_FAILED, WRITE_FAILED, cause_of_path, cause_of_unmade, cause_text,
+    tell_device,
+};
 use crate::report::{Reported, ShownFile, file_report};
 use devices::{Device, OpenFault};
 use node_file::FileFault;
@@ -13,12 +16,13 @@ use plumctl_core::tell;
 use std::alloc::Global;
 use streams::{Sink, StreamFault, write_whole};
 
-/// Returns what is printed at standard error for a refusal.
+/// Returns why bytes are refused, where that is said at standard error.
 fn cause_of(fault: &FileFault) -> &'static str
     ensures { result.now ≡ cause_of fault.now }
 {
     match fault {
         FileFault::Device => READ_FAILED,
+        FileFault::Damaged { at: 0 } => BEGINS_OTHERWISE,
         _ => "",
     }
 }
@@ -33,30 +37,41 @@ fn status_of_refusal(fault: &FileFault) -> u8
     }
 }
 
-/// Prints at `errors` the cause of a refusal whose line was printed, and returns the exit status.
-fn refused<E: Sink>(errors: &mut E, fault: &FileFault) -> u8
-    ensures status { result ≡ status_of_refusal fault.now }
-    ensures told { TellsLine (E.at errors.old) (E.at errors.new) (cause_of fault.now) }
+/// Prints at `errors` the cause of a refusal whose line was printed, if it has one, and returns the
+/// exit status.
+fn refused<E: Sink>(alloc: Global, errors: &mut E, path: &str, fault: &FileFault) -> u8
+    ensures { TellsRefusal path.now (cause_of fault.now) (status_of_refusal fault.now)
+        (E.at errors.old) (E.at errors.new) result }
 {
-    let _ = write_whole(errors, cause_of(fault).as_bytes());
-    status_of_refusal(fault)
+    let cause = cause_of(fault);
+    if cause.is_empty() {
+        return status_of_refusal(fault);
+    }
+    match cause_text(alloc, path, cause) {
+        Ok(text) => {
+            let _ = write_whole(errors, text.as_slice());
+            status_of_refusal(fault)
+        }
+        Err(_) => tell(errors, StreamFault::Memory),
+    }
 }
 
 /// Reports what is at a path, by how it was opened, and returns the exit status with what was
 /// reported, if the path was opened: 0 where a file was shown, 1 where the bytes are no file, or
 /// one with too many keys, 3 where the path couldn't be opened, the device failed or the report
 /// couldn't be written, 4 where memory was refused. Prints what `file_report` prints, or
-/// `error 30 Device`; and at `errors` why a path couldn't be opened or read, and a fault of the
-/// writer, or of memory.
+/// `error 30 Device`; and at `errors` the path and why it couldn't be opened or read, or that its
+/// bytes don't begin as a node file does, and a fault of the writer, or of memory.
 pub fn run_file<D: Device + Drop, W: Sink, E: Sink>(
     alloc: Global,
+    path: &str,
     found: Result<D, OpenFault>,
     writer: &mut W,
     errors: &mut E,
 ) -> (u8, Option<Reported<D>>)
     requires pending { IfOk found (λ device. IsDurable (D.content device) (D.may_leave device)) }
     ensures not_usage { result.0 ≢ 2 }
-    ensures ends { EndsFile D.content D.failed found
+    ensures ends { EndsFile path.now D.content D.failed found
         (record { writer = W.at writer.old; errors = E.at errors.old })
         (record { writer = W.at writer.new; errors = E.at errors.new }) result.0 result.1 }
     ensures shown { HandsOutShown D.content D.may_leave found result.1 }
@@ -66,48 +81,61 @@ pub fn run_file<D: Device + Drop, W: Sink, E: Sink>(
     let device = match found {
         Ok(device) => device,
         Err(OpenFault::Memory) => return (tell(errors, StreamFault::Memory), None),
-        Err(fault) => return (tell_device(writer, errors, cause_of_path(fault)), None),
+        Err(fault) => {
+            let cause = cause_of_path(fault);
+            return (tell_device(alloc, writer, errors, path, cause), None);
+        }
     };
     let reported = file_report(alloc, device, writer);
     let status = match &reported {
         Reported::Shown(_) => 0,
-        Reported::Refused(_, fault) => refused(errors, fault),
+        Reported::Refused(_, fault) => refused(alloc, errors, path, fault),
         Reported::Stopped(_, fault) => tell(errors, *fault),
     };
     (status, Some(reported))
 }
 
-/// Writes a clean copy of a file that was shown, with the same node, last life and table, to a
-/// target, by how the target was opened. Returns the exit status, with the target where it was
-/// opened: 0 where every crash leaves the copy there, 3 where it couldn't be made or failed, which
-/// prints `error 30 Device`, 4 where memory was refused. After 3 and 4 the target may hold
+/// Writes a clean copy of a file that was shown, with the same node, last life and table, to the
+/// target at the path `out`, by how it was opened. Returns the exit status, with the target where
+/// it was opened: 0 where every crash leaves the copy there, 3 where it couldn't be made or failed,
+/// which prints `error 30 Device`, 4 where memory was refused. After 3 and 4 the target may hold
 /// anything. The report was printed before.
 pub fn run_rewrite<D: Device, T: Device, W: Sink, E: Sink>(
     alloc: Global,
     shown: &ShownFile<D>,
+    out: &str,
     target: Result<T, OpenFault>,
     writer: &mut W,
     errors: &mut E,
 ) -> (u8, Option<T>)
     ensures not_usage { result.0 ≢ 2 }
-    ensures ends { EndsRewrite T.content T.may_leave T.failed shown.now target result.1
+    ensures ends { EndsRewrite out.now T.content T.may_leave T.failed shown.now target result.1
         (record { writer = W.at writer.old; errors = E.at errors.old })
         (record { writer = W.at writer.new; errors = E.at errors.new }) result.0 }
 {
     let mut target = match target {
         Ok(target) => target,
         Err(OpenFault::Memory) => return (tell(errors, StreamFault::Memory), None),
-        Err(fault) => return (tell_device(writer, errors, cause_of_out(fault)), None),
+        Err(fault) => {
+            let cause = cause_of_unmade(fault);
+            return (tell_device(alloc, writer, errors, out, cause), None);
+        }
     };
     let file = &shown.file;
     let made = file.rewrite(alloc, &shown.table, file.life(), &mut target);
-    (copied(made, writer, errors), Some(target))
+    (copied(alloc, out, made, writer, errors), Some(target))
 }
 
 /// Prints how the making of a copy ended, if it failed, and returns the exit status.
-fn copied<W: Sink, E: Sink>(made: Result<(), FileFault>, writer: &mut W, errors: &mut E) -> u8
+fn copied<W: Sink, E: Sink>(
+    alloc: Global,
+    out: &str,
+    made: Result<(), FileFault>,
+    writer: &mut W,
+    errors: &mut E,
+) -> u8
     ensures not_usage { result ≢ 2 }
-    ensures ends { EndsCopy made
+    ensures ends { EndsCopy out.now made
         (record { writer = W.at writer.old; errors = E.at errors.old })
         (record { writer = W.at writer.new; errors = E.at errors.new }) result }
 {
@@ -117,7 +145,7 @@ fn copied<W: Sink, E: Sink>(made: Result<(), FileFault>, writer: &mut W, errors:
             if is_memory(&fault) {
                 tell(errors, StreamFault::Memory)
             } else {
-                tell_device(writer, errors, WRITE_FAILED)
+                tell_device(alloc, writer, errors, out, WRITE_FAILED)
             }
         }
     }

@@ -15,8 +15,10 @@ use Rattle.scenario_stage.specs.Obeying.{Choices, Stage, new_stage}
 use Rattle.scenario_stage.specs.Printed.{line}
 use Rattle.scenario.specs.Output.{IsOutput, ObeyAll, plain}
 use Rattle.scenario.specs.declared.fault.ScenarioFault.{ScenarioFault}
+use Rattle.scenario_hint.specs.Hint.{shown_byte}
+use Rattle.plumctl_core.specs.Opening.{cause_line}
 use Rattle.plumctl_core.specs.Status.{TellsFault}
-use Rattle.plumctl_file.specs.Ends.{TellsLine}
+use Rattle.plumctl_file.specs.Ends.{TellsLine, cause_of_unmade, write_failed}
 
 -- ---- the scenario
 
@@ -51,54 +53,56 @@ pub record IsStored {D : Type 0} (content : D → List ℕ) (may_leave : D → L
   pub durable : IsDurable (content new) (may_leave new)
 
 -- the note about a recording that is longer than what is run
-abbrev pub note_of : ℕ → List ℕ
-note_of len = if nat_lt input_limit len
-    then line (codes "note: FILE is longer than 67108864 bytes, so 'plumctl run' refuses it")
+abbrev pub note_of : (path : List ℕ) → ℕ → List ℕ
+note_of path len = if nat_lt input_limit len
+    then codes "note: " ++ (map shown_byte path
+    ++ line (codes " is longer than 67108864 bytes, so 'plumctl run' refuses it"))
     else []
 
 pub record WritesRecording {D : Type 0} (content : D → List ℕ) (may_leave : D → List ℕ → Type 0)
-    (nodes : ℕ) (w : World) (old new : D) (errors_old errors_new : SinkAt) (status : ℕ)
-    : Type 0 where
+    (path : List ℕ) (nodes : ℕ) (w : World) (old new : D) (errors_old errors_new : SinkAt)
+    (status : ℕ) : Type 0 where
   pub status_is : status ≡ 0
   pub text : List ℕ
   pub recording : IsRecording nodes w text
   pub stored : IsStored content may_leave text old new
-  pub told : TellsLine errors_old errors_new (note_of (length text))
+  pub told : TellsLine errors_old errors_new (note_of path (length text))
 
-abbrev pub device_line : List ℕ
-device_line = line (codes "error 30 Device")
+-- ---- a device that failed
 
-abbrev pub device_failed : List ℕ
-device_failed = device_line ++ line (codes "cause: FILE could not be written")
+-- that it failed, and the path of this name with the cause
+abbrev pub device_text : (name cause : List ℕ) → List ℕ
+device_text name cause = line (codes "error 30 Device") ++ cause_line name cause
 
--- the device failed; memory ran out; or no text reads back as the run
-abbrev pub FailsRecording : {D : Type 0} → (D → ℕ) → (old new : D)
+-- that was printed at standard error; or that memory ran out for it
+abbrev pub TellsDevice : (name cause : List ℕ) → (errors_old errors_new : SinkAt) → ℕ → Type 0
+TellsDevice name cause errors_old errors_new status =
+    ((status ≡ 3) × TellsLine errors_old errors_new (device_text name cause))
+    ⊎ ((status ≡ 4) × TellsFault errors_old errors_new streams.Memory)
+
+-- the device at this path failed; memory ran out; or no text reads back as the run
+abbrev pub FailsRecording : {D : Type 0} → (D → ℕ) → (path : List ℕ) → (old new : D)
     → (errors_old errors_new : SinkAt) → ℕ → Type 0
-FailsRecording failed old new errors_old errors_new status =
-    ((status ≡ 3) × (HasFailed (failed old) (failed new)
-    × TellsLine errors_old errors_new device_failed))
+FailsRecording failed path old new errors_old errors_new status =
+    (HasFailed (failed old) (failed new)
+    × TellsDevice path write_failed errors_old errors_new status)
     ⊎ (((status ≡ 4) × TellsFault errors_old errors_new streams.Memory)
     ⊎ ((status ≡ 1) × TellsLine errors_old errors_new (line (codes "error: the run has no text"))))
 
 abbrev pub EndsRecording : {D : Type 0} → (D → List ℕ) → (D → List ℕ → Type 0) → (D → ℕ)
-    → (nodes : ℕ) → World → (old new : D) → (errors_old errors_new : SinkAt) → ℕ → Type 0
-EndsRecording content may_leave failed nodes w old new errors_old errors_new status =
-    WritesRecording content may_leave nodes w old new errors_old errors_new status
-    ⊎ FailsRecording failed old new errors_old errors_new status
+    → (path : List ℕ) → (nodes : ℕ) → World → (old new : D)
+    → (errors_old errors_new : SinkAt) → ℕ → Type 0
+EndsRecording content may_leave failed path nodes w old new errors_old errors_new status =
+    WritesRecording content may_leave path nodes w old new errors_old errors_new status
+    ⊎ FailsRecording failed path old new errors_old errors_new status
 
 -- ---- where nothing could be made
 
-abbrev pub status_of_unmade : OpenFault → ℕ
-status_of_unmade opening.Memory = 4
-status_of_unmade fault = 3
-
--- what is printed at standard error about the path of a recording, or of a folder with the nodes'
--- files
-abbrev pub told_of_unmade : OpenFault → List ℕ
-told_of_unmade opening.Memory = line (codes "error 99 Memory")
-told_of_unmade opening.Missing =
-    device_line ++ line (codes "cause: there is no folder to make FILE or DIR in")
-told_of_unmade opening.Exists =
-    device_line ++ line (codes "cause: FILE or DIR is there already, and nothing is written over")
-told_of_unmade fault =
-    device_line ++ line (codes "cause: FILE or DIR may not be made or locked, or the disk failed")
+-- how it ends where the file of a recording, or the folder with the nodes' files, couldn't be made
+-- at this path
+abbrev pub EndsUnmade : (path : List ℕ) → OpenFault → (errors_old errors_new : SinkAt) → ℕ
+    → Type 0
+EndsUnmade path opening.Memory errors_old errors_new status =
+    (status ≡ 4) × TellsFault errors_old errors_new streams.Memory
+EndsUnmade path fault errors_old errors_new status =
+    TellsDevice path (cause_of_unmade fault) errors_old errors_new status

@@ -3,13 +3,14 @@
 
 ghost use Rattle.std.specs.Prelude.{◌≡◌, ◌≢◌, length, All, IfOk};
 ghost use Rattle.devices.specs.Device.{IsDurable};
-ghost use Rattle.plumctl_file.specs.Ends.{TellsLine};
-ghost use Rattle.plumctl_live.specs.Recording.{told_of_unmade, status_of_unmade};
+ghost use Rattle.plumctl_live.specs.Recording.{EndsUnmade, TellsDevice, device_text};
 
 use devices::{Device, FileDevice, OpenFault};
+use plumctl_core::{add_cause, tell};
+use plumctl_file::cause_of_unmade;
 use std::alloc::{AllocError, Global};
 use std::fs;
-use streams::{Sink, write_whole};
+use streams::{Sink, StreamFault, write_whole};
 
 /// The path of a node's file in a folder.
 fn path_of(alloc: Global, folder: &str, node: u64) -> Result<String, AllocError> {
@@ -47,32 +48,40 @@ pub fn new_files(rt: &HostRuntime, folder: &str, nodes: u64) -> Result<Vec<FileD
     Ok(devices)
 }
 
-/// Returns what is printed at standard error about a path where nothing could be made.
-fn told_of(fault: OpenFault) -> &'static str
-    ensures { result.now ≡ told_of_unmade fault }
+/// The two lines about a device: that it failed, and the path with the cause.
+fn device_text(alloc: Global, path: &str, cause: &str) -> Result<Vec<u8>, AllocError>
+    ensures { IfOk result (λ text. text.items ≡ device_text path.now cause.now) }
 {
-    match fault {
-        OpenFault::Memory => "error 99 Memory\n",
-        OpenFault::Missing => "error 30 Device\ncause: there is no folder to make FILE or DIR in\n",
-        OpenFault::Exists => {
-            "error 30 Device\ncause: FILE or DIR is there already, and nothing is written over\n"
+    let mut text = Vec::new(alloc);
+    text.extend_from_slice(b"error 30 Device\n")?;
+    add_cause(&mut text, path, cause)?;
+    Ok(text)
+}
+
+/// Prints at standard error that a device failed, at which path and why, and returns the exit
+/// status.
+pub(crate) fn tell_device<E: Sink>(alloc: Global, errors: &mut E, path: &str, cause: &str) -> u8
+    ensures ends { TellsDevice path.now cause.now (E.at errors.old) (E.at errors.new) result }
+    ensures not_usage { result ≢ 2 }
+{
+    match device_text(alloc, path, cause) {
+        Ok(text) => {
+            let _ = write_whole(errors, text.as_slice());
+            3
         }
-        OpenFault::NotAFile | OpenFault::InUse | OpenFault::Failed => {
-            "error 30 Device\ncause: FILE or DIR may not be made or locked, or the disk failed\n"
-        }
+        Err(_) => tell(errors, StreamFault::Memory),
     }
 }
 
-/// Prints at standard error why the file of a recording, or the folder of the nodes, couldn't be
-/// made, and returns the exit status: 4 where memory was refused, 3 otherwise.
-pub fn tell_unmade<E: Sink>(errors: &mut E, fault: OpenFault) -> u8
-    ensures told { TellsLine (E.at errors.old) (E.at errors.new) (told_of_unmade fault) }
-    ensures status { result ≡ status_of_unmade fault }
+/// Prints at standard error that nothing could be made at a path, the file of a recording or the
+/// folder of the nodes, and why, and returns the exit status: 4 where memory was refused, in this
+/// call too, 3 otherwise.
+pub fn tell_unmade<E: Sink>(alloc: Global, errors: &mut E, path: &str, fault: OpenFault) -> u8
+    ensures ends { EndsUnmade path.now fault (E.at errors.old) (E.at errors.new) result }
     ensures not_usage { result ≢ 2 }
 {
-    let _ = write_whole(errors, told_of(fault).as_bytes());
     match fault {
-        OpenFault::Memory => 4,
-        _ => 3,
+        OpenFault::Memory => tell(errors, StreamFault::Memory),
+        fault => tell_device(alloc, errors, path, cause_of_unmade(fault)),
     }
 }

@@ -6,11 +6,13 @@ ghost use Rattle.devices.specs.declared.device.DeviceFault.TheVariants.{Failed};
 ghost use Rattle.run_record.specs.Record.{IsOfARun};
 ghost use Rattle.plumctl_live.specs.Recording.{EndsRecording, IsRecording, IsStored, note_of};
 
+use crate::folder::tell_device;
 use cluster::ClusterPlan;
 use devices::{Device, DeviceFault};
 use plumctl_core::tell;
 use printing::print_number;
 use run_replay::replay_of;
+use scenario_hint::add_printable;
 use std::alloc::{AllocError, Global};
 use streams::{MAX_INPUT_LEN, Sink, StreamFault, write_whole};
 use world_core::World;
@@ -59,33 +61,36 @@ fn store<T: Device>(target: &mut T, text: &[u8]) -> Result<(), DeviceFault>
     target.sync()
 }
 
-/// Returns what is printed at standard error about a recording of `len` bytes.
-fn note_of(len: usize) -> &'static str
-    ensures { result.now ≡ note_of len }
+/// Returns what is printed at standard error about a recording of `len` bytes at this path.
+fn note_of(alloc: Global, path: &str, len: usize) -> Result<Vec<u8>, AllocError>
+    ensures { IfOk result (λ note. note.items ≡ note_of path.now len) }
 {
+    let mut note = Vec::new(alloc);
     if len > MAX_INPUT_LEN {
-        "note: FILE is longer than 67108864 bytes, so 'plumctl run' refuses it\n"
-    } else {
-        ""
+        note.extend_from_slice(b"note: ")?;
+        add_printable(&mut note, path.as_bytes())?;
+        note.extend_from_slice(b" is longer than 67108864 bytes, so 'plumctl run' refuses it\n")?;
     }
+    Ok(note)
 }
 
-/// Writes the run down at the front of a device, which is to be empty, and returns the exit status:
-/// 0 where every crash leaves the recording there, 1 where the run has none, 3 where the device
-/// failed, 4 where memory was refused. Prints at `errors` why, where the status isn't 0; the device
-/// may hold anything then. Where it is 0, prints a note there if the recording is too long to be
-/// run.
+/// Writes the run down at the front of the device at this path, which is to be empty, and returns
+/// the exit status: 0 where every crash leaves the recording there, 1 where the run has none, 3
+/// where the device failed, 4 where memory was refused. Prints at `errors` why, where the status
+/// isn't 0; the device may hold anything then. Where it is 0, prints a note there if the recording
+/// is too long to be run.
 pub fn write_recording<T: Device, E: Sink>(
     alloc: Global,
     plan: ClusterPlan,
     world: &World,
+    path: &str,
     target: &mut T,
     errors: &mut E,
 ) -> u8
     requires { IsOfARun plan.nodes world.now }
     ensures not_usage { result ≢ 2 }
-    ensures ends { EndsRecording T.content T.may_leave T.failed plan.nodes world.now target.old
-        target.new (E.at errors.old) (E.at errors.new) result }
+    ensures ends { EndsRecording T.content T.may_leave T.failed path.now plan.nodes world.now
+        target.old target.new (E.at errors.old) (E.at errors.new) result }
 {
     let text = match recording_of(alloc, plan, world) {
         Ok(Some(text)) => text,
@@ -95,18 +100,15 @@ pub fn write_recording<T: Device, E: Sink>(
         }
         Err(_) => return tell(errors, StreamFault::Memory),
     };
+    let Ok(note) = note_of(alloc, path, text.len()) else {
+        return tell(errors, StreamFault::Memory);
+    };
     match store(target, text.as_slice()) {
         Ok(()) => {
-            let _ = write_whole(errors, note_of(text.len()).as_bytes());
+            let _ = write_whole(errors, note.as_slice());
             0
         }
         Err(DeviceFault::Memory) => tell(errors, StreamFault::Memory),
-        Err(DeviceFault::Failed) => {
-            let _ = write_whole(
-                errors,
-                b"error 30 Device\ncause: FILE could not be written\n",
-            );
-            3
-        }
+        Err(DeviceFault::Failed) => tell_device(alloc, errors, path, "could not be written"),
     }
 }

@@ -49,7 +49,14 @@ fn print_copy(rt: &HostRuntime, shown: &ShownFile<FileDevice>) -> io::Result<()>
     let mut printed = Vec::new(rt.alloc());
     let mut told = Vec::new(rt.alloc());
     let target = new_device(rt)?;
-    match run_rewrite(rt.alloc(), shown, Ok(target), &mut printed, &mut told) {
+    match run_rewrite(
+        rt.alloc(),
+        shown,
+        "copy",
+        Ok(target),
+        &mut printed,
+        &mut told,
+    ) {
         (0, Some(target)) => {
             let digits = hex::encode(rt.alloc(), target.content())?;
             println!(rt; "anew {digits}")

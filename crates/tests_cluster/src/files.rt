@@ -29,7 +29,7 @@ fn status<R: Threads + Wait + Sync>(files: &HostRuntime, rt: &R, folder: &str) -
             drop(live);
             status
         }
-        Err(fault) => tell_unmade(&mut errors, fault),
+        Err(fault) => tell_unmade(files.alloc(), &mut errors, folder, fault),
     }
 }
 
@@ -56,14 +56,14 @@ fn nodes_run_on_new_files(rt: HostRuntime) {
 /// What is printed of a fault.
 fn told(rt: &HostRuntime, fault: OpenFault) -> Vec<u8> {
     let mut errors = Vec::new(rt.alloc());
-    let _ = tell_unmade(&mut errors, fault);
+    let _ = tell_unmade(rt.alloc(), &mut errors, "a\nfolder", fault);
     errors
 }
 
 #[test]
 fn what_is_there_is_told(rt: HostRuntime) {
     let there =
-        b"error 30 Device\ncause: FILE or DIR is there already, and nothing is written over\n";
+        b"error 30 Device\ncause: a?folder: is there already, and nothing is written over\n";
     assert!(&rt; told(&rt, OpenFault::Exists).as_slice() == there.as_slice());
     assert!(&rt; told(&rt, OpenFault::Memory).as_slice() == b"error 99 Memory\n".as_slice());
 }

@@ -146,7 +146,7 @@ fn written(
     let device = MemoryDevice::new(alloc, Vec::new(alloc)).expect(rt, "memory");
     let mut target = FailsAfter::new(device, passed);
     let mut errors = Vec::new(alloc);
-    let status = write_recording(alloc, plan, world, &mut target, &mut errors);
+    let status = write_recording(alloc, plan, world, "run", &mut target, &mut errors);
     let text = recording_of(alloc, plan, world).expect(rt, "memory");
     let is_there = text.as_deref() == Some(target.inner().content());
     drop(text);
@@ -176,7 +176,7 @@ fn is_written<R: Threads + Wait + Abort + Sync>(
 
 #[test]
 fn recordings_are_written(rt: HostRuntime) {
-    let failed = b"error 30 Device\ncause: FILE could not be written\n";
+    let failed = b"error 30 Device\ncause: run: could not be written\n";
     assert!(&rt; is_written(&rt, rt.alloc(), 0, 3, failed));
     assert!(&rt; is_written(&rt, rt.alloc(), 1, 3, failed));
     assert!(&rt; is_written(&rt, rt.alloc(), 2, 0, b""));
@@ -232,7 +232,7 @@ fn a_run_without_a_command_has_no_recording(rt: HostRuntime) {
     let text = recording_of(alloc, plan, &world).expect(&rt, "memory");
     let mut target = MemoryDevice::new(alloc, Vec::new(alloc)).expect(&rt, "memory");
     let mut errors = Vec::new(alloc);
-    let status = write_recording(alloc, plan, &world, &mut target, &mut errors);
+    let status = write_recording(alloc, plan, &world, "run", &mut target, &mut errors);
     let told = b"error: the run has no text\n";
     let is_told = errors.as_slice() == told.as_slice();
     let is_refused = text.is_none() && status == 1 && target.content().is_empty();

@@ -2,9 +2,10 @@
 //! at standard error; and what is printed there of a file that can't be opened.
 
 use crate::devices::{Device, End, Feed};
-use plumctl_core::{run_scenario, tell_unopened};
+use plumctl_core::{NoProgress, Progress, run_scenario, tell_unopened};
 use std::alloc::Global;
 use std::io::ErrorKind;
+use std::sync::atomic::{AtomicU64, Ordering};
 use streams::MayFail;
 
 /// A run: its text, and how the reader goes on after it; for how many bytes the writer has room;
@@ -197,7 +198,14 @@ fn is_run(alloc: Global, run: &Run, explain: bool) -> bool {
         ..Device::new(output)
     });
     let mut errors = MayFail(Device::new(run.told));
-    let status = run_scenario(alloc, &mut reader, &mut writer, &mut errors, explain);
+    let status = run_scenario(
+        alloc,
+        &mut reader,
+        &mut writer,
+        &mut errors,
+        explain,
+        &NoProgress,
+    );
     let written = writer.0.is_right & writer.0.wanted.is_empty();
     let told = errors.0.is_right & errors.0.wanted.is_empty();
     (status == run.status) & written & told
@@ -216,4 +224,49 @@ fn a_file_that_is_not_there_is_told_with_its_name(rt: HostRuntime) {
     let mut errors = MayFail(Device::new(b"error 7 Read\ncause: /no?where ~: not found\n"));
     let status = tell_unopened(rt.alloc(), &mut errors, "/no\nwhere ~", ErrorKind::NotFound);
     assert!(rt; (status == 3) & errors.0.is_right & errors.0.wanted.is_empty());
+}
+
+/// How many lines were announced, and the numbers of those that were reached, as digits of one
+/// number.
+#[derive(Drop)]
+struct Seen {
+    lines: AtomicU64,
+    reached: AtomicU64,
+}
+
+impl Progress for Seen {
+    fn begin(&self, lines: u64) {
+        self.lines.store(lines, Ordering::SeqCst);
+    }
+
+    fn reach(&self, line: u64) {
+        let before = self.reached.load(Ordering::SeqCst);
+        let after = before.saturating_mul(10).saturating_add(line);
+        self.reached.store(after, Ordering::SeqCst);
+    }
+}
+
+/// What is seen of a run.
+fn seen_of(alloc: Global, text: &[u8], explain: bool) -> (u64, u64) {
+    let seen = Seen {
+        lines: AtomicU64::new(0),
+        reached: AtomicU64::new(0),
+    };
+    let mut reader = text;
+    let mut writer = Vec::new(alloc);
+    let mut errors = Vec::new(alloc);
+    let _ = run_scenario(alloc, &mut reader, &mut writer, &mut errors, explain, &seen);
+    (
+        seen.lines.load(Ordering::SeqCst),
+        seen.reached.load(Ordering::SeqCst),
+    )
+}
+
+#[test]
+fn each_line_with_a_command_is_reached(rt: HostRuntime) {
+    let text = b"# a\nnodes 1\n\n  # b\nroot 0\nroot 0\n\n";
+    assert!(rt; seen_of(rt.alloc(), text, false) == (7, 256));
+    assert!(rt; seen_of(rt.alloc(), text, true) == (7, 256));
+    let text = b"nodes 1\nroot 0\nputs 0\nroot 0";
+    assert!(rt; seen_of(rt.alloc(), text, false) == (4, 0));
 }
