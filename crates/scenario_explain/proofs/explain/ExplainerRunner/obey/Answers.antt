@@ -15,8 +15,8 @@ note-requires g c = record {
 
 pub returns-clause-obeyed : goal.returns-clause-obeyed
 returns-clause-obeyed g c =
-    let starts : c.len.result ≡ length c.tell_line.new.text.items = search rules in
-    explains _ c.args.stage.now c.obey.new.self _ c.len.result _ _ _ _ _ _ _ starts c.in_ok-tell_line.ensures.told c.in_ok-obey.ensures c.in_ok-add_reason.ensures c.in_ok-note.ensures.frames_are c.in_ok-add_frames.ensures c.in_ok-add_news.ensures
+    let starts : c.len-start.result ≡ length c.tell_line.new.text.items = search rules in
+    explains _ c.args.stage.now c.obey.new.self _ c.len-start.result _ _ _ _ _ _ _ starts c.in_ok-tell_line.ensures.told c.in_ok-obey.ensures c.in_ok-add_reason.ensures c.in_ok-note.ensures.frames_are c.in_ok-add_frames.ensures c.in_ok-add_news.ensures
 
 pub returns-clause-goes_on : goal.returns-clause-goes_on
 returns-clause-goes_on g c = c.in_ok-note.ensures
