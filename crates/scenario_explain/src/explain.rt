@@ -103,13 +103,14 @@ impl<'a> Runner for Explainer<'a> {
 }
 
 /// Runs a text as `run_over` does, and writes the same lines. Before those of each command stands,
-/// indented by two spaces, the number and the text of its line; after them, if the command was
-/// refused, a line that says why; a line with the numbers of the first sixteen frames that are on their way, which are those that were never given to
-/// their addressees, and how many more there are; and a line for each key under which a node shows
-/// other siblings or another context than before, `ctx - values -` where a restart has taken them
-/// away. The contract says which frames are named, but not what is told of lines and of nodes.
-/// Where two tables have the same root they are taken to show the same. Where it comes to its end,
-/// or to 70 or 71, so does `run_over`. It takes memory besides for a copy of what each node holds.
+/// indented by two spaces, the number and the text of its line. After them stand, indented too: if
+/// the command was refused, why; the numbers of the first sixteen frames that are on their way,
+/// which are those that were never given to their addressees, and how many more there are; and a
+/// line for each key under which a node shows other siblings or another context than before,
+/// `ctx - values -` if a restart has taken them away. The contract says why a command was refused
+/// and which frames are named, but not what is told of lines and of nodes. Tables with the same
+/// root are taken to show the same. If it comes to its end, or to 70 or 71, so does `run_over`. It
+/// takes memory besides for a copy of what each node holds.
 /// Refused as `run_over` is.
 pub fn explain_over<R: Source, W: Sink>(
     alloc: Global,

@@ -15,8 +15,8 @@
 //! ```
 //!
 //! Without its indented lines the output is that of `run_over`. Read `explain` (`Explainer`,
-//! `explain_over`), `reason` (why a command was refused), `told` (what was told of nodes), `waiting`
-//! (frames on their way), `line`, then `laws`.
+//! `explain_over`), `reason` (why a command was refused), `told` (what was told of nodes),
+//! `waiting` (frames on their way), `line`, then `laws`.
 #![tactic(auto)]
 
 mod explain;

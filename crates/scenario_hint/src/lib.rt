@@ -8,7 +8,8 @@
 //! // wanted: put N KEY VALUE [stamp S] [read R]; a/b is wrong: KEY is as a/b/k, of letters, ..
 //! ```
 //!
-//! Read `hint` (what is wrong with a line), `near`, `form`, `wrong` (which word), then `told` with `found` and `shown`.
+//! Read `hint` (what is wrong with a line), `near`, `form`, `wrong` (which word), then `told` with
+//! `found` and `shown`.
 #![tactic(auto)]
 
 mod form;
