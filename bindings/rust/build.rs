@@ -8,7 +8,7 @@ use std::process;
 const NO_LIBRARY: &str = "\
 zomtagi: the library of a node isn't built. From the root of the repository, build it by
     scripts/build-library --unproved    in about two minutes, without proofs
-    scripts/build-library               with proofs: some 25 minutes on four processors, once (docs/EMBEDDING.md)
+    scripts/build-library               with proofs: half an hour or more on four processors, once (docs/EMBEDDING.md)
 or let ZOMTAGI_LIB name the folder of a libnode_export.a. Looked for:";
 
 const NO_KIT: &str = "\
