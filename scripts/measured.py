@@ -1,5 +1,5 @@
 #!/usr/bin/env python3
-"""Writes what a script measured to docs/measured/NAME.md, over what its last run wrote there.
+"""Writes what a script measured to docs/measured/NAME.md, over what the script wrote there before.
 
 usage: COMMAND .. | scripts/measured.py NAME TITLE MADE_BY LOAD      (for a script of the shell: standard input has the
                     tables, and LOAD is the load when the measuring began)
@@ -20,14 +20,14 @@ LOAD = os.getloadavg()[0]
 
 
 def is_asked():
-    """Takes the word --write out of the arguments, and answers whether it was there."""
+    """Takes the word --write out of the arguments, and returns whether it was there."""
     asked = "--write" in sys.argv
     sys.argv = [it for it in sys.argv if it != "--write"]
     return asked
 
 
 def table(head, rows):
-    """A table. What is 0 in a cell, or nothing, leaves it empty; numbers have their thousands apart."""
+    """Returns a table. A cell of 0 or nothing is left empty; thousands of numbers are separated."""
 
     def line(cells):
         texts = (f"{it:,}" if it and isinstance(it, int) else str(it or "") for it in cells)
@@ -37,8 +37,8 @@ def table(head, rows):
 
 
 def cost(words, text):
-    """What a run over this text prints, its processor seconds and its most megabytes: by GNU time, since the memory of a
-    process counts what the one had that began it, and GNU time is small."""
+    """Returns what a run over this text prints, its processor seconds and its most megabytes. GNU time measures them: the
+    memory of a process counts what the process that began it had, and GNU time is small."""
     with tempfile.NamedTemporaryFile("r") as took:
         timed = ["/usr/bin/time", "-q", "-o", took.name, "-f", "%U %S %M", *words]
         printed = subprocess.run(timed, input=text, stdout=subprocess.PIPE, text=True, check=True).stdout
@@ -47,7 +47,7 @@ def cost(words, text):
 
 
 def machine():
-    """The processors, their pace, and the load when the measuring began and now."""
+    """Returns the processors, their pace, and the load when the measuring began and now."""
     with open("/proc/cpuinfo", encoding="utf-8") as file:
         text = file.read()
     named, clock = re.search(r"@ ([\d.]+)GHz", text), re.search(r"cpu MHz\s*: ([\d.]+)", text)
@@ -61,7 +61,7 @@ def page(title, made_by, body, when, where):
 
 
 def write(name, title, body, program="", made_by=COMMAND):
-    """Writes the page. The program that was run is told where it is given."""
+    """Writes the page. It names the program that was run, if one is given."""
     where = machine() + (f", of `{os.path.relpath(program, TOP)}`" if program else "")
     path = f"{TOP}/docs/measured/{name}.md"
     with open(path, "w", encoding="utf-8") as file:

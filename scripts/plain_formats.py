@@ -1,4 +1,5 @@
-"""Frames and node files in plain Python, written from docs/FORMATS.md and apart from the crates, for scripts/fuzz to compare with."""
+"""Frames and node files in plain Python, for scripts/fuzz to compare with: written from docs/FORMATS.md, not from the
+crates."""
 import hashlib
 
 KINDS = (
@@ -10,7 +11,7 @@ MOST = 16_777_216
 
 
 class Fault(Exception):
-    """A field is at fault, which begins at `at`."""
+    """The field that begins at `at` is at fault."""
 
     def __init__(self, at):
         super().__init__(at)
@@ -142,7 +143,7 @@ def fields(kind, body):
 
 
 def exchange_fields(kind, body):
-    """Those of an exchange; other kinds have none."""
+    """The fields of a frame of an exchange; other kinds have none."""
     if kind == "XROOT":
         return f" root {body.digests(1)}"
     if kind == "XPREFIXES":
@@ -159,7 +160,7 @@ def exchange_fields(kind, body):
 
 
 def header_fault(frame):
-    """Why these bytes are no frame by their header, if so."""
+    """Why these bytes are no frame by their header, if they are none."""
     if len(frame) < 20:
         return "10 Short"
     if frame[:2] != b"PT":
@@ -198,7 +199,7 @@ def frame_line(line):
 
 
 def record(payload, version, life, table):
-    """Puts a payload into the table, and answers the last life; a fault where it says nothing, or its life doesn't rise."""
+    """Puts a payload into the table, and returns the last life; a fault if it says nothing, or its life doesn't rise."""
     body = Body(payload, 0, version == 2)
     if version == 2 and body.number(1, 0, 1) == 0:
         life = body.number(4, life + 1)
@@ -211,7 +212,7 @@ def record(payload, version, life, table):
 
 
 def file_lines(data):
-    """What `plumctl file` prints of these bytes, but for the line of the root."""
+    """What `plumctl file` prints of these bytes, except the line of the root."""
     if len(data) < 11:
         return [f"error 31 Damaged at {len(data)}"]
     version = {b"PMNODE01": 1, b"PMNODE02": 2}.get(data[:8])

@@ -26,7 +26,7 @@ def read(file):
 
 
 def libraries():
-    """The libraries of crates.txt but those of its last layer, by layer, lowest first."""
+    """Returns the libraries of crates.txt except those of its last layer, by layer, lowest first."""
     found = []
     for line in read("crates.txt").split(LAST_LAYER)[0].splitlines():
         layer, crate = re.match(r"# (.*)", line), re.match(r"\w+", line)
@@ -38,7 +38,7 @@ def libraries():
 
 
 def modules(at, path=(), is_public=True):
-    """The path, the text and whether it is reached, of each module of a crate that isn't of tests alone."""
+    """Returns of each module of a crate that isn't only of tests its path, its text and whether it is reached."""
     text = re.sub(r"(?m)^[ \t]*//(?!/).*\n", "", read(f"{at}.rt"))
     yield path, text, is_public
     folder = os.path.dirname(at) if not path else at
@@ -48,7 +48,7 @@ def modules(at, path=(), is_public=True):
 
 
 def exported(texts):
-    """The names that `pub use` lines hand on."""
+    """Returns the names that `pub use` lines export."""
     found = set()
     for names in re.findall(r"(?m)^pub use ([^;]+);", texts):
         found.update(re.findall(r"(\w+)\s*(?=[,}]|$)", names))
@@ -56,7 +56,7 @@ def exported(texts):
 
 
 def after(text, start, opening, closing):
-    """The place behind the bracket that closes the one at the start."""
+    """Returns the place behind the bracket that closes the one at the start."""
     depth = 0
     for place in range(start, len(text)):
         if text[place] == opening:
@@ -69,7 +69,7 @@ def after(text, start, opening, closing):
 
 
 def head_of(text):
-    """What a function returns, and its clauses, each by its kind, name and text."""
+    """Returns what a function returns, and its clauses, each by its kind, name and text."""
     place = re.search(r"\bfn \w+", text).end()
     if text[place] == "<":
         place = after(text, place, "<", ">")
@@ -88,7 +88,7 @@ def head_of(text):
 
 
 def events_of(text):
-    """Where impls and traits begin and end, and where functions do, in the order of the text."""
+    """Returns where impls, traits and functions begin and end, in the order of the text."""
     found = [(it.start(), "owner", it) for it in OWNER.finditer(text)]
     found += [(it.start(), "function", it) for it in FN.finditer(text)]
     found += [(it.start(), "end", it) for it in re.finditer(r"(?m)^\}", text)]
@@ -96,7 +96,7 @@ def events_of(text):
 
 
 def functions_of(text):
-    """Each function of a file: its doc comment, its name, its text, and the head of the impl or trait that it is of."""
+    """Returns of each function of a file its doc comment, its name, its text, and the head of its impl or trait."""
     owner = None
     for kind, it in events_of(text):
         if kind == "function":
@@ -106,7 +106,7 @@ def functions_of(text):
 
 
 def calls(crate):
-    """The public calls of a crate, by name: those that a module or a type that is reached has, and its exports."""
+    """Returns the public calls of a crate, by name: those of a module or a type that is reached, and its exports."""
     found, all_modules = {}, list(modules(f"crates/{crate}/src/lib"))
     names = exported("\n".join(text for _, text, is_public in all_modules if is_public))
     types = {name for _, text, is_public in all_modules for name in

@@ -1,5 +1,5 @@
-// A library to be loaded before a program: it refuses the allocation of the number REFUSE, counted from 1, and
-// writes a byte to the file descriptor 3, if that is open, when it does so. With REFUSE_ON it refuses each later one too.
+// A library that is loaded before a program. It refuses the allocation of the number REFUSE, counted from 1, and then writes a
+// byte to the file descriptor 3, if that is open. With REFUSE_ON it refuses each later allocation too.
 #define _GNU_SOURCE
 #include <dlfcn.h>
 #include <errno.h>

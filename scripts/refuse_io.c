@@ -1,9 +1,9 @@
-// A library to be loaded before a program: it makes the call of files of the number REFUSE_IO fail, counted from 1, and
-// writes the name of that call to the file descriptor 3, if that is open. REFUSE_AS says how it fails:
-//   EIO, ENOSPC, EINTR  by this error, and nothing is done (but for close, which closes)
-//   short               one byte is moved, and that is said, which is no failure
+// A library that is loaded before a program. It makes the file call of the number REFUSE_IO fail, counted from 1, and writes
+// the name of that call to the file descriptor 3, if that is open. REFUSE_AS says how the call fails:
+//   EIO, ENOSPC, EINTR  by this error, and nothing is done (except by close, which closes)
+//   short               one byte is moved, and the call returns this, which is no failure
 //   part                one byte is moved, and the next call that moves bytes fails by EIO
-//   on                  by EIO, and so does each later call, but for writes to standard error
+//   on                  by EIO, and so does each later call, except writes to standard error
 // EINTR, short and part count only calls that move bytes.
 #define _GNU_SOURCE
 #include <dlfcn.h>
@@ -51,7 +51,7 @@ static enum how next(const char *name, int moves) {
     static result (*real)(__VA_ARGS__);                                                                                \
     if (!real) real = (result (*)(__VA_ARGS__))dlsym(RTLD_NEXT, name)
 
-// How many bytes a call of this name moves, of `len`; it ends here where it fails.
+// How many of `len` bytes a call of this name moves; if the call fails, it ends here.
 #define MOVE(name, len)                                                                                                \
     enum how how = next(name, 1);                                                                                      \
     if (how == FAIL) return -1;                                                                                        \

@@ -13,9 +13,9 @@
 #define BYTES(text) (const uint8_t *)(text), strlen(text)
 #define COLOUR BYTES("app"), BYTES("flags"), BYTES("colour")
 
-/* A frame may be longer: a program that keeps many siblings answers 81 with a larger buffer. */
-static uint8_t buffer[1 << 16];
-static size_t len;
+/* What an export hands out is at the front of a buffer, which grows if it is too short. */
+static uint8_t *buffer;
+static size_t size = 16, len;
 
 /* A node, and the file that is kept for it, -1 for none. */
 struct member {
@@ -37,6 +37,23 @@ static void accepted(const char *call, uint16_t number)
         fprintf(stderr, "example: %s was refused with %d\n", call, number);
         exit(1);
     }
+}
+
+/* Makes the buffer this large. */
+static void make_room(size_t wanted)
+{
+    buffer = realloc(buffer, wanted);
+    must("there is no memory", buffer != NULL);
+    size = wanted;
+}
+
+/* Whether the buffer was too short, and has grown: then the call is made again. */
+static bool has_grown(uint16_t number)
+{
+    if (number == ZOMTAGI_SHORT_BUFFER) {
+        make_room(len);
+    }
+    return number == ZOMTAGI_SHORT_BUFFER;
 }
 
 /* A word of a xorshift generator. */
@@ -75,7 +92,10 @@ static bool append(int file, size_t gate)
 static void store(struct member *member)
 {
     size_t gate;
-    uint16_t number = zomtagi_record(&member->slot, &gate, buffer, sizeof buffer, &len);
+    uint16_t number;
+    do {
+        number = zomtagi_record(&member->slot, &gate, buffer, size, &len);
+    } while (has_grown(number));
     if (number == ZOMTAGI_NOTHING) {
         return;
     }
@@ -90,7 +110,15 @@ static void carry(struct member *members, int from)
 {
     zomtagi_slot *slot = &members[from].slot;
     store(&members[from]);
-    while (zomtagi_frame(slot, buffer, sizeof buffer, &len) == ZOMTAGI_OK) {
+    for (;;) {
+        uint16_t number;
+        do {
+            number = zomtagi_frame(slot, buffer, size, &len);
+        } while (has_grown(number));
+        if (number == ZOMTAGI_NOTHING) {
+            return;
+        }
+        accepted("zomtagi_frame", number);
         int to = buffer[6] << 8 | buffer[7];
         accepted("zomtagi_sent", zomtagi_sent(slot));
         accepted("zomtagi_take", zomtagi_take(&members[to].slot, buffer, len, word()));
@@ -104,7 +132,7 @@ static void serve_new(struct member *member, uint16_t node)
     char path[] = "/tmp/zomtagi-XXXXXX";
     member->file = mkstemp(path);
     must("no file was made", member->file >= 0 && unlink(path) == 0);
-    accepted("zomtagi_empty_file", zomtagi_empty_file(node, buffer, sizeof buffer, &len));
+    accepted("zomtagi_empty_file", zomtagi_empty_file(node, buffer, size, &len));
     must("the file was not written",
          write_at(member->file, 0, buffer, len) && fdatasync(member->file) == 0);
     accepted("zomtagi_serve", zomtagi_serve(&member->slot, buffer, len, node));
@@ -114,9 +142,11 @@ static void serve_new(struct member *member, uint16_t node)
 /* Serves a node from its file again, in its next life. */
 static void serve_again(struct member *member, uint16_t node)
 {
-    ssize_t count = pread(member->file, buffer, sizeof buffer, 0);
-    must("the file was not read", count > 0);
-    accepted("zomtagi_serve", zomtagi_serve(&member->slot, buffer, (size_t)count, node));
+    off_t end = lseek(member->file, 0, SEEK_END);
+    must("the file has no length", end > 0);
+    make_room((size_t)end);
+    must("the file was not read", pread(member->file, buffer, size, 0) == end);
+    accepted("zomtagi_serve", zomtagi_serve(&member->slot, buffer, size, node));
     store(member);
 }
 
@@ -137,7 +167,11 @@ static void print_read(struct member *member)
     uint8_t is_stopped;
     accepted("zomtagi_about", zomtagi_about(&member->slot, &node, &life, &is_stopped));
     accepted("zomtagi_read", zomtagi_read(&member->slot, COLOUR));
-    accepted("zomtagi_reply", zomtagi_reply(&member->slot, buffer, sizeof buffer, &len));
+    uint16_t number;
+    do {
+        number = zomtagi_reply(&member->slot, buffer, size, &len);
+    } while (has_grown(number));
+    accepted("zomtagi_reply", number);
     printf("node %d, life %u:", node, (unsigned)life);
     const uint8_t *bytes = buffer + 9;
     for (uint64_t left = number_at(buffer + 1); left > 0; left--) {
@@ -158,6 +192,7 @@ int main(void)
 {
     struct member members[2] = {{{0}, -1}, {{0}, -1}};
     zomtagi_slot *zero = &members[0].slot, *one = &members[1].slot;
+    make_room(size);
     accepted("zomtagi_new", zomtagi_new(zero, 0, 1));
     serve_new(&members[1], 1);
 
@@ -194,5 +229,6 @@ int main(void)
     zomtagi_free(one);
     zomtagi_free(zero);
     close(members[1].file);
+    free(buffer);
     return 0;
 }

@@ -1,7 +1,7 @@
 /*
- * A node of the cluster metadata store zomtagi, as the static library node_export has it. You
- * bring a transport, a clock and a disk: docs/EMBEDDING.md has how the exports are used together,
- * and example.c beside this file is a program over them.
+ * A node of the cluster metadata store zomtagi, as the static library node_export. You bring a
+ * transport, a clock and a disk. docs/EMBEDDING.md says how the exports are used together, and
+ * example.c beside this file is a program that uses them.
  *
  *     zomtagi_slot slot = {0};
  *     zomtagi_serve(&slot, file, file_len, 3);
@@ -10,10 +10,10 @@
  *     ... the same, then zomtagi_reply, and zomtagi_frame with zomtagi_sent until it is 38 ...
  *
  * An export returns 0, or the number of a refusal. Refusals are listed in their order: if several
- * apply, the first is returned. 99 Memory comes only of exports at which it is listed. It may come
- * in place of any that is listed with it but 80, 82, 38, 43 and the 3 of a number above 15; of 34
- * and 37 see the steps. Unless it is said otherwise, a call that is refused leaves the node as it
- * was.
+ * apply, the first is returned. Only exports that list 99 Memory return it. It may come in place of
+ * any refusal that is listed with it, except 80, 82, 38, 43 and the 3 of a number above 15; for 34
+ * and 37 see the steps. A call that is refused leaves the node as it was, unless its comment says
+ * otherwise.
  */
 #ifndef ZOMTAGI_H
 #define ZOMTAGI_H
@@ -27,15 +27,16 @@ extern "C" {
 #endif
 
 /*
- * A place for one node. It begins as zeros. What you owe, and nothing checks:
+ * A place for one node. It begins as zeros. You must keep these rules, which nothing checks:
  *
- * - Only the exports change a slot, and nobody looks into it. It may be moved by copying its bytes,
- *   if the old place isn't used any more: of a full slot no copy is used beside it.
- * - One call at a time, and all calls of a slot on one thread.
+ * - Only the exports change a slot, and nobody looks into it. You may move it by copying its bytes,
+ *   if you don't use the old place again: only one copy of a full slot may be used.
+ * - A slot has one call at a time, and all its calls are on one thread. After a fork only one of the
+ *   two processes may use it.
  * - A full slot is freed once, by zomtagi_free, or it leaks. A slot that was freed is empty: an
- *   export that needs a node answers 80 then, zomtagi_free does nothing, and zomtagi_new or
+ *   export that needs a node returns 80, zomtagi_free does nothing, and zomtagi_new or
  *   zomtagi_serve may fill the slot again.
- * - A pointer is never NULL, also beside a length of 0, and points to as many bytes as the length
+ * - A pointer is never NULL, not even with a length of 0, and points to as many bytes as the length
  *   says. What an export writes (slot, buffer, len, gate, number ..) overlaps nothing else that it
  *   is given.
  */
@@ -44,7 +45,7 @@ typedef struct zomtagi_slot {
     void *node;
 } zomtagi_slot;
 
-/* The numbers of refusals, with their names. 80 to 82 are of the exports alone. */
+/* The numbers of refusals, with their names. Only the exports have 80 to 82. */
 enum {
     ZOMTAGI_OK = 0,
     ZOMTAGI_BAD_NAME = 1,         /* a part of a key is empty or too long */
@@ -84,8 +85,8 @@ enum {
 
 /*
  * Puts a node without a file into the slot, in the life of this number; it holds nothing. A node
- * that was in the slot is freed. You see to it that the node never had a life of this number or a
- * greater.
+ * that was in the slot is freed. Make sure that the node never had a life of this number or a
+ * greater one.
  * Refused with 3 BadNode, 82 BadLife (life 0), 99 Memory: the slot is then as it was.
  */
 uint16_t zomtagi_new(zomtagi_slot *slot, uint16_t node, uint32_t life);
@@ -93,58 +94,58 @@ uint16_t zomtagi_new(zomtagi_slot *slot, uint16_t node, uint32_t life);
 /*
  * Puts the node of this number into the slot, served from the bytes of its file: it holds the
  * file's table, in the life after the last one in the file. A node that was in the slot is freed.
- * The record of the life is to be stored first (zomtagi_record, zomtagi_stored); until then steps
- * are refused with 37. The bytes are those that the disk holds: sync the file and its folder before
- * you read it. They aren't used after the call.
+ * Store the record of the life first (zomtagi_record, zomtagi_stored); until then steps are refused
+ * with 37. The bytes must be those that the disk holds: sync the file and its folder before you
+ * read it. The bytes aren't used after the call.
  * Refused with 3 BadNode; 31 Damaged, 32 OtherNode, 31 Damaged at a gate, 25 StoreFull;
  * 36 OldVersion, 35 IncarnationSpent, 33 FileFull; 99 Memory: the slot is then as it was.
  */
 uint16_t zomtagi_serve(zomtagi_slot *slot, const uint8_t *bytes, size_t bytes_len, uint16_t node);
 
-/* Frees the node in the slot, if there is one. The slot is empty then. */
+/* Frees the node in the slot, if there is one. The slot is empty afterwards. */
 void zomtagi_free(zomtagi_slot *slot);
 
 /*
- * Copies out the bytes of a file of a node that had no life yet, 11 of them, and their number.
- * Write and sync them, and the folder, before the node is served from them.
+ * Copies out the 11 bytes of the file of a node that had no life, and their number. Write and sync
+ * them, and sync the folder, before you serve the node from them.
  * Refused with 3 BadNode, 81 ShortBuffer, 99 Memory.
  */
 uint16_t zomtagi_empty_file(uint16_t node, uint8_t *buffer, size_t buffer_len, size_t *len);
 
 /* ---- steps ----
  *
- * Each has the node make the step of one event. Then, in this order: zomtagi_record, and unless it
- * is 38 zomtagi_stored; zomtagi_reply, if you want it; zomtagi_frame and zomtagi_sent until there
- * is no frame left.
+ * Each lets the node make the step of one event. Afterwards call, in this order: zomtagi_record,
+ * and unless it returns 38, zomtagi_stored; zomtagi_reply, if you want the reply; zomtagi_frame and
+ * zomtagi_sent, until there is no frame left.
  *
- * Each is refused with 80 NoNode; then with what stands at it before "step"; then, as a step, with:
- *   34 Stopped, 37 Pending; what the step refuses, listed at the export;
+ * Each is refused with 80 NoNode; then with what its comment lists before "step"; then with:
+ *   34 Stopped, 37 Pending; what the step refuses, which its comment lists after "step";
  *   33 FileFull: the step was made, but its record doesn't fit in the file, which stops the node;
- *   99 Memory: nothing changed, or the node is stopped (zomtagi_about says which). In place of 34
- *   or 37 it comes only where the step names a key or a full prefix, or brings bytes.
- * Only a write and zomtagi_keep have a record, and only where the node was served from a file. A
- * step of any other kind is never refused with 33.
+ *   99 Memory: nothing changed, or the node is stopped (zomtagi_about says which). It comes in
+ *   place of 34 or 37 only if the step names a key or a full prefix, or brings bytes.
+ * Only a write and zomtagi_keep have a record, and only if the node was served from a file. A step
+ * of any other kind is never refused with 33.
  *
  * A word is a random number, a new one each time.
  */
 
 /*
- * The node is read under a key: reply 1. 1 BadName; step.
+ * Reads what the node shows under a key: reply 1. 1 BadName; step.
  */
 uint16_t zomtagi_read(zomtagi_slot *slot, const uint8_t *prefix, size_t prefix_len,
                       const uint8_t *sub, size_t sub_len, const uint8_t *key, size_t key_len);
 
 /*
- * What the node holds under the key is to be stored, whoever wrote it; nothing if it holds nothing
- * there: reply 6. 1 BadName; step.
+ * Makes a record of what the node holds under the key, whoever wrote it; of nothing if it holds
+ * nothing there: reply 6. 1 BadName; step.
  */
 uint16_t zomtagi_keep(zomtagi_slot *slot, const uint8_t *prefix, size_t prefix_len,
                       const uint8_t *sub, size_t sub_len, const uint8_t *key, size_t key_len);
 
 /*
- * Writes a value, which has read what the context of this number says, or nothing for context 0: it
- * replaces what that read has shown, and stands beside all else. The stamp is yours, and never
- * read by the node. Reply 2.
+ * Writes a value, having read what the context of this number says, or nothing for context 0. The
+ * value replaces what that read has shown, and stands beside all else. The stamp is yours; the node
+ * never reads it. Reply 2.
  * 43 NoSuchRead, 1 BadName, 2 ValueTooLong; step: 26 WrongKey, 25 StoreFull, 20 CounterSpent,
  * 27 ObjectTooLarge.
  */
@@ -152,7 +153,9 @@ uint16_t zomtagi_write(zomtagi_slot *slot, const uint8_t *prefix, size_t prefix_
                        const uint8_t *sub, size_t sub_len, const uint8_t *key, size_t key_len,
                        const uint8_t *body, size_t body_len, uint64_t stamp, uint64_t context);
 
-/* Writes a tombstone, as zomtagi_write writes a value, and refused as that is, but for 2. */
+/*
+ * Writes a tombstone, as zomtagi_write writes a value. Refused as zomtagi_write is, except for 2.
+ */
 uint16_t zomtagi_delete(zomtagi_slot *slot, const uint8_t *prefix, size_t prefix_len,
                         const uint8_t *sub, size_t sub_len, const uint8_t *key, size_t key_len,
                         uint64_t stamp, uint64_t context);
@@ -166,84 +169,88 @@ uint16_t zomtagi_write_over(zomtagi_slot *slot, const uint8_t *prefix, size_t pr
                             size_t key_len, const uint8_t *body, size_t body_len,
                             uint64_t stamp);
 
-/* Writes a tombstone over all that the node shows, refused as zomtagi_write_over is, but for 2. */
+/*
+ * Writes a tombstone over all that the node shows. Refused as zomtagi_write_over is, except for 2.
+ */
 uint16_t zomtagi_delete_over(zomtagi_slot *slot, const uint8_t *prefix, size_t prefix_len,
                              const uint8_t *sub, size_t sub_len, const uint8_t *key,
                              size_t key_len, uint64_t stamp);
 
 /*
- * Bytes came that should be a frame for the node. Reply 3 of a frame without an object, 4 where its
- * object has a write that wasn't known here, 5 where it has none. What came is in no file until its
+ * Hands the node bytes that should be a frame for it. Reply 3 if the frame has no object, 4 if its
+ * object has a write that the node didn't know, 5 if it has none. What came is in no file until its
  * key is written or kept.
  * step: 10 Short, 11 BadMagic, 12 BadVersion, 13 BadKind, 14 TooLong, 10 Short, 16 LeftOver,
- * 15 BadBody; 40 NotAddressed; 21 BadEntries, 25 StoreFull, 27 ObjectTooLarge. Drop the bytes then.
+ * 15 BadBody; 40 NotAddressed; 21 BadEntries, 25 StoreFull, 27 ObjectTooLarge. After one of these,
+ * drop the bytes.
  */
 uint16_t zomtagi_take(zomtagi_slot *slot, const uint8_t *frame, size_t frame_len, uint64_t word);
 
-/* Time passes: reply 6. The step refuses nothing. */
+/* Lets time pass: reply 6. The step refuses nothing. */
 uint16_t zomtagi_tick(zomtagi_slot *slot, uint64_t word);
 
 /*
- * The node joins the cluster through a contact: reply 6. 3 BadNode of a number above 15; step: 3
- * BadNode of the node itself.
+ * Lets the node join the cluster through a contact: reply 6. 3 BadNode for a number above 15; step:
+ * 3 BadNode for the node itself.
  */
 uint16_t zomtagi_join(zomtagi_slot *slot, uint16_t contact, uint64_t word);
 
-/* A peer doesn't answer: reply 6. Refused as zomtagi_join is. */
+/* Tells the node that a peer doesn't answer: reply 6. Refused as zomtagi_join is. */
 uint16_t zomtagi_peer_down(zomtagi_slot *slot, uint16_t peer, uint64_t word);
 
-/* The node begins an exchange with a peer: reply 6. Refused as zomtagi_join is. */
+/* Begins an exchange of the node with a peer: reply 6. Refused as zomtagi_join is. */
 uint16_t zomtagi_exchange(zomtagi_slot *slot, uint16_t peer);
 
 /*
- * The node tells a peer which life it is in: reply 6. Say it before the join: a peer that hears of
- * a new life has the node as a neighbour no longer. Refused as zomtagi_join is.
+ * Lets the node tell a peer which life it is in: reply 6. Call it before the join: a peer that
+ * hears of a new life removes the node from its neighbours. Refused as zomtagi_join is.
  */
 uint16_t zomtagi_hello(zomtagi_slot *slot, uint16_t peer);
 
-/* The node leaves the cluster: reply 6. The step refuses nothing. */
+/* Lets the node leave the cluster: reply 6. The step refuses nothing. */
 uint16_t zomtagi_leave(zomtagi_slot *slot);
 
 /*
- * Watches the changes under a full prefix, the last `capacity` of them, 1 to 1,024: reply 7, with
- * the number of the watch. A life has at most 16 watches. 1 BadName; step: 28 BadWatch.
+ * Begins a watch of the changes under a full prefix, which notes the last `capacity` of them, 1 to
+ * 1,024: reply 7, with the number of the watch. A life has at most 16 watches. 1 BadName; step: 28
+ * BadWatch.
  */
 uint16_t zomtagi_watch(zomtagi_slot *slot, const uint8_t *prefix, size_t prefix_len,
                        const uint8_t *sub, size_t sub_len, size_t capacity);
 
 /*
- * The watch of this number hands out what it has noted, and is empty then: reply 8. step: 29
- * NoSuchWatch.
+ * Lets the watch of this number hand out what it has noted; it is empty afterwards: reply 8. step:
+ * 29 NoSuchWatch.
  */
 uint16_t zomtagi_changes(zomtagi_slot *slot, uint64_t number);
 
-/* ---- what you are handed ----
+/* ---- what the node hands out ----
  *
- * Each copies bytes to the front of the buffer, and writes their number to *len. 81 ShortBuffer
- * writes only *len: call again with a buffer of that many bytes. Any other refusal leaves the
- * buffer and *len as they are.
+ * Each export copies bytes to the front of the buffer, and writes their number to *len. With 81
+ * ShortBuffer it writes only *len: call it again with a buffer of that many bytes. After any other
+ * refusal the buffer and *len are as they were.
  */
 
 /*
- * The record that you have to store, and in *gate the offset of the closed gate of your file. Write
- * all its bytes but the first at *gate + 1, sync, write the first at *gate, sync; then
- * zomtagi_stored.
- * Make these calls once for a record; if one fails, repeat none, and call zomtagi_stored with 0.
+ * Hands out the record that you have to store, and in *gate the offset of the closed gate of your
+ * file. Write all its bytes except the first at *gate + 1, sync, write the first at *gate, sync;
+ * then call zomtagi_stored.
+ * Make these calls once for a record. If one fails, repeat none, and call zomtagi_stored with 0.
  * Refused with 80 NoNode, 38 Nothing, 81 ShortBuffer: *gate is then as it was.
  */
 uint16_t zomtagi_record(zomtagi_slot *slot, size_t *gate, uint8_t *buffer, size_t buffer_len,
                         size_t *len);
 
 /*
- * You stored the record; or, with is_stored 0, failed to at any point, which stops the node: free
- * it, and serve it from the file again.
+ * Says that you stored the record; or, with is_stored 0, that you failed to at any point, which
+ * stops the node: free it, and serve it from the file again.
  * Refused with 80 NoNode, 34 Stopped, 38 Nothing.
  */
 uint16_t zomtagi_stored(zomtagi_slot *slot, uint8_t is_stored);
 
 /*
- * What the last step replied that was made; 38 Nothing until its record is stored, and of a stopped
- * node. Numbers are big endian. The first byte says which reply it is:
+ * Hands out the reply of the last step that was made; 38 Nothing until its record is stored, and if
+ * the node is stopped. Numbers are big endian. The first byte says which reply it is:
  *
  *   1 looked    the number of values (8 bytes), then each: its stamp (8); 1 (1 byte), the length of
  *               its body (8) and the body, or 0 (1 byte), for a tombstone
@@ -258,51 +265,54 @@ uint16_t zomtagi_stored(zomtagi_slot *slot, uint8_t is_stored);
 uint16_t zomtagi_reply(zomtagi_slot *slot, uint8_t *buffer, size_t buffer_len, size_t *len);
 
 /*
- * The next frame to send; its bytes 6 and 7 are its addressee, and its bytes 16 to 19 say how many
- * follow the first 20. It stays the next one until zomtagi_sent.
+ * Hands out the next frame to send. Its bytes 6 and 7 are its addressee, and its bytes 16 to 19 say
+ * how many follow the first 20. It stays the next one until you call zomtagi_sent.
  * Refused with 80 NoNode, 38 Nothing (none is left, a record isn't stored, the node is stopped), 81
  * ShortBuffer.
  */
 uint16_t zomtagi_frame(zomtagi_slot *slot, uint8_t *buffer, size_t buffer_len, size_t *len);
 
-/* You have the next frame, if there is one, whether or not it arrives. Refused with 80 NoNode. */
+/* Says that you sent the next frame, if there is one, even if it never arrives. 80 NoNode. */
 uint16_t zomtagi_sent(zomtagi_slot *slot);
 
 /* ---- contexts ---- */
 
 /*
- * Keeps the context of the last reply, a read's, and writes its number, from 1, to *number. It
- * takes memory until it is forgotten, or the node is freed.
+ * Keeps the context of the last reply, which must be that of a read, and writes its number, from 1,
+ * to *number. The context takes memory until it is forgotten, or the node is freed.
  * Refused with 80 NoNode, 38 Nothing (the last step was no read, or its reply isn't handed out), 99
  * Memory: *number is as it was.
  */
 uint16_t zomtagi_keep_context(zomtagi_slot *slot, uint64_t *number);
 
-/* Forgets the context of this number, if there is one; the number may be given again. 80 NoNode. */
+/*
+ * Forgets the context of this number, if there is one. A later context may get the same number. 80
+ * NoNode.
+ */
 uint16_t zomtagi_forget_context(zomtagi_slot *slot, uint64_t number);
 
 /* ---- what the node holds, without a step ----
  *
- * What it holds may not be stored yet, and a stopped node answers too. Nothing changes.
+ * What the node holds may not be stored yet, and a stopped node answers too. Nothing changes.
  */
 
 /*
- * The keys under a full prefix, in order, one after the other, each as in a reply; no bytes if
- * there are none. Refused with 80 NoNode, 1 BadName, 81 ShortBuffer, 99 Memory.
+ * Hands out the keys under a full prefix, in order, one after the other, each as in a reply; no
+ * bytes if there are none. Refused with 80 NoNode, 1 BadName, 81 ShortBuffer, 99 Memory.
  */
 uint16_t zomtagi_list(zomtagi_slot *slot, const uint8_t *prefix, size_t prefix_len,
                       const uint8_t *sub, size_t sub_len, uint8_t *buffer, size_t buffer_len,
                       size_t *len);
 
 /*
- * The root of the tree over all that the node holds, 32 bytes: nodes that hold the same have equal
- * roots. Refused with 80 NoNode, 81 ShortBuffer.
+ * Hands out the root of the tree over all that the node holds, 32 bytes. Nodes that hold the same
+ * have equal roots. Refused with 80 NoNode, 81 ShortBuffer.
  */
 uint16_t zomtagi_root(zomtagi_slot *slot, uint8_t *buffer, size_t buffer_len, size_t *len);
 
 /*
- * The node's number, the number of its life, and 1 if it is stopped, or 0. Refused with 80 NoNode:
- * all three are then as they were.
+ * Says the node's number, the number of its life, and 1 if it is stopped, or 0. Refused with 80
+ * NoNode: all three are then as they were.
  */
 uint16_t zomtagi_about(zomtagi_slot *slot, uint16_t *number, uint32_t *life,
                        uint8_t *is_stopped);

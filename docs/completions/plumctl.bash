@@ -25,7 +25,7 @@ _plumctl() {
     frame) words='-h --help' files=1 ;;
     run) words='--explain -h --help' files=1 ;;
     draw) words='--from --to --fold -h --help' files=1 ;;
-    file) words='--rewrite -h --help' files=1 ;;
+    file) words='--rewrite --compact -h --help' files=1 ;;
     live)
       words='--record --files -h --help'
       [ "$before" = --record ] || [ "$before" = --files ] && files=1

@@ -21,6 +21,7 @@ complete -c plumctl -n '__fish_seen_subcommand_from draw' -l from -x -d 'Draw no
 complete -c plumctl -n '__fish_seen_subcommand_from draw' -l to -x -d 'Draw no command of a later line'
 complete -c plumctl -n '__fish_seen_subcommand_from draw' -l fold -d 'Draw each settle as one band'
 complete -c plumctl -n '__fish_seen_subcommand_from file' -l rewrite -r -F -d 'Make a clean copy, where nothing is yet'
+complete -c plumctl -n '__fish_seen_subcommand_from file' -l compact -d 'Put a clean copy in the place of the file'
 complete -c plumctl -n '__fish_seen_subcommand_from live' -l record -r -F -d 'Write the run down as a scenario'
 complete -c plumctl -n '__fish_seen_subcommand_from live' -l files -r -a '(__fish_complete_directories)' -d 'Run the nodes on files in a new folder'
 complete -c plumctl -n '__fish_seen_subcommand_from help' -a "$commands"

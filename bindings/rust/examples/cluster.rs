@@ -6,24 +6,35 @@
 //! `put NAME VALUE`, `get NAME`, `del NAME`, `list`, `watch`, `root`, `leave` and `quit`, and prints a line for each.
 //!
 //! The node lives in the main thread, which takes one event after the other: a frame that came, a line that was typed, a second
-//! that passed. Threads that read sockets and the prompt only send it events.
+//! that passed. Threads that read sockets and the prompt only send it events. It relies on TCP to bring each frame unchanged or
+//! not at all; over a network use TLS.
 
 use std::collections::HashMap;
 use std::error::Error;
 use std::io::{self, BufRead, Read, Write};
-use std::net::{TcpListener, TcpStream};
-use std::sync::mpsc::{channel, Receiver, RecvTimeoutError, Sender};
+use std::net::{Ipv4Addr, Shutdown, SocketAddr, TcpListener, TcpStream};
+use std::sync::mpsc::{sync_channel, Receiver, RecvTimeoutError, SyncSender};
+use std::sync::Arc;
 use std::time::{Duration, Instant, SystemTime, UNIX_EPOCH};
 use std::{env, thread};
 use zomtagi::{FileStore, Frame, Key, Node, Value};
 
-/// The bytes of a frame's header, of which the last four say how many follow.
+/// The bytes of a frame's header, of which the last four say how many follow, and the most that may.
 const HEADER: usize = 20;
-const LONGEST: usize = 1 << 24;
+const LONGEST: u32 = (1 << 24) - 20;
 const TICK: Duration = Duration::from_secs(1);
 
+/// How long a peer may take no byte, and how long a connection may bring none.
+const DEAF: Duration = Duration::from_secs(1);
+const DUMB: Duration = Duration::from_secs(300);
+
+/// How many connections are taken at once, and how many events wait: who sends more waits too.
+const MOST_CONNECTIONS: usize = 64;
+const MOST_EVENTS: usize = 1024;
+
 enum Event {
-    Frame(Vec<u8>),
+    /// A frame, and where it came from.
+    Frame(Vec<u8>, Arc<TcpStream>),
     Line(String),
     /// The prompt ended.
     End,
@@ -35,8 +46,9 @@ fn main() -> Result<(), Box<dyn Error>> {
         return Err("usage: cluster NODE NODES PORT FOLDER".into());
     };
     let (node, nodes, port): (u16, u16, u16) = (node.parse()?, nodes.parse()?, port.parse()?);
-    let served = FileStore::serve(format!("{folder}/node-{node}"), node)?;
-    let (events, coming) = channel();
+    // (a service makes the file of a node once, by `create`, and then only opens it: docs/EMBEDDING.md)
+    let served = FileStore::open_or_create(format!("{folder}/node-{node}"), node)?;
+    let (events, coming) = sync_channel(MOST_EVENTS);
     listen(TcpListener::bind(("127.0.0.1", port + node))?, events.clone());
     thread::spawn(move || read_lines(&events));
     let seed = SystemTime::now().duration_since(UNIX_EPOCH)?.as_nanos() as u64;
@@ -45,13 +57,21 @@ fn main() -> Result<(), Box<dyn Error>> {
 }
 
 /// Takes connections; each has a thread that reads its frames.
-fn listen(listener: TcpListener, events: Sender<Event>) {
+fn listen(listener: TcpListener, events: SyncSender<Event>) {
+    let open = Arc::new(());
     thread::spawn(move || {
-        for stream in listener.incoming().flatten() {
-            let events = events.clone();
-            thread::spawn(move || while let Ok(frame) = read_frame(&stream) {
-                if events.send(Event::Frame(frame)).is_err() {
-                    return;
+        for stream in listener.incoming().flatten().map(Arc::new) {
+            // (each thread has one of these)
+            if Arc::strong_count(&open) > MOST_CONNECTIONS || stream.set_read_timeout(Some(DUMB)).is_err() {
+                continue;
+            }
+            let (events, open) = (events.clone(), Arc::clone(&open));
+            thread::spawn(move || {
+                let _open = open;
+                while let Ok(frame) = read_frame(&stream) {
+                    if events.send(Event::Frame(frame, Arc::clone(&stream))).is_err() {
+                        return;
+                    }
                 }
             });
         }
@@ -61,16 +81,15 @@ fn listen(listener: TcpListener, events: Sender<Event>) {
 fn read_frame(mut stream: &TcpStream) -> io::Result<Vec<u8>> {
     let mut frame = vec![0; HEADER];
     stream.read_exact(&mut frame)?;
-    let len = u32::from_be_bytes([frame[16], frame[17], frame[18], frame[19]]) as usize;
-    if len > LONGEST {
+    let len = u32::from_be_bytes([frame[16], frame[17], frame[18], frame[19]]);
+    // (it takes memory as it comes)
+    if len > LONGEST || stream.take(len.into()).read_to_end(&mut frame)? < len as usize {
         return Err(io::ErrorKind::InvalidData.into());
     }
-    frame.resize(HEADER + len, 0);
-    stream.read_exact(&mut frame[HEADER..])?;
     Ok(frame)
 }
 
-fn read_lines(events: &Sender<Event>) {
+fn read_lines(events: &SyncSender<Event>) {
     for line in io::stdin().lock().lines().map_while(Result::ok) {
         let _ = events.send(Event::Line(line));
     }
@@ -100,8 +119,10 @@ impl Links {
 
     fn stream(&mut self, to: u16) -> io::Result<&mut TcpStream> {
         if !self.streams.contains_key(&to) {
-            let stream = TcpStream::connect(("127.0.0.1", self.port + to))?;
+            let address = SocketAddr::from((Ipv4Addr::LOCALHOST, self.port + to));
+            let stream = TcpStream::connect_timeout(&address, DEAF)?;
             stream.set_nodelay(true)?;
+            stream.set_write_timeout(Some(DEAF))?;
             self.streams.insert(to, stream);
         }
         Ok(self.streams.get_mut(&to).expect("it was put there"))
@@ -130,7 +151,7 @@ impl Driver {
                 next += TICK;
             }
             match coming.recv_timeout(next.saturating_duration_since(Instant::now())) {
-                Ok(Event::Frame(frame)) => self.take(&frame)?,
+                Ok(Event::Frame(frame, from)) => self.take(&frame, &from)?,
                 Ok(Event::Line(line)) if line.trim() == "quit" => return Ok(()),
                 Ok(Event::Line(line)) => self.obey(&line)?,
                 Ok(Event::End) | Err(RecvTimeoutError::Disconnected) => return Ok(()),
@@ -159,7 +180,7 @@ impl Driver {
         frames.iter().for_each(|frame| self.links.send(frame));
     }
 
-    /// Tells another node of this life, and joins through it; both go to waste where it doesn't answer yet. The hello comes
+    /// Tells another node of this life, and joins through it; both go to waste if it doesn't answer yet. The hello comes
     /// first: who hears of a new life has the node as a neighbour no longer.
     fn join(&mut self) -> Result<(), zomtagi::Error> {
         if let Some(contact) = self.other() {
@@ -172,13 +193,15 @@ impl Driver {
         Ok(())
     }
 
-    fn take(&mut self, frame: &[u8]) -> Result<(), zomtagi::Error> {
+    fn take(&mut self, frame: &[u8], from: &TcpStream) -> Result<(), zomtagi::Error> {
         let word = self.word();
         match self.node.take(frame, word) {
             Ok((_taken, frames)) => self.send(frames),
-            // (a frame is refused without harm, whatever it is)
-            Err(zomtagi::Error::Refused(number)) if number != 34 && number != 99 => {}
-            Err(error) => return Err(error),
+            Err(error) if error.ends_node() => return Err(error),
+            // (the bytes are no frame, and where the next one begins isn't known)
+            Err(zomtagi::Error::Refused(10..=16)) => drop(from.shutdown(Shutdown::Both)),
+            // (a frame is refused without harm, whatever it says)
+            Err(_) => {}
         }
         Ok(())
     }
@@ -193,7 +216,7 @@ impl Driver {
             let frames = self.node.exchange(peer)?;
             self.send(frames);
         }
-        if self.word() % 4 == 0 {
+        if self.word() & 3 == 0 {
             self.join()?;
         }
         if let Some(watch) = self.watch {
@@ -222,9 +245,10 @@ impl Driver {
             "put" => self.node.write_over(&key, &Value::text(rest)).map(|frames| self.send(frames)).map(|()| "ok".into()),
             "del" => self.node.write_over(&key, &Value::tombstone()).map(|frames| self.send(frames)).map(|()| "ok".into()),
             "get" => self.node.read(&key).map(|read| shown(&read.values)),
-            "list" => self.node.list(b"app", b"shared").map(|keys| {
-                keys.iter().map(|key| String::from_utf8_lossy(&key.name)).collect::<Vec<_>>().join(" ")
-            }),
+            "list" => self
+                .node
+                .list(b"app", b"shared")
+                .map(|keys| keys.iter().map(|key| String::from_utf8_lossy(&key.name)).collect::<Vec<_>>().join(" ")),
             "watch" => self.node.watch(b"app", b"shared", 1024).map(|watch| {
                 self.watch = Some(watch);
                 "ok".into()
@@ -236,7 +260,8 @@ impl Driver {
         match done {
             Ok(line) => reply(&line),
             // (what stops the node ends the process, which begins the next life once it is started again)
-            Err(error @ (zomtagi::Error::Io(_) | zomtagi::Error::Refused(34 | 99))) => return Err(error),
+            Err(error) if error.ends_node() => return Err(error),
+            // (a name or a value that is refused ends nothing)
             Err(error) => reply(&format!("error {error}")),
         }
         Ok(())

@@ -1,19 +1,32 @@
 use std::fmt;
 use std::io;
 
-/// Why a call was refused. Each variant but `Io` and `OtherContext` has the number and the name that the library gives it.
+/// Why a call was refused. Only `Refused` has a number.
 #[derive(Debug)]
 #[non_exhaustive]
 pub enum Error {
     /// A refusal of the node, by its number; [`Error::name`] has its name.
     Refused(u16),
-    /// The store failed, which stops the node.
+    /// A call of the file failed that was no sync; or the store failed, which stops the node.
     Io(io::Error),
+    /// A sync failed, so that what the disk holds isn't known. In a call of a node it stops the node.
+    Sync(io::Error),
+    /// The gate at this offset of the file was open, and isn't: so says what stands behind it. All before it is whole.
+    GateChanged { at: u64 },
     /// The context is of another node.
     OtherContext,
 }
 
+/// The numbers of refusals that the package deals with.
+pub(crate) const DAMAGED: u16 = 31;
+pub(crate) const FILE_FULL: u16 = 33;
+pub(crate) const STOPPED: u16 = 34;
+pub(crate) const NOTHING: u16 = 38;
+pub(crate) const SHORT_BUFFER: u16 = 81;
+pub(crate) const MEMORY: u16 = 99;
+
 /// The names of the refusals, as `docs/REFUSALS.md` has them.
+#[rustfmt::skip]
 const NAMES: [(u16, &str); 31] = [
     (1, "BadName"), (2, "ValueTooLong"), (3, "BadNode"), (10, "Short"), (11, "BadMagic"), (12, "BadVersion"), (13, "BadKind"),
     (14, "TooLong"), (15, "BadBody"), (16, "LeftOver"), (20, "CounterSpent"), (21, "BadEntries"), (25, "StoreFull"),
@@ -28,8 +41,14 @@ impl Error {
     pub fn number(&self) -> Option<u16> {
         match self {
             Error::Refused(number) => Some(*number),
-            Error::Io(_) | Error::OtherContext => None,
+            _ => None,
         }
+    }
+
+    /// Whether the node is at its end, and is to be dropped: after 33, 34, 99, and what its store returned. After any other
+    /// error it is as it was.
+    pub fn ends_node(&self) -> bool {
+        matches!(self, Error::Refused(FILE_FULL | STOPPED | MEMORY) | Error::Io(_) | Error::Sync(_))
     }
 
     /// The name of the error.
@@ -37,6 +56,8 @@ impl Error {
         match self {
             Error::Refused(number) => NAMES.iter().find(|known| known.0 == *number).map_or("Unknown", |known| known.1),
             Error::Io(_) => "Io",
+            Error::Sync(_) => "Sync",
+            Error::GateChanged { .. } => "GateChanged",
             Error::OtherContext => "OtherContext",
         }
     }
@@ -47,6 +68,8 @@ impl fmt::Display for Error {
         match self {
             Error::Refused(number) => write!(out, "{number} {}", self.name()),
             Error::Io(error) => write!(out, "the store failed: {error}"),
+            Error::Sync(error) => write!(out, "a sync failed: {error}"),
+            Error::GateChanged { at } => write!(out, "the gate at {at} was changed"),
             Error::OtherContext => write!(out, "the context is of another node"),
         }
     }

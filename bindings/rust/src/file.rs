@@ -1,10 +1,14 @@
-use crate::error::Error;
+use crate::error::{Error, DAMAGED, MEMORY};
 use crate::node::{Node, Store};
 use crate::raw::zomtagi_empty_file;
-use std::fs::{File, OpenOptions};
-use std::io::{self, Read as _, Seek, SeekFrom, Write};
+use std::ffi::OsString;
+use std::fs::{self, File, OpenOptions, Permissions};
+use std::io::{self, BufReader, ErrorKind, Read, Seek, SeekFrom};
+use std::mem::replace;
 use std::os::fd::AsRawFd;
-use std::path::Path;
+use std::os::unix::fs::{fchown, FileExt, MetadataExt, OpenOptionsExt, PermissionsExt};
+use std::path::{Path, PathBuf};
+use std::process;
 
 extern "C" {
     /// The lock of a whole file, of the C library that std links.
@@ -13,60 +17,246 @@ extern "C" {
 
 const EXCLUSIVE_OR_FAIL: i32 = 2 | 4;
 
-/// The file of a node, under a lock: nobody else who asks for the lock opens it meanwhile.
+/// Makes the opening of a pipe return at once.
+const NONBLOCKING: i32 = 0o4000;
+
+/// How often a file may be replaced while it is being opened.
+const MOST_TURNS: usize = 100;
+
+/// The gate before a record, and the one that is written behind the last.
+const OPEN: u8 = 1;
+const CLOSED: u8 = 0;
+
+/// The bytes before the first gate, and the most of a record's payload.
+const FRONT: usize = 10;
+const MOST_PAYLOAD: u32 = 1 << 24;
+
+/// The file of a node, under a lock: nobody else who asks for the lock has it meanwhile.
+///
+/// What is read of a file may be more than the disk holds, if a sync has failed. So each opening writes the file anew:
+///
+/// - It locks the inode at the path. If another one is there afterwards, somebody has replaced the file, and it opens the path
+///   again. So of all who hold the lock of some inode only one holds that of the file.
+/// - Into a copy beside it, `PATH.zomtagi-copy`, which it locks first, it writes what counts of the file and the record of the
+///   next life. It syncs the copy, renames it over the path, and syncs the folder. Then the old inode's lock ends, and who waited
+///   for it finds another inode at the path, which is locked.
+/// - A crash before the rename leaves the file as it was. Only who holds the file's lock touches the copy, so the next opening
+///   removes what is left of it.
+/// - A new file has a name of its own, `PATH.zomtagi-new-..`, until it is locked and synced, with the record of life 1. Then it is
+///   linked to the path, which fails if anything is there, and loses that name. So the path never names half a file. If a crash
+///   leaves both names, the next opening removes the other one. With any other second name (a hard link) the file isn't opened:
+///   that name would stay the old file, from which a life could begin again.
 pub struct FileStore {
     file: File,
 }
 
 impl FileStore {
-    /// Opens the node's file, which is made where there is none, and serves the node from it, in its next life. See to it that
-    /// the file wasn't lost: a new file begins with life 1 again, and no life's number may be used twice. So a file that is there
-    /// and empty is no new one: it is refused with 31 `Damaged`.
-    pub fn serve(path: impl AsRef<Path>, node: u16) -> Result<Node, Error> {
-        let (path, mut bytes) = (path.as_ref(), Vec::new());
-        match FileStore::open(path, false) {
-            Err(error) if error.kind() == io::ErrorKind::NotFound => {
-                let mut store = FileStore::open(path, true)?;
-                bytes = empty_file(node)?;
-                store.write_at(0, &bytes)?;
-                store.file.sync_all()?;
-                sync_folder(path)?;
-                Node::serve(node, &bytes, store)
-            }
-            opened => {
-                let mut store = opened?;
-                // Whoever wrote the file may have died before its own syncs.
-                store.file.sync_all()?;
-                sync_folder(path)?;
-                store.file.read_to_end(&mut bytes)?;
-                Node::serve(node, &bytes, store)
-            }
+    /// Serves the node from the file at the path, in its next life. The file is replaced by a copy of itself, which takes as much
+    /// room on the disk until it is done.
+    ///
+    /// Refused with [`Error::Io`] of the kind `NotFound` if there is no file, `WouldBlock` while its lock is held, and
+    /// `InvalidInput` if it isn't a regular file or has a second name (a hard link); [`Error::GateChanged`]; as `zomtagi_serve`
+    /// is; and with [`Error::Io`] or [`Error::Sync`] if the copy can't be made. It is then as it was.
+    pub fn open(path: impl AsRef<Path>, node: u16) -> Result<Node, Error> {
+        let (old, path) = locked_at(path.as_ref())?;
+        let bytes = read_records(&old)?;
+        let served = Node::of_bytes(node, &bytes)?;
+        if is_changed_gate(&old, &bytes, node)? {
+            return Err(Error::GateChanged { at: bytes.len() as u64 - 1 });
         }
+        let copy = with_end(&path, ".zomtagi-copy");
+        match fs::remove_file(&copy) {
+            Err(error) if error.kind() != ErrorKind::NotFound => return Err(error.into()),
+            _ => {}
+        }
+        let (beside, file) = Beside::make(copy)?;
+        keep_rights(&old, &file)?;
+        let node = FileStore::fill(file, &bytes, served)?;
+        // (it has no name beside then that could be removed)
+        fs::rename(&beside.0, &path)?;
+        sync_folder(&path)?;
+        Ok(node)
     }
 
-    /// Opens the file, or makes a new one, and takes its lock.
-    fn open(path: &Path, is_new: bool) -> io::Result<FileStore> {
-        let file = OpenOptions::new().read(true).write(true).create_new(is_new).open(path)?;
-        if unsafe { flock(file.as_raw_fd(), EXCLUSIVE_OR_FAIL) } != 0 {
-            return Err(io::Error::last_os_error());
+    /// Makes a file for a node that never had one, and serves the node from it, in life 1. See to it that the node had no life
+    /// yet: no life's number may be used twice. The file's owner alone may read and write it (mode 0600).
+    ///
+    /// Refused with 3 `BadNode`; [`Error::Io`] of the kind `AlreadyExists` if anything is at the path, also a link that leads
+    /// nowhere; and with [`Error::Io`] or [`Error::Sync`] if the file can't be made. No file is made then.
+    pub fn create(path: impl AsRef<Path>, node: u16) -> Result<Node, Error> {
+        let bytes = empty_file(node)?;
+        let path = in_folder(path.as_ref())?;
+        let (beside, file) = Beside::make_new(&path)?;
+        let node = FileStore::fill(file, &bytes, Node::of_bytes(node, &bytes)?)?;
+        fs::hard_link(&beside.0, &path)?;
+        drop(beside);
+        if let Err(error) = sync_folder(&path) {
+            let _ = fs::remove_file(&path);
+            return Err(error);
         }
-        Ok(FileStore { file })
+        Ok(node)
     }
 
-    fn write_at(&mut self, at: u64, bytes: &[u8]) -> io::Result<()> {
-        self.file.seek(SeekFrom::Start(at))?;
-        self.file.write_all(bytes)
+    /// [`open`](FileStore::open), and if there is no file, [`create`](FileStore::create): so a file that was lost, or a path that
+    /// is mistyped or not mounted, begins with life 1 again. Call it only if that can't be.
+    pub fn open_or_create(path: impl AsRef<Path>, node: u16) -> Result<Node, Error> {
+        let is = |result: &Result<Node, Error>, kind| matches!(result, Err(Error::Io(error)) if error.kind() == kind);
+        let opened = FileStore::open(&path, node);
+        if !is(&opened, ErrorKind::NotFound) {
+            return opened;
+        }
+        let made = FileStore::create(&path, node);
+        if !is(&made, ErrorKind::AlreadyExists) {
+            return made;
+        }
+        // Somebody else has made it in between.
+        FileStore::open(&path, node)
+    }
+
+    /// Writes the bytes into a new file, and the record of the life in which the node is served from them.
+    fn fill(file: File, bytes: &[u8], served: Node) -> Result<Node, Error> {
+        file.write_all_at(bytes, 0)?;
+        file.sync_all().map_err(Error::Sync)?;
+        served.stored_in(FileStore { file })
     }
 }
 
 impl Store for FileStore {
-    fn append(&mut self, gate: u64, record: &[u8]) -> io::Result<()> {
+    fn append(&mut self, gate: u64, record: &[u8]) -> Result<(), Error> {
         let (first, rest) = record.split_at(1);
-        self.write_at(gate + 1, rest)?;
-        self.file.sync_data()?;
-        self.write_at(gate, first)?;
-        self.file.sync_data()
+        self.file.write_all_at(rest, gate + 1)?;
+        self.file.sync_data().map_err(Error::Sync)?;
+        self.file.write_all_at(first, gate)?;
+        self.file.sync_data().map_err(Error::Sync)
     }
+}
+
+/// A name beside the file's own, under which a file is being made. It is removed when this is dropped.
+struct Beside(PathBuf);
+
+impl Beside {
+    /// Makes a file of this name, for its owner alone, and takes its lock.
+    fn make(path: PathBuf) -> io::Result<(Beside, File)> {
+        let file = OpenOptions::new().read(true).write(true).create_new(true).mode(0o600).open(&path)?;
+        let beside = Beside(path);
+        lock(&file)?;
+        Ok((beside, file))
+    }
+
+    /// The same, of a name that nobody else has.
+    fn make_new(path: &Path) -> io::Result<(Beside, File)> {
+        let mut number = 0;
+        loop {
+            match Beside::make(with_end(path, &format!("{NEW}{}-{number}", process::id()))) {
+                Err(error) if error.kind() == ErrorKind::AlreadyExists => number += 1,
+                made => return made,
+            }
+        }
+    }
+}
+
+impl Drop for Beside {
+    fn drop(&mut self) {
+        let _ = fs::remove_file(&self.0);
+    }
+}
+
+/// What a new file's name has behind the path's, before the numbers.
+const NEW: &str = ".zomtagi-new-";
+
+/// The path with more at its end.
+fn with_end(path: &Path, end: &str) -> PathBuf {
+    let mut name = OsString::from(path);
+    name.push(end);
+    name.into()
+}
+
+fn invalid(why: &str) -> io::Error {
+    io::Error::new(ErrorKind::InvalidInput, why)
+}
+
+/// Takes the lock of an open file.
+fn lock(file: &File) -> io::Result<()> {
+    if unsafe { flock(file.as_raw_fd(), EXCLUSIVE_OR_FAIL) } == 0 {
+        return Ok(());
+    }
+    Err(match io::Error::last_os_error() {
+        error if error.kind() == ErrorKind::WouldBlock => io::Error::new(error.kind(), "the file is in use: its lock is held"),
+        error => error,
+    })
+}
+
+/// The file at the path, under its lock, and the path without links.
+fn locked_at(path: &Path) -> io::Result<(File, PathBuf)> {
+    for _ in 0..MOST_TURNS {
+        let path = path.canonicalize()?;
+        let file = OpenOptions::new().read(true).write(true).custom_flags(NONBLOCKING).open(&path)?;
+        if !file.metadata()?.is_file() {
+            return Err(invalid("it is no regular file"));
+        }
+        lock(&file)?;
+        if is_at(&file, &path)? {
+            remove_second_name(&file, &path)?;
+            return Ok((file, path));
+        }
+    }
+    Err(io::Error::new(ErrorKind::WouldBlock, "the file is being replaced again and again"))
+}
+
+/// Whether the open file is the one of this name.
+fn is_at(file: &File, path: &Path) -> io::Result<bool> {
+    let (file, named) = (file.metadata()?, path.symlink_metadata());
+    match named {
+        Ok(named) => Ok((file.dev(), file.ino()) == (named.dev(), named.ino())),
+        Err(error) if error.kind() == ErrorKind::NotFound => Ok(false),
+        Err(error) => Err(error),
+    }
+}
+
+/// Removes the name under which the file was made, if a crash has left it. Any other second name is refused.
+fn remove_second_name(file: &File, path: &Path) -> io::Result<()> {
+    if file.metadata()?.nlink() == 1 {
+        return Ok(());
+    }
+    let start = with_end(path, NEW);
+    for entry in fs::read_dir(folder_of(path))? {
+        let other = entry?.path();
+        if other.as_os_str().as_encoded_bytes().starts_with(start.as_os_str().as_encoded_bytes()) && is_at(file, &other)? {
+            fs::remove_file(other)?;
+        }
+    }
+    match file.metadata()?.nlink() {
+        1 => Ok(()),
+        _ => Err(invalid("it has a second name (a hard link), under which an old file would stay")),
+    }
+}
+
+/// The path, its folder without links.
+fn in_folder(path: &Path) -> io::Result<PathBuf> {
+    let name = path.file_name().ok_or_else(|| invalid("it is the name of no file"))?;
+    Ok(folder_of(path).canonicalize()?.join(name))
+}
+
+fn folder_of(path: &Path) -> &Path {
+    match path.parent() {
+        Some(folder) if !folder.as_os_str().is_empty() => folder,
+        _ => Path::new("."),
+    }
+}
+
+/// Makes it durable which file has this name.
+fn sync_folder(path: &Path) -> Result<(), Error> {
+    File::open(folder_of(path))?.sync_all().map_err(Error::Sync)
+}
+
+/// Gives the copy the owner, the group and the mode of the file.
+fn keep_rights(old: &File, copy: &File) -> io::Result<()> {
+    let (old, new) = (old.metadata()?, copy.metadata()?);
+    if (old.uid(), old.gid()) != (new.uid(), new.gid()) {
+        let why = |error: io::Error| io::Error::new(error.kind(), format!("the owner of the file can't be kept: {error}"));
+        fchown(copy, Some(old.uid()), Some(old.gid())).map_err(why)?;
+    }
+    copy.set_permissions(Permissions::from_mode(old.mode() & 0o777))
 }
 
 /// The bytes of a file of a node that had no life yet.
@@ -78,11 +268,51 @@ fn empty_file(node: u16) -> Result<Vec<u8>, Error> {
     }
 }
 
-/// Makes it durable that there is a file of this name.
-fn sync_folder(path: &Path) -> io::Result<()> {
-    let folder = match path.parent() {
-        Some(folder) if !folder.as_os_str().is_empty() => folder,
-        _ => Path::new("."),
+/// The bytes of a file up to its closed gate, and this too: those behind it count for nothing, and may be a hole. If the file is
+/// damaged, they end where that is seen.
+fn read_records(file: &File) -> io::Result<Vec<u8>> {
+    let (mut reader, mut bytes) = (BufReader::new(file), Vec::new());
+    reader.by_ref().take(FRONT as u64 + 1).read_to_end(&mut bytes)?;
+    let mut is_whole = bytes.starts_with(b"PMNODE0") && bytes.len() > FRONT;
+    while is_whole && bytes.ends_with(&[OPEN]) {
+        is_whole = read_record(&mut reader, &mut bytes)?;
+    }
+    Ok(bytes)
+}
+
+/// Reads the length, the payload and the digest of a record, and the gate behind them. Returns whether they were there.
+fn read_record(reader: &mut impl Read, bytes: &mut Vec<u8>) -> io::Result<bool> {
+    let at = bytes.len();
+    reader.by_ref().take(4).read_to_end(bytes)?;
+    let Ok(len) = bytes[at..].try_into().map(u32::from_be_bytes) else {
+        return Ok(false);
     };
-    File::open(folder)?.sync_all()
+    let rest = u64::from(len) + 32 + 1;
+    Ok(len <= MOST_PAYLOAD && reader.by_ref().take(rest).read_to_end(bytes)? as u64 == rest)
+}
+
+/// Whether the closed gate at the end of these bytes was open, by what the file has behind it. A crash leaves at most one whole
+/// record there, with a closed gate behind that, and the gate itself as it was written.
+fn is_changed_gate(file: &File, bytes: &[u8], node: u16) -> Result<bool, Error> {
+    let mut reader = BufReader::new(file);
+    reader.seek(SeekFrom::Start(bytes.len() as u64))?;
+    let front = &bytes[..FRONT];
+    let Some(behind) = whole_record(&mut reader, front, node)? else {
+        return Ok(false);
+    };
+    Ok(behind == OPEN || !bytes.ends_with(&[CLOSED]) || whole_record(&mut reader, front, node)?.is_some())
+}
+
+/// The gate behind the next record, if this is whole: if a file that has it alone is none that is damaged.
+fn whole_record(reader: &mut impl Read, front: &[u8], node: u16) -> Result<Option<u8>, Error> {
+    let mut alone = [front, &[OPEN]].concat();
+    if !read_record(reader, &mut alone)? {
+        return Ok(None);
+    }
+    let gate = alone.last_mut().map(|gate| replace(gate, CLOSED));
+    match Node::of_bytes(node, &alone) {
+        Err(Error::Refused(DAMAGED)) => Ok(None),
+        Err(error @ Error::Refused(MEMORY)) => Err(error),
+        _ => Ok(gate),
+    }
 }

@@ -1,15 +1,15 @@
-use crate::error::Error;
+use crate::error::{Error, NOTHING, SHORT_BUFFER, STOPPED};
 use crate::raw::*;
 use crate::types::{Changes, Context, Frame, Key, Read, Taken, Value};
-use std::io;
-use std::mem::take;
+use std::mem::{forget, take};
 use std::sync::{Arc, Mutex};
 
 /// What executes what a node asks to be stored. After `Ok` all of it is durable.
 pub trait Store {
     /// Writes all bytes of the record but the first at the offset after the gate, syncs, writes the first over the gate, and
-    /// syncs. Where this fails at any point the node is stopped, and is served from the file again.
-    fn append(&mut self, gate: u64, record: &[u8]) -> io::Result<()>;
+    /// syncs. If this fails at any point, or panics, the node is stopped, and is served from the file again. What the disk holds
+    /// isn't known after a sync that failed, which is an [`Error::Sync`]: then the bytes are written into a new file first.
+    fn append(&mut self, gate: u64, record: &[u8]) -> Result<(), Error>;
 }
 
 /// A node. It isn't `Send`: keep it in one thread, and send that thread what happens.
@@ -19,6 +19,17 @@ pub struct Node {
     /// The contexts that were dropped, and are to be forgotten.
     dropped: Arc<Mutex<Vec<u64>>>,
     buffer: Vec<u8>,
+    /// Whether a step was made whose reply couldn't be handed out.
+    is_stopped: bool,
+}
+
+/// Calls an export of a slot and a key.
+macro_rules! of_key {
+    ($export:ident, $slot:expr, $key:expr $(, $rest:expr)*) => {{
+        let Key { prefix, sub, name } = $key;
+        let (prefix_len, sub_len, name_len) = (prefix.len(), sub.len(), name.len());
+        unsafe { $export($slot, prefix.as_ptr(), prefix_len, sub.as_ptr(), sub_len, name.as_ptr(), name_len $(, $rest)*) }
+    }};
 }
 
 /// The answer of an export.
@@ -30,15 +41,11 @@ fn answered(number: u16) -> Result<(), Error> {
     }
 }
 
-/// The export's number for a buffer that is too short, and for nothing to hand out.
-const SHORT_BUFFER: u16 = 81;
-const NOTHING: u16 = 38;
-
 impl Node {
     /// A node without a file, in the life of this number, from 1. See to it that it never had a life of this number or a
     /// greater one.
     pub fn new(node: u16, life: u32) -> Result<Node, Error> {
-        let mut made = Node::empty(None);
+        let mut made = Node::empty();
         answered(unsafe { zomtagi_new(&mut made.slot, node, life) })?;
         Ok(made)
     }
@@ -46,22 +53,30 @@ impl Node {
     /// A node in its next life, served from the bytes of its file, of which `store` keeps the rest. The record of the life is
     /// stored before this returns.
     pub fn serve(node: u16, bytes: &[u8], store: impl Store + 'static) -> Result<Node, Error> {
-        let mut made = Node::empty(Some(Box::new(store)));
+        Node::of_bytes(node, bytes)?.stored_in(store)
+    }
+
+    /// A node that is served from these bytes, once the record of its life is stored.
+    pub(crate) fn of_bytes(node: u16, bytes: &[u8]) -> Result<Node, Error> {
+        let mut made = Node::empty();
         answered(unsafe { zomtagi_serve(&mut made.slot, bytes.as_ptr(), bytes.len(), node) })?;
-        made.store_record()?;
         Ok(made)
     }
 
-    fn empty(store: Option<Box<dyn Store>>) -> Node {
-        Node { slot: Slot::EMPTY, store, dropped: Arc::default(), buffer: vec![0; 4096] }
+    /// Stores the record of its life.
+    pub(crate) fn stored_in(mut self, store: impl Store + 'static) -> Result<Node, Error> {
+        self.store = Some(Box::new(store));
+        self.store_record()?;
+        Ok(self)
+    }
+
+    fn empty() -> Node {
+        Node { slot: Slot::EMPTY, store: None, dropped: Arc::default(), buffer: vec![0; 4096], is_stopped: false }
     }
 
     /// What the node shows under a key.
     pub fn read(&mut self, key: &Key) -> Result<Read, Error> {
-        let (prefix, sub, name) = (&key.prefix, &key.sub, &key.name);
-        let reply = self.step(|slot| unsafe {
-            zomtagi_read(slot, prefix.as_ptr(), prefix.len(), sub.as_ptr(), sub.len(), name.as_ptr(), name.len())
-        })?;
+        let reply = self.step(|slot| of_key!(zomtagi_read, slot, key))?;
         let mut number = 0;
         answered(unsafe { zomtagi_keep_context(&mut self.slot, &mut number) })?;
         let context = Context { number, dropped: Arc::clone(&self.dropped) };
@@ -73,44 +88,25 @@ impl Node {
     /// Writes a value, which replaces what the context's read has shown, or nothing. Returns the frames to send.
     pub fn write(&mut self, key: &Key, value: &Value, context: Option<&Context>) -> Result<Vec<Frame>, Error> {
         let context = self.number_of(context)?;
-        let (prefix, sub, name) = (&key.prefix, &key.sub, &key.name);
-        self.step(|slot| unsafe {
-            match &value.body {
-                Some(body) => zomtagi_write(
-                    slot, prefix.as_ptr(), prefix.len(), sub.as_ptr(), sub.len(), name.as_ptr(), name.len(), body.as_ptr(),
-                    body.len(), value.stamp, context,
-                ),
-                None => zomtagi_delete(
-                    slot, prefix.as_ptr(), prefix.len(), sub.as_ptr(), sub.len(), name.as_ptr(), name.len(), value.stamp, context,
-                ),
-            }
+        self.step(|slot| match &value.body {
+            Some(body) => of_key!(zomtagi_write, slot, key, body.as_ptr(), body.len(), value.stamp, context),
+            None => of_key!(zomtagi_delete, slot, key, value.stamp, context),
         })?;
         self.frames()
     }
 
     /// Writes a value over all that the node shows. Returns the frames to send.
     pub fn write_over(&mut self, key: &Key, value: &Value) -> Result<Vec<Frame>, Error> {
-        let (prefix, sub, name) = (&key.prefix, &key.sub, &key.name);
-        self.step(|slot| unsafe {
-            match &value.body {
-                Some(body) => zomtagi_write_over(
-                    slot, prefix.as_ptr(), prefix.len(), sub.as_ptr(), sub.len(), name.as_ptr(), name.len(), body.as_ptr(),
-                    body.len(), value.stamp,
-                ),
-                None => zomtagi_delete_over(
-                    slot, prefix.as_ptr(), prefix.len(), sub.as_ptr(), sub.len(), name.as_ptr(), name.len(), value.stamp,
-                ),
-            }
+        self.step(|slot| match &value.body {
+            Some(body) => of_key!(zomtagi_write_over, slot, key, body.as_ptr(), body.len(), value.stamp),
+            None => of_key!(zomtagi_delete_over, slot, key, value.stamp),
         })?;
         self.frames()
     }
 
     /// Stores what the node holds under a key, whoever wrote it.
     pub fn keep(&mut self, key: &Key) -> Result<(), Error> {
-        let (prefix, sub, name) = (&key.prefix, &key.sub, &key.name);
-        self.step(|slot| unsafe {
-            zomtagi_keep(slot, prefix.as_ptr(), prefix.len(), sub.as_ptr(), sub.len(), name.as_ptr(), name.len())
-        })?;
+        self.step(|slot| of_key!(zomtagi_keep, slot, key))?;
         Ok(())
     }
 
@@ -164,9 +160,8 @@ impl Node {
 
     /// Watches a full prefix, the last `capacity` changes of it, 1 to 1,024. Returns the number of the watch.
     pub fn watch(&mut self, prefix: &[u8], sub: &[u8], capacity: usize) -> Result<u64, Error> {
-        let reply = self.step(|slot| unsafe {
-            zomtagi_watch(slot, prefix.as_ptr(), prefix.len(), sub.as_ptr(), sub.len(), capacity)
-        })?;
+        let reply =
+            self.step(|slot| unsafe { zomtagi_watch(slot, prefix.as_ptr(), prefix.len(), sub.as_ptr(), sub.len(), capacity) })?;
         Ok(Fields(&reply[1..]).number())
     }
 
@@ -216,11 +211,16 @@ impl Node {
 
     /// Asks for a step, has stored what it stores, and returns the bytes of its reply.
     fn step(&mut self, ask: impl FnOnce(&mut Slot) -> u16) -> Result<Vec<u8>, Error> {
+        if self.is_stopped {
+            return Err(Error::Refused(STOPPED));
+        }
         self.forget_dropped();
         answered(ask(&mut self.slot))?;
         self.store_record()?;
-        let reply = self.fetch(|slot, buffer, size, len| unsafe { zomtagi_reply(slot, buffer, size, len) })?;
-        reply.ok_or(Error::Refused(NOTHING))
+        let reply = self.fetch(|slot, buffer, size, len| unsafe { zomtagi_reply(slot, buffer, size, len) });
+        // (the caller never gets the frames of such a step, and while they are pending the library makes no other)
+        self.is_stopped = !matches!(reply, Ok(Some(_)));
+        reply?.ok_or(Error::Refused(NOTHING))
     }
 
     fn forget_dropped(&mut self) {
@@ -237,9 +237,10 @@ impl Node {
         let (Some(record), Some(store)) = (record, &mut self.store) else {
             return Ok(());
         };
-        let stored = store.append(gate as u64, &record);
-        answered(unsafe { zomtagi_stored(&mut self.slot, u8::from(stored.is_ok())) })?;
-        Ok(stored?)
+        let pending = Pending(&mut self.slot);
+        store.append(gate as u64, &record)?;
+        forget(pending);
+        answered(unsafe { zomtagi_stored(&mut self.slot, 1) })
     }
 
     /// The frames that the last step sends.
@@ -253,10 +254,7 @@ impl Node {
     }
 
     /// The bytes that an export hands out, if there are any.
-    fn fetch(
-        &mut self,
-        mut ask: impl FnMut(&mut Slot, *mut u8, usize, &mut usize) -> u16,
-    ) -> Result<Option<Vec<u8>>, Error> {
+    fn fetch(&mut self, mut ask: impl FnMut(&mut Slot, *mut u8, usize, &mut usize) -> u16) -> Result<Option<Vec<u8>>, Error> {
         loop {
             let mut len = 0;
             match ask(&mut self.slot, self.buffer.as_mut_ptr(), self.buffer.len(), &mut len) {
@@ -266,6 +264,15 @@ impl Node {
                 number => return Err(Error::Refused(number)),
             }
         }
+    }
+}
+
+/// A record that isn't stored. Once this is dropped the node knows that it won't be, also if the store panics, and is stopped.
+struct Pending<'a>(&'a mut Slot);
+
+impl Drop for Pending<'_> {
+    fn drop(&mut self) {
+        unsafe { zomtagi_stored(self.0, 0) };
     }
 }
 

@@ -2,8 +2,9 @@
 
 use std::cell::Cell;
 use std::io;
+use std::panic::{catch_unwind, AssertUnwindSafe};
 use std::rc::Rc;
-use zomtagi::{Changes, FileStore, Key, Node, Store, Taken, Value};
+use zomtagi::{Changes, Error, FileStore, Frame, Key, Node, Store, Taken, Value};
 
 fn colour() -> Key {
     Key::new("app", "flags", "colour")
@@ -68,39 +69,67 @@ fn an_exchange_makes_roots_equal() {
 #[test]
 fn what_was_stored_is_there_in_the_next_life() {
     let path = std::env::temp_dir().join(format!("zomtagi-{}", std::process::id()));
-    let mut node = FileStore::serve(&path, 3).unwrap();
+    let mut node = FileStore::open_or_create(&path, 3).unwrap();
     assert_eq!(node.life().unwrap(), 1);
     node.write_over(&colour(), &Value::text("red")).unwrap();
-    assert_eq!(FileStore::serve(&path, 3).err().unwrap().name(), "Io"); // (it is locked)
+    assert_eq!(FileStore::open_or_create(&path, 3).err().unwrap().name(), "Io"); // (it is locked)
     drop(node);
-    let mut node = FileStore::serve(&path, 3).unwrap();
+    let mut node = FileStore::open_or_create(&path, 3).unwrap();
     assert_eq!((node.life().unwrap(), node.read(&colour()).unwrap().values), (2, vec![Value::text("red")]));
     drop(node);
-    assert_eq!(FileStore::serve(&path, 4).err().unwrap().to_string(), "32 OtherNode");
+    assert_eq!(FileStore::open_or_create(&path, 4).err().unwrap().to_string(), "32 OtherNode");
     std::fs::write(&path, "").unwrap(); // (what was in it is lost, so it is no new file)
-    assert_eq!(FileStore::serve(&path, 3).err().unwrap().to_string(), "31 Damaged");
+    assert_eq!(FileStore::open_or_create(&path, 3).err().unwrap().to_string(), "31 Damaged");
     std::fs::remove_file(&path).unwrap();
 }
 
-/// A store that keeps nothing, and fails where it is told to.
-struct Failing(Rc<Cell<bool>>);
+/// The file of node 3, which had no life yet.
+const EMPTY: &[u8] = b"PMNODE02\0\x03\0";
 
-impl Store for Failing {
-    fn append(&mut self, _gate: u64, _record: &[u8]) -> io::Result<()> {
-        if self.0.get() { Err(io::Error::other("full")) } else { Ok(()) }
+/// What is done with each record.
+type Call = Rc<Cell<fn() -> Result<(), Error>>>;
+
+/// A store that keeps nothing, and calls this for each record.
+struct Calling(Call);
+
+impl Store for Calling {
+    fn append(&mut self, _gate: u64, _record: &[u8]) -> Result<(), Error> {
+        self.0.get()()
     }
+}
+
+/// Node 3 in its first life, and what its store calls.
+fn served() -> (Node, Call) {
+    let call: Call = Rc::new(Cell::new(|| Ok(())));
+    (Node::serve(3, EMPTY, Calling(Rc::clone(&call))).unwrap(), call)
 }
 
 #[test]
 fn a_store_that_fails_stops_the_node() {
-    let path = std::env::temp_dir().join(format!("zomtagi-failing-{}", std::process::id()));
-    drop(FileStore::serve(&path, 3).unwrap());
-    let (bytes, fails) = (std::fs::read(&path).unwrap(), Rc::new(Cell::new(false)));
-    std::fs::remove_file(&path).unwrap();
-    let mut node = Node::serve(3, &bytes, Failing(Rc::clone(&fails))).unwrap();
-    fails.set(true);
-    assert_eq!(node.write_over(&colour(), &Value::text("red")).unwrap_err().name(), "Io");
+    let (mut node, call) = served();
+    call.set(|| Err(io::Error::other("full").into()));
+    let failed = node.write_over(&colour(), &Value::text("red")).unwrap_err();
+    assert_eq!((failed.name(), failed.ends_node()), ("Io", true));
+    let stopped = node.tick(1).unwrap_err();
+    assert_eq!((stopped.to_string(), stopped.ends_node()), ("34 Stopped".into(), true));
+}
+
+#[test]
+fn a_value_that_is_refused_does_not_end_the_node() {
+    let (mut node, _) = served();
+    let refused = node.write_over(&colour(), &Value::text([0; 1025])).unwrap_err();
+    assert_eq!((refused.to_string(), refused.ends_node()), ("2 ValueTooLong".into(), false));
+    node.write_over(&colour(), &Value::text("red")).unwrap();
+}
+
+#[test]
+fn a_store_that_panics_stops_the_node() {
+    let (mut node, call) = served();
+    call.set(|| panic!("this is wanted"));
+    catch_unwind(AssertUnwindSafe(|| node.write_over(&colour(), &Value::text("red")))).unwrap_err();
+    call.set(|| Ok(()));
     assert_eq!(node.tick(1).unwrap_err().to_string(), "34 Stopped");
+    assert_eq!(node.write_over(&colour(), &Value::text("red")).unwrap_err().to_string(), "34 Stopped");
 }
 
 #[test]
@@ -112,4 +141,108 @@ fn a_stale_object_is_known() {
     let gossip = other.write_over(&colour(), &Value::text("red")).unwrap().remove(0);
     assert_eq!(one.take(gossip.bytes(), 1).unwrap().0, Taken::Fresh);
     assert_eq!(one.take(gossip.bytes(), 1).unwrap().0, Taken::Stale);
+}
+
+/// The kinds of frames, by `docs/FORMATS.md`.
+const GOSSIP: u8 = 1;
+const SHUFFLE: u8 = 10;
+const HELLO: u8 = 19;
+const BYE: u8 = 20;
+
+/// The kind and the addressee of each frame.
+fn kinds(frames: &[Frame]) -> Vec<(u8, u16)> {
+    frames.iter().map(|frame| (frame.bytes()[3], frame.to())).collect()
+}
+
+/// Carries frames, and those that answer them, among nodes by their numbers.
+fn carry(nodes: &mut [Node], mut frames: Vec<Frame>) {
+    while let Some(frame) = frames.pop() {
+        frames.extend(nodes[frame.to() as usize].take(frame.bytes(), 7).unwrap().1);
+    }
+}
+
+/// Nodes 0 and 1, neighbours of one another.
+fn neighbours() -> [Node; 2] {
+    let mut nodes = [Node::new(0, 1).unwrap(), Node::new(1, 1).unwrap()];
+    let frames = nodes[1].join(0, 7).unwrap();
+    carry(&mut nodes, frames);
+    nodes
+}
+
+#[test]
+fn a_hello_tells_the_life() {
+    let frames = Node::new(0, 5).unwrap().hello(1).unwrap();
+    assert_eq!(kinds(&frames), [(HELLO, 1)]);
+    assert_eq!(frames[0].bytes()[20..], [0, 0, 0, 5]);
+}
+
+#[test]
+fn the_tenth_tick_shuffles() {
+    let [mut node, _other] = neighbours();
+    for _ in 0..9 {
+        assert_eq!(kinds(&node.tick(7).unwrap()), []);
+    }
+    assert_eq!(kinds(&node.tick(7).unwrap()), [(SHUFFLE, 1)]);
+}
+
+#[test]
+fn a_peer_that_is_down_is_sent_no_write() {
+    let [mut node, _other] = neighbours();
+    assert_eq!(kinds(&node.write_over(&colour(), &Value::text("red")).unwrap()), [(GOSSIP, 1)]);
+    assert_eq!(kinds(&node.peer_down(1, 7).unwrap()), []);
+    assert_eq!(kinds(&node.write_over(&colour(), &Value::text("blue")).unwrap()), []);
+}
+
+#[test]
+fn who_leaves_says_so_and_is_sent_no_write() {
+    let mut nodes = neighbours();
+    let frames = nodes[0].leave().unwrap();
+    assert_eq!(kinds(&frames), [(BYE, 1)]);
+    carry(&mut nodes, frames);
+    assert_eq!(kinds(&nodes[1].write_over(&colour(), &Value::text("red")).unwrap()), []);
+}
+
+#[test]
+fn a_delete_over_all_replaces_all_siblings() {
+    let mut node = Node::new(0, 1).unwrap();
+    node.write(&colour(), &Value::text("red"), None).unwrap();
+    node.write(&colour(), &Value::text("blue"), None).unwrap();
+    let tombstone = Value { stamp: 9, body: None };
+    node.write_over(&colour(), &tombstone).unwrap();
+    assert_eq!(node.read(&colour()).unwrap().values, [tombstone]);
+}
+
+#[test]
+fn a_watch_counts_what_it_missed() {
+    let mut node = Node::new(0, 1).unwrap();
+    let watch = node.watch(b"app", b"flags", 2).unwrap();
+    let keys: Vec<Key> = (0..5).map(|number| Key::new("app", "flags", format!("key {number}"))).collect();
+    for key in &keys {
+        node.write_over(key, &Value::text("x")).unwrap();
+    }
+    assert_eq!(node.changes(watch).unwrap(), Changes { missed: 3, keys: keys[3..].to_vec() });
+    assert_eq!(node.changes(watch).unwrap(), Changes { missed: 0, keys: vec![] });
+}
+
+#[test]
+fn what_came_is_there_in_the_next_life_once_it_was_kept() {
+    let path = std::env::temp_dir().join(format!("zomtagi-kept-{}", std::process::id()));
+    let (mut writer, mut node) = (Node::new(0, 1).unwrap(), FileStore::open_or_create(&path, 3).unwrap());
+    let (kept, other) = (Key::new("app", "flags", "kept"), Key::new("app", "flags", "not kept"));
+    for key in [&kept, &other] {
+        writer.write_over(key, &Value::text("red")).unwrap();
+    }
+    let mut frames = node.exchange(0).unwrap();
+    while let Some(frame) = frames.pop() {
+        let receiver = if frame.to() == 0 { &mut writer } else { &mut node };
+        frames.extend(receiver.take(frame.bytes(), 7).unwrap().1);
+    }
+    assert_eq!(node.list(b"app", b"flags").unwrap(), [kept.clone(), other]);
+    node.keep(&kept).unwrap();
+    drop(node);
+    let mut node = FileStore::open_or_create(&path, 3).unwrap();
+    assert_eq!(node.list(b"app", b"flags").unwrap(), std::slice::from_ref(&kept));
+    assert_eq!(node.read(&kept).unwrap().values, [Value::text("red")]);
+    drop(node);
+    std::fs::remove_file(&path).unwrap();
 }

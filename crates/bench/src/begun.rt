@@ -1,4 +1,4 @@
-//! A life of a node is begun in its file, or the file is read.
+//! Begins a life of a node in its file, or reads the file.
 
 ghost use Rattle.std.specs.Prelude.{IfOk};
 ghost use Rattle.devices.specs.Device.{IsDurable};
@@ -8,7 +8,7 @@ use crate::rows::node;
 use crate::samples::refused;
 use devices::{Device, FileDevice, MemoryDevice};
 use meta_store::Store;
-use node_file::{NodeFile, create, open_node, serve};
+use node_file::{NodeFile, empty_file, open_node, serve};
 use std::alloc::Global;
 use std::io;
 
@@ -17,7 +17,8 @@ pub(crate) fn begin_in_memory(alloc: Global) -> io::Result<(NodeFile<MemoryDevic
     ensures { IfOk result (λ r.
         IsFileOf (⟦<MemoryDevice as Device>⟧.content) r.0.node r.0.life r.1 r.0) }
 {
-    made(alloc, MemoryDevice::new(alloc, Vec::new(alloc))?)
+    let new = empty_file(node(0)?).to_vec(alloc)?;
+    served(alloc, MemoryDevice::new(alloc, new)?)
 }
 
 /// Begins the first life of node 0 in a new file at the path.
@@ -25,31 +26,19 @@ pub(crate) fn begin_at(rt: &HostRuntime, path: &str) -> io::Result<(NodeFile<Fil
     ensures { IfOk result (λ r.
         IsFileOf (⟦<FileDevice as Device>⟧.content) r.0.node r.0.life r.1 r.0) }
 {
-    let device = FileDevice::create_new(rt, rt.alloc(), path).map_err(refused)?;
-    made(rt.alloc(), device)
+    let new = empty_file(node(0)?);
+    let device = FileDevice::create(rt, rt.alloc(), path, &new).map_err(refused)?;
+    served(rt.alloc(), device)
 }
 
-/// Begins the next life of the node whose file is at the path; where nothing is, of node 0.
+/// Begins the next life of the node whose file is at the path; if there is no file, of node 0.
 pub(crate) fn go_on_at(rt: &HostRuntime, path: &str) -> io::Result<(NodeFile<FileDevice>, Store)>
     ensures { IfOk result (λ r.
         IsFileOf (⟦<FileDevice as Device>⟧.content) r.0.node r.0.life r.1 r.0) }
 {
-    let device = FileDevice::open_or_create(rt, rt.alloc(), path).map_err(refused)?;
-    if device.len() > 0 {
-        served(rt.alloc(), device)
-    } else {
-        made(rt.alloc(), device)
-    }
-}
-
-/// Makes the file of node 0 on the device, and begins its first life.
-fn made<D: Device + Drop>(alloc: Global, device: D) -> io::Result<(NodeFile<D>, Store)>
-    ensures { IfOk result (λ r. IsFileOf D.content r.0.node r.0.life r.1 r.0) }
-{
-    match create(device, node(0)?) {
-        Ok(file) => served(alloc, file.into_device()),
-        Err((_, fault)) => Err(refused(fault)),
-    }
+    let new = empty_file(node(0)?);
+    let device = FileDevice::open_or_create(rt, rt.alloc(), path, &new).map_err(refused)?;
+    served(rt.alloc(), device)
 }
 
 /// Begins the next life of the node whose file the device holds.

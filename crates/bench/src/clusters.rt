@@ -1,11 +1,11 @@
-//! Runs clusters of threads, and puts what each leaves together.
+//! Runs clusters of threads, and assembles what each run leaves.
 //!
 //! - `runs NODES TURNS SEEDS` runs a cluster on devices in memory, once with each seed from 0, and
 //!   assembles each run with all its receipts. It prints a line for each run that isn't assembled,
 //!   and at last how many were, how many calls and lost frames there were, and how many calls went
-//!   in a second of the runs alone. It ends with an error where one wasn't assembled.
-//! - `files FOLDER NODES TURNS` runs one on files in the folder, which are made where nothing is,
-//!   and prints how many calls went in a second.
+//!   in a second of the runs alone. It ends with an error if a run isn't assembled.
+//! - `files FOLDER NODES TURNS` runs one on files in the folder, which are made if they aren't
+//!   there, and prints how many calls went in a second.
 //!
 //! With other words it prints nothing.
 
@@ -35,7 +35,6 @@ pub(crate) fn run<R: Threads + Wait + Sync>(
     }
 }
 
-/// The number that is written there in decimal digits.
 fn number(text: &str) -> io::Result<u64> {
     text.parse::<u64>().map_err(refused)
 }

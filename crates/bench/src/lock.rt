@@ -23,7 +23,7 @@ use std::thread::Threads;
 /// How many keys are written.
 const KEYS: u32 = 8_192;
 
-/// The seats of a node: one writes, and four look.
+/// Returns the seats of a node: one writes, and four look.
 fn seats() -> Capacity {
     Capacity::new(1, 4)
 }

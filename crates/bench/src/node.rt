@@ -1,9 +1,9 @@
-//! Measures what nodes do, and prints lines `name value unit`: with the word `store`, writes,
-//! reads and the tree of one; with `exchange`, exchanges of two; with `steps`, steps of a node.
-//! With another one it prints nothing. The names of the first two are those of a baseline in plain
+//! Measures what nodes do, and prints lines `name value unit`: with the word `store`, writes, reads
+//! and the tree of one node; with `exchange`, exchanges of two; with `steps`, steps of a node. With
+//! another word it prints nothing. The names of the first two are those of a baseline in plain
 //! Rust.
 //!
-//! A node is handed on by reference, so that no function owns two where a call may fail.
+//! A node is passed by reference, so that no function owns two if a call fails.
 
 mod paces;
 mod sides;
@@ -102,7 +102,7 @@ fn measure_size(rt: &HostRuntime, writes: &mut Writes, count: u32) -> io::Result
     done
 }
 
-/// Measures writes of a node that knows nobody, and then what another one takes of it.
+/// Measures writes of a node that knows nobody, and then how another node takes what it sends.
 fn measure_writer(
     rt: &HostRuntime,
     writes: &mut Writes,
@@ -118,7 +118,8 @@ fn measure_writer(
     done
 }
 
-/// Measures what a node takes of another one that holds the same keys, once both are neighbours.
+/// Measures how a node takes what another node sends that holds the same keys, once both are
+/// neighbours.
 fn measure_reader(
     rt: &HostRuntime,
     writes: &mut Writes,

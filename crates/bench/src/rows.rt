@@ -13,12 +13,11 @@ pub(crate) fn node(number: u16) -> io::Result<NodeId> {
     NodeId::new(number).map_err(refused)
 }
 
-/// The node in its first life.
+/// Returns the node in its first life.
 pub(crate) fn actor(number: u16) -> io::Result<Actor> {
     Ok(Actor::new(node(number)?, 1))
 }
 
-/// The key of these three names.
 pub(crate) fn key_of(alloc: Global, prefix: &str, sub: &str, own: String) -> io::Result<MetaKey> {
     let names = both(
         prefix.as_bytes().to_vec(alloc),
@@ -30,23 +29,24 @@ pub(crate) fn key_of(alloc: Global, prefix: &str, sub: &str, own: String) -> io:
     MetaKey::new(full, own).map_err(refused)
 }
 
-/// The key of this number: `key-00007` under `bench` and the second name.
+/// Returns the key of this number: `key-00007` under `bench` and the second name.
 fn numbered(alloc: Global, sub: &str, number: u32) -> io::Result<MetaKey> {
     key_of(alloc, "bench", sub, format!(in alloc; "key-{number:05}")?)
 }
 
-/// The key of this number: `key-00007` under `bench` and `p`.
+/// Returns the key of this number: `key-00007` under `bench` and `p`.
 pub(crate) fn key(alloc: Global, number: u32) -> io::Result<MetaKey> {
     numbered(alloc, "p", number)
 }
 
-/// The key of this number, under one of `prefixes` full prefixes by turns: `bench` and `p7`.
+/// Returns the key of this number, under one of `prefixes` full prefixes by turns: `bench` and
+/// `p7`.
 fn key_in_turn(alloc: Global, number: u32, prefixes: u32) -> io::Result<MetaKey> {
     let sub = format!(in alloc; "p{}", number % prefixes.max(1))?;
     numbered(alloc, sub.as_str(), number)
 }
 
-/// A value of 100 bytes.
+/// Makes a value of 100 bytes.
 pub(crate) fn value(alloc: Global) -> io::Result<Value> {
     Value::new(0, Some(vec![in alloc; b'a'; BODY]?)).map_err(refused)
 }
@@ -59,7 +59,7 @@ pub(crate) struct Rows {
 }
 
 impl Rows {
-    /// `count` keys of one full prefix.
+    /// Makes `count` keys of one full prefix.
     pub(crate) fn new(alloc: Global, count: u32) -> io::Result<Self> {
         let mut keys = Vec::with_capacity(alloc, count as usize)?;
         for number in 0..count {
@@ -68,7 +68,7 @@ impl Rows {
         Rows::of(alloc, keys)
     }
 
-    /// `count` keys, under `prefixes` full prefixes by turns.
+    /// Makes `count` keys, under `prefixes` full prefixes by turns.
     pub(crate) fn in_turn(alloc: Global, count: u32, prefixes: u32) -> io::Result<Self> {
         let mut keys = Vec::with_capacity(alloc, count as usize)?;
         for number in 0..count {
@@ -90,7 +90,7 @@ impl Rows {
         &self.value
     }
 
-    /// A key that looks random.
+    /// Returns a key that looks random.
     pub(crate) fn any_key(&self, dice: &mut Dice) -> io::Result<&MetaKey> {
         match self.keys.get(dice.place(self.keys.len())) {
             Some(key) => Ok(key),
@@ -98,7 +98,7 @@ impl Rows {
         }
     }
 
-    /// Copies of the key, and of the value that is written under it.
+    /// Makes copies of the key, and of the value that is written under it.
     pub(crate) fn copies(&self, key: &MetaKey) -> io::Result<(MetaKey, Value)> {
         Ok(both(key.copy(), self.value.copy())?)
     }
@@ -115,7 +115,7 @@ impl Dice {
         Dice { state: seed }
     }
 
-    /// A place in a list of this length; 0 in an empty one.
+    /// Returns a place in a list of this length; 0 in an empty one.
     fn place(&mut self, len: usize) -> usize {
         self.state = self
             .state

@@ -2,7 +2,7 @@
 
 use std::io;
 
-/// The error that stands for any refusal: a bench has no use for its name.
+/// Returns the error that stands for any refusal: a bench has no use for its name.
 pub(crate) fn refused<E: Drop>(_refusal: E) -> io::Error {
     io::Error::from(io::ErrorKind::Other)
 }
@@ -13,7 +13,7 @@ pub(crate) fn median(samples: &mut [u128]) -> u128 {
     samples.get(samples.len() / 2).copied().unwrap_or(1)
 }
 
-/// Returns how often in a second something is done that was done `count` times in `nanos`
+/// Returns how many times in a second something is done that was done `count` times in `nanos`
 /// nanoseconds.
 pub(crate) fn rate(count: u64, nanos: u128) -> u128 {
     u128::from(count) * 1_000_000_000 / nanos.max(1)

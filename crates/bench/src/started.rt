@@ -39,7 +39,7 @@ pub(crate) fn start<'a, D: Device + Drop, J: Naming, R: Wait>(
     }
 }
 
-/// Closes the node, whose seats are all handed in, and lets its file go.
+/// Closes the node, whose seats are all handed in, and drops its file.
 pub(crate) fn close<D: Device + Drop, J: Naming, R: Wait>(
     node: Node<D, J, &R>,
     writers: Vec<WriteSeat<J>>,

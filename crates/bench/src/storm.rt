@@ -2,7 +2,7 @@
 //! Then the node is closed, and what its calls answered is compared with what it leaves.
 //!
 //! - `PATH MILLISECONDS [KEYS]` prints a line for each thing that is so, and figures at standard
-//!   error. Where nothing is at the path a file is made, of node 0.
+//!   error. If there is no file at the path one is made, of node 0.
 //! - `--tell PATH MILLISECONDS [KEYS]` prints before these the number of the node's life, and each
 //!   write once it was acknowledged.
 //! - `--check PATH` prints what the file holds, as `--tell` prints what is acknowledged.
@@ -29,7 +29,7 @@ use std::sync::Wait;
 use std::sync::ledger::Blank;
 use std::thread::Threads;
 
-/// How many keys are written where no number is given.
+/// How many keys are written if no number is given.
 const KEYS: u32 = 16;
 
 pub(crate) fn run<R: Threads + Wait + Clock + Print + Sync>(
@@ -69,7 +69,7 @@ fn run_at<R: Threads + Wait + Clock + Print + Sync>(
     }
 }
 
-/// The plan of a storm for the milliseconds that `time` spells, over `keys` keys.
+/// Makes the plan of a storm for the milliseconds that `time` spells, over `keys` keys.
 fn plan_of(time: &str, keys: u32, is_told: bool) -> io::Result<Plan> {
     Ok(Plan {
         milliseconds: time.parse().map_err(refused)?,

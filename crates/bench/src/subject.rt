@@ -1,5 +1,4 @@
-//! A node that is measured. Its driver sees nothing of what it is, and so has nothing to prove of
-//! it.
+//! A node that is measured. Its driver doesn't see what it is, and so has nothing to prove of it.
 
 use crate::rows::{Rows, node};
 use crate::samples::refused;
@@ -24,10 +23,10 @@ impl Model for Subject {
     ghost view = { λ _. 0 };
 }
 
-/// The last frame that was sent, if one was.
+/// Returns the last frame that was sent, if one was.
 fn last_frame(stepped: Stepped) -> Option<ByteString> {
     let Stepped { reply, outbox } = stepped;
-    // Dropped by a call: no case of the proof then takes it apart.
+    // Dropped by a call, so that no case of the proof takes it apart.
     drop(reply);
     outbox.into_vec().pop()
 }
@@ -38,13 +37,13 @@ fn is_fresh(stepped: &Stepped) -> bool {
 }
 
 impl Subject {
-    /// A node that holds nothing and knows nobody.
+    /// Makes a node that holds nothing and knows nobody.
     pub(crate) fn new(alloc: Global, node: NodeId) -> io::Result<Self> {
         let state = NodeState::new(alloc, node, 1)?;
         Ok(Subject { state })
     }
 
-    /// Another node that holds the same and knows nobody.
+    /// Makes another node that holds the same and knows nobody.
     pub(crate) fn other(&self, alloc: Global, node: NodeId) -> io::Result<Self> {
         let store = self.state.store().copy()?;
         let state = NodeState::from_store(alloc, node, 1, store)?;

@@ -16,10 +16,10 @@ pub mod laws;
 #[cfg(test)]
 mod tests;
 
-/// What an export returns where memory was refused.
+/// What an export returns if memory was refused.
 pub const NO_MEMORY: u64 = u64::MAX;
 
-/// What an export returns where the bytes aren't frames one after another.
+/// What an export returns if the bytes aren't frames one after another.
 pub const REFUSED: u64 = u64::MAX - 1;
 
 /// The greatest count that an export returns: it stands for all greater ones.
@@ -33,7 +33,7 @@ fn u32_at(bytes: &[u8], at: usize) -> u32
 }
 
 /// Splits off the first frame, as long as the header at the front says, from the bytes after it.
-/// Refused where there are fewer bytes.
+/// Refused if there are fewer bytes.
 fn split(bytes: &[u8]) -> Result<(&[u8], &[u8]), FrameFault>
     ensures front { IfOk result (λ x. x.0.now ≡ take (20 + len_in bytes.now) bytes.now) }
     ensures rest { IfOk result (λ x. x.1.now ≡ drop (20 + len_in bytes.now) bytes.now) }
@@ -80,7 +80,7 @@ fn count_frames(alloc: Global, bytes: &[u8]) -> Result<u64, FrameFault>
     Ok(count)
 }
 
-/// The frames that the bytes are.
+/// Returns the frames that the bytes are.
 fn frames_of(alloc: Global, bytes: &[u8]) -> Result<Vec<Frame>, FrameFault>
     ensures read { IfOk result (λ frames. AreSpelled frames.items bytes.now) }
     ensures refused { FailsWith FrameFault.Memory (λ fault. ¬ AreFrames bytes.now) result }
@@ -120,8 +120,8 @@ fn written_once(alloc: Global, frames: &[Frame]) -> Result<u64, FrameFault>
     Ok(len)
 }
 
-/// Returns how many bytes the frames are written as, `rounds` times over, or `u64::MAX` where they
-/// are more. Fails only when memory runs out.
+/// Returns how many bytes the frames are written as, `rounds` times over, or `u64::MAX` if they are
+/// more. Fails only when memory runs out.
 fn written_often(alloc: Global, frames: &[Frame], rounds: u32) -> Result<u64, FrameFault>
     requires each { All (λ f. Spells f (spelling f)) frames.now }
     requires fits { length (flat_map spelling frames.now) ≤ usize.MAX }
@@ -146,7 +146,7 @@ fn read_and_written(alloc: Global, bytes: &[u8], rounds: u32) -> Result<u64, Fra
     written_often(alloc, frames.as_slice(), rounds)
 }
 
-/// What an export returns for a fault.
+/// Returns what an export returns for a fault.
 fn answer_for(fault: &FrameFault) -> u64
     ensures { ((fault.now ≡ FrameFault.Memory) × (result ≡ NO_MEMORY))
         ⊎ ((fault.now ≢ FrameFault.Memory) × (result ≡ REFUSED)) }
@@ -157,9 +157,9 @@ fn answer_for(fault: &FrameFault) -> u64
     }
 }
 
-/// Reads all frames of the bytes, and returns how many they are; `REFUSED` where the bytes aren't
-/// frames one after another, and only then; `NO_MEMORY` where memory was refused. A contract can't
-/// say when memory is refused, so this one always allows that result.
+/// Reads all frames of the bytes, and returns how many they are. Returns `REFUSED` if the bytes
+/// aren't frames one after another, and only then, and `NO_MEMORY` if memory was refused. A
+/// contract can't say when memory is refused, so this one always allows that result.
 #[unsafe(no_mangle)]
 pub extern "C" fn bench_codec_decode(alloc: Global, bytes: &[u8]) -> u64
     ensures counted { result ≤ MOST → (frames : List Frame) × AreSpelled frames bytes.now
@@ -173,8 +173,8 @@ pub extern "C" fn bench_codec_decode(alloc: Global, bytes: &[u8]) -> u64
 }
 
 /// Reads all frames of the bytes, writes each as its spelling, `rounds` times, and returns how many
-/// bytes it wrote, `MOST` where they are more; `REFUSED` where the bytes aren't frames one after
-/// another, and only then; `NO_MEMORY` where memory was refused. A contract can't say when memory
+/// bytes it wrote, `MOST` if they are more. Returns `REFUSED` if the bytes aren't frames one after
+/// another, and only then, and `NO_MEMORY` if memory was refused. A contract can't say when memory
 /// is refused, so this one always allows that result.
 #[unsafe(no_mangle)]
 pub extern "C" fn bench_codec_encode(alloc: Global, bytes: &[u8], rounds: u32) -> u64

@@ -16,7 +16,7 @@ use Rattle.cluster_parts.specs.declared.plan.ClusterPlan.{ClusterPlan}
 use Rattle.cluster_parts.specs.declared.plan.Limits.{Limits}
 use Rattle.cluster.proofs.Gathered.{inboxes_within}
 
--- an empty file that was made for a node can be served; it was in no life yet, and holds nothing
+-- an empty file that was made for a node can be served; it was in no life, and holds nothing
 abbrev pub ServesEmpty : Type 0
 ServesEmpty = (node : ℕ) → node < 16 → (refusal_of_serve (Some node) (empty_file node) ≡ None)
     × (file_state (empty_file node) ≡ new_state node 0 [])
@@ -97,7 +97,7 @@ refused_new content failed plan devices (Node fault) serves is still refused =
 refused_new content failed plan devices Memory serves is still none =
     subst (λ n. refusal_of_run plan largest n ≡ None) (counted content plan devices is) none
 
--- where the limits are the largest
+-- with the largest limits
 pub refused_largest : {D : Type 0} (content : D → List ℕ) (failed : D → ℕ) (plan : ClusterPlan)
     (limits : Limits) (devices : List D) (fault : ClusterFault) → ServesEmpty
     → map content devices ≡ replicate plan.nodes [] → ((d : D) → failed d ≡ 0)

@@ -19,7 +19,7 @@ use Rattle.cluster_parts.specs.declared.fault.ClusterFault.TheVariants.{BadLimit
 use Rattle.cluster_parts.specs.declared.passes.Passes.{Passes}
 use Rattle.cluster_parts.specs.declared.plan.ClusterPlan.{ClusterPlan}
 use Rattle.cluster_parts.specs.declared.plan.Limits.{Limits}
-use Rattle.cluster_parts.specs.declared.serving.Served.{Served}
+use Rattle.cluster_parts.specs.declared.serving.ServedFile.{ServedFile}
 use Rattle.cluster_parts.specs.declared.worker.Job.{Job}
 use Rattle.cluster_parts.specs.declared.worker.Worked.{Worked}
 use Rattle.cluster.specs.Run.{CanRun, IsPutTogether, IsRunOf, RefusesGathering, RefusesRun, up_to_most}
@@ -73,7 +73,7 @@ abbrev pub AreAdded : List (Result Worked LockFault) → List (Result Worked Loc
 AreAdded outcomes rest run = (all : List Worked) × (map Ok all ++ rest ≡ outcomes)
     × IsPutTogether all run
 
--- that this worker is added
+-- this worker is added
 abbrev pub Adds : Worked → ClusterRun → ClusterRun → Type 0
 Adds w old new = (all : List Worked) → IsPutTogether all old → IsPutTogether (all ++ w ∷ []) new
 
@@ -95,7 +95,7 @@ pub all_added : (outcomes rest : List (Result Worked LockFault)) (run : ClusterR
 all_added outcomes rest run none was =
     (was.0, sym was.1 ∙ (ap (λ l. map Ok was.0 ++ l) none ∙ append-nil (map Ok was.0)), was.2)
 
--- where all workers came to their end, this came of each
+-- if all workers came to their end, this came of each
 pub each_worked : (lives : List LifeView) (all : List Worked) → AreOutcomesOf lives (map Ok all)
     → AllZip HasWorked lives all
 each_worked [] [] are = tt
@@ -137,7 +137,7 @@ ends_run (life ∷ lives) (o ∷ more) all =
 -- ---- the jobs of a run
 
 jobs_each : {D : Type 0} (content : D → List ℕ) (inboxes : List InboxView) (jobs : List (Job D))
-    → All (λ (s : Served D). IsServed content s.file s.table) (map (λ (job : Job D). job.served) jobs)
+    → All (λ (s : ServedFile D). IsServed content s.file s.table) (map (λ (job : Job D). job.served) jobs)
     → All (ArePassesOf inboxes) (map (λ (job : Job D). job.passes) jobs)
     → All (λ (job : Job D). IsJob content inboxes job.served.file job.served.table job.passes) jobs
 jobs_each {D} content inboxes [] each linked =
@@ -145,39 +145,39 @@ jobs_each {D} content inboxes [] each linked =
 jobs_each {D} content inboxes (job ∷ jobs) each linked =
     All-cons (λ (j : Job D). IsJob content inboxes j.served.file j.served.table j.passes) job jobs
     (record {
-      served = All-head (λ (s : Served D). IsServed content s.file s.table) job.served
+      served = All-head (λ (s : ServedFile D). IsServed content s.file s.table) job.served
           (map (λ (j : Job D). j.served) jobs) each;
       connected = All-head (ArePassesOf inboxes) job.passes (map (λ (j : Job D). j.passes) jobs) linked;
     })
     (jobs_each content inboxes jobs
-    (All-tail (λ (s : Served D). IsServed content s.file s.table) job.served (map (λ (j : Job D). j.served) jobs) each)
+    (All-tail (λ (s : ServedFile D). IsServed content s.file s.table) job.served (map (λ (j : Job D). j.served) jobs) each)
     (All-tail (ArePassesOf inboxes) job.passes (map (λ (j : Job D). j.passes) jobs) linked))
 
 -- each job is made of a file that is served, and of passes
 pub all_jobs : {D : Type 0} (content : D → List ℕ) (inboxes : List InboxView) (jobs : List (Job D))
-    (served : List (Served D)) (passes : List Passes) → map (λ (job : Job D). job.served) jobs ≡ served
+    (served : List (ServedFile D)) (passes : List Passes) → map (λ (job : Job D). job.served) jobs ≡ served
     → map (λ (job : Job D). job.passes) jobs ≡ passes
-    → All (λ (s : Served D). IsServed content s.file s.table) served
+    → All (λ (s : ServedFile D). IsServed content s.file s.table) served
     → All (ArePassesOf inboxes) passes
     → All (λ (job : Job D). IsJob content inboxes job.served.file job.served.table job.passes) jobs
 all_jobs {D} content inboxes jobs served passes same also each linked =
     jobs_each content inboxes jobs
-    (subst (All (λ (s : Served D). IsServed content s.file s.table)) (sym same) each)
+    (subst (All (λ (s : ServedFile D). IsServed content s.file s.table)) (sym same) each)
     (subst (All (ArePassesOf inboxes)) (sym also) linked)
 
 lives_each : {D : Type 0} (jobs : List (Job D))
     → map (λ (job : Job D). life_of_file job.served.file job.served.table) jobs
-    ≡ map (λ (s : Served D). life_of_file s.file s.table) (map (λ (job : Job D). job.served) jobs)
+    ≡ map (λ (s : ServedFile D). life_of_file s.file s.table) (map (λ (job : Job D). job.served) jobs)
 lives_each [] = refl
 lives_each (job ∷ jobs) = ap (λ l. life_of_file job.served.file job.served.table ∷ l) (lives_each jobs)
 
 -- their lives are those of the files
-pub lives_of : {D : Type 0} (jobs : List (Job D)) (served : List (Served D))
+pub lives_of : {D : Type 0} (jobs : List (Job D)) (served : List (ServedFile D))
     → map (λ (job : Job D). job.served) jobs ≡ served
     → map (λ (job : Job D). life_of_file job.served.file job.served.table) jobs
-    ≡ map (λ (s : Served D). life_of_file s.file s.table) served
+    ≡ map (λ (s : ServedFile D). life_of_file s.file s.table) served
 lives_of {D} jobs served same =
-    lives_each jobs ∙ ap (map (λ (s : Served D). life_of_file s.file s.table)) same
+    lives_each jobs ∙ ap (map (λ (s : ServedFile D). life_of_file s.file s.table)) same
 
 pub lives_count : (node : ℕ) (contents : List (List ℕ))
     → length (lives_from node contents) ≡ length contents
@@ -234,7 +234,7 @@ none_each false false false false true g fault another none = absurd (cc)
 none_each false false false false false false fault another none = absurd (cc)
 none_each false false false false false true fault another none = (refl, (refl, (refl, (refl, refl))))
 
--- where a run isn't refused at once, so many nodes can have inboxes of this room
+-- if a run isn't refused at once, so many nodes can have inboxes of this room
 pub inboxes_within : (plan : ClusterPlan) (limits : Limits) (devices : ℕ)
     → refusal_of_run plan limits devices ≡ None
     → ((1 ≤ devices) × (devices ≤ 16)) × ((1 ≤ limits.inbox) × (limits.inbox ≤ 1024))

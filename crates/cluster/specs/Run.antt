@@ -42,14 +42,14 @@ RefusesGathering (Node fault) = fault ≡ SeatsMissing
 RefusesGathering Memory = Unit {0}
 RefusesGathering fault = ⊥
 
--- nothing stands against a run on these devices
+-- no refusal applies to a run on these devices
 pub record CanRun {D : Type 0} (content : D → List ℕ) (plan : ClusterPlan) (limits : Limits)
     (devices : List D) : Type 0 where
   pub none : refusal_of_run plan limits (length devices) ≡ None
   pub served : CanServeAll content devices
 
--- what stands against it; or a thread isn't made, a node isn't closed or memory runs out, where
--- nothing does
+-- the refusal that applies; or, if none does, a thread isn't made, a node isn't closed or memory
+-- runs out
 abbrev pub RefusesRun : {D : Type 0} → (D → List ℕ) → (D → ℕ) → ClusterPlan → Limits → List D
     → ClusterFault → Type 0
 RefusesRun content failed plan limits devices NoSuchNode =

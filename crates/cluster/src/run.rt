@@ -11,8 +11,8 @@ ghost use Rattle.cluster.specs.Run.{CanRun, IsPutTogether, IsRunOf, RefusesGathe
 
 use crate::threads::work_all;
 use cluster_parts::{
-    ClusterFault, ClusterPlan, Gate, Job, Limits, Passes, Served, Shared, Worked, begin_all,
-    close_all, connect, is_node_count, refusal_of,
+    ClusterFault, ClusterPlan, Job, Limits, Passes, ServedFile, Shared, TurnHook, Worked,
+    begin_all, close_all, connect, is_node_count, refusal_of,
 };
 use devices::{Device, MemoryDevice};
 use meta_types::NodeId;
@@ -30,17 +30,17 @@ pub struct ClusterRun {
     /// The receipt of each accepted call: those of node 0 in the order of the calls, then those of
     /// node 1, and so on.
     pub receipts: Vec<Receipt>,
-    /// How many entries the journals have in sum: where none was cut, how many calls were accepted.
+    /// How many entries the journals have in sum: how many calls were accepted, if none was cut.
     pub calls: u64,
     /// How many of the frames that were sent are lost: the inbox of the addressee was full, or
     /// there is no such node.
     pub lost: u64,
-    /// The nodes whose device failed, which then made no more turns, in order.
+    /// The nodes whose device failed, in order. Such a node made no more turns.
     pub stopped: Vec<NodeId>,
 }
 
 impl ClusterRun {
-    /// A run of no node yet.
+    /// Makes a run of no node.
     fn new(alloc: Global) -> Self
         ensures { IsPutTogether [] result }
     {
@@ -72,7 +72,8 @@ impl ClusterRun {
     }
 }
 
-/// Adds one, and more of others. (What they are is hidden, so that their drops cost no proof.)
+/// Adds one item to a list, and a list to another. (Their types are parameters, so that their drops
+/// cost no proof.)
 fn add_both<C: Drop, R: Drop>(
     all: &mut Vec<C>,
     others: &mut Vec<R>,
@@ -88,7 +89,7 @@ fn add_both<C: Drop, R: Drop>(
     Ok(())
 }
 
-/// Adds the node where it is stopped.
+/// Adds the node if it is stopped.
 fn add_if(nodes: &mut Vec<NodeId>, node: NodeId, is_stopped: bool) -> Result<(), AllocError>
     ensures { OnOk result
         (nodes.new.items ≡ nodes.old.items ++ (if is_stopped then node ∷ [] else [])) }
@@ -117,10 +118,10 @@ fn gather(
     Ok(run)
 }
 
-/// A job for each node.
+/// Makes a job for each node.
 fn jobs_of<D: Device + Drop>(
     alloc: Global,
-    served: Vec<Served<D>>,
+    served: Vec<ServedFile<D>>,
     passes: Vec<Passes>,
 ) -> Result<Vec<Job<D>>, AllocError>
     requires number { length passes.items ≡ length served.items }
@@ -138,7 +139,7 @@ fn jobs_of<D: Device + Drop>(
     Ok(jobs)
 }
 
-/// `count` empty devices in memory.
+/// Makes `count` empty devices in memory.
 fn memory_devices(alloc: Global, count: u64) -> Result<Vec<MemoryDevice>, AllocError>
     requires { count ≤ 16 }
     ensures empty { IfOk result (λ devices.
@@ -157,9 +158,9 @@ fn memory_devices(alloc: Global, count: u64) -> Result<Vec<MemoryDevice>, AllocE
 /// Runs a cluster on new devices in memory, with the greatest limits: [`run_cluster_on`], in which
 /// each node is in its first life.
 ///
-/// Refused with 44 `NoSuchNode` before memory is taken. Then 56 `NoThread`, 54 of a node that isn't
-/// closed, for which no cause is known, and 99 `Memory` may come.
-pub fn run_cluster<R: Threads + Wait + Sync, G: Gate + Sync>(
+/// Refused with 44 `NoSuchNode` before memory is taken. Then 56 `NoThread`, 54 `SeatsMissing` of a
+/// node that isn't closed, for which no cause is known, and 99 `Memory` may come.
+pub fn run_cluster<R: Threads + Wait + Sync, G: TurnHook + Sync>(
     rt: &R,
     alloc: Global,
     plan: ClusterPlan,
@@ -179,31 +180,31 @@ pub fn run_cluster<R: Threads + Wait + Sync, G: Gate + Sync>(
     run_cluster_on(rt, alloc, plan, Limits::largest(), devices, gate)
 }
 
-/// Runs a cluster on these devices, node 0's first. The next life of each node is begun in
-/// its device's file, which is made where the device is empty. Then each node has a worker, in a
-/// thread of its own, that starts it, makes its turns and closes it.
+/// Runs a cluster on these devices, node 0's first. The next life of each node is begun in its
+/// device's file, which is made if the device is empty. Then each node has a worker, in a thread of
+/// its own, that starts it, makes its turns and closes it.
 ///
-/// A node but the first joins by node 0. Then in each turn, from 1, one call is made: where 4
-/// divides the turn, a write of the turn's number in decimal digits, with stamp 0, under the key
-/// `live/all/k` and a digit, the turn modulo 8, in place of what the node holds there; otherwise
-/// the oldest frame of the node's inbox is taken; where there is none, time goes on by a tick. The
-/// frames of a call are put into the inboxes of their addressees; one that finds no room is lost.
-/// Each join, frame and tick has the next random word, of a `Pcg64` whose seed is the plan's plus
-/// the node's number, wrapped.
+/// Each node except the first joins through node 0. Then it makes one call in each turn, counted
+/// from 1. If 4 divides the turn, that is a write of the turn's number in decimal digits, with
+/// stamp 0, under the key `live/all/k` and a digit, the turn modulo 8, over what the node holds
+/// there. Otherwise the oldest frame of the node's inbox is taken; if there is none, time goes on
+/// by a tick. The frames of a call are put into the inboxes of their addressees; one that finds no
+/// room is lost. Each join, frame and tick has the next random word, of a `Pcg64` whose seed is the
+/// plan's plus the node's number, wrapped.
 ///
-/// Where a journal is full it is cut, and the call made once more. A node whose device fails is
+/// If a journal is full it is cut, and the call is made once more. A node whose device fails is
 /// stopped: it makes no more turns, while the others go on. 99 `Memory` ends the run; any other
 /// refusal costs the turn.
 ///
 /// Refused in this order: 44 `NoSuchNode`; 55 `BadLimit`, both before memory is taken; then in the
-/// order of the nodes 30 `Device`, or what a file is refused with; 56 `NoThread`, once those
-/// threads have ended that could be made; at last 54, of the first node that isn't closed, for
-/// which no cause is known. 99 `Memory` may come at any time after the first two, also from a
+/// order of the nodes 30 `Device`, or as `node_file::serve` is; 56 `NoThread`, once those threads
+/// have ended that could be made; at last 54 `SeatsMissing`, of the first node that isn't closed,
+/// for which no cause is known. 99 `Memory` may come at any time after the first two, also from a
 /// worker, after the others have made all their turns.
 ///
 /// It takes memory for all that the nodes hold, and copies each frame that it sends, and each that
 /// it takes. It waits for all workers.
-pub fn run_cluster_on<D: Device + Drop + Send, R: Threads + Wait + Sync, G: Gate + Sync>(
+pub fn run_cluster_on<D: Device + Drop + Send, R: Threads + Wait + Sync, G: TurnHook + Sync>(
     rt: &R,
     alloc: Global,
     plan: ClusterPlan,

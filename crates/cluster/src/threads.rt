@@ -5,7 +5,7 @@ ghost use Rattle.cluster_parts.specs.Serving.{life_of_file};
 ghost use Rattle.cluster_parts.specs.Worked.{IsOutcomeOf, AreOutcomesOf, IsJob};
 ghost use Rattle.cluster_parts.specs.declared.fault.ClusterFault.TheVariants.{Memory, NoThread};
 
-use cluster_parts::{ClusterFault, Gate, Job, Shared, Worked, work};
+use cluster_parts::{ClusterFault, Job, Shared, TurnHook, Worked, work};
 use devices::Device;
 use meta_store::Store;
 use meta_types::NodeId;
@@ -15,10 +15,10 @@ use std::snapshot::Snapshot;
 use std::sync::Wait;
 use std::thread::{self, Promise, PromisedHandle, Scope, Threads};
 
-/// What comes of one worker: refused where it ends the whole run.
+/// What comes of one worker; refused if it ends the whole run.
 type Outcome = Result<Worked, LockFault>;
 
-/// That a worker's node is this one, in this life, which opened with this table.
+/// The node of a worker, in this life, which opened with this table.
 #[derive(Drop)]
 struct InLife {
     node: NodeId,
@@ -64,7 +64,7 @@ fn spawn_all<'s, E, D, R, G>(
 where
     D: Device + Drop + Send + 's,
     R: Wait + Sync,
-    G: Gate + Sync,
+    G: TurnHook + Sync,
     requires jobs { All (λ job. IsJob D.content shared.now.inboxes.now
         job.served.file job.served.table job.passes) jobs.items }
     requires handles { (handles.items ≡ []) × (length jobs.items ≤ vec_capacity handles) }
@@ -118,8 +118,8 @@ fn join_all<R: Threads>(rt: &R, handles: Vec<Handle>, outcomes: Vec<Outcome>) ->
 /// Does each job in a thread of its own, waits for all of them, and returns what came of each, in
 /// their order.
 ///
-/// Refused with 56 `NoThread` where a thread can't be made, after those that were made have ended,
-/// and with 99 `Memory` before any is made.
+/// Refused with 56 `NoThread` if a thread can't be made, after those that were made have ended, and
+/// with 99 `Memory` before any is made.
 pub(crate) fn work_all<D, R, G>(
     shared: &Shared<R, G>,
     jobs: Vec<Job<D>>,
@@ -127,7 +127,7 @@ pub(crate) fn work_all<D, R, G>(
 where
     D: Device + Drop + Send,
     R: Threads + Wait + Sync,
-    G: Gate + Sync,
+    G: TurnHook + Sync,
     requires { All (λ job. IsJob D.content shared.now.inboxes.now
         job.served.file job.served.table job.passes) jobs.items }
     ensures worked { IfOk result (λ all. AreOutcomesOf

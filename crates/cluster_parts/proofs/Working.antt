@@ -43,8 +43,8 @@ receipt_in life event a r is asked answers =
       answers = subst (λ e. AnswersCall life.node life.incarnation life.opened e a) same answers;
     }
 
--- a worker goes on as that of its node where its passes stay those of the inboxes, and the receipt
--- of a call that its seat counted is kept behind those that it has
+-- A worker goes on as the worker of its node: its passes stay those of the inboxes, and the receipt
+-- of a call that its seat counted is kept behind those that it has.
 pub goes_on : (inboxes : List InboxView) (life : LifeView) (counted now : ℕ) (event : NodeEvent)
     (a : Acknowledged) (old new : Worker) (kept : List Receipt) (r : Receipt)
     → IsWorkerOf inboxes life counted old → new.node ≡ old.node → new.passes.own ≡ old.passes.own
@@ -124,7 +124,7 @@ worked_of inboxes life calls worker closed seats (Ok w) was began run counts one
 
 -- ---- why a node isn't closed
 
--- where no reader was handed in, only since seats are missing
+-- if no reader was handed in, only since seats are missing
 pub not_closed : (given : ℕ) (readers : List SeatView) (fault : LockFault) → readers ≡ []
     → CanRefuseClosing given readers fault → EndsRun fault
 not_closed given readers OfNode.SeatsMissing none can = inr refl
@@ -140,7 +140,7 @@ none_applies false false low high = refl
 none_applies false true low high = absurd (cc)
 none_applies true high low is = absurd (cc)
 
--- with one writer, and a journal within the limits, only for want of memory
+-- with one writer, and a journal within the limits, only because memory ran out
 pub not_started : (journal : ℕ) (fault : LockFault) → 1 ≤ journal → journal ≤ 1048576
     → RefusesStarting (record { writers = 1; readers = 0; journal = journal }) fault → EndsRun fault
 not_started journal fault some few refused =
@@ -161,7 +161,7 @@ none_of false false true high other fault another none = absurd (cc)
 none_of false false false true other fault another none = absurd (cc)
 none_of false false false false other fault another none = (refl, refl)
 
--- where a run isn't refused at once, its journals are within the limits
+-- if a run isn't refused at once, its journals are within the limits
 pub journal_within : (plan : ClusterPlan) (limits : Limits) (devices : ℕ)
     → refusal_of_run plan limits devices ≡ None
     → (1 ≤ limits.journal) × (limits.journal ≤ 1048576)

@@ -29,7 +29,8 @@ turn_key turn = record {
 abbrev pub turn_value : ℕ → ValueParts
 turn_value turn = record { stamp = 0; body = Some (decimal turn) }
 
--- what a turn may ask for: each fourth a write, each other that a frame is taken or time goes on
+-- what a turn may ask for: in each fourth a write, in any other that a frame is taken or time goes
+-- on
 abbrev pub IsOfTurn : ℕ → NodeEvent → Type 0
 IsOfTurn turn (events.PutOver key value) =
     (turn % 4 ≡ 0) × (key ≡ turn_key turn) × (value ≡ turn_value turn)
@@ -37,7 +38,7 @@ IsOfTurn turn (events.Take frame word) = turn % 4 ≢ 0
 IsOfTurn turn (events.Tick word) = turn % 4 ≢ 0
 IsOfTurn turn event = ⊥
 
--- what a worker may ask for: that its node joins by node 0, or what a turn asks for
+-- what a worker may ask for: that its node joins through node 0, or what a turn asks for
 abbrev pub IsAsked : NodeEvent → Type 0
 IsAsked (events.Join contact word) = contact ≡ 0
 IsAsked event = (turn : ℕ) × IsOfTurn turn event

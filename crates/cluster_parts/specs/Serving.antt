@@ -55,7 +55,7 @@ IsServed content file held = IsFileOf content file.node file.life held file
 
 -- ---- when a life isn't begun
 
--- why the node is refused a file of these bytes, or the one that is made where there are none
+-- why the node is refused a file of these bytes, or the one that is made if there are none
 abbrev pub refusal_on : ℕ → List ℕ → Option FileFault
 refusal_on node bytes = refusal_of_serve (Some node) (file_bytes node bytes)
 
@@ -68,8 +68,8 @@ CanServeBefore {D} content devices end = (node : ℕ) (device : D) → node < en
 abbrev pub CanServeAll : {D : Type 0} → (D → List ℕ) → List D → Type 0
 CanServeAll content devices = CanServeBefore content devices (length devices)
 
--- the device failed meanwhile, or the node's file of these bytes is refused; memory that runs out
--- is another refusal
+-- the device failed, or the node's file of these bytes is refused; memory that runs out is another
+-- refusal
 pub record CannotServe {D : Type 0} (failed : D → ℕ) (device : D) (node : ℕ) (bytes : List ℕ)
     (fault : FileFault) : Type 0 where
   pub another : fault ≢ OfFile.Memory

@@ -1,4 +1,4 @@
--- What a worker has beside its node, and keeps through all turns.
+-- What a worker has besides its node, and keeps through all turns.
 use Rattle.std.specs.Prelude.{◌≡◌, ◌≤◌, ℕ, List, length, All}
 use Rattle.inbox.specs.Views.{InboxView}
 use Rattle.desk_parts.specs.declared.fault.LockFault.TheVariants.{Memory}
@@ -19,7 +19,7 @@ pub record IsWorkerOf (inboxes : List InboxView) (life : LifeView) (calls : ℕ)
   pub counted : length worker.receipts.items ≡ calls
   pub lost : worker.lost ≤ frames_in worker.receipts.items
 
--- turns end the run only where memory runs out, since no call of a node is refused with 52
+-- turns end the run only if memory runs out, since no call of a node is refused with 52
 abbrev pub EndsTurns : Ending → Type 0
 EndsTurns Stopped = Unit {0}
 EndsTurns (Failed fault) = fault ≡ Memory

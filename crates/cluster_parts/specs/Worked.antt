@@ -56,7 +56,8 @@ pub record IsJob {D : Type 0} (content : D → List ℕ) (inboxes : List InboxVi
   pub served : IsServed content file held
   pub connected : ArePassesOf inboxes passes
 
--- what comes of the worker of a node in this life, where it may end the whole run
+-- what comes of the worker of a node in this life, if it doesn't end the whole run; or why it ends
+-- the run
 abbrev pub IsOutcomeOf : LifeView → Result Worked LockFault → Type 0
 IsOutcomeOf life outcome = MatchResult outcome (HasWorked life) EndsRun
 

@@ -42,7 +42,7 @@ impl Call {
         }
     }
 
-    /// Makes the call. Where the journal is full it is cut, and the call is made once more.
+    /// Makes the call. If the journal is full it is cut, and the call is made once more.
     pub(crate) fn make_at_last<D: Device + Drop, J: Naming, H: Wait + Drop, R: Wait>(
         &self,
         rt: &R,
@@ -65,7 +65,7 @@ impl Call {
     }
 }
 
-/// The key `live/all/k` and a digit, the turn modulo 8.
+/// Returns the key `live/all/k` and a digit, the turn modulo 8.
 fn key_of(alloc: Global, turn: u64) -> Result<MetaKey, AllocError>
     ensures { IfOk result (λ key. key ≡ turn_key turn) }
 {
@@ -75,7 +75,7 @@ fn key_of(alloc: Global, turn: u64) -> Result<MetaKey, AllocError>
     Ok(MetaKey::new(prefix, own).unwrap())
 }
 
-/// The turn in decimal digits, as a value of stamp 0.
+/// Returns the turn in decimal digits, as a value of stamp 0.
 fn value_of(alloc: Global, turn: u64) -> Result<Value, AllocError>
     ensures { IfOk result (λ value. value ≡ turn_value turn) }
 {
@@ -83,7 +83,7 @@ fn value_of(alloc: Global, turn: u64) -> Result<Value, AllocError>
     Ok(Value::new(0, Some(text.into_bytes())).unwrap())
 }
 
-/// The write of a turn.
+/// Returns the write of a turn.
 pub(crate) fn write_of(alloc: Global, turn: u64) -> Result<Call, AllocError>
     ensures { IfOk result (λ call. event_of call ≡ PutOver (turn_key turn) (turn_value turn)) }
 {

@@ -7,12 +7,12 @@ use node_lock::LockFault;
 use std::alloc::{AllocError, AllocFailed};
 use thiserror::Error;
 
-/// Why a run of a cluster gives nothing. It prints as the name of the refusal.
+/// Why a run of a cluster was refused. It prints as the name of the refusal.
 #[derive(Debug, Drop, Error, PartialEq, Eq)]
 #[error("{}", self.name())]
 pub enum ClusterFault {
-    /// 30 where a device failed before the workers started; 25, 31 to 33, 35 or 36 where what it
-    /// holds is no file in which the node's next life begins. It is never 34 or 99.
+    /// 30 if a device failed before the workers started; 25, 31 to 33, 35 or 36 if what it holds is
+    /// no file in which the node's next life begins. It is never 34 or 99.
     File(FileFault),
     /// 44: a cluster has 1 to 16 nodes.
     NoSuchNode,
@@ -20,7 +20,7 @@ pub enum ClusterFault {
     BadLimit,
     /// 56: a thread couldn't be made.
     NoThread,
-    /// 54 where a node isn't closed, for which no cause is known. A run returns this for no other
+    /// 54 if a node isn't closed, for which no cause is known. A run returns this for no other
     /// refusal of a node; it is never 99.
     Node(LockFault),
     /// 99: an allocation was refused, here or in a worker.
@@ -28,7 +28,7 @@ pub enum ClusterFault {
 }
 
 impl ClusterFault {
-    /// The number of the refusal, as programs print it.
+    /// Returns the number of the refusal, as programs print it.
     pub fn code(&self) -> u16
         ensures { result ≡ code_of self.now }
     {
@@ -42,7 +42,7 @@ impl ClusterFault {
         }
     }
 
-    /// The name of the refusal, as programs print it.
+    /// Returns the name of the refusal, as programs print it.
     pub fn name(&self) -> &'static str
         ensures { result.now ≡ fault_name self.now }
     {

@@ -8,24 +8,24 @@
 //! let worked = work(&shared, Job { served, passes })?;
 //! ```
 //!
-//! Read `plan`, `gate`, `fault`; then `worker` with `turns`, `call` and `sending`; `serving` and
+//! Read `plan`, `turn_hook`, `fault`; then `worker` with `turns`, `call` and `sending`; `serving` and
 //! `passes` hold what is done before.
 #![tactic(auto)]
 
 mod call;
 mod fault;
-mod gate;
 mod passes;
 mod plan;
 mod sending;
 mod serving;
+mod turn_hook;
 mod turns;
 mod worker;
 
 pub use fault::ClusterFault;
-pub use gate::{Gate, NoGate};
 pub use passes::{Passes, close_all, connect};
 pub use plan::{ClusterPlan, Limits, MAX_NODES, is_node_count, refusal_of};
-pub use serving::{Served, begin_all};
+pub use serving::{ServedFile, begin_all};
+pub use turn_hook::{NoHook, TurnHook};
 pub use turns::Shared;
 pub use worker::{Job, Worked, work};

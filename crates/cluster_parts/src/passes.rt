@@ -9,8 +9,8 @@ use inbox::{Fresh, Inbox, InboxFault, PutPass, TakePass};
 use node_parts::both;
 use std::alloc::{AllocError, Global};
 
-/// The passes of a node: the place of its own inbox, the pass to take from that, and a pass to put
-/// into each, in the order of the nodes.
+/// The passes of a node: the place of its own inbox, the pass to take from that inbox, and a pass
+/// to put into each inbox, in the order of the nodes.
 #[derive(Drop)]
 pub struct Passes {
     pub own: usize,
@@ -18,7 +18,7 @@ pub struct Passes {
     pub puts: Vec<PutPass>,
 }
 
-/// An inbox of this room, with passes for `nodes` senders.
+/// Makes an inbox of this room, with passes for `nodes` senders.
 fn new_inbox(alloc: Global, nodes: usize, room: usize) -> Result<Fresh, AllocError>
     requires nodes { IsSenderCount nodes }
     requires room { IsRoom room }
@@ -32,7 +32,7 @@ fn new_inbox(alloc: Global, nodes: usize, room: usize) -> Result<Fresh, AllocErr
     }
 }
 
-/// `nodes` inboxes of this room, each with passes for as many senders.
+/// Makes `nodes` inboxes of this room, each with passes for as many senders.
 fn open_all(alloc: Global, nodes: usize, room: usize) -> Result<Vec<Fresh>, AllocError>
     requires nodes { IsSenderCount nodes }
     requires room { IsRoom room }
@@ -46,7 +46,7 @@ fn open_all(alloc: Global, nodes: usize, room: usize) -> Result<Vec<Fresh>, Allo
     Ok(all)
 }
 
-/// An empty row for each of `nodes` senders, each with room for as many passes.
+/// Makes an empty row for each of `nodes` senders, each with room for as many passes.
 fn empty_rows(alloc: Global, nodes: usize) -> Result<Vec<Vec<PutPass>>, AllocError>
     ensures { IfOk result (λ rows. AreSenderRows [] nodes rows.items) }
 {
@@ -95,7 +95,7 @@ fn lists_for(alloc: Global, nodes: usize) -> Result<Lists, AllocError>
     })
 }
 
-/// The inboxes, and the pass to take from each; the passes to put go into the rows.
+/// Returns the inboxes, and the pass to take from each; the passes to put go into the rows.
 fn part(
     fresh: Vec<Fresh>,
     rows: &mut Vec<Vec<PutPass>>,
@@ -123,7 +123,7 @@ fn part(
     (inboxes, all_takes)
 }
 
-/// The passes of each node: the pass to take from its inbox, and its row.
+/// Returns the passes of each node: the pass to take from its inbox, and its row.
 fn gather(takes: Vec<TakePass>, rows: Vec<Vec<PutPass>>, passes: Vec<Passes>) -> Vec<Passes>
     requires number { length takes.items ≡ length rows.items }
     requires passes { IsEmptyFor (length rows.items) passes }
@@ -145,8 +145,8 @@ fn gather(takes: Vec<TakePass>, rows: Vec<Vec<PutPass>>, passes: Vec<Passes>) ->
     passes
 }
 
-/// An inbox of this room for each of `nodes` nodes, and the passes of each node to all of them.
-/// Fails only when memory runs out.
+/// Makes an inbox of this room for each of `nodes` nodes, and the passes of each node to all of
+/// them. Fails only when memory runs out.
 pub fn connect(
     alloc: Global,
     nodes: usize,
@@ -167,7 +167,7 @@ pub fn connect(
     Ok((inboxes, passes))
 }
 
-/// Closes all inboxes, once no worker has them any more. What is left in them is dropped.
+/// Closes all inboxes, once no worker has passes to them. What is left in them is dropped.
 pub fn close_all(inboxes: Vec<Inbox>) {
     for inbox in inboxes {
         let mut inbox = inbox;

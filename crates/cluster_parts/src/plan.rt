@@ -26,7 +26,7 @@ pub struct Limits {
 }
 
 impl Limits {
-    /// The greatest limits.
+    /// Returns the greatest limits.
     pub fn largest() -> Self
         ensures { result ≡ largest }
     {
@@ -44,7 +44,8 @@ pub fn is_node_count(nodes: u64) -> bool
     nodes > 0 && nodes <= MAX_NODES
 }
 
-/// Why no cluster is run by this plan and these limits, with `devices` devices.
+/// Returns why no cluster is run by this plan and these limits with `devices` devices, if that is
+/// so.
 pub fn refusal_of(plan: ClusterPlan, limits: Limits, devices: usize) -> Option<ClusterFault>
     ensures { result ≡ refusal_of_run plan limits devices }
 {

@@ -1,4 +1,4 @@
-//! The frames of a call are sent.
+//! Sending the frames of a call.
 
 ghost use Rattle.std.specs.Prelude.{◌≤◌, length, IfOk};
 ghost use Rattle.cluster_parts.specs.Passes.{ArePassesInto};
@@ -8,15 +8,15 @@ use meta_types::ByteString;
 use std::alloc::AllocError;
 use std::sync::Wait;
 
-/// The number of the addressee that a frame names; `None` where it is too short to name one.
+/// Returns the number of the addressee that a frame names; `None` if it is too short to name one.
 fn addressee(frame: &[u8]) -> Option<usize> {
     let high = frame.get(6)?;
     let low = frame.get(7)?;
     Some(usize::from(u16::from_be_bytes([*high, *low])))
 }
 
-/// Puts a frame into the inbox of its addressee, and returns whether it is there. It isn't where
-/// that inbox is full, and where there is no such node.
+/// Puts a frame into the inbox of its addressee, and returns whether it is there. It isn't if that
+/// inbox is full, or if there is no such node.
 fn send<R: Wait>(rt: &R, inboxes: &[Inbox], puts: &mut Vec<PutPass>, frame: ByteString) -> bool
     requires passes { ArePassesInto inboxes.now puts.old.items }
     ensures passes { ArePassesInto inboxes.now puts.new.items }

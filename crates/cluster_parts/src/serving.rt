@@ -1,4 +1,4 @@
-//! Before the workers start, the next life of each node is begun in its device.
+//! Begins the next life of each node in its device, before the workers start.
 
 ghost use Rattle.std.specs.Prelude.{◌≡◌, ◌≤◌, length, map, All, None, Some, IfOk, IfErr, OnOk};
 ghost use Rattle.devices.specs.Device.{IsDurable};
@@ -15,7 +15,7 @@ use std::alloc::Global;
 
 /// A node's file, in the life that was begun in it, with the table that it holds.
 #[derive(Drop)]
-pub struct Served<D: Device> {
+pub struct ServedFile<D: Device> {
     pub file: NodeFile<D>,
     pub table: Store,
 }
@@ -25,7 +25,7 @@ fn begin_next<D: Device + Drop>(
     alloc: Global,
     device: D,
     node: NodeId,
-) -> Result<Served<D>, ClusterFault>
+) -> Result<ServedFile<D>, ClusterFault>
     requires pending { IsDurable (D.content device) (D.may_leave device) }
     ensures served { IfOk result (λ s. IsServed D.content s.file s.table) }
     ensures none { OnOk result (refusal_of_serve (Some node) (D.content device) ≡ None) }
@@ -35,17 +35,17 @@ fn begin_next<D: Device + Drop>(
     ensures refused { IfErr result (RefusesServing D.failed device node (D.content device)) }
 {
     match serve(alloc, device, Some(node)) {
-        Ok((file, table, _life)) => Ok(Served { file, table }),
+        Ok((file, table, _life)) => Ok(ServedFile { file, table }),
         Err((_device, fault)) => Err(ClusterFault::from(fault)),
     }
 }
 
-/// Begins the node's next life on the device; on an empty one a file is made first.
+/// Begins the node's next life on the device. On an empty one a file is made first.
 fn begin<D: Device + Drop>(
     alloc: Global,
     device: D,
     node: NodeId,
-) -> Result<Served<D>, ClusterFault>
+) -> Result<ServedFile<D>, ClusterFault>
     requires pending { IsDurable (D.content device) (D.may_leave device) }
     ensures served { IfOk result (λ s. IsServed D.content s.file s.table) }
     ensures none { OnOk result (refusal_on node (D.content device) ≡ None) }
@@ -69,7 +69,7 @@ fn begin<D: Device + Drop>(
 pub fn begin_all<D: Device + Drop>(
     alloc: Global,
     devices: Vec<D>,
-) -> Result<Vec<Served<D>>, ClusterFault>
+) -> Result<Vec<ServedFile<D>>, ClusterFault>
     requires number { length devices.items ≤ 16 }
     requires pending { All (λ d. IsDurable (D.content d) (D.may_leave d)) devices.items }
     ensures can { OnOk result (CanServeAll D.content devices.items) }

@@ -9,10 +9,10 @@ ghost use Rattle.cluster_parts.specs.Turns.{EndsTurns, IsWorkerOf};
 ghost use Rattle.cluster_parts.specs.declared.turns.Ending.TheVariants.{Failed};
 
 use crate::call::{Call, write_of};
-use crate::gate::Gate;
 use crate::passes::Passes;
 use crate::plan::ClusterPlan;
 use crate::sending::send_all;
+use crate::turn_hook::TurnHook;
 use devices::Device;
 use inbox::Inbox;
 use meta_types::NodeId;
@@ -37,7 +37,7 @@ pub struct Shared<'c, R, G> {
     ghost few: { journal ≤ 1048576 },
 }
 
-/// What a worker has beside its node: its passes, where its random words come from, and what it
+/// What a worker has besides its node: its passes, the source of its random words, and what it
 /// keeps of its calls.
 #[derive(Drop)]
 pub(crate) struct Worker {
@@ -51,7 +51,7 @@ pub(crate) struct Worker {
 }
 
 impl Worker {
-    /// A worker before its first call.
+    /// Makes a worker before its first call.
     pub(crate) fn new(alloc: Global, node: NodeId, passes: Passes, seed: u64) -> Self
         ensures passes { result.passes ≡ passes }
         ensures node { result.node ≡ node }
@@ -68,7 +68,7 @@ impl Worker {
     }
 }
 
-/// Why a worker makes no further turn.
+/// Why a worker makes no more turns.
 #[derive(Drop)]
 pub(crate) enum Ending {
     /// Its node is stopped: its device failed.
@@ -93,8 +93,8 @@ impl<T: Drop> From<AllocFailed<T>> for Ending {
     }
 }
 
-/// What a refusal ends: 30 and 34 end the turns of the node, 52 and 99 the run; any other costs the
-/// turn.
+/// Returns what a refusal ends: 30 and 34 end the turns of the node, 52 and 99 the run; any other
+/// costs the turn.
 fn after_refusal(fault: LockFault) -> Result<(), Ending>
     ensures { IsAfterRefusal fault result }
 {
@@ -134,8 +134,8 @@ fn make<D: Device + Drop, J: Naming, H: Wait + Drop, R: Wait, G>(
     }
 }
 
-/// The call of a turn: in each fourth a write; otherwise the oldest frame of the inbox is taken; or
-/// time goes on, where there is none.
+/// Returns the call of a turn. In each fourth turn that is a write; otherwise the oldest frame of
+/// the inbox is taken, or, if there is none, time goes on.
 fn call_of<R: Wait, G>(
     shared: &Shared<R, G>,
     passes: &mut Passes,
@@ -161,7 +161,6 @@ fn call_of<R: Wait, G>(
     }
 }
 
-/// Makes a turn.
 fn make_turn<D: Device + Drop, J: Naming, H: Wait + Drop, R: Wait, G>(
     shared: &Shared<R, G>,
     node: &Node<D, J, H>,
@@ -179,7 +178,7 @@ fn make_turn<D: Device + Drop, J: Naming, H: Wait + Drop, R: Wait, G>(
     make(shared, node, seat, worker, &call)
 }
 
-/// Joins by node 0, unless the node is node 0 itself.
+/// Joins through node 0, unless the node is node 0 itself.
 fn join_first<D: Device + Drop, J: Naming, H: Wait + Drop, R: Wait, G>(
     shared: &Shared<R, G>,
     node: &Node<D, J, H>,
@@ -203,7 +202,7 @@ fn join_first<D: Device + Drop, J: Naming, H: Wait + Drop, R: Wait, G>(
 }
 
 /// Joins, and makes all turns.
-pub(crate) fn make_all<D: Device + Drop, J: Naming, H: Wait + Drop, R: Wait, G: Gate>(
+pub(crate) fn make_all<D: Device + Drop, J: Naming, H: Wait + Drop, R: Wait, G: TurnHook>(
     shared: &Shared<R, G>,
     node: &Node<D, J, H>,
     seat: &mut WriteSeat<J>,

@@ -7,9 +7,9 @@ ghost use Rattle.cluster_parts.specs.Turns.{EndsTurns, IsWorkerOf};
 ghost use Rattle.cluster_parts.specs.Serving.{life_of, life_of_file};
 ghost use Rattle.cluster_parts.specs.Worked.{EndsRun, HasWorked, IsJob};
 
-use crate::gate::Gate;
 use crate::passes::Passes;
-use crate::serving::Served;
+use crate::serving::ServedFile;
+use crate::turn_hook::TurnHook;
 use crate::turns::{Ending, Shared, Worker, make_all};
 use devices::Device;
 use meta_types::NodeId;
@@ -23,7 +23,7 @@ use std::sync::ledger::Blank;
 /// What goes into the thread of a worker.
 #[derive(Drop)]
 pub struct Job<D: Device> {
-    pub served: Served<D>,
+    pub served: ServedFile<D>,
     pub passes: Passes,
 }
 
@@ -42,7 +42,7 @@ pub struct Worked {
 
 /// Does a job. Refused with what ends the whole run: 54 `SeatsMissing`, for which no cause is
 /// known, and 99 `Memory`.
-pub fn work<D: Device + Drop, R: Wait, G: Gate>(
+pub fn work<D: Device + Drop, R: Wait, G: TurnHook>(
     shared: &Shared<R, G>,
     job: Job<D>,
 ) -> Result<Worked, LockFault>
@@ -55,7 +55,7 @@ pub fn work<D: Device + Drop, R: Wait, G: Gate>(
 }
 
 /// Does a job, over the name of the node.
-fn work_as<J: Naming, D: Device + Drop, R: Wait, G: Gate>(
+fn work_as<J: Naming, D: Device + Drop, R: Wait, G: TurnHook>(
     shared: &Shared<R, G>,
     tokens: (Blank, Beginning),
     job: Job<D>,
@@ -71,7 +71,7 @@ fn work_as<J: Naming, D: Device + Drop, R: Wait, G: Gate>(
     ensures refused { IfErr result EndsRun }
 {
     let Job { served, passes } = job;
-    let Served { file, table } = served;
+    let ServedFile { file, table } = served;
     let worker = Worker::new(shared.alloc, file.node(), passes, shared.plan.seed);
     let capacity = Capacity {
         writers: 1,
@@ -97,7 +97,7 @@ fn work_as<J: Naming, D: Device + Drop, R: Wait, G: Gate>(
 }
 
 /// Makes all turns of a node that was started, and closes it.
-fn use_node<J: Naming, D: Device + Drop, H: Wait + Drop, R: Wait, G: Gate>(
+fn use_node<J: Naming, D: Device + Drop, H: Wait + Drop, R: Wait, G: TurnHook>(
     shared: &Shared<R, G>,
     started: Started<D, J, H>,
     worker: Worker,
@@ -131,7 +131,7 @@ fn use_node<J: Naming, D: Device + Drop, H: Wait + Drop, R: Wait, G: Gate>(
     }
 }
 
-/// What comes of a worker whose node was closed after these turns.
+/// Returns what comes of a worker whose node was closed after these turns.
 fn outcome_of(closed: Closed, worker: Worker, made: Result<(), Ending>) -> Result<Worked, LockFault>
     requires { IfErr made EndsTurns }
     ensures node { IfOk result (λ w. w.node ≡ worker.node) }
@@ -165,7 +165,8 @@ fn outcome_of(closed: Closed, worker: Worker, made: Result<(), Ending>) -> Resul
     }
 }
 
-/// Whether the turns ended because the node was stopped; refused with what ends the whole run.
+/// Returns whether the turns ended because the node was stopped. Refused with what ends the whole
+/// run.
 fn is_stopped(made: Result<(), Ending>) -> Result<bool, LockFault>
     requires { IfErr made EndsTurns }
     ensures { IfErr result (λ fault. fault ≡ Memory) }

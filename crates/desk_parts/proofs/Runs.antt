@@ -54,7 +54,7 @@ no_changes : (es : List Entry) (cs : List Published) (old new : NodeParts) → l
 no_changes [] cs old new none run = run.0
 no_changes (e ∷ es) cs old new none run = absurd (omega (arith, none))
 
--- where the journal goes into the base, all of the list stands before it
+-- if the journal goes into the base, all of the list stands before it
 pub journaled_cut : (base state : NodeParts) (journal : List Entry) (list : List Published)
     → base.steps + length journal ≡ state.steps → IsJournaled base state journal list
     → IsJournaled state state [] list

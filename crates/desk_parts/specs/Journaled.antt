@@ -16,7 +16,7 @@ use Rattle.node_journal.specs.Entry.{stepped_of}
 use Rattle.node_history.specs.Published.{Published}
 
 -- what an accepted event with this reply published, after which this table is held: what is held
--- under the key that it changed; nothing, where it changed none
+-- under the key that it changed; nothing, if it changed none
 abbrev pub IsPublishedBy : NodeEvent → Reply → Table → List Published → Type 0
 IsPublishedBy event reply held [] = (key : Key) → IsKeyChanged event reply key → ⊥
 IsPublishedBy event reply held (c ∷ []) =
@@ -36,7 +36,7 @@ IsRunWith old (e ∷ es) changes new =
     (between : NodeParts) × (first : List Published) × (later : List Published)
     × IsEntryStep old e first between × (changes ≡ first ++ later) × IsRunWith between es later new
 
--- what the journal published is the last of the list, and all of it where nothing was cut
+-- what the journal published is the last of the list, and all of it if nothing was cut
 pub record IsJournaled (base state : NodeParts) (journal : List Entry) (list : List Published)
     : Type 0 where
   pub before : List Published
@@ -58,7 +58,7 @@ pub record EndsWith (w : ℕ) (key : Key) (value : ValueParts) (reply : Reply) (
   pub vector : reply ≡ Wrote (join change.object)
   pub newest : newest w change.object ≡ Some value
 
--- where the entry is a write, the list ends with what it wrote
+-- if the entry is a write, the list ends with what it wrote
 abbrev pub EndsWithWrite : ℕ → NodeEvent → Reply → List Published → Type 0
 EndsWithWrite w (Write key value context) reply list = EndsWith w key value reply list
 EndsWithWrite w (PutOver key value) reply list = EndsWith w key value reply list

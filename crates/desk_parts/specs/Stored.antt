@@ -31,7 +31,7 @@ record_under None held = None
 record_under (Some key) held = object_record key (find key_cmp key held)
 
 -- the record that an event stores, after which this is held: the object that is held under its key,
--- where it stores one and something is held there
+-- if it stores one and something is held there
 abbrev pub record_after : NodeEvent → Table → Option Record
 record_after event held = record_under (stored_key event) held
 

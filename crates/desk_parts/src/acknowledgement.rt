@@ -28,8 +28,8 @@ impl<J: Naming> Model for Acknowledgement<J> {
 }
 
 impl<J: Naming> Acknowledgement<J> {
-    /// Made of a receipt, and the revision that has what its call changed. Where its entry is a
-    /// write, the list of the revision ends with what it wrote.
+    /// Makes an acknowledgement of a receipt, and of the revision that has what its call changed.
+    /// If its entry is a write, the list of the revision ends with what it wrote.
     pub fn of(receipt: Receipt, revision: Revision<J>) -> Self
         requires { TellsOfEntry (writer_number J.node J.incarnation) receipt.entry revision }
         ensures { result ≡ record { receipt = receipt; list = revision } }
@@ -37,7 +37,7 @@ impl<J: Naming> Acknowledgement<J> {
         Acknowledgement { receipt, revision }
     }
 
-    /// The receipt. Where its entry is a write, the published list ends with what it wrote.
+    /// Returns the receipt. If its entry is a write, the published list ends with what it wrote.
     pub fn receipt(&self) -> &Receipt
         ensures value { result.now ≡ self.now.receipt }
         ensures tells { TellsOfEntry (writer_number J.node J.incarnation)
@@ -46,21 +46,21 @@ impl<J: Naming> Acknowledgement<J> {
         &self.receipt
     }
 
-    /// The entry of the receipt: the event, the reply, and the frames to send.
+    /// Returns the entry of the receipt: the event, the reply, and the frames to send.
     pub fn entry(&self) -> &Entry
         ensures { result.now ≡ self.now.receipt.entry }
     {
         &self.receipt.entry
     }
 
-    /// What a reader learns, to be shown what the call changed, or what came later.
+    /// Returns what a reader learns, to be shown what the call changed, or what came later.
     pub fn revision(&self) -> &Revision<J>
         ensures { result.now ≡ self.now.list }
     {
         &self.revision
     }
 
-    /// The receipt by value, which may outlive the node. It takes no memory.
+    /// Returns the receipt by value, which may outlive the node. It takes no memory.
     pub fn into_receipt(self) -> Receipt
         ensures { result ≡ self.receipt }
     {

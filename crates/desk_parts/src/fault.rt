@@ -31,7 +31,7 @@ pub enum LockFault {
 }
 
 impl LockFault {
-    /// The number of the refusal, as programs print it.
+    /// Returns the number of the refusal, as programs print it.
     pub fn code(&self) -> u16
         ensures { result ≡ code_of self.now }
     {
@@ -48,7 +48,7 @@ impl LockFault {
         }
     }
 
-    /// The name of the refusal, as programs print it.
+    /// Returns the name of the refusal, as programs print it.
     pub fn name(&self) -> &'static str
         ensures { result.now ≡ fault_name self.now }
     {

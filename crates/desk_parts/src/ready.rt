@@ -42,7 +42,7 @@ impl Model for Ready {
 }
 
 impl Ready {
-    /// The event of the entry.
+    /// Returns the event of the entry.
     pub fn event(&self) -> &NodeEvent
         ensures { result.now ≡ self.now.entry.event }
     {
@@ -57,7 +57,7 @@ impl Ready {
         self.change.take()
     }
 
-    /// The entry, and its copy.
+    /// Returns the entry, and its copy.
     pub fn into_entries(self) -> (Entry, Entry)
         ensures { (result.0 ≡ self.entry) × (result.1 ≡ self.copy) }
     {
@@ -74,10 +74,11 @@ pub(crate) struct Made {
 }
 
 /// Tries the step on the spare, makes room for one more entry in the journal, and makes copies of
-/// all that is handed out and published. Where it is refused, the spare is the state, or
-/// `is_even` is false.
+/// all that is handed out and published. If it is refused, the spare is the state, or `is_even` is
+/// false.
 ///
-/// Refused in this order: what the step refuses; 51 `JournalFull`. 99 `Memory` may come at any time.
+/// Refused in this order: as `NodeState::step` is; 51 `JournalFull`. 99 `Memory` may come at any
+/// time.
 pub fn prepare(
     alloc: Global,
     state: &NodeState,
@@ -139,7 +140,7 @@ fn try_all(
     Ok(make(alloc, event, stepped, spare.store())?)
 }
 
-/// The step, with what the laws of steps say of it.
+/// Makes the step. Its contract also says what the laws of steps say of it.
 fn try_known(
     state: &NodeState,
     spare: &mut NodeState,
@@ -156,7 +157,7 @@ fn try_known(
     each_step_grows(event);
     what_is_held_is_kept();
     let stepped = try_step(state, spare, is_even, event);
-    // Read for their contracts, which say that what a store holds is a table.
+    // (for its type)
     let _ = state.store().len();
     let _ = spare.store().len();
     stepped
@@ -177,7 +178,7 @@ fn make_room(journal: &mut Vec<Entry>, limit: usize, steps: u64) -> Result<(), L
     Ok(())
 }
 
-/// A copy of the entry of a step.
+/// Returns a copy of the entry of a step.
 fn copy_of(event: &NodeEvent, stepped: &Stepped) -> Result<Entry, AllocError>
     ensures { IfOk result (λ copy. copy ≡ entry_made event.now stepped.now) }
 {
@@ -210,7 +211,7 @@ fn make(
     })
 }
 
-/// A copy of what the event publishes, out of what the store now holds.
+/// Returns a copy of what the event publishes, out of what the store now holds.
 fn change_of(
     alloc: Global,
     event: &NodeEvent,
@@ -226,7 +227,7 @@ fn change_of(
     }
 }
 
-/// A copy of the key under which the event changed what is held.
+/// Returns a copy of the key under which the event changed what is held.
 fn changed_key(
     alloc: Global,
     event: &NodeEvent,
@@ -242,8 +243,8 @@ fn changed_key(
     }
 }
 
-/// The key of the object that the frame carries. It decodes the frame once more, and is called only
-/// for a fresh one.
+/// Returns the key of the object that the frame carries. It decodes the frame once more, and is
+/// called only for a fresh one.
 fn carried_key(alloc: Global, bytes: &ByteString) -> Result<Option<MetaKey>, AllocError>
     ensures { IfOk result (IsCarriedKey bytes.now) }
 {
@@ -272,7 +273,7 @@ fn key_of_message(message: &Message) -> Result<Option<MetaKey>, AllocError>
     }
 }
 
-/// The change to a copy of what the store holds under the key.
+/// Returns the change to a copy of what the store holds under the key.
 fn held_under(key: MetaKey, store: &Store) -> Result<Published, AllocError>
     requires { find key_cmp key store.now ≢ None }
     ensures { IfOk result (λ change. (change.key ≡ key)

@@ -21,7 +21,7 @@ impl<L: Ledger> Model for WriteSeat<L> {
 }
 
 impl<L: Ledger> WriteSeat<L> {
-    /// The seat of one part of a ledger.
+    /// Returns the seat of one part of a ledger.
     pub fn of(share: Share<L>) -> Self
         requires { share.parts ≡ 1 }
         ensures { result ≡ share.amount }
@@ -37,7 +37,7 @@ impl<L: Ledger> WriteSeat<L> {
         book.add(&mut self.share, 1);
     }
 
-    /// Its part of the ledger, with what it counted.
+    /// Returns its part of the ledger, with what it counted.
     pub fn into_share(self) -> Share<L>
         ensures parts { result.parts ≡ 1 }
         ensures amount { result.amount ≡ self }
@@ -46,7 +46,7 @@ impl<L: Ledger> WriteSeat<L> {
     }
 }
 
-/// All seats go back into the share that is left.
+/// Puts all seats back into the share that is left.
 pub fn merge_all<L: Ledger>(rest: &mut Share<L>, seats: Vec<WriteSeat<L>>)
     ensures parts { rest.new.parts ≡ rest.old.parts + length seats.items }
     ensures amount { rest.new.amount ≡ rest.old.amount + sum_by (λ s. s) seats.items }

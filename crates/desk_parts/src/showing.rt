@@ -10,7 +10,7 @@ use node_readers::Publisher;
 use std::alloc::AllocError;
 use std::sync::Wait;
 
-/// The change is added to the list, and shown to readers.
+/// Adds the change to the list, and shows it to readers.
 pub fn publish_change<J: Naming, H: Wait + Drop, R: Wait>(
     rt: &R,
     publisher: &mut Publisher<J, H>,

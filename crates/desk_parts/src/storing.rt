@@ -42,14 +42,14 @@ pub fn store_in<D: Device>(
     match event.stored_key() {
         Some(key) => store_under(alloc, file, key, store),
         None => {
-            // Read for its contract, which says that a crash leaves what the file has.
+            // (for its type)
             let _ = file.device();
             Ok(())
         }
     }
 }
 
-/// Puts what is held under the key into the file, where something is held there.
+/// Puts what is held under the key into the file, if something is held there.
 fn store_under<D: Device>(
     alloc: Global,
     file: &mut NodeFile<D>,
@@ -71,8 +71,7 @@ fn store_under<D: Device>(
         (LeavesRecord (D.content file.old.device) (record_under (Some key.now) store.now)) }
     ensures whose { IsOfSameLife file.old file.new }
 {
-    // Read for their contracts, which say that a crash leaves what the file has, and that what is
-    // held is a table.
+    // (for its type)
     let _ = file.device();
     let _ = store.len();
     match store.object(key) {

@@ -1,4 +1,4 @@
-//! A step is tried on a second state, which is kept where all else succeeded too.
+//! A step is tried on a second state, which is kept if all else succeeds too.
 
 ghost use Rattle.std.specs.Prelude.{◌≡◌, true, IfOk, IfErr, OnOk, OnErr};
 ghost use Rattle.node_core.specs.Step.{CanComeOf, IsNodeStep};
@@ -8,7 +8,7 @@ use node_core::{NodeState, Stepped};
 use node_events::{NodeEvent, StepFault};
 use std::alloc::AllocError;
 
-/// The spare becomes the state, if it isn't.
+/// Makes the spare a copy of the state, unless it is even.
 fn make_even(state: &NodeState, spare: &mut NodeState, is_even: bool) -> Result<(), AllocError>
     requires { is_even ≡ true → spare.old ≡ state.now }
     ensures same { OnOk result (spare.new ≡ state.now) }
@@ -19,7 +19,7 @@ fn make_even(state: &NodeState, spare: &mut NodeState, is_even: bool) -> Result<
     Ok(())
 }
 
-/// The step of an event, on the spare. Refused as the step is, and then both are even.
+/// Makes the step of an event on the spare. Refused as `NodeState::step` is; then both are even.
 pub fn try_step(
     state: &NodeState,
     spare: &mut NodeState,
@@ -39,7 +39,7 @@ pub fn try_step(
     stepped
 }
 
-/// The spare, one step behind, makes that step too. Returns whether it is even.
+/// Makes that step on the spare, which is one step behind. Returns whether it is even.
 pub fn catch_up(state: &NodeState, spare: &mut NodeState, event: &NodeEvent) -> bool
     requires { (stepped : Stepped) × IsNodeStep spare.old event.now state.now stepped }
     ensures { result ≡ true → spare.new ≡ state.now }

@@ -23,8 +23,8 @@ content_after first (cut_to n ∷ calls) = take n (content_after first calls)
 content_after first (failed_to_cut n ∷ calls) = content_after first calls
 content_after first (synced ∷ calls) = content_after first calls
 
--- what a crash may leave where `read` is read, and it might have left `old` before: what is read,
--- or one of the old contents, changed
+-- what a crash may leave if `read` is read and it might have left `old` before: what is read, or
+-- one of the old contents, changed
 abbrev pub ReadOrChanged : List ℕ → (List ℕ → Type 0) → (List ℕ → List ℕ → Type 0) → List ℕ → Type 0
 ReadOrChanged read old change c = (c ≡ read) ⊎ ((d : List ℕ) × old d × change d c)
 

@@ -40,7 +40,7 @@ LeavesNoMore old new = (c : List ℕ) → new c → old c
 -- ---- moments
 
 -- From one moment to a later one: what a crash since some moment might have left is what it might
--- have left since then before, or what it may leave now.
+-- have left up to the earlier one, or what it may leave now.
 pub record TimePasses (before now : ℕ) (past since : ℕ → List ℕ → Type 0)
     (may_leave : List ℕ → Type 0)
     : Type 0 where
@@ -70,8 +70,8 @@ pub record LeavesOnly {D : Type 0} (moment : D → ℕ) (left_since : D → ℕ 
 abbrev pub HasFailed : ℕ → ℕ → Type 0
 HasFailed before now = (before ≤ now) × ((before < now) ⊎ (before ≡ 18446744073709551615))
 
--- the count rises by one where `Failed` is returned, unless it stands at its greatest value; it
--- never rises otherwise
+-- the count rises by one if `Failed` is returned, unless it stands at its greatest value; it never
+-- rises otherwise
 pub record CountsFailure {T : Type 0} (before now : ℕ) (result : Result T DeviceFault)
     : Type 0 where
   pub later : before ≤ now

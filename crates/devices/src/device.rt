@@ -55,15 +55,16 @@ pub trait Device {
     /// How many failures were counted.
     ghost failed: { Self → ℕ };
 
-    /// How many calls failed for another cause than memory. It never falls, and stays at 2^64 - 1.
+    /// Returns how many calls failed for another cause than memory. It never falls, and stays at
+    /// 2^64 - 1.
     fn failures(&self) -> u64
         ensures { result ≡ failed self.now };
 
-    /// How many bytes there are.
+    /// Returns how many bytes there are.
     fn len(&self) -> usize
         ensures { result ≡ length (content self.now) };
 
-    /// The bytes, where the device has them in memory.
+    /// Returns the bytes, if the device has them in memory.
     fn held(&self) -> Option<&[u8]>
         ensures { IfSome result (λ bytes. bytes.now ≡ content self.now) };
 
@@ -105,7 +106,7 @@ pub trait Device {
         ensures time { Elapses moment left_since may_leave self.old self.new }
         ensures cause { CountsFailure (failed self.old) (failed self.new) result };
 
-    /// Makes all durable that was written before.
+    /// Makes durable all that was written before.
     fn sync(&mut self) -> Result<(), DeviceFault>
         ensures durable { OnOk result (IsDurable (content self.old) (may_leave self.new)) }
         ensures same { content self.new ≡ content self.old }
@@ -113,8 +114,8 @@ pub trait Device {
         ensures time { Elapses moment left_since may_leave self.old self.new }
         ensures cause { CountsFailure (failed self.old) (failed self.new) result };
 
-    /// Lets a device that keeps its content in memory forget it: called once all that is needed
-    /// was read. A later read may fail, and then counts as a failure.
+    /// Lets a device that keeps its content in memory forget it. It is called once all that is
+    /// needed was read. A later read may fail, and then counts as a failure.
     fn seal(&mut self)
         ensures same { content self.new ≡ content self.old }
         ensures crash { LeavesNoMore (may_leave self.old) (may_leave self.new) }

@@ -49,14 +49,14 @@ impl<D: Device> FailsAfter<D> {
         }
     }
 
-    /// The device that calls are passed on to.
+    /// Returns the device that calls are passed on to.
     pub fn inner(&self) -> &D
         ensures { result.now ≡ self.now.inner }
     {
         &self.inner
     }
 
-    /// The device that calls are passed on to, by value.
+    /// Returns the device that calls are passed on to, by value.
     pub fn into_inner(self) -> D
         ensures { result ≡ self.inner }
     {

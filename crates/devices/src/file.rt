@@ -14,10 +14,10 @@ use std::fs::File;
 /// is sealed: then the copy is dropped, and what is written afterwards takes no memory. It holds
 /// the lock of the file as long as it lives.
 ///
-/// After a call that returned `Failed` each later one fails too, but for `len`, `failures`, `held`
-/// and `seal`: the file may be other than these say. The path is opened anew then.
+/// After a call that returned `Failed`, each later one fails too, except `len`, `failures`, `held`
+/// and `seal`: the file may differ from what these say. Then open the path again.
 ///
-/// What is assumed of a file: see the README of the crate.
+/// The README of the crate says what is assumed of a file.
 #[derive(Drop)]
 pub struct FileDevice {
     raw: RawFile,
@@ -32,7 +32,7 @@ pub struct FileDevice {
 }
 
 impl FileDevice {
-    /// An open file that holds these bytes, and was synced.
+    /// Makes a device of an open file that holds these bytes, and was synced.
     pub(crate) fn new(file: File, bytes: Vec<u8>) -> FileDevice
         ensures { result.raw.noted.calls ≡ synced ∷ wrote 0 bytes.items ∷ [] }
     {
@@ -43,6 +43,10 @@ impl FileDevice {
             is_usable: true,
             failures: 0,
         }
+    }
+
+    pub(crate) fn file(&self) -> &File {
+        self.raw.file()
     }
 }
 

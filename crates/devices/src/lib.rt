@@ -2,12 +2,12 @@
 //! that fail for tests.
 //!
 //! ```
-//! let mut device = FileDevice::create_new(rt, alloc, "node-3")?;
+//! let mut device = FileDevice::create(rt, alloc, "node-3", b"")?;
 //! device.write_at(0, b"red")?; // a crash may leave up to three bytes, whatever they are
 //! device.sync()?; // now it leaves `red`
 //! ```
 //!
-//! Read `device`, then `memory`, `file` with `raw` and `opening`, and `failing`.
+//! Read `device`, then `memory`, `file` with `raw`, `opening` and `naming`, and `failing`.
 #![tactic(auto)]
 
 mod call_record;
@@ -15,6 +15,7 @@ mod device;
 mod failing;
 mod file;
 mod memory;
+mod naming;
 mod opening;
 mod overwriting;
 mod raw;
@@ -23,4 +24,5 @@ pub use device::{Device, DeviceFault};
 pub use failing::{FailsAfter, FailsOnce};
 pub use file::FileDevice;
 pub use memory::{Call, MemoryDevice};
+pub use naming::NewName;
 pub use opening::{OpenFault, read_front};

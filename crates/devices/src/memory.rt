@@ -44,7 +44,7 @@ impl Model for MemoryDevice {
 }
 
 impl MemoryDevice {
-    /// A device that holds these bytes, all of them durable.
+    /// Returns a device that holds these bytes, all of them durable.
     pub fn new(alloc: Global, content: Vec<u8>) -> Result<MemoryDevice, AllocError>
         ensures value { IfOk result
             (λ device. device ≡ record { first = content.items; calls = [] }) }
@@ -59,21 +59,21 @@ impl MemoryDevice {
         })
     }
 
-    /// What it held at first.
+    /// Returns what it held at first.
     pub fn first(&self) -> &[u8]
         ensures { result.now ≡ self.now.first }
     {
         self.first.as_slice()
     }
 
-    /// The calls that changed something, the oldest first.
+    /// Returns the calls that changed something, the oldest first.
     pub fn calls(&self) -> &[Call]
         ensures { device_calls result.now ≡ self.now.calls }
     {
         self.calls.as_slice()
     }
 
-    /// What a read gives.
+    /// Returns what a read gives.
     pub fn content(&self) -> &[u8]
         ensures { result.now ≡ content_after self.now.first self.now.calls }
     {

@@ -1,12 +1,12 @@
-//! Opening a path as a device. The file is locked without waiting, is synced with the folder that
-//! names it, and is read whole.
+//! Opening a path as a device.
 
-ghost use Rattle.std.specs.Prelude.{◌≡◌, ◌≤◌, IfOk, length};
+ghost use Rattle.std.specs.Prelude.{◌≡◌, ◌≤◌, [], IfOk, length};
 ghost use Rattle.devices.specs.Device.{IsDurable};
 
-use crate::device::Device;
+use crate::device::{Device, DeviceFault};
 use crate::file::FileDevice;
-use std::alloc::Global;
+use crate::naming::{NewName, is_at};
+use std::alloc::{AllocError, Global};
 use std::fs::{self, File, OpenOptions, TryLockError};
 use std::io::{self, ErrorKind};
 use std::os::unix::fs::FileExt;
@@ -24,6 +24,8 @@ pub enum OpenFault {
     NotAFile,
     /// Another device holds it, of this process or of another.
     InUse,
+    /// It has a second name, a hard link, that would keep the old bytes.
+    Linked,
     /// The operating system refused a call for another cause: it may not be opened, it can't be
     /// locked, or the disk failed.
     Failed,
@@ -40,17 +42,16 @@ impl From<io::Error> for OpenFault {
     }
 }
 
-/// Who else may hold the file.
-#[derive(Clone, Copy)]
-enum Sharing {
-    Nobody,
-    Readers,
+impl From<AllocError> for OpenFault {
+    fn from(_: AllocError) -> Self {
+        OpenFault::Memory
+    }
 }
 
 impl FileDevice {
-    /// Opens the file at the path to be read. It may be shared with others that only read, and a
-    /// write, a cut or a sync of it may fail. Refused with `Missing`, `NotAFile`, `InUse`, `Failed`
-    /// or `Memory`.
+    /// Opens the file at the path to be read. It takes no lock, so what a node writes meanwhile may
+    /// be there in part; a write, a cut or a sync of it may fail. Refused with `Missing`,
+    /// `NotAFile`, `Failed` or `Memory`.
     pub fn open_to_read(
         rt: &HostRuntime,
         alloc: Global,
@@ -61,43 +62,13 @@ impl FileDevice {
     {
         refuse_other_kinds(rt, path)?;
         let file = OpenOptions::new().read(true).open(rt, path)?;
-        take_over(rt, alloc, file, path, Sharing::Readers)
+        let bytes = read_whole(alloc, &file)?;
+        Ok(FileDevice::new(file, bytes))
     }
 
-    /// Opens the file at the path, for this device alone. Refused as `open_to_read` is.
-    pub fn open(rt: &HostRuntime, alloc: Global, path: &str) -> Result<FileDevice, OpenFault>
-        ensures { IfOk result (λ d. IsDurable
-            (⟦<FileDevice as Device>⟧.content d) (⟦<FileDevice as Device>⟧.may_leave d)) }
-    {
-        refuse_other_kinds(rt, path)?;
-        let file = OpenOptions::new().read(true).write(true).open(rt, path)?;
-        take_over(rt, alloc, file, path, Sharing::Nobody)
-    }
-
-    /// Makes an empty file at the path, where nothing is, not even a link, for this device alone.
-    /// Refused with `Exists`, `Missing` of its folder, `Failed` or `Memory`; it removes what it
-    /// made then.
-    pub fn create_new(rt: &HostRuntime, alloc: Global, path: &str) -> Result<FileDevice, OpenFault>
-        ensures { IfOk result (λ d. IsDurable
-            (⟦<FileDevice as Device>⟧.content d) (⟦<FileDevice as Device>⟧.may_leave d)) }
-    {
-        let mut options = OpenOptions::new();
-        let file = options
-            .read(true)
-            .write(true)
-            .create_new(true)
-            .open(rt, path)?;
-        let device = take_over(rt, alloc, file, path, Sharing::Nobody);
-        if device.is_err() {
-            let _ = fs::remove_file(rt, path);
-        }
-        device
-    }
-
-    /// Opens the file at the path, for this device alone, and makes an empty one where nothing is.
-    /// A mistyped path is made too: call `open` where a file is known to be there. Refused as
-    /// `open` is, and where nothing is there as `create_new`.
-    pub fn open_or_create(
+    /// Opens the file at the path to be read, and holds it, so that no node begins a life in it
+    /// meanwhile. Refused with `Missing`, `NotAFile`, `InUse`, `Failed` or `Memory`.
+    pub fn open_to_copy(
         rt: &HostRuntime,
         alloc: Global,
         path: &str,
@@ -105,30 +76,114 @@ impl FileDevice {
         ensures { IfOk result (λ d. IsDurable
             (⟦<FileDevice as Device>⟧.content d) (⟦<FileDevice as Device>⟧.may_leave d)) }
     {
+        refuse_other_kinds(rt, path)?;
+        let file = OpenOptions::new().read(true).open(rt, path)?;
+        lock(&file)?;
+        if !is_at(rt, &file, path)? {
+            return Err(OpenFault::InUse);
+        }
+        let bytes = read_whole(alloc, &file)?;
+        Ok(FileDevice::new(file, bytes))
+    }
+
+    /// Opens the file at the path, for this device alone. The bytes are written to a new file,
+    /// which takes the place of the old one once it is synced: after a sync that failed, the disk
+    /// may lack bytes that the operating system still holds. Refused with `Missing`, `NotAFile`,
+    /// `InUse`, `Linked`, `Failed` or `Memory`.
+    pub fn open(rt: &HostRuntime, alloc: Global, path: &str) -> Result<FileDevice, OpenFault>
+        ensures { IfOk result (λ d. IsDurable
+            (⟦<FileDevice as Device>⟧.content d) (⟦<FileDevice as Device>⟧.may_leave d)) }
+    {
+        refuse_other_kinds(rt, path)?;
+        let path = fs::canonicalize(rt, path)?;
+        let path = format!(in alloc; "{}", path.as_str())?;
+        let old = OpenOptions::new()
+            .read(true)
+            .write(true)
+            .open(rt, path.as_str())?;
+        lock(&old)?;
+        let bytes = read_whole(alloc, &old)?;
+        let (device, name) = NewName::over_locked(rt, alloc, path, &old)?;
+        filled(rt, device, name, bytes.as_slice())
+    }
+
+    /// Makes a file that holds these bytes, for this device alone, at a path where nothing is, not
+    /// even a link. It has its name only once all the bytes are on the disk. Only its owner may
+    /// read it. Refused with `Exists`, `Missing` of its folder, `InUse` if another process makes
+    /// one there, `Failed` or `Memory`; then it leaves nothing.
+    pub fn create(
+        rt: &HostRuntime,
+        alloc: Global,
+        path: &str,
+        bytes: &[u8],
+    ) -> Result<FileDevice, OpenFault>
+        ensures content { IfOk result (λ d. ⟦<FileDevice as Device>⟧.content d ≡ bytes.now) }
+        ensures durable { IfOk result (λ d. IsDurable
+            (⟦<FileDevice as Device>⟧.content d) (⟦<FileDevice as Device>⟧.may_leave d)) }
+    {
+        let (device, name) = NewName::at(rt, alloc, path)?;
+        filled(rt, device, name, bytes)
+    }
+
+    /// Opens the file at the path, for this device alone, and makes one that holds these bytes if
+    /// nothing is there. A mistyped path is made too: call `open` if a file is known to be there.
+    /// Refused as `open` is, and if nothing is there, as `create` is.
+    pub fn open_or_create(
+        rt: &HostRuntime,
+        alloc: Global,
+        path: &str,
+        bytes: &[u8],
+    ) -> Result<FileDevice, OpenFault>
+        ensures { IfOk result (λ d. IsDurable
+            (⟦<FileDevice as Device>⟧.content d) (⟦<FileDevice as Device>⟧.may_leave d)) }
+    {
         match FileDevice::open(rt, alloc, path) {
-            Err(OpenFault::Missing) => FileDevice::create_new(rt, alloc, path),
+            Err(OpenFault::Missing) => FileDevice::create(rt, alloc, path, bytes),
             opened => opened,
         }
     }
 }
 
+/// Writes the bytes to a new, empty file, and gives it its name.
+fn filled(
+    rt: &HostRuntime,
+    device: FileDevice,
+    name: NewName,
+    bytes: &[u8],
+) -> Result<FileDevice, OpenFault>
+    requires { ⟦<FileDevice as Device>⟧.content device ≡ [] }
+    ensures content { IfOk result (λ d. ⟦<FileDevice as Device>⟧.content d ≡ bytes.now) }
+    ensures durable { IfOk result (λ d. IsDurable
+        (⟦<FileDevice as Device>⟧.content d) (⟦<FileDevice as Device>⟧.may_leave d)) }
+{
+    let mut device = device;
+    match device.write_at(0, bytes) {
+        Ok(()) => name.put(rt, device),
+        Err(fault) => {
+            name.discard(rt);
+            Err(match fault {
+                DeviceFault::Memory => OpenFault::Memory,
+                DeviceFault::Failed => OpenFault::Failed,
+            })
+        }
+    }
+}
+
 /// Reads the first bytes of the file at the path into the buffer, as many as fit or as there are,
-/// and returns how many. The file is opened and locked as `open_to_read` does, and closed again. It
-/// takes no memory. Refused as `open_to_read` is, but for `Memory`.
+/// and returns how many. It takes no memory. Refused as `open_to_read` is, except with `Memory`.
 pub fn read_front(rt: &HostRuntime, path: &str, buffer: &mut [u8]) -> Result<usize, OpenFault>
     ensures within { IfOk result (λ n. n ≤ length buffer.old) }
     ensures len { length buffer.new ≡ length buffer.old }
 {
     refuse_other_kinds(rt, path)?;
     let file = OpenOptions::new().read(true).open(rt, path)?;
-    lock(&file, Sharing::Readers)?;
     let len = buffer.len().min(file.metadata()?.len() as usize);
     file.read_exact_at(&mut buffer[..len], 0)?;
     Ok(len)
 }
 
-/// Refuses what is no regular file, before it is opened: to open a pipe would wait for its other
-/// end, and to open some devices does things.
+/// Refuses what is no regular file, before it is opened: opening a pipe would wait for its other
+/// end, and opening some devices has effects.
 fn refuse_other_kinds(rt: &HostRuntime, path: &str) -> Result<(), OpenFault> {
     if fs::metadata(rt, path)?.is_file() {
         Ok(())
@@ -137,49 +192,25 @@ fn refuse_other_kinds(rt: &HostRuntime, path: &str) -> Result<(), OpenFault> {
     }
 }
 
-/// Locks an open file, syncs it and the folder that names it, and reads all of it.
-fn take_over(
-    rt: &HostRuntime,
-    alloc: Global,
-    file: File,
-    path: &str,
-    sharing: Sharing,
-) -> Result<FileDevice, OpenFault>
-    ensures { IfOk result (λ d. IsDurable
-        (⟦<FileDevice as Device>⟧.content d) (⟦<FileDevice as Device>⟧.may_leave d)) }
-{
+/// Reads all of an open file.
+fn read_whole(alloc: Global, file: &File) -> Result<Vec<u8>, OpenFault> {
     // The path may have come to name something else since it was looked at.
     if !file.metadata()?.is_file() {
         return Err(OpenFault::NotAFile);
     }
-    lock(&file, sharing)?;
-    // Whoever wrote the file may have died before its own syncs.
-    file.sync_all()?;
-    sync_folder(rt, path)?;
     let len = file.metadata()?.len() as usize;
     let Ok(mut bytes) = vec![in alloc; 0u8; len] else {
         return Err(OpenFault::Memory);
     };
     file.read_exact_at(&mut bytes, 0)?;
-    Ok(FileDevice::new(file, bytes))
+    Ok(bytes)
 }
 
-/// Locks the file, without waiting. The lock ends with the file.
-fn lock(file: &File, sharing: Sharing) -> Result<(), OpenFault> {
-    let taken = match sharing {
-        Sharing::Nobody => file.try_lock(),
-        Sharing::Readers => file.try_lock_shared(),
-    };
-    match taken {
+/// Locks the file, for this process alone, without waiting. The lock ends with the file.
+pub(crate) fn lock(file: &File) -> Result<(), OpenFault> {
+    match file.try_lock() {
         Ok(()) => Ok(()),
         Err(TryLockError::WouldBlock) => Err(OpenFault::InUse),
         Err(TryLockError::Error(_)) => Err(OpenFault::Failed),
     }
-}
-
-/// Makes the name of the file durable.
-fn sync_folder(rt: &HostRuntime, path: &str) -> io::Result<()> {
-    let mut folder = fs::canonicalize(rt, path)?;
-    folder.pop();
-    File::open(rt, folder.as_str())?.sync_all()
 }

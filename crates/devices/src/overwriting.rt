@@ -4,7 +4,7 @@ ghost use Rattle.devices.specs.Device.{Overwrites};
 use std::alloc::AllocError;
 
 /// Writes the bytes over what is there from the offset on, and past the end. It grows first, so
-/// that nothing changes where memory runs out, and takes no memory within the old end.
+/// that nothing changes if memory runs out, and takes no memory within the old end.
 pub(crate) fn overwrite(content: &mut Vec<u8>, at: usize, bytes: &[u8]) -> Result<(), AllocError>
     requires within { at ≤ length content.old.items }
     ensures written { OnOk result

@@ -16,7 +16,7 @@ pub(crate) struct RawFile {
 }
 
 impl RawFile {
-    /// A file that holds these bytes, and was synced.
+    /// Makes a raw file of one that holds these bytes, and was synced.
     pub(crate) fn new(file: File, bytes: &[u8]) -> RawFile
         ensures { result.noted.calls ≡ synced ∷ wrote 0 bytes.now ∷ [] }
     {
@@ -24,6 +24,10 @@ impl RawFile {
         noted.note(&[WROTE, 0], bytes);
         noted.note(&[SYNCED, 0], &[]);
         RawFile { file, noted }
+    }
+
+    pub(crate) fn file(&self) -> &File {
+        &self.file
     }
 
     /// Writes all the bytes from the offset on; returns whether it was done.

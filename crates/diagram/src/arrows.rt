@@ -1,7 +1,7 @@
 //! Frames, as arrows from sending to delivery.
 
 use crate::layout::{LOST, Layout, Place};
-use crate::notes::{Flight, Group, Mark, Moment, Notes, Span};
+use crate::notes::{DrawnRow, Flight, Group, LaneMark, Notes, Span};
 use crate::svg::fill;
 use std::alloc::AllocError;
 
@@ -17,7 +17,7 @@ const ONWARD: &str = "<g class=\"$\"><title>frame % $ from % to %</title>\
 const NEVER: &str = "<g class=\"$\"><title>frame % $ from % to %</title>\
 <path class=\"line\" d=\"M% %L% %M% %l8 8m-8 0l8-8\"/></g>\n";
 
-/// The number of a frame, and the name of its message's kind. They stand so near each other that no
+/// The number of a frame, and the name of its message's kind. They stand so close together that no
 /// line shows between their rims.
 const NAME: &str =
     "<text class=\"$ name halo$\" x=\"%\" y=\"%\">%<tspan dx=\"2\">$</tspan></text>\n";
@@ -29,7 +29,6 @@ pub(crate) enum Draws {
     Name,
 }
 
-/// The class of a group.
 pub(crate) fn class_of(group: Group) -> &'static [u8] {
     match group {
         Group::Gossip => b"gossip",
@@ -40,7 +39,7 @@ pub(crate) fn class_of(group: Group) -> &'static [u8] {
     }
 }
 
-/// So far to the right of a place, or to the left.
+/// Returns the place that is this far to the right of another, or to the left.
 fn shifted(x: u64, far: u64, right: bool) -> u64 {
     if right {
         x.saturating_add(far)
@@ -78,7 +77,7 @@ fn add_line(
     )
 }
 
-/// Adds the name of a frame, which ends at this place, or begins there.
+/// Adds the name of a frame, which ends at this place or begins there.
 fn add_name(
     out: &mut Vec<u8>,
     (number, flight): (u64, &Flight),
@@ -96,7 +95,7 @@ pub(crate) fn add_delivery(
     out: &mut Vec<u8>,
     notes: &Notes<'_>,
     layout: &Layout,
-    (moment, place): (&Moment, Place),
+    (moment, place): (&DrawnRow, Place),
     draws: Draws,
 ) -> Result<(), AllocError> {
     let Some(flight) = notes.flight(moment.frame) else {
@@ -109,7 +108,7 @@ pub(crate) fn add_delivery(
         let at = (shifted(to, 6, left), place.mark.saturating_add(12));
         return add_name(out, (moment.frame, flight), !left, at);
     }
-    let dashed = moment.mark == Mark::Stale || moment.mark == Mark::Refused;
+    let dashed = moment.mark == LaneMark::Stale || moment.mark == LaneMark::Refused;
     let line = (
         (from, layout.place(flight.sent).leave),
         (shifted(to, 3, left), place.mark),
@@ -134,14 +133,14 @@ fn add_never(
     add_line(out, NEVER, frame, false, ((x, y), (far, end)))
 }
 
-/// Where the line of a frame ends that arrives at this moment, if that is in a band or later than
-/// what is drawn.
+/// Returns where the line of a frame ends that arrives at this moment, if that is in a band or
+/// later than what is drawn.
 fn end_of_line(notes: &Notes<'_>, layout: &Layout, arrived: usize) -> Option<u64> {
     if layout.drawn.end <= arrived {
         return Some(layout.bottom);
     }
     match notes.moments.get(arrived) {
-        Some(moment) if moment.mark == Mark::Band => Some(layout.place(arrived).label),
+        Some(moment) if moment.mark == LaneMark::Band => Some(layout.place(arrived).label),
         _ => None,
     }
 }
@@ -169,13 +168,13 @@ fn add_onward(
     }
 }
 
-/// Adds the lines or the names of the frames that a moment sent and that don't arrive, in what is
-/// drawn, at a moment of their own.
+/// Adds the lines or the names of the frames that a moment sent and that, in what is drawn, don't
+/// arrive at a moment of their own.
 pub(crate) fn add_left(
     out: &mut Vec<u8>,
     notes: &Notes<'_>,
     layout: &Layout,
-    (moment, place): (&Moment, Place),
+    (moment, place): (&DrawnRow, Place),
     draws: Draws,
 ) -> Result<(), AllocError> {
     let Span { start, end } = moment.sent;

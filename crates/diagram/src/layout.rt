@@ -1,6 +1,6 @@
 //! Where things stand, in pixels.
 
-use crate::notes::{Mark, Moment, Notes, Span};
+use crate::notes::{DrawnRow, LaneMark, Notes, Span};
 use std::alloc::{AllocError, Global};
 
 /// Where the lanes begin: above them are the legend and the names of the nodes.
@@ -21,15 +21,15 @@ pub(crate) const LOST: u64 = 12;
 /// How wide a label is.
 pub(crate) const LABEL: u64 = 172;
 
-/// From a lane to its label.
+/// How far a label is from its lane.
 pub(crate) const TIE: u64 = 10;
 
-/// After so much the names of the nodes stand again, in a row of this height.
+/// How far below one row of node names the next one stands. A row is `NAMES` high.
 const SCREEN: u64 = 600;
 
 const NAMES: u64 = 24;
 
-/// How wide a picture is that has many nodes.
+/// How wide a picture of many nodes is.
 const WIDE: u64 = 1_400;
 
 /// The lanes of a picture, and the room beside them.
@@ -37,7 +37,7 @@ const WIDE: u64 = 1_400;
 pub(crate) struct Grid {
     /// Where the first lane stands: before it is room for the commands.
     first: u64,
-    /// From one lane to the next.
+    /// How far it is from one lane to the next.
     step: u64,
     /// How wide the picture is.
     pub width: u64,
@@ -46,8 +46,8 @@ pub(crate) struct Grid {
 }
 
 impl Grid {
-    /// The lanes of this number of nodes. The more there are, the narrower are the lanes and the
-    /// room for commands. The legend has room in each picture.
+    /// Makes the lanes of this number of nodes. The more nodes there are, the narrower are the
+    /// lanes and the room for commands. The legend has room in each picture.
     fn new(nodes: u64) -> Self {
         let (first, command) = if nodes > 8 {
             (250, 30usize)
@@ -65,13 +65,13 @@ impl Grid {
         }
     }
 
-    /// The place of a node's lane from the left.
+    /// Returns the place of a node's lane from the left.
     pub(crate) fn lane(&self, node: u64) -> u64 {
         self.first.saturating_add(node.saturating_mul(self.step))
     }
 
-    /// The place of a label of a node from the left, and where the tie to its lane begins: to the
-    /// right of the lane if there is room, and otherwise to the left.
+    /// Returns the place of a label of a node from the left, and where the tie to its lane begins:
+    /// to the right of the lane if there is room, and otherwise to the left.
     pub(crate) fn label(&self, node: u64) -> (u64, u64) {
         let x = self.lane(node);
         if x.saturating_add(LABEL.saturating_add(TIE)) > self.width {
@@ -82,7 +82,7 @@ impl Grid {
         }
     }
 
-    /// Where a band over all lanes begins, and how wide it is.
+    /// Returns where a band over all lanes begins, and how wide it is.
     pub(crate) fn band(&self) -> (u64, u64) {
         let left = self.first.saturating_sub(16);
         (left, self.width.saturating_sub(left).saturating_sub(16))
@@ -93,7 +93,7 @@ impl Grid {
 #[derive(Clone, Copy)]
 pub(crate) struct Place {
     pub top: u64,
-    /// Its mark, and the head of the arrow of the frame that it delivered.
+    /// Where its mark is, and the head of the arrow of the frame that it delivered.
     pub mark: u64,
     /// Where its label begins.
     pub label: u64,
@@ -119,7 +119,7 @@ pub(crate) struct Layout {
     pub bottom: u64,
 }
 
-/// How many lines a label has.
+/// Returns how many lines a label has.
 pub(crate) fn lines_in(label: &[u8]) -> u64 {
     let mut lines = 0u64;
     for byte in label {
@@ -130,18 +130,18 @@ pub(crate) fn lines_in(label: &[u8]) -> u64 {
     lines
 }
 
-/// Whether the label of a moment stands in a box, or in a band.
-pub(crate) fn is_boxed(notes: &Notes<'_>, moment: &Moment) -> bool {
+/// Returns whether the label of a moment stands in a box, or in a band.
+pub(crate) fn is_boxed(notes: &Notes<'_>, moment: &DrawnRow) -> bool {
     match moment.mark {
-        Mark::Look => false,
-        Mark::Band | Mark::Shown => true,
+        LaneMark::Look => false,
+        LaneMark::Band | LaneMark::Shown => true,
         _ => lines_in(notes.label(moment)) >= 2,
     }
 }
 
-/// How far below the top of a moment its mark and its label are.
-fn depths(moment: &Moment) -> (u64, u64) {
-    if moment.mark == Mark::Band {
+/// Returns how far below the top of a moment its mark and its label are.
+fn depths(moment: &DrawnRow) -> (u64, u64) {
+    if moment.mark == LaneMark::Band {
         (25, 16)
     } else if moment.frame != 0 {
         (9, 25)
@@ -152,21 +152,21 @@ fn depths(moment: &Moment) -> (u64, u64) {
     }
 }
 
-/// How far below the top of a moment its texts end, beside its mark and under it.
-fn depth_of_texts(notes: &Notes<'_>, moment: &Moment) -> u64 {
+/// Returns how far below the top of a moment its texts end, beside its mark and under it.
+fn depth_of_texts(notes: &Notes<'_>, moment: &DrawnRow) -> u64 {
     let (mark, label) = depths(moment);
     match lines_in(notes.label(moment)) {
         0 if moment.frame == 0 => mark,
         0 => label,
-        1 if moment.mark == Mark::Look => label.saturating_add(17),
+        1 if moment.mark == LaneMark::Look => label.saturating_add(17),
         lines => label
             .saturating_add(lines.saturating_mul(LINE))
             .saturating_add(8),
     }
 }
 
-/// The place of a moment that begins here.
-fn place_from(notes: &Notes<'_>, moment: &Moment, top: u64) -> Place {
+/// Returns the place of a moment that begins here.
+fn place_from(notes: &Notes<'_>, moment: &DrawnRow, top: u64) -> Place {
     let (mark, label) = depths(moment);
     let lost = top.saturating_add(depth_of_texts(notes, moment));
     let leave = lost.saturating_add(notes.lost(moment).saturating_mul(LOST));
@@ -180,7 +180,7 @@ fn place_from(notes: &Notes<'_>, moment: &Moment, top: u64) -> Place {
     }
 }
 
-/// Where the moment stands that comes next, below the names of the nodes if it is time for them.
+/// Returns where the next moment stands, below the names of the nodes if it is time for them.
 fn next_top(names: &mut Vec<u64>, top: u64) -> Result<u64, AllocError> {
     let last = names.last().copied().unwrap_or(TOP);
     if top < last.saturating_add(SCREEN) {
@@ -211,8 +211,8 @@ impl Layout {
         })
     }
 
-    /// The place of a moment: for an earlier one than those drawn where the lanes begin, and for a
-    /// later one where they end.
+    /// Returns the place of a moment. A moment earlier than those that are drawn stands where the
+    /// lanes begin, and a later one where they end.
     pub(crate) fn place(&self, moment: usize) -> Place {
         let Some(at) = moment.checked_sub(self.drawn.start) else {
             return level(TOP);
@@ -224,7 +224,7 @@ impl Layout {
     }
 }
 
-/// A place of no height.
+/// Makes a place of no height.
 fn level(height: u64) -> Place {
     Place {
         top: height,

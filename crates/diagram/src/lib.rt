@@ -1,6 +1,6 @@
-//! Space-time diagrams in SVG: a lane for each node, time downwards, and an arrow from each frame's
-//! sending to its delivery. A browser shows a picture as it is: it has no script and loads nothing,
-//! and it has the colours of a light or a dark ground as the viewer prefers.
+//! Space-time diagrams in SVG: a lane for each node, time downwards, and an arrow from the sending
+//! of each frame to its delivery. A browser shows a picture as it is: it has no script and loads
+//! nothing, and it has the colours of a light or a dark background, as the viewer prefers.
 //!
 //! ```
 //! let notes: Notes<'_> = ..; // what happened
@@ -19,5 +19,5 @@ mod notes;
 mod picture;
 mod svg;
 
-pub use notes::{CommandLine, Flight, Group, Mark, Moment, Notes, Span, bit};
+pub use notes::{CommandLine, DrawnRow, Flight, Group, LaneMark, Notes, Span, bit};
 pub use picture::add_picture;

@@ -1,6 +1,6 @@
 //! What happened in a run, as far as it is drawn.
 
-/// The places of a list from `start` to before `end`.
+/// The places of a list from `start` to just before `end`.
 #[derive(Clone, Copy)]
 pub struct Span {
     pub start: usize,
@@ -9,7 +9,7 @@ pub struct Span {
 
 /// How a moment is marked on the lane of its node.
 #[derive(Clone, Copy, PartialEq, Eq)]
-pub enum Mark {
+pub enum LaneMark {
     /// Nothing but the label: the command only looked.
     Look,
     /// A dot: the node made a step.
@@ -31,20 +31,20 @@ pub enum Mark {
     Shown,
 }
 
-/// The bit of a node among the first 64; 0 for any other.
+/// Returns the bit of a node among the first 64; 0 for any other.
 pub fn bit(node: u64) -> u64 {
     if node < 64 { 1u64 << node } else { 0 }
 }
 
 /// A step of a node, or a look at it. Each has a row.
 #[derive(Clone, Copy)]
-pub struct Moment {
+pub struct DrawnRow {
     /// The node on whose lane it stands.
     pub node: u64,
-    /// The bits of the nodes that share its box, its own among them; 0 where no other does.
+    /// The bits of the nodes that share its box, its own among them; 0 if no other does.
     pub with: u64,
-    pub mark: Mark,
-    /// The number of the frame that was delivered, from 1, or 0 where none was.
+    pub mark: LaneMark,
+    /// The number of the frame that was delivered, from 1, or 0 if there was none.
     pub frame: u64,
     /// The places of the frames that it sent.
     pub sent: Span,
@@ -62,7 +62,7 @@ pub struct CommandLine<'a> {
     pub first: usize,
 }
 
-/// What a frame is about, which is its colour.
+/// What a frame is about, which decides its colour.
 #[derive(Clone, Copy, PartialEq, Eq)]
 pub enum Group {
     Gossip,
@@ -92,26 +92,25 @@ pub struct Notes<'a> {
     /// How many nodes there are.
     pub nodes: u64,
     pub commands: Vec<CommandLine<'a>>,
-    pub moments: Vec<Moment>,
+    pub moments: Vec<DrawnRow>,
     pub flights: Vec<Flight>,
     /// The labels of all moments.
     pub labels: Vec<u8>,
 }
 
 impl<'a> Notes<'a> {
-    /// The frame of a number, if there is one.
+    /// Returns the frame of a number, if there is one.
     pub fn flight(&self, number: u64) -> Option<&Flight> {
         self.flights.get((number as usize).checked_sub(1)?)
     }
 
-    /// The label of a moment.
-    pub(crate) fn label(&self, moment: &Moment) -> &[u8] {
+    pub(crate) fn label(&self, moment: &DrawnRow) -> &[u8] {
         let Span { start, end } = moment.label;
         self.labels.get(start..end).unwrap_or(&[])
     }
 
-    /// How many frames that a moment sent never arrived.
-    pub(crate) fn lost(&self, moment: &Moment) -> u64 {
+    /// Returns how many frames that a moment sent never arrived.
+    pub(crate) fn lost(&self, moment: &DrawnRow) -> u64 {
         let Span { start, end } = moment.sent;
         let mut lost = 0u64;
         for flight in self.flights.get(start..end).unwrap_or(&[]) {

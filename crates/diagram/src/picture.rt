@@ -2,17 +2,17 @@
 
 use crate::arrows::{Draws, add_delivery, add_earlier, add_left, class_of};
 use crate::layout::{Grid, LABEL, LINE, Layout, Place, TIE, TOP, is_boxed, lines_in};
-use crate::notes::{CommandLine, Group, Mark, Moment, Notes, Span, bit};
+use crate::notes::{CommandLine, DrawnRow, Group, LaneMark, Notes, Span, bit};
 use crate::svg::{cut, fill};
 use std::alloc::{AllocError, Global};
 
-/// The most bytes of a line of a label that are shown, and of one in a band.
+/// The most bytes of a line of a label that are shown, and of a line in a band.
 const MOST_OF_LABEL: usize = 27;
 
 const MOST_OF_BAND: usize = 50;
 
 /// What a picture begins with: the styles, with colours that colour-blind readers tell apart, and
-/// the ground. Before each colour that depends on the viewer stands one for those who know no
+/// the ground. Before each colour that depends on the viewer stands one for viewers who know no
 /// variables.
 const OPENING: &str = "<svg xmlns=\"http://www.w3.org/2000/svg\" role=\"img\" \
 width=\"%\" height=\"%\" viewBox=\"0 0 % %\">
@@ -65,7 +65,7 @@ const GROUPS: [Group; 5] = [
     Group::Exchange,
 ];
 
-/// From one group of the legend to the next.
+/// How far it is from one group of the legend to the next.
 const LEGEND_STEP: u64 = 124;
 
 /// A group in the legend, and the head of its arrows.
@@ -112,9 +112,9 @@ const BAND_LINE: &str = "<text class=\"small\" x=\"%\" y=\"%\">$$</text>\n";
 enum Layer {
     /// The lines of frames.
     Lines,
-    /// Boxes and bands, and its mark.
+    /// Boxes and bands, and marks.
     Grounds,
-    /// Its label, and the names of frames.
+    /// Labels, and the names of frames.
     Texts,
 }
 
@@ -148,7 +148,6 @@ fn add_opening(out: &mut Vec<u8>, layout: &Layout) -> Result<(), AllocError> {
     fill(out, OPENING, &[], &[wide, high, wide, high, wide, high])
 }
 
-/// Adds the legend.
 fn add_legend(out: &mut Vec<u8>) -> Result<(), AllocError> {
     let mut x = 12u64;
     for group in GROUPS {
@@ -237,7 +236,7 @@ fn add_frames(
     out: &mut Vec<u8>,
     notes: &Notes<'_>,
     layout: &Layout,
-    at: (&Moment, Place),
+    at: (&DrawnRow, Place),
     draws: Draws,
 ) -> Result<(), AllocError> {
     add_left(out, notes, layout, at, draws)?;
@@ -249,12 +248,12 @@ fn add_ground(
     out: &mut Vec<u8>,
     notes: &Notes<'_>,
     grid: &Grid,
-    moment: &Moment,
+    moment: &DrawnRow,
     place: Place,
 ) -> Result<(), AllocError> {
     let lines = lines_in(notes.label(moment));
     let high = lines.saturating_mul(LINE).saturating_add(6);
-    if moment.mark == Mark::Band {
+    if moment.mark == LaneMark::Band {
         let (left, wide) = grid.band();
         return fill(out, BAND, &[], &[left, place.label, wide, high]);
     }
@@ -291,7 +290,7 @@ fn add_shared(
     out: &mut Vec<u8>,
     nodes: u64,
     grid: &Grid,
-    moment: &Moment,
+    moment: &DrawnRow,
     height: u64,
 ) -> Result<(), AllocError> {
     let mut last = grid.lane(moment.node);
@@ -304,30 +303,29 @@ fn add_shared(
     fill(out, SHARED, &[], &[grid.lane(moment.node), height, last])
 }
 
-/// Adds a mark at a place.
-fn add_mark(out: &mut Vec<u8>, mark: Mark, x: u64, y: u64) -> Result<(), AllocError> {
+fn add_mark(out: &mut Vec<u8>, mark: LaneMark, x: u64, y: u64) -> Result<(), AllocError> {
     let above = y.saturating_sub(5);
     let left = x.saturating_sub(7);
     match mark {
-        Mark::Step => fill(out, DOT, &[], &[x, y]),
-        Mark::View => fill(out, DIAMOND, &[], &[x, above]),
-        Mark::Restart => fill(out, GAP, &[], &[left, above, left, above]),
+        LaneMark::Step => fill(out, DOT, &[], &[x, y]),
+        LaneMark::View => fill(out, DIAMOND, &[], &[x, above]),
+        LaneMark::Restart => fill(out, GAP, &[], &[left, above, left, above]),
         _ => Ok(()),
     }
 }
 
-/// Adds the label of a moment. Beside a lane, and in no box, it ends at the lane where it stands to
+/// Adds the label of a moment. Beside a lane, and in no box, it ends at the lane if it stands to
 /// the left.
 fn add_label(
     out: &mut Vec<u8>,
     notes: &Notes<'_>,
     grid: &Grid,
-    moment: &Moment,
+    moment: &DrawnRow,
     place: Place,
 ) -> Result<(), AllocError> {
     let label = notes.label(moment);
     let base = place.label.saturating_add(13);
-    if moment.mark == Mark::Band {
+    if moment.mark == LaneMark::Band {
         let (left, _) = grid.band();
         let at = (left.saturating_add(8), base);
         return add_lines(out, label, BAND_LINE, at, MOST_OF_BAND);
@@ -341,7 +339,7 @@ fn add_label(
     add_lines(out, label, LABEL_LINE, at, MOST_OF_LABEL)
 }
 
-/// Adds the lines of a label, one under the other: at most so many bytes of each, by this template.
+/// Adds the lines of a label, one under the other, by this template: at most so many bytes of each.
 fn add_lines(
     out: &mut Vec<u8>,
     label: &[u8],

@@ -3,8 +3,8 @@
 use itoa::Buffer;
 use std::alloc::AllocError;
 
-/// Adds a template, in which these words stand in the places of its `$` and these numbers in those
-/// of its `%`, in order. A word is text: none can end an element or an attribute.
+/// Adds a template. These words replace its `$`, and these numbers its `%`, in order. A word is
+/// text: none can end an element or an attribute.
 pub(crate) fn fill(
     out: &mut Vec<u8>,
     template: &str,
@@ -34,7 +34,6 @@ fn add_number(out: &mut Vec<u8>, number: u64) -> Result<(), AllocError> {
     out.extend_from_slice(buffer.format(number).as_bytes())
 }
 
-/// Adds a text.
 fn add_text(out: &mut Vec<u8>, text: &[u8]) -> Result<(), AllocError> {
     for byte in text {
         match spelled(*byte) {
@@ -45,7 +44,7 @@ fn add_text(out: &mut Vec<u8>, text: &[u8]) -> Result<(), AllocError> {
     Ok(())
 }
 
-/// What a byte of a text is spelled as, where it isn't spelled as it is.
+/// Returns what a byte of a text is spelled as, if it isn't spelled as it is.
 fn spelled(byte: u8) -> Option<&'static str> {
     match byte {
         b'&' => Some("&amp;"),
@@ -58,7 +57,7 @@ fn spelled(byte: u8) -> Option<&'static str> {
     }
 }
 
-/// A text, or the first `most` bytes of a longer one and two dots.
+/// Returns a text, or the first `most` bytes of a longer one and two dots.
 pub(crate) fn cut(text: &[u8], most: usize) -> (&[u8], &[u8]) {
     match text.get(..most) {
         Some(front) if text.len() > most => (front, b".."),

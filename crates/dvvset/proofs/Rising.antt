@@ -29,7 +29,7 @@ Rest-cons id P low x xs le p rest = record { rising = (le, rest.rising); lawful 
 pub Rest-tail : {X : Type 0} (id : X → ℕ) (P : X → Type 0) (low : ℕ) (x : X) (xs : List X) → Rest id P low (x ∷ xs) → Rest id P (id x + 1) xs
 Rest-tail id P low x xs rest = record { rising = rest.rising.1; lawful = All-tail P x xs rest.lawful }
 
--- the test so far: what is left is lawful exactly where the whole list is
+-- the test so far: what is left is lawful exactly if the whole list is
 pub record Tested {X : Type 0} (id : X → ℕ) (P : X → Type 0) (xs : List X) (i low : ℕ) : Type 0 where
   pub same : Rest id P low (drop i xs) ↔ Rest id P 0 xs
 

@@ -57,7 +57,7 @@ raise w value (x ∷ xs) =
 abbrev pub update : List Counter → List Entry → ℕ → ValueParts → List Entry
 update read es w value = raise w value (sync (blanks read) es)
 
--- a writer's counter, 0 where it is absent
+-- a writer's counter, 0 if it is absent
 abbrev pub count_for : List Counter → ℕ → ℕ
 count_for [] w = 0
 count_for (c ∷ cs) w = if c.id == w then c.count else count_for cs w

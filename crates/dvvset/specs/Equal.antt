@@ -1,4 +1,4 @@
--- The comparisons of plain parts: equal exactly where all parts are.
+-- The comparisons of plain parts: equal exactly if all parts are.
 use Rattle.std.specs.Prelude.{◌≡◌, ℕ, nat_eq, Bool, ◌&&◌, List, Option, Some, None, refl}
 use Rattle.std.specs.Ordering.{on, eq_of_both}
 use Rattle.std.specs.Option.{option_eq}

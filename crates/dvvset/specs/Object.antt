@@ -29,7 +29,7 @@ ids_of es = map (λ e. e.id) es
 abbrev pub ids_counted : List Counter → List ℕ
 ids_counted cs = map (λ c. c.id) cs
 
--- a count of events, of which there was at least one
+-- a count of events: there was at least one
 pub record IsCount (n : ℕ) : Type 0 where
   pub least : 1 ≤ n
   pub most : n < 2 ^ 64

@@ -16,8 +16,8 @@ count_of es w = count_for (join es) w
 -- ---- a merge
 
 -- both sides know the writer: the merge knows the events that either knows, shows none that either
--- has covered, and its values are the newest of the side that knows more, or of the first side
--- where both know equally many
+-- has covered, and its values are the newest of the side that knows more, or of the first side if
+-- both know equally many
 pub record IsMerged (a b merged : Entry) : Type 0 where
   pub id : merged.id ≡ a.id
   pub count : merged.count ≡ max a.count b.count
@@ -34,7 +34,7 @@ MergesAt (Some a) (Some b) None = ⊥
 
 -- ---- a write
 
--- the values of a writer that a vector has not read, where it has read the first `seen` events
+-- the values of a writer that a vector has not read, if it has read the first `seen` events
 abbrev pub unread : ℕ → Option Entry → List ValueParts
 unread seen None = []
 unread seen (Some e) = take (e.count - seen) e.values

@@ -10,7 +10,7 @@ use crate::entry::Entry;
 use crate::vector::{Counter, Vector};
 use meta_types::Actor;
 
-/// How many events of the writer the entries know: 0 where it has no entry. Takes no memory.
+/// Returns how many events of the writer the entries know: 0 if it has no entry. Takes no memory.
 pub fn count_of(entries: &[Entry], id: Actor) -> u64
     ensures { result ≡ count_of entries.now id }
 {
@@ -72,7 +72,7 @@ impl Counts for Entry {
     }
 }
 
-/// One pass over both lists, whose writers rise.
+/// Does what `descends` does for two lists whose writers rise strictly, in one pass over both.
 fn descends_over<A: Counts, B: Counts>(a: &[A], b: &[B]) -> bool
     requires a { IsVector (map A.counter a.now) }
     requires b { IsVector (map B.counter b.now) }

@@ -33,7 +33,7 @@ impl Entries {
     ghost use Rattle.dvvset.specs.Object.{IsObject};
     ghost use Rattle.dvvset.specs.declared.fault.ClockFault.TheVariants.{BadEntries};
 
-    /// The absent object.
+    /// Returns the absent object.
     pub fn empty(alloc: Global) -> Self
         ensures { result ≡ [] }
     {
@@ -42,7 +42,7 @@ impl Entries {
         }
     }
 
-    /// The object of these parts, which must be those of an object.
+    /// Returns the object of these parts, which must be those of an object.
     pub fn new(entries: Vec<Entry>) -> Self
         requires { IsObject entries.items }
         ensures { result ≡ entries.items }
@@ -50,9 +50,9 @@ impl Entries {
         Entries { entries }
     }
 
-    /// The object of these parts. Refused with 21 `BadEntries` where they are not those of an
-    /// object, and only then: where writers don't rise strictly, a count is 0, or an entry shows
-    /// more values than its count. What was handed in is dropped with a refusal.
+    /// Returns the object of these parts. Refused with 21 `BadEntries` if they are not those of an
+    /// object, and only then: if writers don't rise strictly, a count is 0, or an entry shows more
+    /// values than its count. What was handed in is dropped with a refusal.
     pub fn from_parts(entries: Vec<Entry>) -> Result<Self, ClockFault>
         ensures range { IsOk result ↔ IsObject entries.items }
         ensures value { IfOk result (λ object. object ≡ entries.items) }
@@ -65,7 +65,7 @@ impl Entries {
         }
     }
 
-    /// The parts, without taking memory.
+    /// Returns the parts, without taking memory.
     pub fn into_parts(self) -> Vec<Entry>
         ensures value { result.items ≡ self }
         ensures lawful { IsObject self }
@@ -102,7 +102,8 @@ impl Entries {
     }
 }
 
-/// Copies of the values that an object shows, by writer, and the newest first for each.
+/// Returns copies of the values that an object shows, by writer, and of each writer the newest
+/// first.
 pub fn values(alloc: Global, object: &Entries) -> Result<Vec<Value>, AllocError>
     ensures { IfOk result (λ values. values.items ≡ values_of object.now) }
 {
@@ -124,7 +125,6 @@ fn show_a_value(entries: &[Entry]) -> bool
     false
 }
 
-/// Copies a list of entries.
 fn copy_entries(alloc: Global, entries: &[Entry]) -> Result<Vec<Entry>, AllocError>
     ensures { IfOk result (λ copy. copy.items ≡ entries.now) }
 {

@@ -34,28 +34,27 @@ impl Entry {
         Entry { id, count, values }
     }
 
-    /// The writer.
     pub fn id(&self) -> Actor
         ensures { result ≡ self.now.id }
     {
         self.id
     }
 
-    /// How many events the writer has.
+    /// Returns how many events the writer has.
     pub fn count(&self) -> u64
         ensures { result ≡ self.now.count }
     {
         self.count
     }
 
-    /// The values of its newest events, newest first.
+    /// Returns the values of its newest events, newest first.
     pub fn values(&self) -> &[Value]
         ensures { result.now ≡ self.now.values }
     {
         self.values.as_slice()
     }
 
-    /// The writer, its count and its values, without taking memory.
+    /// Returns the writer, its count and its values, without taking memory.
     pub fn into_parts(self) -> (Actor, u64, Vec<Value>)
         ensures writer { (result.0 ≡ self.id) × (result.1 ≡ self.count) }
         ensures values { result.2.items ≡ self.values }
@@ -74,14 +73,14 @@ impl Entry {
         })
     }
 
-    /// How many of its events are no longer shown.
+    /// Returns how many of its events are no longer shown.
     pub(crate) fn cover(&self) -> u64
         ensures { result ≡ cover self.now }
     {
         self.count.saturating_sub(self.values.len() as u64)
     }
 
-    /// A copy without the values of the events up to number `low`, which are not copied.
+    /// Returns a copy of the entry without the values of the events up to number `low`.
     pub(crate) fn cut(&self, low: u64) -> Result<Self, AllocError>
         ensures { IfOk result (λ entry. entry ≡ cut self.now low) }
     {
@@ -94,7 +93,7 @@ impl Entry {
         })
     }
 
-    /// The entry with one more event, whose value goes in front. No value is copied.
+    /// Returns the entry with one more event, whose value goes in front. No value is copied.
     pub(crate) fn raised(self, value: Value) -> Result<Self, ClockFault>
         ensures value { IfOk result
             (λ entry. entry ≡ record {
@@ -123,7 +122,7 @@ impl Entry {
     }
 }
 
-/// Copies of values, in their order. Fails only when memory runs out.
+/// Returns copies of values, in their order. Fails only when memory runs out.
 pub fn copy_values(alloc: Global, values: &[Value]) -> Result<Vec<Value>, AllocError>
     ensures { IfOk result (λ copies. copies.items ≡ values.now) }
 {
@@ -132,8 +131,8 @@ pub fn copy_values(alloc: Global, values: &[Value]) -> Result<Vec<Value>, AllocE
     Ok(copies)
 }
 
-/// Adds copies of values at the end, in their order. Where memory runs out some of them may have
-/// been added.
+/// Adds copies of values at the end, in their order. If memory runs out, some of them may have been
+/// added.
 pub(crate) fn push_copies(copies: &mut Vec<Value>, values: &[Value]) -> Result<(), AllocError>
     ensures { OnOk result (copies.new.items ≡ copies.old.items ++ values.now) }
 {

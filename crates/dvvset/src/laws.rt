@@ -14,7 +14,7 @@ pub fn entries_determine_an_object()
         → a ≡ b }
 {}
 
-/// Faults are equal exactly where they are the same.
+/// Faults are equal exactly if they are the same.
 pub fn equal_faults_are_the_same(one: &ClockFault, other: &ClockFault) -> bool
     ensures { IsTrue result ↔ (one.now ≡ other.now) }
 {

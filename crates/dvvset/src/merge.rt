@@ -9,8 +9,8 @@ use crate::entries::Entries;
 use crate::entry::Entry;
 use std::alloc::{AllocError, Global};
 
-/// Merges two sides' entries of one writer: the entry with more events, or the first side's where
-/// both have equally many, cut by the other's cover.
+/// Merges two sides' entries of one writer: the entry with more events, or the first side's if both
+/// have equally many, cut by the other's cover.
 fn sync_entry(a: &Entry, b: &Entry) -> Result<Entry, AllocError>
     ensures { IfOk result (λ entry. entry ≡ sync_entry a.now b.now) }
 {
@@ -56,11 +56,11 @@ pub(crate) fn merge(alloc: Global, xs: &[Entry], ys: &[Entry]) -> Result<Vec<Ent
     Ok(merged)
 }
 
-/// The merge of two objects. An entry that stands on one side alone is kept as it is. For a writer
-/// on both sides, the merge knows the events that either side knows, and shows the values of the
-/// events that neither side has covered, that is, knows and no longer shows; where both know
-/// equally many events, the values are the first side's. It takes memory for the entries and for
-/// copies of the values that stay, not of the others.
+/// Merges two objects. An entry that stands on one side alone is kept as it is. For a writer on
+/// both sides, the merge knows the events that either side knows. It shows the values of the events
+/// that neither side has covered, that is, knows and no longer shows; if both know equally many
+/// events, the values are the first side's. It takes memory for the entries and for copies of the
+/// values that stay, not of the others.
 pub fn sync(alloc: Global, a: &Entries, b: &Entries) -> Result<Entries, AllocError>
     ensures value { IfOk result (λ merged. merged ≡ sync a.now b.now) }
     ensures lawful { IfOk result (λ merged. IsObject merged) }

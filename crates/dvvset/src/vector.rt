@@ -33,7 +33,6 @@ impl Counter {
         Counter { id, count }
     }
 
-    /// The writer.
     pub fn id(self) -> Actor
         ensures { result ≡ self.id }
     {
@@ -70,7 +69,7 @@ impl Vector {
     ghost use Rattle.dvvset.specs.Object.{IsVector};
     ghost use Rattle.dvvset.specs.declared.fault.ClockFault.TheVariants.{BadEntries};
 
-    /// The vector that has read nothing.
+    /// Returns the vector that has read nothing.
     pub fn empty(alloc: Global) -> Self
         ensures { result ≡ [] }
     {
@@ -79,7 +78,7 @@ impl Vector {
         }
     }
 
-    /// The vector of these parts, which must be those of a vector.
+    /// Returns the vector of these parts, which must be those of a vector.
     pub fn new(counters: Vec<Counter>) -> Self
         requires { IsVector counters.items }
         ensures { result ≡ counters.items }
@@ -87,9 +86,9 @@ impl Vector {
         Vector { counters }
     }
 
-    /// The vector of these parts. Refused with 21 `BadEntries` where they are not those of a
-    /// vector, and only then: where writers don't rise strictly or a count is 0. What was handed in
-    /// is dropped with a refusal.
+    /// Returns the vector of these parts. Refused with 21 `BadEntries` if they are not those of a
+    /// vector, and only then: if writers don't rise strictly or a count is 0. What was handed in is
+    /// dropped with a refusal.
     pub fn from_parts(counters: Vec<Counter>) -> Result<Self, ClockFault>
         ensures range { IsOk result ↔ IsVector counters.items }
         ensures value { IfOk result (λ vector. vector ≡ counters.items) }
@@ -102,7 +101,7 @@ impl Vector {
         }
     }
 
-    /// The parts, without taking memory.
+    /// Returns the parts, without taking memory.
     pub fn into_parts(self) -> Vec<Counter>
         ensures value { result.items ≡ self }
         ensures lawful { IsVector self }
@@ -132,7 +131,7 @@ impl Vector {
     }
 }
 
-/// The vector of an object: how many events of each writer it knows, shown or not.
+/// Returns the vector of an object: how many events of each writer it knows, shown or not.
 pub fn join(alloc: Global, object: &Entries) -> Result<Vector, AllocError>
     ensures value { IfOk result (λ vector. vector ≡ join object.now) }
     ensures lawful { IfOk result (λ vector. IsVector vector) }
@@ -141,7 +140,6 @@ pub fn join(alloc: Global, object: &Entries) -> Result<Vector, AllocError>
     Ok(Vector { counters })
 }
 
-/// The counters of a list of entries.
 fn counters_of(alloc: Global, entries: &[Entry]) -> Result<Vec<Counter>, AllocError>
     ensures { IfOk result (λ counters. counters.items ≡ join entries.now) }
 {

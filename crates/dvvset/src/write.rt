@@ -16,7 +16,7 @@ use crate::vector::{Counter, Vector};
 use meta_types::{Actor, Value};
 use std::alloc::{AllocError, Global};
 
-/// Counters as entries that show nothing.
+/// Returns counters as entries that show nothing.
 fn blanks(alloc: Global, counters: &[Counter]) -> Result<Vec<Entry>, AllocError>
     ensures { IfOk result (λ entries. entries.items ≡ blanks counters.now) }
 {
@@ -27,7 +27,7 @@ fn blanks(alloc: Global, counters: &[Counter]) -> Result<Vec<Entry>, AllocError>
     Ok(entries)
 }
 
-/// The place of the first entry whose writer is not below this one.
+/// Returns the place of the first entry whose writer is not below this one.
 fn place(entries: &[Entry], id: Actor) -> usize
     ensures { IsPlace id entries.now result }
 {
@@ -39,7 +39,7 @@ fn place(entries: &[Entry], id: Actor) -> usize
     entries.len()
 }
 
-/// The entries with one more event of a writer.
+/// Returns the entries with one more event of a writer.
 fn raise(entries: Vec<Entry>, id: Actor, value: Value) -> Result<Vec<Entry>, ClockFault>
     requires { IsObject entries.items }
     ensures value { IfOk result (λ raised. raised.items ≡ raise id value entries.items) }
@@ -60,11 +60,11 @@ fn raise(entries: Vec<Entry>, id: Actor, value: Value) -> Result<Vec<Entry>, Clo
     Ok(entries)
 }
 
-/// The object after a write by `id` that has read the vector: values that the vector has read are
-/// no longer shown, the others stay beside the new one as siblings. Refused with 20 `CounterSpent`
-/// exactly where the writer's counter, in the vector or in the object, is at its greatest value,
-/// unless memory runs out. The value is dropped with a refusal. It takes memory for the entries,
-/// the vector's too, and for copies of the values that stay.
+/// Returns the object after a write by `id` that has read the vector. Values that the vector has
+/// read are no longer shown; the others stay beside the new one as siblings. Refused with 20
+/// `CounterSpent` exactly if the writer's counter, in the vector or in the object, is at its
+/// greatest value, unless memory runs out. The value is dropped with a refusal. It takes memory for
+/// the entries, the vector's too, and for copies of the values that stay.
 pub fn update(
     alloc: Global,
     read: &Vector,

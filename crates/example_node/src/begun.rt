@@ -1,4 +1,4 @@
-//! A life of a node is begun in its file.
+//! Begins a life of a node in its file.
 
 ghost use Rattle.std.specs.Prelude.{IfOk};
 ghost use Rattle.devices.specs.Device.{IsDurable};
@@ -7,28 +7,23 @@ ghost use Rattle.node_desk.specs.Starting.{IsFileOf};
 use devices::{Device, FileDevice};
 use meta_store::Store;
 use meta_types::NodeId;
-use node_file::{NodeFile, create, serve};
+use node_file::{NodeFile, empty_file, serve};
 use std::alloc::Global;
 use std::io;
 
-/// The error that stands for any refusal.
+/// Returns the error that stands for any refusal.
 pub(crate) fn refused<E: Drop>(_refusal: E) -> io::Error {
     io::Error::from(io::ErrorKind::Other)
 }
 
-/// Begins the next life of the node whose file is at the path; where nothing is, of node 0.
+/// Begins the next life of the node whose file is at the path; if there is no file, of node 0.
 pub(crate) fn begin(rt: &HostRuntime, path: &str) -> io::Result<(NodeFile<FileDevice>, Store)>
     ensures { IfOk result (λ r.
         IsFileOf (⟦<FileDevice as Device>⟧.content) r.0.node r.0.life r.1 r.0) }
 {
-    let device = FileDevice::open_or_create(rt, rt.alloc(), path).map_err(refused)?;
-    if device.len() > 0 {
-        return served(rt.alloc(), device);
-    }
-    match create(device, NodeId::new(0).map_err(refused)?) {
-        Ok(file) => served(rt.alloc(), file.into_device()),
-        Err((_, fault)) => Err(refused(fault)),
-    }
+    let new = empty_file(NodeId::new(0).map_err(refused)?);
+    let device = FileDevice::open_or_create(rt, rt.alloc(), path, &new).map_err(refused)?;
+    served(rt.alloc(), device)
 }
 
 /// Begins the next life of the node whose file the device holds.

@@ -1,6 +1,5 @@
-//! A node in use: the next life of a node is begun in the file at a path, which is made where
-//! nothing is; a value is written under a key, a reader learns of it and looks, and the node is
-//! closed.
+//! A node in use: the next life of a node is begun in the file at a path, which is made if there is
+//! none. A value is written under a key, a reader learns of it and looks, and the node is closed.
 //!
 //! `example_node PATH KEY VALUE`, with a key as `a/b/k`. It prints what the reader was shown, and
 //! how many entries the journal had.
@@ -48,7 +47,7 @@ fn value_of(alloc: Global, text: &str) -> io::Result<Value> {
     Value::new(0, Some(text.as_bytes().to_vec(alloc)?)).map_err(refused)
 }
 
-/// The key that is written as `a/b/k`.
+/// Returns the key that is written as `a/b/k`.
 fn key_of(alloc: Global, text: &str) -> io::Result<MetaKey> {
     let mut parts = text.split('/');
     match (parts.next(), parts.next(), parts.next(), parts.next()) {

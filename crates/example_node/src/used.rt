@@ -1,4 +1,4 @@
-//! A node is started, used and closed.
+//! Starts a node, uses it and closes it.
 
 ghost use Rattle.std.specs.Prelude.{◌≡◌, ◌≤◌, length};
 ghost use Rattle.node_desk.specs.Starting.{IsFileOf};
@@ -15,8 +15,8 @@ use std::io;
 use std::sync::Wait;
 use std::sync::ledger::Blank;
 
-/// Starts the node, writes a value in place of what it holds under the key, and closes it. Returns
-/// what a reader is shown that learnt of the write, and how many entries the journal had.
+/// Starts the node, writes a value over what it holds under the key, and closes it. Returns what a
+/// reader that learnt of the write is shown, and how many entries the journal had.
 pub(crate) fn written<J: Naming, R: Wait>(
     rt: &R,
     alloc: Global,
@@ -76,7 +76,7 @@ fn used<J: Naming, R: Wait>(
     Ok(format!(in alloc; "{shown}; {entries} in the journal")?)
 }
 
-/// Writes the value, and returns what a reader is shown that learnt of it.
+/// Writes the value, and returns what a reader that learnt of it is shown.
 fn write<J: Naming, R: Wait>(
     rt: &R,
     alloc: Global,
@@ -96,7 +96,7 @@ fn write<J: Naming, R: Wait>(
     said
 }
 
-/// What a reader is shown under the key, without waiting.
+/// Returns what a reader is shown under the key, without waiting.
 fn said<J: Naming>(alloc: Global, reader: &mut ReadSeat<J>, key: &MetaKey) -> io::Result<String> {
     let shown = reader.peek(key).map_err(refused)?;
     let said = format!(in alloc; "shown {}", text_of(shown.values.first()));
@@ -104,7 +104,7 @@ fn said<J: Naming>(alloc: Global, reader: &mut ReadSeat<J>, key: &MetaKey) -> io
     Ok(said?)
 }
 
-/// The value, as it is printed.
+/// Returns the value, as it is printed.
 fn text_of(value: Option<&Value>) -> &str {
     let Some(value) = value else {
         return "nothing";

@@ -271,15 +271,15 @@ module _ (hs : List Happening) (history : IsHistory hs) (k : Key) (S T : Places)
     again = λ o m. ⊎_elim (λ e. ap (merged (sync x y)) e ∙ all_ours) (λ e. ap (merged (sync x y)) e ∙ all_twice) m;
   }
 
-  -- where the other side holds nothing, this one holds all
+  -- if the other side holds nothing, this one holds all
   pub all_is_ours : y ≡ [] → sync x y ≡ x
   all_is_ours e = sym (merged-sync hs history k S T x y held came) ∙ ap (merged x) e
 
-  -- where this side holds nothing, the other holds all
+  -- if this side holds nothing, the other holds all
   pub all_is_theirs : x ≡ [] → sync x y ≡ y
   all_is_theirs e = sym onto_ours ∙ ap (merged y) e
 
-  -- where both hold the same, each holds all
+  -- if both hold the same, each holds all
   pub all_is_same : x ≡ y → sync x y ≡ x
   all_is_same e =
       ap (sync x) (sym e)

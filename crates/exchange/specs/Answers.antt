@@ -12,7 +12,7 @@ use Rattle.frame_fields.specs.declared.prefixes.PrefixDigest.{PrefixDigest}
 use Rattle.meta_frame.specs.declared.message.Message.{Message}
 use Rattle.meta_frame.specs.declared.message.Message.TheVariants.{XRoot, XPrefixes, XInner, XLeaves, XBucket, XObject, XWant}
 use Rattle.meta_store.specs.Table.{Table}
-use Rattle.hash_tree.specs.Tree.{Digest, bucket, inner_digests, leaf_digests, prefix_roots, rows_of, tree_root}
+use Rattle.hash_tree.specs.Tree.{Digest, bucket, inner_digests, leaf_digests, prefix_roots, rows_of, tree_root, fan}
 use Rattle.hash_tree.specs.Hashed.{rows_below}
 use Rattle.exchange.specs.Sides.{differing_keys, differing_places, same_digest}
 
@@ -53,9 +53,9 @@ bucket_message table p leaf = XBucket p leaf (bucket (rows_below p table) leaf)
 -- number no leaf stands, so none differs
 abbrev pub answer_leaves : Table → Prefix → ℕ → List Digest → List Message
 answer_leaves table p inner theirs =
-    if nat_le 16 inner
+    if nat_le fan inner
     then []
-    else map (λ place. bucket_message table p (16 * inner + place))
+    else map (λ place. bucket_message table p (fan * inner + place))
     (differing_places theirs (leaf_digests (rows_below p table) inner))
 
 -- ---- XBUCKET: for each key of either side that differs or stands on one side, in order, XOBJECT

@@ -5,9 +5,9 @@ use Rattle.std.specs.Option.{option_eq}
 use Rattle.std.specs.declared.cmp.Ordering.{Ordering}
 use Rattle.std.specs.Cmp.Lexicographic.{pointwise}
 use Rattle.std.specs.FinMap.{find, is_sorted, put}
-use Rattle.meta_types.specs.Name.{IsName}
+use Rattle.meta_types.specs.Name.{IsName, most_key_len}
 use Rattle.frame_fields.specs.declared.keys.KeyDigest.{KeyDigest}
-use Rattle.hash_tree.specs.Tree.{Digest}
+use Rattle.hash_tree.specs.Tree.{Digest, fan}
 
 abbrev pub same_digest : Digest → Digest → Bool
 same_digest = pointwise nat_eq
@@ -19,9 +19,9 @@ differ one other = not (option_eq same_digest one other)
 -- of sixteen places, in order, those at which the digests differ
 abbrev pub differing_places : List Digest → List Digest → List ℕ
 differing_places theirs own =
-    filter (λ place. differ (slice_get theirs place) (slice_get own place)) (range_with_len 0 16)
+    filter (λ place. differ (slice_get theirs place) (slice_get own place)) (range_with_len 0 fan)
 
--- the keys of both sides in order, each with their digest where they have it, and else with the
+-- the keys of both sides in order, each with their digest if they have it, and otherwise with the
 -- own; only the keys are read
 abbrev pub of_either : {K : Type 0} → (K → K → Ordering) → List (K × Digest) → List (K × Digest)
     → List (K × Digest)
@@ -37,7 +37,7 @@ differing_keys cmp theirs own =
 
 -- ---- what private contracts speak of
 
--- the keys that differ, each with their digest of it, where they list it
+-- the keys that differ, each with their digest of it, if they list it
 abbrev pub differing : {K : Type 0} → (K → K → Ordering) → List (K × Digest)
     → List (K × Digest) → List (K × Option Digest)
 differing cmp theirs own = map (λ key. (key, find cmp key theirs)) (differing_keys cmp theirs own)
@@ -62,4 +62,4 @@ pub record IsNext {R K : Type 0} (cmp : K → K → Ordering) (parts : R → K �
 
 -- the bytes of each key have a length in range
 abbrev pub AreNamed : List KeyDigest → Type 0
-AreNamed rows = All (λ row. IsName 256 row.key) rows
+AreNamed rows = All (λ row. IsName most_key_len row.key) rows

@@ -103,8 +103,8 @@ pub record Reconciled (hs : List Happening) (known_here known_there : Knowledge)
   pub here_holds : Holds hs (union_by_key known_here known_there) here_end
   pub there_holds : Holds hs (union_by_key known_here known_there) there_end
 
--- where all that both held arose in one history, both end with the union, or two unequal byte
--- strings that are hashed for what they held have one digest
+-- if all that both held arose in one history, both end with the union, or two unequal byte strings
+-- that are hashed for what they held have one digest
 unfoldable pub EndInUnion : Table → Table → Table → Table → Type 0
 EndInUnion here there here_end there_end =
     (hs : List Happening) → IsHistory hs → (known_here known_there : Knowledge)
@@ -117,7 +117,7 @@ pub record AreBetween (hs : List Happening) (known_here known_there : Knowledge)
   pub here_holds : HoldsBetween hs known_here (union_by_key known_here known_there) here_end
   pub there_holds : HoldsBetween hs known_there (union_by_key known_here known_there) there_end
 
--- where all that both held arose in one history, each side ends with at least what it knew, and at
+-- if all that both held arose in one history, each side ends with at least what it knew, and at
 -- most the union
 unfoldable pub StayBetween : Table → Table → Table → Table → Type 0
 StayBetween here there here_end there_end =

@@ -18,7 +18,7 @@ use meta_frame::Message;
 use meta_types::{ByteString, FullPrefix, MetaKey};
 use std::alloc::{AllocError, Global};
 
-/// The message that begins an exchange: the root of what is held here. It takes no memory.
+/// Returns the message that begins an exchange: the root of what is held here. It takes no memory.
 pub fn start(held: &Held) -> Message
     ensures { result ≡ XRoot (tree_root (rows_of held.now)) }
 {
@@ -27,9 +27,9 @@ pub fn start(held: &Held) -> Message
     }
 }
 
-/// What a message is answered from what is held, in order: each answer goes to the sender. XOBJECT,
-/// whose object is to be merged, and messages of no exchange have no answer; nor have leaves of an
-/// inner node from 16 on, which no frame carries. Fails only when memory runs out.
+/// Returns the answers to a message from what is held, in order; each goes to the sender. There is
+/// no answer to XOBJECT, whose object is to be merged, to messages of no exchange, or to leaves of
+/// an inner node from 16 on, which no frame carries. Fails only when memory runs out.
 #[tactic(auto, unfolding(crate::specs::Answers::answers_to))]
 pub fn answer(alloc: Global, held: &Held, message: &Message) -> Result<Vec<Message>, AllocError>
     ensures { IfOk result (λ answers. answers.items ≡ answers_to held.now message.now) }
@@ -53,7 +53,7 @@ pub fn answer(alloc: Global, held: &Held, message: &Message) -> Result<Vec<Messa
     }
 }
 
-/// All full prefixes with their roots, if the roots differ.
+/// Answers with all full prefixes and their roots, if the roots differ.
 fn answer_root(alloc: Global, held: &Held, theirs: Digest) -> Result<Vec<Message>, AllocError>
     ensures { IfOk result (λ answers. answers.items ≡ answer_root held.now theirs) }
 {
@@ -65,8 +65,8 @@ fn answer_root(alloc: Global, held: &Held, theirs: Digest) -> Result<Vec<Message
     Ok(answers)
 }
 
-/// For each full prefix of either side that differs or stands on one side, in order, the digests of
-/// its inner nodes.
+/// Answers, for each full prefix of either side that differs or stands on one side, in order, with
+/// the digests of its inner nodes.
 fn answer_prefixes(
     alloc: Global,
     held: &Held,
@@ -86,7 +86,7 @@ fn answer_prefixes(
     Ok(answers)
 }
 
-/// Appends what a full prefix that differs is answered: the digests of its inner nodes.
+/// Appends the answer for a full prefix that differs: the digests of its inner nodes.
 fn answer_prefix(
     alloc: Global,
     answers: &mut Vec<Message>,
@@ -103,7 +103,7 @@ fn answer_prefix(
     Ok(())
 }
 
-/// For each inner node that differs, in order, the digests of its leaves.
+/// Answers, for each inner node that differs, in order, with the digests of its leaves.
 fn answer_inner(
     alloc: Global,
     held: &Held,
@@ -123,7 +123,7 @@ fn answer_inner(
     Ok(answers)
 }
 
-/// For each leaf that differs, in order, its keys with their digests.
+/// Answers, for each leaf that differs, in order, with its keys and their digests.
 fn answer_leaves(
     alloc: Global,
     held: &Held,
@@ -148,8 +148,8 @@ fn answer_leaves(
     Ok(answers)
 }
 
-/// For each key of the leaf, of either side, that differs or stands on one side, in order, its
-/// object if it is held, and a want of it if the other side lists it.
+/// Answers, for each key of the leaf, of either side, that differs or stands on one side, in order,
+/// with its object if it is held, and with a want of it if the other side lists it.
 fn answer_bucket(
     alloc: Global,
     held: &Held,
@@ -171,7 +171,7 @@ fn answer_bucket(
     Ok(answers)
 }
 
-/// Appends what a key that differs is answered: its object if it is held, and a want of it if the
+/// Appends the answers for a key that differs: its object if it is held, and a want of it if the
 /// other side lists it.
 fn answer_key(
     answers: &mut Vec<Message>,
@@ -196,7 +196,6 @@ fn answer_key(
     Ok(())
 }
 
-/// The object under the key, if it is held.
 fn object_if_held(alloc: Global, held: &Held, key: &MetaKey) -> Result<Vec<Message>, AllocError>
     ensures { IfOk result (λ answers. answers.items ≡ object_if_held held.now key.now) }
 {
@@ -205,7 +204,6 @@ fn object_if_held(alloc: Global, held: &Held, key: &MetaKey) -> Result<Vec<Messa
     Ok(answers)
 }
 
-/// Appends the object under the key, if it is held.
 fn add_object_if_held(
     answers: &mut Vec<Message>,
     held: &Held,
@@ -223,7 +221,7 @@ fn add_object_if_held(
     Ok(())
 }
 
-/// The digests of the inner nodes of a full prefix.
+/// Returns the digests of the inner nodes of a full prefix.
 fn inner_message(alloc: Global, held: &Held, prefix: &FullPrefix) -> Result<Message, AllocError>
     ensures { IfOk result (λ message. message ≡ inner_message held.now prefix.now) }
 {
@@ -234,7 +232,7 @@ fn inner_message(alloc: Global, held: &Held, prefix: &FullPrefix) -> Result<Mess
     })
 }
 
-/// The digests of the leaves under an inner node of a full prefix.
+/// Returns the digests of the leaves under an inner node of a full prefix.
 fn leaves_message(
     alloc: Global,
     held: &Held,
@@ -252,7 +250,7 @@ fn leaves_message(
     })
 }
 
-/// The keys of a leaf of a full prefix with their digests.
+/// Returns the keys of a leaf of a full prefix with their digests.
 fn bucket_message(held: &Held, prefix: &FullPrefix, leaf: u8) -> Result<Message, AllocError>
     ensures { IfOk result (λ message. message ≡ bucket_message held.now prefix.now leaf) }
 {
@@ -264,7 +262,7 @@ fn bucket_message(held: &Held, prefix: &FullPrefix, leaf: u8) -> Result<Message,
     })
 }
 
-/// The full prefixes that hold a key, in order, with their roots.
+/// Returns the full prefixes that hold a key, in order, with their roots.
 fn own_prefixes(held: &Held) -> Result<PrefixDigests, AllocError>
     ensures { IfOk result (λ prefixes. prefixes ≡ prefix_roots (rows_of held.now)) }
 {
@@ -272,7 +270,7 @@ fn own_prefixes(held: &Held) -> Result<PrefixDigests, AllocError>
     Ok(PrefixDigests::new(held.tree().prefix_roots()?))
 }
 
-/// The keys of a leaf, in order, with their digests, as the tree keeps them.
+/// Returns the keys of a leaf, in order, with their digests, as the tree keeps them.
 fn lent_keys<'a>(held: &'a Held, prefix: &FullPrefix, leaf: u8) -> &'a [KeyDigest]
     ensures value { result.now ≡ bucket (rows_below prefix.now held.now) leaf }
     ensures lawful { keys.Fits result.now }
@@ -281,7 +279,7 @@ fn lent_keys<'a>(held: &'a Held, prefix: &FullPrefix, leaf: u8) -> &'a [KeyDiges
     held.tree().lent_bucket(prefix, leaf)
 }
 
-/// The keys of a leaf, in order, with their digests. They are copies.
+/// Returns the keys of a leaf, in order, with their digests. They are copies.
 fn own_keys(held: &Held, prefix: &FullPrefix, leaf: u8) -> Result<KeyDigests, AllocError>
     ensures { IfOk result (λ keys. keys ≡ bucket (rows_below prefix.now held.now) leaf) }
 {
@@ -289,7 +287,7 @@ fn own_keys(held: &Held, prefix: &FullPrefix, leaf: u8) -> Result<KeyDigests, Al
     Ok(KeyDigests::new(held.tree().bucket(prefix, leaf)?))
 }
 
-/// Sixteen digests as a field of a frame.
+/// Returns sixteen digests as a field of a frame.
 fn listed(alloc: Global, parts: &[Digest]) -> Result<Digests, AllocError>
     requires { digests.Fits parts.now }
     ensures { IfOk result (λ digests. digests ≡ parts.now) }

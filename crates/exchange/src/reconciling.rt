@@ -20,8 +20,8 @@ use meta_store::StoreFault;
 use meta_types::MetaKey;
 use std::alloc::{AllocError, Global};
 
-/// Takes messages one after another, and answers each from what is held once it was taken. After a
-/// refusal, those before the refused one are taken.
+/// Takes messages one after another, and answers each from what is held once it is taken. After a
+/// refusal, the messages before the refused one are taken.
 fn take_all(
     alloc: Global,
     held: &mut Held,
@@ -43,7 +43,7 @@ fn take_all(
     Ok(answers)
 }
 
-/// What messages that bring no object are answered.
+/// Returns the answers to messages that bring no object.
 fn answer_all(alloc: Global, held: &Held, messages: &[Message]) -> Result<Vec<Message>, AllocError>
     ensures { IfOk result (λ answers. answers.items ≡ answers_to_all held.now messages.now) }
 {
@@ -55,7 +55,7 @@ fn answer_all(alloc: Global, held: &Held, messages: &[Message]) -> Result<Vec<Me
     Ok(answers)
 }
 
-/// Adds answers at the end. Where there are none so far they are kept as they came.
+/// Adds answers at the end. If there are none so far, they are kept as they came.
 fn add_all(answers: &mut Vec<Message>, own: Vec<Message>) -> Result<(), AllocError>
     ensures { OnOk result (answers.new.items ≡ answers.old.items ++ own.items) }
 {
@@ -81,7 +81,6 @@ fn take(held: &mut Held, message: &Message) -> Result<(), StoreFault>
     }
 }
 
-/// Merges an object into what is held.
 fn merge(held: &mut Held, key: &MetaKey, object: &Entries) -> Result<(), StoreFault>
     ensures value { OnOk result (held.new ≡ table_after_merge held.old key.now object.now) }
     ensures same { OnErr result (held.new ≡ held.old) }
@@ -94,7 +93,7 @@ fn merge(held: &mut Held, key: &MetaKey, object: &Entries) -> Result<(), StoreFa
     }
 }
 
-/// What `there` answers to the root of `here`.
+/// Returns what `there` answers to the root of `here`.
 fn answer_start(alloc: Global, here: &Held, there: &Held) -> Result<Vec<Message>, AllocError>
     ensures { IfOk result
         (λ answers. answers.items ≡ answers_to there.now (XRoot (tree_root (rows_of here.now)))) }
@@ -103,7 +102,7 @@ fn answer_start(alloc: Global, here: &Held, there: &Held) -> Result<Vec<Message>
     answer(alloc, there, &root)
 }
 
-/// The answers to a round of messages that bring no object. The round is dropped.
+/// Returns the answers to a round of messages that bring no object. The round is dropped.
 fn answer_round(
     alloc: Global,
     held: &Held,
@@ -114,7 +113,7 @@ fn answer_round(
     answer_all(alloc, held, messages.as_slice())
 }
 
-/// What `there` offers and wants, after five rounds of digests, by which nothing changes.
+/// Returns what `there` offers and wants after five rounds of digests, by which nothing changes.
 fn offered(alloc: Global, here: &Held, there: &Held) -> Result<Vec<Message>, AllocError>
     ensures { IfOk result (λ offered. offered.items ≡ offers here.now there.now) }
 {
@@ -157,7 +156,7 @@ fn take_last(alloc: Global, held: &mut Held, messages: Vec<Message>) -> Result<(
     }
 }
 
-/// A whole exchange of two stores, which `here` begins. Where all objects arose in one history,
+/// Runs a whole exchange of two stores, which `here` begins. If all objects arose in one history,
 /// both then hold the union of what they held, or two unequal byte strings that are hashed for what
 /// they held have one digest. Each tree stays that of its store, after a refusal too.
 ///
@@ -174,7 +173,7 @@ pub fn reconcile(alloc: Global, here: &mut Held, there: &mut Held) -> Result<(),
     ensures no_refusal { OnOk result (refusal_of_exchange here.old there.old ≡ None) }
     ensures fault { FailsBy Memory (refusal_of_exchange here.old there.old) result }
 {
-    // Read for their contracts, which say that each is a table.
+    // (for its type)
     let _ = (here.store().len(), there.store().len());
     let offered = offered(alloc, here, there)?;
     match take_round(alloc, here, offered) {

@@ -15,7 +15,7 @@ use std::cmp::Ordering;
 #[derive(Drop)]
 pub(crate) struct Next<'a, K, R> {
     pub key: &'a K,
-    /// Their digest of it, where they list it.
+    /// Their digest of it, if they list it.
     pub digest: Option<Digest>,
     /// Whether the digests differ, or one side alone lists the key.
     pub differs: bool,
@@ -23,7 +23,7 @@ pub(crate) struct Next<'a, K, R> {
     pub own: &'a [R],
 }
 
-/// The least key of a leaf in two lists, or `None` where both are empty.
+/// Returns the least key of a leaf in two lists, or `None` if both are empty.
 pub(crate) fn next_key<'a>(
     theirs: &'a [KeyDigest],
     own: &'a [KeyDigest],
@@ -76,7 +76,7 @@ pub(crate) fn next_key<'a>(
     }
 }
 
-/// The least key of the own list, where theirs is empty.
+/// Returns the least key of the own list, if theirs is empty.
 fn own_key(own: &[KeyDigest]) -> Option<Next<'_, ByteString, KeyDigest>>
     requires rise { is_sorted bytes_cmp (map key_row_parts own.now) ≡ true }
     requires named { AreNamed own.now }
@@ -97,7 +97,7 @@ fn own_key(own: &[KeyDigest]) -> Option<Next<'_, ByteString, KeyDigest>>
     })
 }
 
-/// The least full prefix in two lists, or `None` where both are empty.
+/// Returns the least full prefix in two lists, or `None` if both are empty.
 pub(crate) fn next_prefix<'a>(
     theirs: &'a [PrefixDigest],
     own: &'a [PrefixDigest],
@@ -145,7 +145,7 @@ pub(crate) fn next_prefix<'a>(
     }
 }
 
-/// The least full prefix of the own list, where theirs is empty.
+/// Returns the least full prefix of the own list, if theirs is empty.
 fn own_prefix(own: &[PrefixDigest]) -> Option<Next<'_, FullPrefix, PrefixDigest>>
     requires { is_sorted prefix_cmp (map prefix_row_parts own.now) ≡ true }
     ensures { MatchOption result (own.now ≡ [])

@@ -4,5 +4,5 @@ pub mod Spellable
 pub mod Written
 -- a test that goes along values
 pub mod Tested
--- rows fit their field where they rise
+-- rows fit their field if they rise
 pub mod Ordered

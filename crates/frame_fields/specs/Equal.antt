@@ -1,4 +1,4 @@
--- The comparisons of lists of fields: equal exactly where all parts are.
+-- The comparisons of lists of fields: equal exactly if all parts are.
 use Rattle.std.specs.Prelude.{◌≡◌, ℕ, nat_eq, Bool, List}
 use Rattle.std.specs.Ordering.{on, eq_of_both}
 use Rattle.std.specs.Bool.{Decides}

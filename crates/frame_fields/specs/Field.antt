@@ -4,9 +4,11 @@ use Rattle.std.specs.List.{list_all}
 use Rattle.std.specs.Int.{Width, w8, w16, w32, w64}
 use Rattle.std.specs.Ordering.{is_lt}
 use Rattle.meta_types.specs.Actor.{writer_number, node_of_writer, incarnation_of_writer}
-use Rattle.meta_types.specs.Name.{Prefix, Key}
+use Rattle.meta_types.specs.Name.{Prefix, Key, most_prefix_len, most_key_len}
 use Rattle.meta_types.specs.Order.{bytes_cmp}
-use Rattle.meta_types.specs.Value.{ValueParts}
+use Rattle.meta_types.specs.Value.{ValueParts, most_body_len}
+use Rattle.meta_types.specs.Node.{most_nodes}
+use Rattle.frame_fields.specs.Digest.{digest_len}
 use Rattle.dvvset.specs.Object.{Entry, Counter}
 use Rattle.frame_fields.specs.declared.neighbor.Priority.{Priority}
 use Rattle.frame_fields.specs.declared.neighbor.Priority.TheVariants.{Low, High}
@@ -52,13 +54,17 @@ abbrev pub prefix_parts : Prefix → List ℕ × List ℕ
 prefix_parts p = (p.prefix, p.sub)
 
 abbrev pub prefix : Form Prefix
-prefix = seen_as (then_form (name 1 64) (λ _. name 1 64)) prefix_parts
+prefix = seen_as (then_form (name 1 most_prefix_len) (λ _. name 1 most_prefix_len)) prefix_parts
 
 abbrev pub key_parts : Key → Prefix × List ℕ
 key_parts k = (k.prefix, k.key)
 
 abbrev pub key : Form Key
-key = seen_as (then_form prefix (λ _. name 1 256)) key_parts
+key = seen_as (then_form prefix (λ _. name 1 most_key_len)) key_parts
+
+-- the most values of a list that a count of 16 bits announces
+abbrev pub most_listed : ℕ
+most_listed = 65535
 
 -- a count, and this number of values, each of one field or of several
 abbrev pub counted : {A : Type 0} → List A → ℕ × List A
@@ -76,12 +82,12 @@ forget x = no_state
 
 -- node numbers in any order, repeats too
 abbrev pub nodes : Form (List ℕ)
-nodes = list 0 16 (λ (_ : ℕ). node) forget no_state
+nodes = list 0 most_nodes (λ (_ : ℕ). node) forget no_state
 
 -- ---- digests
 
 abbrev pub digest : Form (List ℕ)
-digest = some_bytes 32
+digest = some_bytes digest_len
 
 -- sixteen fields, without a count
 abbrev pub digests : Form (List (List ℕ))
@@ -91,7 +97,7 @@ digests = each (λ (_ : ℕ). digest) forget no_state 16
 abbrev pub place : Form ℕ
 place = number w8 0 15
 
--- a name; where its bytes break a further rule, they are at fault and not their length
+-- a name; if its bytes break a further rule, they are at fault and not their length
 abbrev pub named : ℕ → ℕ → (List ℕ → Bool) → Form (List ℕ)
 named low high rule =
     seen_as (then_form (number w16 low high) (λ size. ruled (some_bytes size) rule)) counted_bytes
@@ -102,14 +108,14 @@ is_before one other = is_lt (bytes_cmp one other)
 
 -- a first part that isn't before another
 abbrev pub first_above : List ℕ → Form (List ℕ)
-first_above low = named 1 64 (λ first. not (is_before first low))
+first_above low = named 1 most_prefix_len (λ first. not (is_before first low))
 
 -- a second part that lies above another, or after a first part that does
 abbrev pub second_above : Prefix → List ℕ → Form (List ℕ)
-second_above low first = named 1 64 (λ sub. is_before low.prefix first || is_before low.sub sub)
+second_above low first = named 1 most_prefix_len (λ sub. is_before low.prefix first || is_before low.sub sub)
 
 -- a prefix that stands after another. One that doesn't is at fault at the bytes of its first part
--- where these stand before the other's, and otherwise at the bytes of its second part; never at a
+-- if these stand before the other's, and otherwise at the bytes of its second part; never at a
 -- length
 abbrev pub prefix_above : Prefix → Form Prefix
 prefix_above low = seen_as (then_form (first_above low.prefix) (second_above low)) prefix_parts
@@ -141,7 +147,7 @@ abbrev pub key_row_parts : KeyDigest → List ℕ × List ℕ
 key_row_parts row = (row.key, row.digest)
 
 abbrev pub key_row : List ℕ → Form KeyDigest
-key_row low = seen_as (then_form (named 1 256 (is_before low)) (λ _. digest)) key_row_parts
+key_row low = seen_as (then_form (named 1 most_key_len (is_before low)) (λ _. digest)) key_row_parts
 
 abbrev pub key_bytes : KeyDigest → List ℕ
 key_bytes row = row.key
@@ -163,7 +169,7 @@ node_before low = node_of_writer (low - 1)
 abbrev pub reaches : ℕ → ℕ → ℕ → Bool
 reaches low node incarnation = nat_le low (writer_number node incarnation)
 
--- a node and an incarnation: two fields. A writer below `low` is at fault at its node where that is
+-- a node and an incarnation: two fields. A writer below `low` is at fault at its node if that is
 -- less than the node of the writer before `low`, and otherwise at its incarnation
 abbrev pub writer_from : ℕ → Form ℕ
 writer_from low =
@@ -186,11 +192,11 @@ abbrev pub above_counter : Counter → ℕ
 above_counter c = c.id + 1
 
 abbrev pub vector : Form (List Counter)
-vector = list 1 65535 counter_form above_counter 0
+vector = list 1 most_listed counter_form above_counter 0
 
 -- ---- objects
 
--- a tag, a stamp, and a body where the tag says so
+-- a tag, a stamp, and a body if the tag says so
 abbrev pub tag_of : Option (List ℕ) → ℕ
 tag_of None = 0
 tag_of (Some bytes) = 1
@@ -202,7 +208,7 @@ bytes_or_none (Some bytes) = bytes
 -- the length and the bytes of a body, or nothing for a tombstone
 abbrev pub body_form : ℕ → Form (List ℕ)
 body_form zero = no_bytes []
-body_form (suc tag) = name 0 1024
+body_form (suc tag) = name 0 most_body_len
 
 abbrev pub value_parts : ValueParts → ℕ × (ℕ × List ℕ)
 value_parts v = (tag_of v.body, (v.stamp, bytes_or_none v.body))
@@ -232,6 +238,7 @@ is_bare e = length e.values == 0
 abbrev pub has_value : List Entry → Bool
 has_value es = not (list_all is_bare es)
 
--- an object without any value is at fault at its first byte, its count, after its fields were read
+-- an object without any value is at fault at its count, which is its first field, once its fields
+-- were read
 abbrev pub object : Form (List Entry)
-object = ruled (list 1 65535 entry above_entry 0) has_value
+object = ruled (list 1 most_listed entry above_entry 0) has_value

@@ -77,7 +77,7 @@ then_form first second = record {
   Bad = λ bytes left. first.Bad bytes left ⊎ BadAfter first (λ x. (second x).Bad) bytes left;
 }
 
--- the same bytes, seen as values of another type; for use only where each value that fits the first
+-- the same bytes, seen as values of another type; for use only if each value that fits the first
 -- form is the parts of just one of these, so that the same bytes are at fault
 abbrev pub seen_as : {A B : Type 0} → Form A → (B → A) → Form B
 seen_as form parts =

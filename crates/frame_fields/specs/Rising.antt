@@ -1,7 +1,7 @@
 -- Rows that rise, in the subject's words. The forms of prefixes and keys say it one row after
 -- another; that both are the same is a law (src/laws.rt).
 use Rattle.std.specs.Prelude.{ℕ, ◌+◌, ◌<◌, ◌≤◌, List, length, get_or, All}
-use Rattle.meta_types.specs.Name.{IsName, IsFullPrefix}
+use Rattle.meta_types.specs.Name.{IsName, IsFullPrefix, most_key_len}
 use Rattle.meta_types.specs.Order.{BytesBefore, PrefixBefore}
 use Rattle.frame_fields.specs.declared.prefixes.PrefixDigest.{PrefixDigest}
 use Rattle.frame_fields.specs.declared.keys.KeyDigest.{KeyDigest}
@@ -31,7 +31,7 @@ pub record ArePrefixRows (rows : List PrefixDigest) : Type 0 where
 
 -- the bytes of a key, 1 to 256, and a digest
 pub record IsKeyRow (row : KeyDigest) : Type 0 where
-  pub key : IsName 256 row.key
+  pub key : IsName most_key_len row.key
   pub digest : IsDigest row.digest
 
 -- at most 8,192 rows of keys, whose keys rise strictly

@@ -1,4 +1,5 @@
 use Rattle.std.specs.Prelude.{◌≤◌, ◌<◌, ◌^◌, List, length}
+use Rattle.meta_types.specs.Name.{most_key_len}
 use Rattle.dvvset.specs.Object.{Entry}
 use Rattle.frame_fields.specs.declared.keys.KeyDigest.{KeyDigest}
 
@@ -10,6 +11,6 @@ IsShort e = length e.values < 2 ^ 16
 abbrev pub AreFew : {A : Type 0} → List A → Type 0
 AreFew xs = length xs < 2 ^ 16
 
--- a key has at most 256 bytes
+-- a key isn't too long
 abbrev pub IsShortKey : KeyDigest → Type 0
-IsShortKey row = length row.key ≤ 256
+IsShortKey row = length row.key ≤ most_key_len

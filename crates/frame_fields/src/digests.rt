@@ -29,7 +29,7 @@ impl Digests {
     ghost use Rattle.std.specs.Prelude.{◌≡◌, ◌↔◌, IfOk, IfSome, IsSome};
     ghost use Rattle.frame_fields.specs.Field.{digests};
 
-    /// These digests, which must be sixteen.
+    /// Returns the list of these digests, which must be sixteen.
     pub fn new(parts: Vec<Digest>) -> Self
         requires { digests.Fits parts.items }
         ensures { result ≡ parts.items }
@@ -37,8 +37,8 @@ impl Digests {
         Digests { parts }
     }
 
-    /// These digests, or `None` where they are not sixteen, and only then. What was handed in is
-    /// dropped with a `None`.
+    /// Returns the list of these digests, or `None` if they are not sixteen, and only then. With
+    /// `None`, what was handed in is dropped.
     pub fn from_parts(parts: Vec<Digest>) -> Option<Self>
         ensures range { IsSome result ↔ digests.Fits parts.items }
         ensures value { IfSome result (λ digests. digests ≡ parts.items) }
@@ -50,7 +50,7 @@ impl Digests {
         }
     }
 
-    /// The parts, without taking memory.
+    /// Returns the parts, without taking memory.
     pub fn into_vec(self) -> Vec<Digest>
         ensures { result.items ≡ self }
     {

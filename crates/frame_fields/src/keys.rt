@@ -48,7 +48,8 @@ impl KeyDigests {
     ghost use Rattle.std.specs.Prelude.{◌≡◌, ◌↔◌, IfOk, IfSome, IsSome};
     ghost use Rattle.frame_fields.specs.Field.{keys};
 
-    /// These rows, which must rise: at most 8,192.
+    /// Returns the list of these rows. They must fit: at most 8,192, with keys of 1 to 256 bytes
+    /// that rise strictly.
     pub fn new(rows: Vec<KeyDigest>) -> Self
         requires { keys.Fits rows.items }
         ensures { result ≡ rows.items }
@@ -56,8 +57,9 @@ impl KeyDigests {
         KeyDigests { rows }
     }
 
-    /// These rows, or `None` where they are more than 8,192, a key has no byte or more than 256, or
-    /// keys don't rise strictly, and only then. What was handed in is dropped with a `None`.
+    /// Returns the list of these rows, or `None` if they are more than 8,192, a key has no byte or
+    /// more than 256, or keys don't rise strictly, and only then. With `None`, what was handed in
+    /// is dropped.
     pub fn from_parts(rows: Vec<KeyDigest>) -> Option<Self>
         ensures range { IsSome result ↔ keys.Fits rows.items }
         ensures value { IfSome result (λ keys. keys ≡ rows.items) }
@@ -69,7 +71,7 @@ impl KeyDigests {
         }
     }
 
-    /// The parts, without taking memory.
+    /// Returns the parts, without taking memory.
     pub fn into_vec(self) -> Vec<KeyDigest>
         ensures { result.items ≡ self }
     {

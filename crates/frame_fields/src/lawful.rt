@@ -16,8 +16,8 @@ use crate::prefixes::PrefixDigests;
 use dvvset::{Entries, Entry, Vector};
 use meta_types::{FullPrefix, MetaKey, NodeId};
 
-/// The greatest count of 16 bits.
-const MAX_COUNT: usize = 65_535;
+/// The most values of a list, whose count has 16 bits.
+pub const MAX_COUNT: usize = 65_535;
 
 /// Always true: the type keeps what a frame asks of a number of 16 bits.
 pub fn is_u16(number: &u16) -> bool

@@ -7,7 +7,7 @@ ghost use Rattle.frame_fields.specs.Field.{keys, prefixes};
 ghost use Rattle.meta_types.specs.Order.{BytesBefore, PrefixBefore};
 ghost use Rattle.frame_fields.specs.Rising.{AreKeyRows, ArePrefixRows, IsRisingThroughout};
 
-/// Rows fit their field exactly where they are at most 8,192, each is lawful by itself, and each
+/// Rows fit their field exactly if they are at most 8,192, each is lawful by itself, and each
 /// stands before the next.
 pub fn rows_fit_where_they_rise()
     ensures prefixes { (rows : List PrefixDigest) → prefixes.Fits rows ↔ ArePrefixRows rows }

@@ -14,7 +14,7 @@ use crate::prefixes::{PrefixDigest, PrefixDigests};
 use dvvset::{Entries, Entry, Vector};
 use meta_types::{FullPrefix, MetaKey, Value};
 
-/// The length of a prefix's spelling, at most 132 bytes.
+/// Returns the length of a prefix's spelling, at most 132 bytes.
 pub fn prefix_len(p: &FullPrefix) -> usize
     ensures value { result ≡ length (prefix.spell p.now) }
     ensures small { result ≤ 132 }
@@ -22,7 +22,7 @@ pub fn prefix_len(p: &FullPrefix) -> usize
     4 + p.prefix().len() + p.sub().len()
 }
 
-/// The length of a key's spelling, at most 390 bytes.
+/// Returns the length of a key's spelling, at most 390 bytes.
 pub fn key_len(k: &MetaKey) -> usize
     ensures value { result ≡ length (key.spell k.now) }
     ensures small { result ≤ 390 }
@@ -31,7 +31,7 @@ pub fn key_len(k: &MetaKey) -> usize
     6 + prefix.prefix().len() + prefix.sub().len() + k.key().len()
 }
 
-/// The length of a vector's spelling.
+/// Returns the length of a vector's spelling.
 pub fn vector_len(v: &Vector) -> usize
     requires { vector.Fits v.now }
     ensures value { result ≡ length (vector.spell v.now) }
@@ -83,7 +83,7 @@ fn entries_len(entries: &[Entry]) -> usize
     len
 }
 
-/// The length of an object's spelling.
+/// Returns the length of an object's spelling.
 pub fn object_len(o: &Entries) -> usize
     requires { object.Fits o.now }
     ensures value { result ≡ length (object.spell o.now) }
@@ -92,7 +92,7 @@ pub fn object_len(o: &Entries) -> usize
     2 + entries_len(o.entries())
 }
 
-/// The length of the spelling of node numbers.
+/// Returns the length of the spelling of node numbers.
 pub fn nodes_len(n: &Nodes) -> usize
     ensures value { result ≡ length (nodes.spell n.now) }
     ensures small { result ≤ 34 }
@@ -100,7 +100,7 @@ pub fn nodes_len(n: &Nodes) -> usize
     2 + 2 * n.as_slice().len()
 }
 
-/// The length of the spelling of sixteen digests.
+/// Returns the length of the spelling of sixteen digests.
 pub fn digests_len(d: &Digests) -> usize
     ensures value { result ≡ length (digests.spell d.now) }
     ensures small { result ≡ 512 }
@@ -128,7 +128,7 @@ fn prefix_row_len(row: &PrefixDigest) -> usize
     prefix_len(&row.prefix) + row.digest.bytes().len()
 }
 
-/// The length of the spelling of prefixes with their digests.
+/// Returns the length of the spelling of prefixes with their digests.
 pub fn prefixes_len(p: &PrefixDigests) -> usize
     ensures value { result ≡ length (prefixes.spell p.now) }
     ensures small { result ≤ 1343490 }
@@ -157,7 +157,7 @@ fn each_key_len(rows: &[KeyDigest]) -> usize
     len
 }
 
-/// The length of the spelling of keys with their digests.
+/// Returns the length of the spelling of keys with their digests.
 pub fn keys_len(k: &KeyDigests) -> usize
     ensures value { result ≡ length (keys.spell k.now) }
     ensures small { result ≤ 2375682 }

@@ -29,7 +29,7 @@ impl Nodes {
     ghost use Rattle.std.specs.Prelude.{◌≡◌, ◌↔◌, IfOk, IfSome, IsSome};
     ghost use Rattle.frame_fields.specs.Field.{nodes};
 
-    /// These nodes, at most 16.
+    /// Returns the list of these nodes, which must be at most 16.
     pub fn new(numbers: Vec<NodeId>) -> Self
         requires { nodes.Fits numbers.items }
         ensures { result ≡ numbers.items }
@@ -37,8 +37,8 @@ impl Nodes {
         Nodes { numbers }
     }
 
-    /// These nodes, or `None` where they are more than 16, and only then. What was handed in is
-    /// dropped with a `None`.
+    /// Returns the list of these nodes, or `None` if they are more than 16, and only then. With
+    /// `None`, what was handed in is dropped.
     pub fn from_parts(numbers: Vec<NodeId>) -> Option<Self>
         ensures range { IsSome result ↔ nodes.Fits numbers.items }
         ensures value { IfSome result (λ nodes. nodes ≡ numbers.items) }
@@ -50,7 +50,7 @@ impl Nodes {
         }
     }
 
-    /// The parts, without taking memory.
+    /// Returns the parts, without taking memory.
     pub fn into_vec(self) -> Vec<NodeId>
         ensures { result.items ≡ self }
     {

@@ -47,7 +47,7 @@ impl PrefixDigests {
     ghost use Rattle.std.specs.Prelude.{◌≡◌, ◌↔◌, IfOk, IfSome, IsSome};
     ghost use Rattle.frame_fields.specs.Field.{prefixes};
 
-    /// These rows, which must rise: at most 8,192.
+    /// Returns the list of these rows, which must be at most 8,192 and rise strictly.
     pub fn new(rows: Vec<PrefixDigest>) -> Self
         requires { prefixes.Fits rows.items }
         ensures { result ≡ rows.items }
@@ -55,8 +55,8 @@ impl PrefixDigests {
         PrefixDigests { rows }
     }
 
-    /// These rows, or `None` where they are more than 8,192 or don't rise strictly, and only then.
-    /// What was handed in is dropped with a `None`.
+    /// Returns the list of these rows, or `None` if they are more than 8,192 or don't rise
+    /// strictly, and only then. With `None`, what was handed in is dropped.
     pub fn from_parts(rows: Vec<PrefixDigest>) -> Option<Self>
         ensures range { IsSome result ↔ prefixes.Fits rows.items }
         ensures value { IfSome result (λ prefixes. prefixes ≡ rows.items) }
@@ -68,7 +68,7 @@ impl PrefixDigests {
         }
     }
 
-    /// The parts, without taking memory.
+    /// Returns the parts, without taking memory.
     pub fn into_vec(self) -> Vec<PrefixDigest>
         ensures { result.items ≡ self }
     {

@@ -1,5 +1,5 @@
-//! Writing fields at the end of bytes. The smallest writers are inlined: a call takes as long as
-//! they do.
+//! Writing fields at the end of bytes. The smallest writers are inlined, since a call would take as
+//! long as they do.
 
 ghost use Rattle.std.specs.Prelude.{◌≡◌, ◌++◌, [], ◌<◌, ◌^◌, length, OnOk, All};
 ghost use Rattle.std.specs.Int.{w8, w16, w32, w64, to_be_bytes};

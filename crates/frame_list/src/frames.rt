@@ -31,7 +31,7 @@ pub struct Frames {
     latest: Latest,
 }
 
-/// For each end, the place of the last frame that has it, among those of `LEAST` bytes or more.
+/// The place of the last frame with each end, among those of `LEAST` bytes or more.
 type Latest = BTreeMap<ByteString, usize>;
 
 impl Model for Frames {
@@ -53,7 +53,7 @@ const END: usize = 16;
 const LEAST: usize = 128;
 
 impl Frames {
-    /// No frames. It takes no memory; memory for what is kept will come from the allocator.
+    /// Makes an empty list. It takes no memory; memory for what is kept comes from the allocator.
     pub fn new(alloc: Global) -> Self
         ensures { result ≡ [] }
     {
@@ -63,7 +63,7 @@ impl Frames {
         }
     }
 
-    /// How many there are.
+    /// Returns how many frames there are.
     pub fn len(&self) -> usize
         ensures value { result ≡ length self.now }
         ensures few { result < 2 ^ 63 }
@@ -71,7 +71,7 @@ impl Frames {
         self.kept.len()
     }
 
-    /// The bytes of the frame at the place: a copy. Fails only when memory runs out.
+    /// Returns a copy of the bytes of the frame at the place. Fails only when memory runs out.
     pub fn bytes(&self, place: usize) -> Result<Vec<u8>, AllocError>
         requires { place < length self.now }
         ensures { IfOk result (λ bytes. bytes.items ≡ get_or self.now place []) }
@@ -114,7 +114,7 @@ impl Frames {
         added
     }
 
-    /// Adds these frames. Where memory runs out, some may have been added.
+    /// Adds these frames. If memory runs out, some may have been added.
     fn push_each(&mut self, frames: &[ByteString]) -> Result<(), AllocError>
         ensures some { (added : List (List ℕ)) × (self.new ≡ self.old ++ added) }
         ensures all { OnOk result (self.new ≡ self.old ++ frames.now) }
@@ -125,8 +125,8 @@ impl Frames {
         Ok(())
     }
 
-    /// A frame that has an end in common with these bytes, and how many bytes that end has: as many
-    /// as the likely frame has in common with them, and 0 where there is no likely frame.
+    /// Returns a frame that has an end in common with these bytes, and how many bytes that end has:
+    /// as many as the likely frame has in common with them, or 0 if there is no likely frame.
     fn common(&self, likely: Option<usize>, bytes: &[u8]) -> Result<(usize, usize), AllocError>
         ensures { IfOk result (λ found. HasEndOf self.now found.0 found.1 bytes.now) }
     {
@@ -148,8 +148,8 @@ impl Frames {
     }
 }
 
-/// The bytes of the frame at the place: what is its own, and then down through the frames that it
-/// shares with.
+/// Returns the bytes of the frame at the place: those of its own, and then those that it shares
+/// with earlier frames, down the chain.
 fn bytes_at(alloc: Global, kept: &[Kept], place: usize) -> Result<Vec<u8>, AllocError>
     requires there { place < length kept.now }
     requires shared { AreShared [] kept.now }
@@ -169,9 +169,9 @@ fn bytes_at(alloc: Global, kept: &[Kept], place: usize) -> Result<Vec<u8>, Alloc
     Ok(bytes)
 }
 
-/// The frame from which the last `count` bytes of the frame at the place are to be read: down
-/// through those that share all of them, to the first that has some as its own. So each step of a
-/// later read but the first finds bytes, however many frames are alike.
+/// Returns the frame from which the last `count` bytes of the frame at the place are to be read. It
+/// goes down through the frames that share all of these bytes, to the first that has some as its
+/// own. So each step of a later read, except the first, finds bytes, however many frames are alike.
 fn keeper(kept: &[Kept], place: usize, count: usize) -> usize
     requires there { place < length kept.now }
     requires shared { AreShared [] kept.now }
@@ -204,13 +204,13 @@ fn note(
     Ok(latest.insert(end_of(alloc, bytes)?, place)?)
 }
 
-/// The last bytes of a frame, by which frames that end alike are found.
+/// Returns the last bytes of a frame, by which frames that end alike are found.
 fn end_of(alloc: Global, bytes: &[u8]) -> Result<ByteString, AllocError> {
     let (_, end) = bytes.split_at(bytes.len().saturating_sub(END));
     Ok(ByteString::new(end.to_vec(alloc)?))
 }
 
-/// How many bytes two lists have in common at their ends.
+/// Returns how many bytes two lists have in common at their ends.
 fn common_end(one: &[u8], other: &[u8]) -> usize
     ensures one { result ≤ length one.now }
     ensures other { result ≤ length other.now }

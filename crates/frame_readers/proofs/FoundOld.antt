@@ -63,7 +63,7 @@ each_finds {A = A} form read next found (suc n) s bytes xs rest is e =
 
 -- ---- the fields of an object
 
--- a writer in its life 0 has the form of today where its node is one and it is `low` or more
+-- a writer in its life 0 has the present form if its node is one and it is `low` or more
 writer_fits : (low n : ℕ) → node.Fits n × (leb low (writer_number n 0) ≡ true) → (writer_from low).Fits (writer_number n 0)
 writer_fits low n fits =
     let most = (number_within w16 0 15 n fits.0).most in

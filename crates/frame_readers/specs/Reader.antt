@@ -6,12 +6,14 @@ use Rattle.std.specs.Prelude.{◌≡◌, ℕ, zero, suc, List, [], ◌∷◌, le
 use Rattle.std.specs.Borrow.{Bor}
 use Rattle.std.specs.Int.{Width, w8, w16, w32, w64, byte_len, from_be_bytes}
 use Rattle.meta_types.specs.Actor.{writer_number}
-use Rattle.meta_types.specs.Name.{Prefix, Key}
-use Rattle.meta_types.specs.Value.{ValueParts}
+use Rattle.meta_types.specs.Name.{Prefix, Key, most_prefix_len, most_key_len}
+use Rattle.meta_types.specs.Value.{ValueParts, most_body_len}
+use Rattle.meta_types.specs.Node.{most_nodes}
+use Rattle.frame_fields.specs.Digest.{digest_len}
 use Rattle.dvvset.specs.Object.{Entry, Counter}
 use Rattle.frame_fields.specs.declared.prefixes.PrefixDigest.{PrefixDigest}
 use Rattle.frame_fields.specs.declared.keys.KeyDigest.{KeyDigest}
-use Rattle.frame_fields.specs.Field.{node_before, reaches, greatest_count, most_rows, no_state, forget, above_counter, above_entry, has_value, is_before, lowest, prefix_of, key_bytes}
+use Rattle.frame_fields.specs.Field.{node_before, reaches, greatest_count, most_rows, no_state, forget, above_counter, above_entry, has_value, is_before, lowest, prefix_of, key_bytes, most_listed}
 use Rattle.frame_fields.specs.declared.neighbor.Priority.{Priority}
 use Rattle.frame_fields.specs.declared.neighbor.Priority.TheVariants.{Low, High}
 use Rattle.frame_fields.specs.declared.neighbor.NeighborAnswer.{NeighborAnswer}
@@ -90,12 +92,12 @@ name_reader low high =
 
 unfoldable pub prefix_reader : Reader Prefix
 prefix_reader =
-    made_reader (then_reader (name_reader 1 64) (λ _. name_reader 1 64))
+    made_reader (then_reader (name_reader 1 most_prefix_len) (λ _. name_reader 1 most_prefix_len))
     (λ p. record { prefix = p.0; sub = p.1 })
 
 unfoldable pub key_reader : Reader Key
 key_reader =
-    made_reader (then_reader prefix_reader (λ _. name_reader 1 256))
+    made_reader (then_reader prefix_reader (λ _. name_reader 1 most_key_len))
     (λ p. record { prefix = p.0; key = p.1 })
 
 unfoldable pub writer_reader : ℕ → Reader ℕ
@@ -111,7 +113,7 @@ counter_reader low =
 
 unfoldable pub vector_reader : Reader (List Counter)
 vector_reader =
-    made_reader (then_reader (within_reader w16 1 65535)
+    made_reader (then_reader (within_reader w16 1 most_listed)
     (each_reader counter_reader above_counter 0)) (λ p. p.1)
 
 -- a body of this tag
@@ -121,7 +123,7 @@ body_of_tag (suc tag) bytes = Some bytes
 
 abbrev pub body_reader : ℕ → Reader (List ℕ)
 body_reader zero bytes = Ok ([], bytes)
-body_reader (suc tag) bytes = name_reader 0 1024 bytes
+body_reader (suc tag) bytes = name_reader 0 most_body_len bytes
 
 unfoldable pub value_reader : Reader ValueParts
 value_reader =
@@ -142,7 +144,7 @@ entry_reader low =
 
 unfoldable pub entries_reader : Reader (List Entry)
 entries_reader =
-    made_reader (then_reader (within_reader w16 1 65535) (each_reader entry_reader above_entry 0))
+    made_reader (then_reader (within_reader w16 1 most_listed) (each_reader entry_reader above_entry 0))
     (λ p. p.1)
 
 unfoldable pub object_reader : Reader (List Entry)
@@ -152,11 +154,11 @@ object_reader = ruled_reader entries_reader has_value
 
 unfoldable pub nodes_reader : Reader (List ℕ)
 nodes_reader =
-    made_reader (then_reader (within_reader w16 0 16)
+    made_reader (then_reader (within_reader w16 0 most_nodes)
     (each_reader (λ (_ : ℕ). node_reader) forget no_state)) (λ p. p.1)
 
 unfoldable pub digest_reader : Reader (List ℕ)
-digest_reader = bytes_reader 32
+digest_reader = bytes_reader digest_len
 
 unfoldable pub digests_reader : Reader (List (List ℕ))
 digests_reader = each_reader (λ (_ : ℕ). digest_reader) forget no_state 16
@@ -167,11 +169,11 @@ named_reader low high rule =
     (λ size. ruled_reader (bytes_reader size) rule)) (λ p. p.1)
 
 unfoldable pub first_reader : List ℕ → Reader (List ℕ)
-first_reader low = named_reader 1 64 (λ first. not (is_before first low))
+first_reader low = named_reader 1 most_prefix_len (λ first. not (is_before first low))
 
 unfoldable pub second_reader : Prefix → List ℕ → Reader (List ℕ)
 second_reader low first =
-    named_reader 1 64 (λ sub. is_before low.prefix first || is_before low.sub sub)
+    named_reader 1 most_prefix_len (λ sub. is_before low.prefix first || is_before low.sub sub)
 
 unfoldable pub prefix_above_reader : Prefix → Reader Prefix
 prefix_above_reader low =
@@ -189,7 +191,7 @@ prefixes_reader =
     (each_reader prefix_row_reader prefix_of lowest)) (λ p. p.1)
 
 unfoldable pub key_above_reader : List ℕ → Reader (List ℕ)
-key_above_reader low = named_reader 1 256 (is_before low)
+key_above_reader low = named_reader 1 most_key_len (is_before low)
 
 unfoldable pub key_row_reader : List ℕ → Reader KeyDigest
 key_row_reader low =

@@ -1,5 +1,5 @@
-//! Reading node numbers, digests, and rows that rise. A row is compared with the one before it
-//! where both stand in the bytes.
+//! Reading node numbers, digests, and rows that rise. A row is compared with the row before it in
+//! the bytes themselves.
 
 ghost use Rattle.std.specs.Prelude.{◌≡◌, ◌≢◌, ◌<◌, [], IfOk, IfErr};
 ghost use Rattle.frame_fields.specs.Field.{no_state, forget, is_before, lowest, prefix_of, key_bytes};
@@ -11,6 +11,9 @@ use crate::fault::FieldFault;
 use crate::reading::{most_rows, node_from, read_bytes, read_node, u16_within};
 use frame_fields::rows::{MAX_ROWS, is_before};
 use frame_fields::{Digest, Digests, KeyDigest, KeyDigests, Nodes, PrefixDigest, PrefixDigests};
+use meta_types::key::MAX_KEY_LEN;
+use meta_types::node::MAX_NODES;
+use meta_types::prefix::MAX_PREFIX_LEN;
 use meta_types::{ByteString, FullPrefix, NodeId};
 use std::alloc::{AllocError, Global};
 
@@ -20,7 +23,7 @@ const MIN_PREFIX_ROW_LEN: usize = 38;
 /// The fewest bytes of a key with its digest.
 const MIN_KEY_ROW_LEN: usize = 35;
 
-/// `len` node numbers.
+/// Reads `len` node numbers.
 fn each_node(alloc: Global, len: u16, bytes: &[u8]) -> Result<(Vec<NodeId>, &[u8]), FieldFault>
     ensures { Gives (λ x. (x.0.items, x.1.now)) result
         (each_reader (λ _. node_reader) forget no_state len bytes.now) }
@@ -39,7 +42,7 @@ fn each_node(alloc: Global, len: u16, bytes: &[u8]) -> Result<(Vec<NodeId>, &[u8
 fn list_of_nodes(alloc: Global, bytes: &[u8]) -> Result<(Vec<NodeId>, &[u8]), FieldFault>
     ensures { Gives (λ x. (x.0.items, x.1.now)) result (nodes_reader bytes.now) }
 {
-    let (len, rest) = u16_within(0, 16, bytes)?;
+    let (len, rest) = u16_within(0, u64::from(MAX_NODES), bytes)?;
     let (nodes, rest) = each_node(alloc, len, rest)?;
     Ok((nodes, rest))
 }
@@ -83,13 +86,13 @@ pub fn read_digests(alloc: Global, bytes: &[u8]) -> Result<(Digests, &[u8]), Fie
     Ok((Digests::new(digests), rest))
 }
 
-/// The first part of a prefix, which is not less than the first part of the prefix before.
+/// Reads the first part of a prefix, which is not less than the first part of the prefix before.
 #[tactic(auto, unfolding(crate::specs::Reader::first_reader))]
 fn read_first<'a>(low: &[u8], bytes: &'a [u8]) -> Result<(&'a [u8], &'a [u8]), FieldFault>
     ensures value { Gives (λ x. (x.0.now, x.1.now)) result (first_reader low.now bytes.now) }
     ensures range { IfOk result (λ x. IsName 64 x.0.now) }
 {
-    let (len, rest) = u16_within(1, 64, bytes)?;
+    let (len, rest) = u16_within(1, MAX_PREFIX_LEN as u64, bytes)?;
     let (first, after) = read_bytes(usize::from(len), rest)?;
     if is_before(first, low) {
         return Err(FieldFault::Left(rest.len()));
@@ -97,8 +100,8 @@ fn read_first<'a>(low: &[u8], bytes: &'a [u8]) -> Result<(&'a [u8], &'a [u8]), F
     Ok((first, after))
 }
 
-/// The second part of a prefix, which follows a greater first part or is greater than the second
-/// part of the prefix before.
+/// Reads the second part of a prefix, which follows a greater first part or is greater than the
+/// second part of the prefix before.
 #[tactic(auto, unfolding(crate::specs::Reader::second_reader))]
 fn read_second<'a>(
     low: &[u8],
@@ -110,7 +113,7 @@ fn read_second<'a>(
         (second_reader (record { prefix = low.now; sub = low_sub.now }) first.now bytes.now) }
     ensures range { IfOk result (λ x. IsName 64 x.0.now) }
 {
-    let (len, rest) = u16_within(1, 64, bytes)?;
+    let (len, rest) = u16_within(1, MAX_PREFIX_LEN as u64, bytes)?;
     let (sub, after) = read_bytes(usize::from(len), rest)?;
     if is_before(low, first) || is_before(low_sub, sub) {
         Ok((sub, after))
@@ -119,7 +122,7 @@ fn read_second<'a>(
     }
 }
 
-/// The parts of a prefix above another.
+/// Reads the parts of a prefix above another.
 #[tactic(auto, unfolding(crate::specs::Reader::prefix_above_reader))]
 fn parts_above<'a>(
     low: &[u8],
@@ -135,7 +138,7 @@ fn parts_above<'a>(
     Ok((first, sub, rest))
 }
 
-/// A prefix of these parts, with a digest.
+/// Returns a prefix of these parts, with a digest.
 fn prefix_digest(
     alloc: Global,
     first: &[u8],
@@ -154,7 +157,7 @@ fn prefix_digest(
     })
 }
 
-/// A prefix above another with its digest, and the parts of the prefix.
+/// Reads a prefix above another, with its digest. Returns the parts of the prefix too.
 #[tactic(auto, unfolding(crate::specs::Reader::prefix_row_reader))]
 fn prefix_row<'a>(
     alloc: Global,
@@ -172,7 +175,7 @@ fn prefix_row<'a>(
     Ok((row, first, sub, rest))
 }
 
-/// `len` prefixes with their digests, each above the one before.
+/// Reads `len` prefixes with their digests, each above the one before.
 fn each_prefix(
     alloc: Global,
     len: u16,
@@ -211,12 +214,12 @@ pub fn read_prefixes(alloc: Global, bytes: &[u8]) -> Result<(PrefixDigests, &[u8
     Ok((PrefixDigests::new(rows), rest))
 }
 
-/// The bytes of a key, which stand after the bytes of the key before.
+/// Reads the bytes of a key, which stand after the bytes of the key before.
 #[tactic(auto, unfolding(crate::specs::Reader::key_above_reader))]
 fn key_above<'a>(low: &[u8], bytes: &'a [u8]) -> Result<(&'a [u8], &'a [u8]), FieldFault>
     ensures { Gives (λ x. (x.0.now, x.1.now)) result (key_above_reader low.now bytes.now) }
 {
-    let (len, rest) = u16_within(1, 256, bytes)?;
+    let (len, rest) = u16_within(1, MAX_KEY_LEN as u64, bytes)?;
     let (key, after) = read_bytes(usize::from(len), rest)?;
     if is_before(low, key) {
         Ok((key, after))
@@ -225,7 +228,7 @@ fn key_above<'a>(low: &[u8], bytes: &'a [u8]) -> Result<(&'a [u8], &'a [u8]), Fi
     }
 }
 
-/// A key above another with its digest, and the bytes of the key.
+/// Reads a key above another, with its digest. Returns the bytes of the key too.
 #[tactic(auto, unfolding(crate::specs::Reader::key_row_reader))]
 fn key_row<'a>(
     alloc: Global,
@@ -244,7 +247,7 @@ fn key_row<'a>(
     Ok((row, key, rest))
 }
 
-/// `len` keys with their digests, each above the one before.
+/// Reads `len` keys with their digests, each above the one before.
 fn each_key(alloc: Global, len: u16, bytes: &[u8]) -> Result<(Vec<KeyDigest>, &[u8]), FieldFault>
     ensures { Gives (λ x. (x.0.items, x.1.now)) result
         (each_reader key_row_reader key_bytes [] len bytes.now) }

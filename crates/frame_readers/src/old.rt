@@ -1,5 +1,5 @@
 //! Reading objects as the first version of node files has them: their writers are nodes alone,
-//! without the number of a life. What was read is an object whose writers are in life 0.
+//! without the number of a life. They are read as writers in life 0.
 
 ghost use Rattle.std.specs.Prelude.{◌≢◌, ◌≤◌, IfOk, IfErr};
 ghost use Rattle.meta_types.specs.Actor.{writer_number};
@@ -12,13 +12,13 @@ ghost use Rattle.frame_readers.specs.declared.fault.FieldFault.TheVariants.{Memo
 use crate::fault::FieldFault;
 use crate::reading::{MOST_WRITERS, read_node, read_values, u16_within, u64_within, writer_from};
 use dvvset::{Entries, Entry};
-use frame_fields::lawful::all_are_bare;
+use frame_fields::lawful::{MAX_COUNT, all_are_bare};
 use std::alloc::Global;
 
 /// The life that a writer of the old form is in.
 const OLD_LIFE: u32 = 0;
 
-/// The node of a writer that is `low` or more.
+/// Reads the node of a writer that is `low` or more.
 #[tactic(auto, unfolding(crate::specs::Old::old_writer_reader))]
 fn read_old_writer(low: u64, bytes: &[u8]) -> Result<(u16, &[u8]), FieldFault>
     requires { low ≤ MOST_WRITERS }
@@ -50,12 +50,12 @@ fn read_old_entry(alloc: Global, low: u64, bytes: &[u8]) -> Result<(Entry, &[u8]
 fn read_old_entries(alloc: Global, bytes: &[u8]) -> Result<(Vec<Entry>, &[u8]), FieldFault>
     ensures { Gives (λ x. (x.0.items, x.1.now)) result (old_entries_reader bytes.now) }
 {
-    let (len, rest) = u16_within(1, 65535, bytes)?;
+    let (len, rest) = u16_within(1, MAX_COUNT as u64, bytes)?;
     let (entries, rest) = each_old_entry(alloc, len, rest)?;
     Ok((entries, rest))
 }
 
-/// `len` entries, each of a node above the one before.
+/// Reads `len` entries, each of a node above the one before.
 fn each_old_entry(alloc: Global, len: u16, bytes: &[u8]) -> Result<(Vec<Entry>, &[u8]), FieldFault>
     ensures { Gives (λ x. (x.0.items, x.1.now)) result
         (each_reader old_entry_reader above_entry 0 len bytes.now) }
@@ -72,7 +72,7 @@ fn each_old_entry(alloc: Global, len: u16, bytes: &[u8]) -> Result<(Vec<Entry>, 
     Ok((entries, rest))
 }
 
-/// An object whose writers are nodes alone, each of which wrote in its life 0.
+/// Reads an object whose writers are nodes alone, each of which wrote in its life 0.
 #[tactic(auto, unfolding(crate::specs::Old::old_object_reader))]
 pub fn read_old_object(alloc: Global, bytes: &[u8]) -> Result<(Entries, &[u8]), FieldFault>
     ensures { MatchesReader result (old_object_reader bytes.now) }

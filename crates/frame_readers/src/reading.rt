@@ -10,9 +10,12 @@ ghost use Rattle.frame_readers.specs.declared.fault.FieldFault.TheVariants.{Memo
 
 use crate::fault::FieldFault;
 use dvvset::{Counter, Entries, Entry, Vector};
-use frame_fields::lawful::all_are_bare;
+use frame_fields::lawful::{MAX_COUNT, all_are_bare};
 use frame_fields::{NeighborAnswer, Priority};
 use meta_types::actor::INCARNATIONS;
+use meta_types::key::MAX_KEY_LEN;
+use meta_types::prefix::MAX_PREFIX_LEN;
+use meta_types::value::MAX_BODY_LEN;
 use meta_types::{Actor, ByteString, FullPrefix, MetaKey, NodeId, Value};
 use std::alloc::Global;
 
@@ -28,8 +31,8 @@ const MIN_ENTRY_LEN: usize = 16;
 /// The bytes of a counter.
 const COUNTER_LEN: usize = 14;
 
-/// How many rows to make room for: not more than are announced, nor than the bytes can hold, so
-/// that a short frame takes little memory.
+/// Returns how many rows to make room for: no more than are announced, and no more than the bytes
+/// can hold, so that a short frame takes little memory.
 pub(crate) fn most_rows(len: u16, bytes: &[u8], row_len: usize) -> usize
     requires { 0 < row_len }
 {
@@ -128,7 +131,7 @@ pub(crate) fn u64_within(low: u64, high: u64, bytes: &[u8]) -> Result<(u64, &[u8
     }
 }
 
-/// The first `len` bytes, if there are that many, and the bytes after them.
+/// Reads the first `len` bytes, if there are that many, and returns the bytes after them too.
 pub(crate) fn read_bytes(len: usize, bytes: &[u8]) -> Result<(&[u8], &[u8]), FieldFault>
     ensures { Gives (λ x. (x.0.now, x.1.now)) result (bytes_reader len bytes.now) }
 {
@@ -138,8 +141,8 @@ pub(crate) fn read_bytes(len: usize, bytes: &[u8]) -> Result<(&[u8], &[u8]), Fie
     Ok(bytes.split_at(len))
 }
 
-// The readers of names are inlined as far as `read_key`: it saves calls, and moves of the bytes of
-// a name where each returns.
+// The readers of names are inlined as far as `read_key`: that saves calls, and moves of a name's
+// bytes at each return.
 #[inline(always)]
 #[tactic(auto, unfolding(crate::specs::Reader::name_reader))]
 fn read_name(
@@ -210,7 +213,6 @@ pub fn read_answer(bytes: &[u8]) -> Result<(NeighborAnswer, &[u8]), FieldFault>
     Ok((answer_from(answer), rest))
 }
 
-/// The number of a life.
 #[tactic(auto, unfolding(crate::specs::Reader::within_reader))]
 pub fn read_life(bytes: &[u8]) -> Result<(u32, &[u8]), FieldFault>
     ensures value { MatchesReader result (within_reader w32 1 4294967295 bytes.now) }
@@ -224,7 +226,7 @@ pub fn read_life(bytes: &[u8]) -> Result<(u32, &[u8]), FieldFault>
     }
 }
 
-/// The number of one of sixteen.
+/// Reads the number of one of sixteen.
 pub fn read_place(bytes: &[u8]) -> Result<(u8, &[u8]), FieldFault>
     ensures value { MatchesReader result (within_reader w8 0 15 bytes.now) }
     ensures memory { IfErr result (λ fault. fault ≢ Memory) }
@@ -237,8 +239,8 @@ pub fn read_place(bytes: &[u8]) -> Result<(u8, &[u8]), FieldFault>
 pub fn read_prefix(alloc: Global, bytes: &[u8]) -> Result<(FullPrefix, &[u8]), FieldFault>
     ensures { MatchesReader result (prefix_reader bytes.now) }
 {
-    let (prefix, rest) = read_name(alloc, 1, 64, bytes)?;
-    let (sub, rest) = read_name(alloc, 1, 64, rest)?;
+    let (prefix, rest) = read_name(alloc, 1, MAX_PREFIX_LEN as u64, bytes)?;
+    let (sub, rest) = read_name(alloc, 1, MAX_PREFIX_LEN as u64, rest)?;
     Ok((FullPrefix::of(prefix, sub), rest))
 }
 
@@ -248,11 +250,11 @@ pub fn read_key(alloc: Global, bytes: &[u8]) -> Result<(MetaKey, &[u8]), FieldFa
     ensures { MatchesReader result (key_reader bytes.now) }
 {
     let (prefix, rest) = read_prefix(alloc, bytes)?;
-    let (key, rest) = read_name(alloc, 1, 256, rest)?;
+    let (key, rest) = read_name(alloc, 1, MAX_KEY_LEN as u64, rest)?;
     Ok((MetaKey::under(prefix, key), rest))
 }
 
-/// The node of the writer before `low`.
+/// Returns the node of the writer before `low`.
 fn node_before(low: u64) -> u16
     requires { low ≤ MOST_WRITERS }
     ensures { result ≡ node_before low }
@@ -260,7 +262,7 @@ fn node_before(low: u64) -> u16
     (low.saturating_sub(1) / INCARNATIONS) as u16
 }
 
-/// The node and the incarnation of a writer that is `low` or more.
+/// Reads the node and the incarnation of a writer that is `low` or more.
 #[tactic(auto, unfolding(crate::specs::Reader::writer_reader))]
 fn read_writer(low: u64, bytes: &[u8]) -> Result<(u16, u32, &[u8]), FieldFault>
     requires { low ≤ MOST_WRITERS }
@@ -285,7 +287,7 @@ pub(crate) fn writer_from(node: u16, incarnation: u32) -> Actor
     Actor::new(node_from(node), incarnation)
 }
 
-/// The node, the incarnation and the count of a counter whose writer is `low` or more.
+/// Reads the node, the incarnation and the count of a counter whose writer is `low` or more.
 #[tactic(auto, unfolding(crate::specs::Reader::counter_reader))]
 fn read_counter(low: u64, bytes: &[u8]) -> Result<(u16, u32, u64, &[u8]), FieldFault>
     requires { low ≤ MOST_WRITERS }
@@ -308,7 +310,7 @@ fn read_value(alloc: Global, bytes: &[u8]) -> Result<(Value, &[u8]), FieldFault>
     if tag == 0 {
         return Ok((Value::of(stamp, None), rest));
     }
-    let (body, rest) = read_name(alloc, 0, 1024, rest)?;
+    let (body, rest) = read_name(alloc, 0, MAX_BODY_LEN as u64, rest)?;
     Ok((Value::of(stamp, Some(body)), rest))
 }
 
@@ -325,7 +327,7 @@ pub(crate) fn read_values(
     Ok((values, rest))
 }
 
-/// `len` values.
+/// Reads `len` values.
 fn each_value(alloc: Global, len: u16, bytes: &[u8]) -> Result<(Vec<Value>, &[u8]), FieldFault>
     ensures { Gives (λ x. (x.0.items, x.1.now)) result
         (each_reader (λ _. value_reader) forget no_state len bytes.now) }
@@ -358,12 +360,12 @@ fn read_entry(alloc: Global, low: u64, bytes: &[u8]) -> Result<(Entry, &[u8]), F
 fn read_entries(alloc: Global, bytes: &[u8]) -> Result<(Vec<Entry>, &[u8]), FieldFault>
     ensures { Gives (λ x. (x.0.items, x.1.now)) result (entries_reader bytes.now) }
 {
-    let (len, rest) = u16_within(1, 65535, bytes)?;
+    let (len, rest) = u16_within(1, MAX_COUNT as u64, bytes)?;
     let (entries, rest) = each_entry(alloc, len, rest)?;
     Ok((entries, rest))
 }
 
-/// `len` entries, each of a writer above the one before.
+/// Reads `len` entries, each of a writer above the one before.
 fn each_entry(alloc: Global, len: u16, bytes: &[u8]) -> Result<(Vec<Entry>, &[u8]), FieldFault>
     ensures { Gives (λ x. (x.0.items, x.1.now)) result
         (each_reader entry_reader above_entry 0 len bytes.now) }
@@ -395,12 +397,12 @@ pub fn read_object(alloc: Global, bytes: &[u8]) -> Result<(Entries, &[u8]), Fiel
 fn read_counters(alloc: Global, bytes: &[u8]) -> Result<(Vec<Counter>, &[u8]), FieldFault>
     ensures { Gives (λ x. (x.0.items, x.1.now)) result (vector_reader bytes.now) }
 {
-    let (len, rest) = u16_within(1, 65535, bytes)?;
+    let (len, rest) = u16_within(1, MAX_COUNT as u64, bytes)?;
     let (counters, rest) = each_counter(alloc, len, rest)?;
     Ok((counters, rest))
 }
 
-/// `len` counters, each of a writer above the one before.
+/// Reads `len` counters, each of a writer above the one before.
 fn each_counter(alloc: Global, len: u16, bytes: &[u8]) -> Result<(Vec<Counter>, &[u8]), FieldFault>
     ensures { Gives (λ x. (x.0.items, x.1.now)) result
         (each_reader counter_reader above_counter 0 len bytes.now) }

@@ -156,7 +156,7 @@ module _ (here there : Table) (table : IsTable here) (other : IsTable there) whe
       let byte : leaf_of k.key < 256 = one_of_256 k.key in
       ⊎_elim (λ same. key_by_inner k (same (leaf_of k.key / 16) (omega arith))) inr (prefix_same k.prefix e)
 
-  -- the root of a full prefix, where it holds a key, among those that XPREFIXES carries
+  -- the root of a full prefix, if it holds a key, among those that XPREFIXES carries
   abbrev pub root_in : Prefix → List PrefixDigest → Option Digest
   root_in p roots = find prefix_cmp p (map prefix_row_parts roots)
 

@@ -9,7 +9,7 @@ use Rattle.meta_types.specs.Order.{key_cmp}
 use Rattle.dvvset.specs.Object.{Entry}
 use Rattle.frame_fields.specs.Field.{object}
 use Rattle.meta_store.specs.Table.{Table}
-use Rattle.hash_tree.specs.Tree.{OwnRows, in_leaf, inner_digests, leaf_digests, own_rows, prefix_roots, roots_text, rows_of, text_of}
+use Rattle.hash_tree.specs.Tree.{OwnRows, in_leaf, inner_digests, leaf_digests, own_rows, prefix_roots, roots_text, rows_of, text_of, fan, leaf_count}
 
 -- the rows of a full prefix in the tree of a table
 abbrev pub rows_below : Prefix → Table → OwnRows
@@ -23,9 +23,9 @@ pub data IsHashed (table : Table) : List ℕ → Type 0 where
       → IsHashed table (object.spell es)
   of_key : (key : Key) (es : List Entry) → find key_cmp key table ≡ Some es
       → IsHashed table key.key
-  of_leaf : (p : Prefix) (leaf : ℕ) → leaf < 256
+  of_leaf : (p : Prefix) (leaf : ℕ) → leaf < leaf_count
       → IsHashed table (text_of (in_leaf leaf (rows_below p table)))
-  of_inner : (p : Prefix) (inner : ℕ) → inner < 16
+  of_inner : (p : Prefix) (inner : ℕ) → inner < fan
       → IsHashed table (concat (leaf_digests (rows_below p table) inner))
   of_prefix : (p : Prefix) → IsHashed table (concat (inner_digests (rows_below p table)))
   of_root : IsHashed table (roots_text (prefix_roots (rows_of table)))

@@ -9,7 +9,7 @@ use Rattle.meta_types.specs.Order.{bytes_cmp, prefix_cmp}
 use Rattle.frame_fields.specs.Field.{key_row_parts}
 use Rattle.frame_fields.specs.declared.keys.KeyDigest.{KeyDigest}
 use Rattle.meta_store.specs.Kept.{AreRows, PartsOf}
-use Rattle.hash_tree.specs.Tree.{Digest, OwnRows, leaf_of, leaf_digest}
+use Rattle.hash_tree.specs.Tree.{Digest, OwnRows, leaf_of, leaf_digest, fan, leaf_count}
 
 -- a key stands at this place of the rows of a leaf: another digest of it is put there
 pub record IsAt (key : List ℕ) (rows : List KeyDigest) (place : ℕ) : Type 0 where
@@ -38,7 +38,7 @@ in_order (row ∷ rows) = put bytes_cmp row.0 row.1 (in_order rows)
 abbrev pub joined : RowsByLeaf → OwnRows
 joined leaves = in_order (flat_map (λ leaf. leaf.1) leaves)
 
--- the rows of a leaf, none where it isn't kept
+-- the rows of a leaf, none if it isn't kept
 abbrev pub leaf_at : ℕ → RowsByLeaf → OwnRows
 leaf_at leaf leaves = unwrap_or (find nat_cmp leaf leaves) []
 
@@ -54,12 +54,12 @@ pub record AreLeaves (leaves : RowsByLeaf) : Type 0 where
 
 -- the digests of all leaves
 abbrev pub all_leaf_digests : OwnRows → List Digest
-all_leaf_digests rows = map (leaf_digest rows) (range_with_len 0 256)
+all_leaf_digests rows = map (leaf_digest rows) (range_with_len 0 leaf_count)
 
 -- the digests of the inner nodes over leaves of these digests
 abbrev pub inner_over : List Digest → List Digest
 inner_over leaves =
-    map (λ inner. sha256 (concat (take 16 (drop (16 * inner) leaves)))) (range_with_len 0 16)
+    map (λ inner. sha256 (concat (take fan (drop (fan * inner) leaves)))) (range_with_len 0 fan)
 
 -- full prefixes, rising, each with a key
 pub record AreTreeParts (parts : PartsOf Digest) : Type 0 where

@@ -17,5 +17,5 @@ pub mod Rising
 pub mod Hashed
 -- how a tree keeps its rows
 pub mod Kept
--- what a hasher has taken in, of which private contracts speak
+-- what a hasher has taken in, which private contracts speak of
 pub mod Hashing

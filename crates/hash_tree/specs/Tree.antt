@@ -6,7 +6,7 @@ use Rattle.std.specs.Prelude.{ℕ, ◌*◌, ◌==◌, List, ◌++◌, map, slice
 use Rattle.std.specs.List.{concat, filter, flat_map, range_with_len}
 use Rattle.std.specs.FinMap.{put}
 use Rattle.sha2.specs.Sha256.{sha256}
-use Rattle.meta_types.specs.Name.{Prefix, Key}
+use Rattle.meta_types.specs.Name.{Prefix, Key, most_key_len}
 use Rattle.meta_types.specs.Order.{key_cmp, prefix_eq}
 use Rattle.dvvset.specs.Object.{Entry}
 use Rattle.frame_fields.specs.Field.{name, object, prefix}
@@ -45,7 +45,7 @@ with_digest key digest rows = put key_cmp key digest rows
 abbrev pub OwnRows : Type 0
 OwnRows = RowsOf Digest
 
--- the rows of a full prefix, none where it holds no key
+-- the rows of a full prefix, none if it holds no key
 abbrev pub own_rows : Prefix → DigestRows → OwnRows
 own_rows p rows =
     map (λ row. (row.0.key, row.1)) (filter (λ row. prefix_eq p row.0.prefix) rows)
@@ -61,23 +61,31 @@ in_leaf leaf rows = filter (λ row. leaf == leaf_of row.0) rows
 abbrev pub bucket : OwnRows → ℕ → List KeyDigest
 bucket rows leaf = map (λ row. record { key = row.0; digest = row.1 }) (in_leaf leaf rows)
 
+-- how many inner nodes a full prefix has, and how many leaves each of them
+abbrev pub fan : ℕ
+fan = 16
+
+-- how many leaves a full prefix has
+abbrev pub leaf_count : ℕ
+leaf_count = 256
+
 -- rows as bytes
 unfoldable pub text_of : OwnRows → List ℕ
-text_of rows = flat_map (λ row. (name 1 256).spell row.0 ++ row.1) rows
+text_of rows = flat_map (λ row. (name 1 most_key_len).spell row.0 ++ row.1) rows
 
 unfoldable pub leaf_digest : OwnRows → ℕ → Digest
 leaf_digest rows leaf = sha256 (text_of (in_leaf leaf rows))
 
 -- the digests of the sixteen leaves under an inner node: leaf i stands under inner node i / 16
 abbrev pub leaf_digests : OwnRows → ℕ → List Digest
-leaf_digests rows inner = map (leaf_digest rows) (range_with_len (16 * inner) 16)
+leaf_digests rows inner = map (leaf_digest rows) (range_with_len (fan * inner) fan)
 
 unfoldable pub inner_digest : OwnRows → ℕ → Digest
 inner_digest rows inner = sha256 (concat (leaf_digests rows inner))
 
 -- the digests of the sixteen inner nodes
 abbrev pub inner_digests : OwnRows → List Digest
-inner_digests rows = map (inner_digest rows) (range_with_len 0 16)
+inner_digests rows = map (inner_digest rows) (range_with_len 0 fan)
 
 unfoldable pub prefix_root : OwnRows → Digest
 prefix_root rows = sha256 (concat (inner_digests rows))

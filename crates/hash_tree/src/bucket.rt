@@ -69,7 +69,6 @@ impl Bucket {
         }
     }
 
-    /// The digest of the leaf.
     pub(crate) fn digest(&self) -> Digest
         ensures { result ≡ sha256 (text_of self.now) }
     {
@@ -78,7 +77,7 @@ impl Bucket {
         hasher.finish()
     }
 
-    /// The keys with their digests, in order.
+    /// Returns the keys with their digests, in order.
     pub(crate) fn rows(&self) -> &[KeyDigest]
         ensures { result.now ≡ map (λ row. record { key = row.0; digest = row.1 }) self.now }
     {
@@ -95,7 +94,8 @@ impl Bucket {
     }
 }
 
-/// The place of the key among rising rows, or as an error the place where it would stand.
+/// Returns the place of the key among rising rows, or, as an error, the place at which it would
+/// stand.
 fn place_of(rows: &[KeyDigest], key: &ByteString) -> Result<usize, usize>
     requires { do_keys_rise rows.now ≡ true }
     ensures there { IfOk result (IsAt key.now rows.now) }
@@ -121,7 +121,7 @@ fn add_rows(hasher: &mut TextHasher, rows: &[KeyDigest])
     }
 }
 
-/// Copies of rows. Fails only when memory runs out.
+/// Returns copies of rows. Fails only when memory runs out.
 pub(crate) fn copied(alloc: Global, rows: &[KeyDigest]) -> Result<Vec<KeyDigest>, AllocError>
     ensures { IfOk result (λ copies. copies.items ≡ rows.now) }
 {

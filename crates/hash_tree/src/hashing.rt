@@ -12,7 +12,7 @@ use frame_fields::Digest;
 use meta_types::FullPrefix;
 use sha2::{Digest as _, Sha256};
 
-/// The leaf in which a key stands, by the key's own bytes.
+/// Returns the leaf in which a key stands, by the key's own bytes.
 pub(crate) fn leaf_of(key: &[u8]) -> u8
     ensures { result ≡ leaf_of key.now }
 {
@@ -37,7 +37,7 @@ pub(crate) fn add_prefix(hasher: &mut TextHasher, p: &FullPrefix)
     add_name(hasher, p.sub());
 }
 
-/// The digest of digests, one after the other.
+/// Returns the digest of digests, one after the other.
 pub(crate) fn digest_of_all(digests: &[Digest]) -> Digest
     ensures { result ≡ sha256 (concat digests.now) }
 {

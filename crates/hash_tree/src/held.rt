@@ -31,7 +31,8 @@ impl Model for Held {
 }
 
 impl Held {
-    /// Holds what the store does. Fails only when memory runs out, and then the store is dropped.
+    /// Makes a `Held` of what the store holds. Fails only when memory runs out, and then the store
+    /// is dropped.
     pub fn new(alloc: Global, store: Store) -> Result<Self, AllocError>
         ensures { IfOk result (λ held. held ≡ store) }
     {
@@ -39,7 +40,8 @@ impl Held {
         Ok(Held { store, tree })
     }
 
-    /// Holds what the store does, as `new` does; but where memory runs out, the store comes back.
+    /// Makes a `Held` of what the store holds, as `new` does; but if memory runs out, the store
+    /// comes back.
     pub fn from_store(alloc: Global, store: Store) -> Result<Self, AllocFailed<Store>>
         ensures held { IfOk result (λ held. held ≡ store) }
         ensures back { IfErr result (λ failed. failed.value ≡ store) }
@@ -50,7 +52,7 @@ impl Held {
         }
     }
 
-    /// The store and its tree, without taking memory.
+    /// Returns the store and its tree, without taking memory.
     pub fn into_parts(self) -> (Store, Tree)
         ensures store { result.0 ≡ self }
         ensures tree { result.1 ≡ rows_of self }
@@ -58,7 +60,7 @@ impl Held {
         (self.store, self.tree)
     }
 
-    /// The store, without taking memory. The tree is dropped.
+    /// Returns the store, without taking memory. The tree is dropped.
     pub fn into_store(self) -> Store
         ensures { result ≡ self }
     {
@@ -77,8 +79,8 @@ impl Held {
         &self.tree
     }
 
-    /// Holds this object under the key from now on. Fails only when memory runs out, and then
-    /// nothing changes.
+    /// Holds this object under the key, in place of what is held there. Fails only when memory runs
+    /// out, and then nothing changes.
     pub fn hold(&mut self, key: &MetaKey, object: Entries) -> Result<(), AllocError>
         requires held { IsHeld object }
         requires room { is_full_for self.old key.now ≡ false }

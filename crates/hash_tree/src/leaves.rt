@@ -68,7 +68,6 @@ impl Leaves {
         put_leaf(self.alloc, &mut self.by_number, leaf, key, digest)
     }
 
-    /// The digest of a leaf.
     pub(crate) fn digest(&self, leaf: u8) -> Digest
         ensures { result ≡ leaf_digest self.now leaf }
     {
@@ -78,7 +77,7 @@ impl Leaves {
         }
     }
 
-    /// The digest of a leaf, where `empty` is the digest of a leaf without keys.
+    /// Returns the digest of a leaf, which is `empty` if it has no keys.
     fn digest_or(&self, leaf: u8, empty: Digest) -> Digest
         requires { empty ≡ sha256 [] }
         ensures { result ≡ leaf_digest self.now leaf }
@@ -89,7 +88,7 @@ impl Leaves {
         }
     }
 
-    /// The digests of all 256 leaves.
+    /// Returns the digests of all 256 leaves.
     pub(crate) fn digests(&self) -> Result<Vec<Digest>, AllocError>
         ensures { IfOk result (λ digests. digests.items ≡ all_leaf_digests self.now) }
     {
@@ -101,7 +100,7 @@ impl Leaves {
         Ok(digests)
     }
 
-    /// A leaf's keys with their digests, in order; none where it has none.
+    /// Returns a leaf's keys with their digests, in order; none if it has none.
     pub(crate) fn bucket(&self, leaf: u8) -> &[KeyDigest]
         ensures value { result.now ≡ bucket self.now leaf }
         ensures rising { do_keys_rise result.now ≡ true }
@@ -123,7 +122,7 @@ impl Leaves {
     }
 }
 
-/// The digest of a leaf without keys.
+/// Returns the digest of a leaf without keys.
 pub(crate) fn empty_digest() -> Digest
     ensures { result ≡ sha256 [] }
 {

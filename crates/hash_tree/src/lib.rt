@@ -3,7 +3,7 @@
 //! Each full prefix has 256 leaves, in which its keys stand by the first byte of SHA-256 of their
 //! own bytes; 16 inner nodes over 16 leaves each; and a root over these. The root of the tree goes
 //! over the roots of the full prefixes, and is computed when it is asked for. An update computes
-//! one leaf, one inner node and one prefix root anew, and for the first key of a full prefix the
+//! one leaf, one inner node and one prefix root, and for the first key of a full prefix also the
 //! digests of an empty one.
 //!
 //! ```

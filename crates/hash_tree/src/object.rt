@@ -14,7 +14,8 @@ use dvvset::{Entries, Entry};
 use frame_fields::Digest;
 use meta_types::{Actor, Value};
 
-/// The digest of an object that a store holds, as it is spelled in a frame. It takes no memory.
+/// Returns the digest of an object that a store holds, as it is spelled in a frame. It takes no
+/// memory.
 pub fn object_digest(o: &Entries) -> Digest
     requires { IsHeld o.now }
     ensures { result ≡ object_digest o.now }

@@ -44,7 +44,7 @@ pub(crate) fn put_part(
     Ok(())
 }
 
-/// The trees of a store's full prefixes.
+/// Returns the trees of a store's full prefixes.
 pub(crate) fn parts_of(
     alloc: Global,
     store: &Store,
@@ -59,7 +59,7 @@ pub(crate) fn parts_of(
     Ok(parts)
 }
 
-/// The digest of the full prefixes with their roots.
+/// Returns the digest of the full prefixes with their roots.
 pub(crate) fn root_of(parts: &BTreeMap<FullPrefix, PrefixTree>) -> Digest
     ensures { result ≡ sha256
         (flat_map (λ part. prefix.spell part.0 ++ prefix_root part.1) parts.now.entries) }
@@ -72,7 +72,7 @@ pub(crate) fn root_of(parts: &BTreeMap<FullPrefix, PrefixTree>) -> Digest
     hasher.finish()
 }
 
-/// The full prefixes with their roots, in order. They are copies.
+/// Returns the full prefixes with their roots, in order. They are copies.
 pub(crate) fn roots_of(
     alloc: Global,
     parts: &BTreeMap<FullPrefix, PrefixTree>,

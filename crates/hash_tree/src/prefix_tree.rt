@@ -55,7 +55,7 @@ impl PrefixTree {
         PrefixTree::of_leaves(Leaves::new(alloc))
     }
 
-    /// The tree of these leaves, whose digests are computed.
+    /// Returns the tree of these leaves, whose digests it computes.
     fn of_leaves(leaves: Leaves) -> Result<Self, AllocError>
         ensures { IfOk result (λ tree. tree ≡ leaves) }
     {
@@ -70,8 +70,8 @@ impl PrefixTree {
         })
     }
 
-    /// The tree of the keys under a full prefix. The leaf of a key is computed once, and so is each
-    /// digest.
+    /// Returns the tree of the keys under a full prefix. The leaf of a key is computed once, and so
+    /// is each digest.
     pub(crate) fn of_rows(alloc: Global, rows: &Rows) -> Result<Self, AllocError>
         requires held { All (λ row. IsHeld row.1) rows.now }
         ensures { IfOk result (λ tree. tree ≡ digest_rows rows.now) }
@@ -84,8 +84,8 @@ impl PrefixTree {
     }
 
     /// Holds the digest under the key in place of what stands there; one leaf, one inner node and
-    /// the root are computed anew. A key that is there is never refused. Fails only when memory
-    /// runs out for a new key, and then nothing changes.
+    /// the root are computed. A key that is there is never refused. Fails only when memory runs out
+    /// for a new key, and then nothing changes.
     pub(crate) fn hold(&mut self, key: &ByteString, digest: Digest) -> Result<(), AllocError>
         requires in_range { IsName 256 key.now }
         ensures value { OnOk result (self.new ≡ put bytes_cmp key.now digest self.old) }
@@ -107,14 +107,14 @@ impl PrefixTree {
         self.root
     }
 
-    /// The digests of the inner nodes.
+    /// Returns the digests of the inner nodes.
     pub(crate) fn inner(&self) -> [Digest; 16]
         ensures { result ≡ inner_digests self.now }
     {
         self.inner
     }
 
-    /// The digests of the leaves under an inner node.
+    /// Returns the digests of the leaves under an inner node.
     pub(crate) fn leaves(&self, inner: u8) -> [Digest; 16]
         requires { inner < 16 }
         ensures { result ≡ leaf_digests self.now inner }
@@ -124,7 +124,7 @@ impl PrefixTree {
         part
     }
 
-    /// The keys of a leaf with their digests, in order.
+    /// Returns the keys of a leaf with their digests, in order.
     pub(crate) fn bucket(&self, leaf: u8) -> &[KeyDigest]
         ensures value { result.now ≡ bucket self.now leaf }
         ensures rising { do_keys_rise result.now ≡ true }
@@ -151,7 +151,7 @@ fn copied(digests: &Vec<Digest>) -> Result<Vec<Digest>, AllocError>
     digests.clone()
 }
 
-/// The digests of the leaves under an inner node, from those of all leaves.
+/// Returns the digests of the leaves under an inner node, from those of all leaves.
 fn sixteen(leaf_digests: &[Digest], inner: usize) -> &[Digest]
     requires all { length leaf_digests.now ≡ 256 }
     requires place { inner < 16 }
@@ -160,7 +160,7 @@ fn sixteen(leaf_digests: &[Digest], inner: usize) -> &[Digest]
     &leaf_digests[FAN * inner..][..FAN]
 }
 
-/// The digests of the inner nodes over all leaves.
+/// Returns the digests of the inner nodes over all leaves.
 fn inner_of(leaf_digests: &[Digest]) -> [Digest; 16]
     requires { length leaf_digests.now ≡ 256 }
     ensures { result ≡ inner_over leaf_digests.now }

@@ -38,7 +38,7 @@ impl TextHasher {
         }
     }
 
-    /// Hands on what is gathered, and then a piece for which there is no room.
+    /// Hashes what is gathered, and then a piece for which there is no room.
     fn hand_on(&mut self, piece: &[u8])
         ensures { Adds self.old self.new piece.now }
     {
@@ -47,7 +47,7 @@ impl TextHasher {
         self.gathered.clear();
     }
 
-    /// The digest of the text.
+    /// Returns the digest of the text.
     #[inline]
     pub(crate) fn finish(mut self) -> Digest
         ensures { (text : List ℕ) → HasTaken self text → result ≡ sha256 text }

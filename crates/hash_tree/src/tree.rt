@@ -40,7 +40,8 @@ impl Model for Tree {
 }
 
 impl Tree {
-    /// The tree of what a store holds, computed from all its keys. Fails only when memory runs out.
+    /// Returns the tree of what a store holds, computed from all its keys. Fails only when memory
+    /// runs out.
     pub fn from_store(alloc: Global, store: &Store) -> Result<Self, AllocError>
         ensures { IfOk result (λ tree. tree ≡ rows_of store.now) }
     {
@@ -59,15 +60,15 @@ impl Tree {
         Ok(())
     }
 
-    /// The root, computed from the roots of all full prefixes. It takes no memory.
+    /// Returns the root, computed from the roots of all full prefixes. It takes no memory.
     pub fn root(&self) -> Digest
         ensures { result ≡ tree_root self.now }
     {
         root_of(&self.parts)
     }
 
-    /// The full prefixes that hold a key, in order, each with its root. They are copies. Fails only
-    /// when memory runs out.
+    /// Returns the full prefixes that hold a key, in order, each with its root. They are copies.
+    /// Fails only when memory runs out.
     pub fn prefix_roots(&self) -> Result<Vec<PrefixDigest>, AllocError>
         ensures value { IfOk result (λ roots. roots.items ≡ prefix_roots self.now) }
         ensures rising { IfOk result (λ roots. do_prefixes_rise roots.items ≡ true) }
@@ -75,7 +76,7 @@ impl Tree {
         roots_of(self.alloc, &self.parts)
     }
 
-    /// The digests of the sixteen inner nodes of a full prefix. It takes no memory.
+    /// Returns the digests of the sixteen inner nodes of a full prefix. It takes no memory.
     pub fn inner(&self, prefix: &FullPrefix) -> [Digest; 16]
         ensures { result ≡ inner_digests (own_rows prefix.now self.now) }
     {
@@ -85,8 +86,8 @@ impl Tree {
         }
     }
 
-    /// The digests of the sixteen leaves under inner node `inner`, below 16, of a full prefix. It
-    /// takes no memory.
+    /// Returns the digests of the sixteen leaves under inner node `inner`, below 16, of a full
+    /// prefix. It takes no memory.
     pub fn leaves(&self, prefix: &FullPrefix, inner: u8) -> [Digest; 16]
         requires { inner < 16 }
         ensures { result ≡ leaf_digests (own_rows prefix.now self.now) inner }
@@ -97,8 +98,8 @@ impl Tree {
         }
     }
 
-    /// The keys in a leaf of a full prefix by their own bytes, in order, each with the digest of
-    /// its object. They are copies. Fails only when memory runs out.
+    /// Returns the keys in a leaf of a full prefix by their own bytes, in order, each with the
+    /// digest of its object. They are copies. Fails only when memory runs out.
     pub fn bucket(&self, prefix: &FullPrefix, leaf: u8) -> Result<Vec<KeyDigest>, AllocError>
         ensures value { IfOk result
             (λ keys. keys.items ≡ bucket (own_rows prefix.now self.now) leaf) }
@@ -107,7 +108,7 @@ impl Tree {
         copied(self.alloc, self.lent_bucket(prefix, leaf))
     }
 
-    /// The keys that `bucket` copies, lent as they are kept. It takes no memory.
+    /// Returns the keys that `bucket` copies, lent as they are kept. It takes no memory.
     pub fn lent_bucket(&self, prefix: &FullPrefix, leaf: u8) -> &[KeyDigest]
         ensures value { result.now ≡ bucket (own_rows prefix.now self.now) leaf }
         ensures rising { do_keys_rise result.now ≡ true }
@@ -129,8 +130,8 @@ impl Tree {
     }
 }
 
-/// The root of what a store holds, computed from all its keys at once: the leaf of each key, each
-/// leaf, inner node and prefix root once. Fails only when memory runs out.
+/// Returns the root of what a store holds, computed from all its keys at once: the leaf of each
+/// key, each leaf, inner node and prefix root once. Fails only when memory runs out.
 pub fn plain_root(alloc: Global, store: &Store) -> Result<Digest, AllocError>
     ensures { IfOk result (λ digest. digest ≡ tree_root (rows_of store.now)) }
 {
@@ -138,7 +139,7 @@ pub fn plain_root(alloc: Global, store: &Store) -> Result<Digest, AllocError>
     Ok(tree.root())
 }
 
-/// The digests of sixteen leaves without keys.
+/// Returns the digests of sixteen leaves without keys.
 fn empty_leaves() -> [Digest; 16]
     ensures { result ≡ leaf_digests [] 0 }
 {

@@ -122,7 +122,7 @@ in_life file n ready is =
     let none : n.to_store ≡ None = nothing_to_store n.to_store (nat_lt n.sent (length n.outbox)) ready.free in
     subst (IsUpToDate (file_state file) n.state) none is.next
 
--- what holds of the file and a node after a step, but for what is to be stored
+-- what holds of the file and a node after a step, except for what is to be stored
 record IsBeside (file : List ℕ) (n : NodeParts) : Type 0 where
   node : (file_state file).node ≡ n.node
   known : IsKnownTo n.table (file_state file).contents.table
@@ -192,7 +192,7 @@ refused file old event new _ grows table why is = absurd why
 
 -- ---- sending, and contexts
 
--- what is to be stored, where and of what stays
+-- a node of the same state, gate and record to store has the same file
 other_parts : (file : List ℕ) (old new : HostedParts) → new.state ≡ old.state → new.gate ≡ old.gate → new.to_store ≡ old.to_store
     → IsFileOf file old → IsFileOf file new
 other_parts file old new state gate to_store is = record {

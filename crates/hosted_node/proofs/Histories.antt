@@ -35,7 +35,7 @@ failed_left first c (failed_to_write at n) calls left = inr left
 failed_left first c (failed_to_cut n) calls left = inr left
 failed_left first c synced calls left = inr left
 
--- what a crash may leave where a call failed, a crash in the midst of the calls may leave too
+-- what a crash may leave after a call failed, a crash in the midst of the calls may leave too
 pub failed_midway : (first c : List ℕ) (calls made : List DeviceCall) → FailsMidway calls made → CrashLeftSince first made 0 c
     → CrashLeftSince first calls 0 c
 failed_midway first c [] made fails left = absurd fails

@@ -1,5 +1,5 @@
 -- What is in the file of a host stays in it.
-use Rattle.std.proofs.Common.{◌≡◌, ◌≢◌, ◌⊎◌, ◌<◌, ℕ, Bool, true, false, List, [], ◌∷◌, length, slice_get, Option, Some, None, is_some, ◌||◌, if◌then◌else◌, inl, inr, ⊎_elim, refl, sym, ap, subst, ◌∙◌, arith, nat_lt}
+use Rattle.std.proofs.Common.{◌≡◌, ◌≢◌, ◌⊎◌, ◌<◌, ◌+◌, ℕ, Bool, true, false, List, [], ◌∷◌, length, slice_get, Option, Some, None, is_some, ◌||◌, if◌then◌else◌, inl, inr, ⊎_elim, refl, sym, ap, subst, ◌∙◌, arith, nat_lt}
 use Rattle.std.proofs.lemmas.Bool.Decides.{nat_tests}
 use Rattle.std.proofs.lemmas.List.Elements.{All-nil}
 use Rattle.std.specs.Option.{unwrap_or}
@@ -10,6 +10,7 @@ use Rattle.dvvset.specs.Clock.{descends, join}
 use Rattle.dvvset.specs.Object.{Entry}
 use Rattle.meta_store.specs.Table.{IsHeld, IsTable, Table, object_at, with_object}
 use Rattle.meta_store.proofs.Tables.{found_row, object_at-here, table_put}
+use Rattle.node_events.specs.Event.{stored_key}
 use Rattle.node_events.specs.declared.event.NodeEvent.{NodeEvent}
 use Rattle.node_core.specs.Growing.{Descends}
 use Rattle.node_core.proofs.Growing.{held_is_kept, step_grows}
@@ -24,9 +25,9 @@ use Rattle.node_file.proofs.Made.{stands_so}
 use Rattle.hosted_node.specs.declared.fault.HostFault.{HostFault}
 use Rattle.hosted_node.specs.declared.fault.HostFault.TheVariants.{Step, FileFull, Stopped as IsStopped, Pending, Memory}
 use Rattle.hosted_node.specs.Hosting.{HostedParts, MayStep, RefusesActing, handed_reply, next_frame, sent_by}
-use Rattle.hosted_node.specs.HostFile.{HasRecordOf, IsFileOf, IsKnownTo, IsNextRecord, IsRecordOf, IsUpToDate, calls_to_store, host_calls}
+use Rattle.hosted_node.specs.HostFile.{HasRecordOf, IsFileOf, IsKnownTo, IsNextRecord, IsRecordOf, IsUpToDate, calls_to_store, host_calls, written_key}
 use Rattle.hosted_node.specs.Lasting.{FailsMidway, Follow, GoesOn, Happens, HappensOrRestarts, HasAllOf, IsAcknowledged, IsLeft, Knows, Later, Moment, OpensWithOrWithout, Restarts, Stepped, Refused, Sent, Contexts, Stored, GaveUp}
-use Rattle.hosted_node.proofs.Filing.{calls_are, when_stopped, nothing_to_store, recorded, refused, sending, served, stepped, stored, stored_there, with_contexts}
+use Rattle.hosted_node.proofs.Filing.{calls_are, kept, when_stopped, nothing_to_store, recorded, refused, sending, served, stepped, stored, stored_there, with_contexts}
 use Rattle.hosted_node.proofs.Histories.{failed_midway, read_left, read_left_since}
 use Rattle.hosted_node.proofs.Knowing.{put_grows, put_keeps, put_known}
 
@@ -159,11 +160,12 @@ goes_on_once old new is (Stored stores ends) =
 goes_on_once old new is (GaveUp stores same) =
     same_goes_on old new is same (subst (IsFileOf old.file) (sym stores.1.2) (when_stopped old.file old.node is))
 
+kept_has_all : (old new : Moment) → IsFileOf old.file old.node → Restarts old new → HasAllOf (file_state old.file) (file_state new.file)
+kept_has_all old new is again = subst (HasAllOf (file_state old.file)) (sym again.says) (left_has_all old.file again.kept old.node is again.left)
+
 restarted : (old new : Moment) → IsFileOf old.file old.node → Restarts old new → GoesOn old new
-restarted old new is again = record {
-  its_file = served again.asked new.file new.node again.held again.serves;
-  has_all = left_has_all old.file new.file old.node is again.left;
-}
+restarted old new is again =
+    record { its_file = served again.asked new.file new.node again.held again.serves; has_all = kept_has_all old new is again }
 
 goes_on_either : (old new : Moment) → IsFileOf old.file old.node → HappensOrRestarts old new → GoesOn old new
 goes_on_either old new is (inl happens) = goes_on_once old new is happens
@@ -183,6 +185,20 @@ goes_on_by first (next ∷ later) last is (step, rest) =
 
 pub goes_on_later : (first last : Moment) → IsFileOf first.file first.node → Later first last → GoesOn first last
 goes_on_later first last is later = goes_on_by first later.0 last is later.1
+
+-- ---- a life that begins
+
+pub life_is_new : (first old new : Moment) → IsFileOf first.file first.node → first.node.to_store ≡ None → Later first old → Restarts old new
+    → first.node.state.incarnation < new.node.state.incarnation
+life_is_new first old new is none later again =
+    let on = goes_on_later first old is later in
+    let before = on.has_all.life in
+    let left = (kept_has_all old new on.its_file again).life in
+    let own : (file_state first.file).contents.life ≡ first.node.state.incarnation =
+    subst (IsUpToDate (file_state first.file) first.node.state) none is.next in
+    let begun : new.node.state.incarnation ≡ (file_state new.file).contents.life + 1 =
+    ap (λ (n : HostedParts). n.state.incarnation) again.serves.begins in
+    omega (arith, before, left, own, begun)
 
 -- ---- a write that was acknowledged
 
@@ -217,7 +233,7 @@ record Waits (key : Key) (o : List Entry) (n : HostedParts) : Type 0 where
 abbrev WaitsOrKnown : Key → List Entry → Moment → Type 0
 WaitsOrKnown key o m = Waits key o m.node ⊎ Descends (alone key o) (file_state m.file).contents.table
 
--- no step is made meanwhile
+-- no step is made while the record waits
 not_ready : {A : Type 0} (key : Key) (o : List Entry) (n : HostedParts) → Waits key o n → MayStep n → A
 not_ready key o n waits ready =
     let none : n.to_store ≡ None = nothing_to_store n.to_store (nat_lt n.sent (length n.outbox)) ready.free in
@@ -289,7 +305,9 @@ pub acknowledged_stays : (key : Key) (object : List Entry) (now last : Moment) �
     → Knows key object last
 acknowledged_stays key object now last is later =
     let begun = is.its_file in
-    let has = recorded is.old.node is.event is.wrote key begun.gate is.acts is.its_key begun.its_gate in
+    let has : HasRecordOf key is.wrote =
+    ⊎_elim (λ (writes : written_key is.event ≡ Some key). recorded is.old.node is.event is.wrote key begun.gate is.acts writes begun.its_gate)
+    (λ keeps. kept is.old.node is.wrote is.event key begun.gate is.acts (ap stored_key keeps.0) begun.its_gate keeps.1) is.its_key in
     let o : List Entry = has.object in
     let same : object ≡ o = is.its_object ∙ ap (λ (found : Option (List Entry)). unwrap_or found []) has.held in
     let row = found_row key is.wrote.state.table o is.typed.held.held is.typed.held.keys has.held in

@@ -1,4 +1,4 @@
--- The file of a host: how it stands to his node, what he does to store a record, and what a crash
+-- The file of a host: how it relates to his node, what he does to store a record, and what a crash
 -- leaves of that. The rule is our own.
 use Rattle.std.specs.Prelude.{◌≡◌, ℕ, ◌+◌, List, [], ◌∷◌, take, drop, Option, Some, None, Ok}
 use Rattle.std.specs.FinMap.{find}
@@ -47,8 +47,8 @@ pub record IsKnownTo (held stored : Table) : Type 0 where
   pub events : Descends stored held
 
 -- The file is this node's: its closed gate stands where the node says, it is of version 2 and of
--- the node's number, and what it has is known to the node. It can take what is to be stored, and
--- then its last life is the node's.
+-- the node's number, and the node knows what it has. It can take what is to be stored, and then its
+-- last life is the node's.
 pub record IsFileOf (file : List ℕ) (n : HostedParts) : Type 0 where
   pub gate : ℕ
   pub its_gate : n.gate ≡ Some gate
@@ -60,8 +60,8 @@ pub record IsFileOf (file : List ℕ) (n : HostedParts) : Type 0 where
 
 -- ---- what the host does
 
--- He writes the bytes after the first from one byte after the gate on, syncs, writes the first over
--- the gate, and syncs. The newest call stands first.
+-- He writes the bytes after the first, beginning one byte after the gate; syncs; writes the first
+-- byte over the gate; and syncs. The newest call stands first.
 abbrev pub calls_to_store : Option ℕ → Option (List ℕ) → List DeviceCall
 calls_to_store (Some gate) (Some bytes) =
     synced ∷ wrote gate (take 1 bytes) ∷ synced ∷ wrote (gate + 1) (drop 1 bytes) ∷ []
@@ -88,7 +88,7 @@ pub record HasRecordOf (key : Key) (n : HostedParts) : Type 0 where
 -- ---- what becomes of his file
 
 -- After the calls the file says what it said, and then the record. It is the new node's file, and
--- every crash until the next call leaves such a file. A crash at any moment before leaves the old
+-- every crash until the next call leaves such a file. A crash at any earlier moment leaves the old
 -- file without the record or with it.
 pub record IsStoredIn (file : List ℕ) (old new : HostedParts) : Type 0 where
   pub said : Record

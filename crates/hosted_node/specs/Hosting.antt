@@ -39,7 +39,7 @@ bytes_of (Some bytes) = Some bytes.items
 abbrev pub is_pending : HostedParts → Bool
 is_pending n = is_some n.to_store || nat_lt n.sent (length n.outbox)
 
--- what the host has to store: the record with the gates around it, where he keeps a file
+-- what the host has to store: the record with the gates around it, if he keeps a file
 abbrev pub spelled_for : Option ℕ → Option Record → Option (List ℕ)
 spelled_for None stored = None
 spelled_for (Some gate) None = None
@@ -122,7 +122,7 @@ handed_reply n = if n.stopped || is_some n.to_store then None else n.reply
 abbrev pub next_frame : HostedParts → Option (List ℕ)
 next_frame n = if n.stopped || is_some n.to_store then None else slice_get n.outbox n.sent
 
--- one frame more was sent, if there is a next one
+-- one more frame was sent, if there is a next one
 abbrev pub sent_by : Option (List ℕ) → HostedParts → HostedParts
 sent_by None n = n
 sent_by (Some frame) n = record n { sent = n.sent + 1 }
@@ -141,8 +141,8 @@ abbrev pub after_storing : Bool → List ℕ → HostedParts → HostedParts
 after_storing true bytes n = record n { gate = gate_after n.gate bytes; to_store = None }
 after_storing false bytes n = record n { stopped = true }
 
--- he reported either of the record that there was to store; 34 where the node is stopped, 38 where
--- there is none
+-- he reported that he stored the record, or that he failed to; 34 if the node is stopped, 38 if
+-- there is no record
 abbrev pub Stores : Bool → HostedParts → Result (Unit {0}) HostFault → HostedParts → Type 0
 Stores is_stored old (Ok done) new =
     (old.stopped ≡ false)
@@ -164,7 +164,7 @@ abbrev pub context_at : ℕ → HostedParts → Option Reading
 context_at zero n = None
 context_at (suc place) n = kept_at (slice_get n.contexts place)
 
--- all that the node is but its contexts
+-- all of the node except its contexts stays
 abbrev pub KeepsAllButContexts : HostedParts → HostedParts → Type 0
 KeepsAllButContexts old new = new ≡ record old { contexts = new.contexts }
 
@@ -183,7 +183,7 @@ pub record KeepsContext (old new : HostedParts) (number : ℕ) : Type 0 where
   pub others : (k : ℕ) → k ≢ number → context_at k new ≡ context_at k old
   pub rest : KeepsAllButContexts old new
 
--- there is no context of the number any more
+-- there is no context of the number
 pub record ForgetsContext (number : ℕ) (old new : HostedParts) : Type 0 where
   pub gone : context_at number new ≡ None
   pub others : (k : ℕ) → k ≢ number → context_at k new ≡ context_at k old

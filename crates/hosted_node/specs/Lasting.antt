@@ -1,12 +1,15 @@
--- A host's file and its node over time: what happens to them, what is left where the host's calls
+-- A host's file and its node over time: what happens to them, what is left if the host's calls
 -- break off, and what stays. The rule is our own.
 use Rattle.std.specs.Prelude.{◌≡◌, ◌≢◌, ◌⊎◌, ◌≤◌, ℕ, List, [], ◌∷◌, length, Option, Some, None, Ok, true, false, IfSome}
 use Rattle.std.specs.Option.{option_map}
+use Rattle.std.specs.FinMap.{find}
 use Rattle.meta_types.specs.Name.{Key}
+use Rattle.meta_types.specs.Order.{key_cmp}
 use Rattle.dvvset.specs.Object.{Entry, IsVector}
 use Rattle.dvvset.specs.Clock.{descends, join}
-use Rattle.meta_store.specs.Table.{IsTable, object_at}
+use Rattle.meta_store.specs.Table.{IsTable, Table, object_at}
 use Rattle.node_events.specs.declared.event.NodeEvent.{NodeEvent}
+use Rattle.node_events.specs.declared.event.NodeEvent.TheVariants.{Keep}
 use Rattle.node_core.specs.Growing.{Descends, KeepsKeys, context_of_write}
 use Rattle.devices.specs.Calls.{CrashLeftSince, DeviceCall, content_after, cut_to, failed_to_cut, failed_to_write, wrote}
 use Rattle.node_file.specs.declared.fault.FileFault.TheVariants.{FileFull, IncarnationSpent}
@@ -18,22 +21,22 @@ use Rattle.hosted_node.specs.declared.fault.HostFault.{HostFault}
 use Rattle.hosted_node.specs.Hosting.{Acts, HostedParts, KeepsAllButContexts, RefusesActing, Serves, Stores, after_sending, handed_reply, next_frame}
 use Rattle.hosted_node.specs.HostFile.{IsFileOf, host_calls, written_key}
 
--- ---- what is left where the host's calls break off
+-- ---- what is left if the host's calls break off
 
--- the calls as they are noted where the first of these, the newest, failed; a sync that failed
--- isn't noted
+-- the calls as they are noted if the first of these, the newest, failed; a sync that failed isn't
+-- noted
 abbrev pub as_failed : DeviceCall → List DeviceCall → List DeviceCall
 as_failed (wrote at bytes) calls = failed_to_write at (length bytes) ∷ calls
 as_failed (cut_to n) calls = failed_to_cut n ∷ calls
 as_failed call calls = calls
 
--- of the calls one failed, and none was made after it
+-- one of the calls failed, and none was made after it
 abbrev pub FailsMidway : List DeviceCall → List DeviceCall → Type 0
 FailsMidway [] made = ⊥
 FailsMidway (call ∷ calls) made = (made ≡ as_failed call calls) ⊎ FailsMidway calls made
 
 -- the machine stopped at any moment of the host's calls, or before or after them; or one of them
--- failed, and it stopped at any moment until then, or from then on
+-- failed, and the machine stopped at any moment, before that or later
 pub record IsLeft (file : List ℕ) (n : HostedParts) (c : List ℕ) : Type 0 where
   pub made : List DeviceCall
   pub by_host : (made ≡ host_calls n) ⊎ FailsMidway (host_calls n) made
@@ -86,9 +89,12 @@ pub data Happens (old new : Moment) : Type 0 where
       → new.file ≡ content_after old.file (host_calls old.node) → Happens old new
   GaveUp : Stores false old.node (Ok tt) new.node → new.file ≡ old.file → Happens old new
 
--- the host stops, and his node is served again from what is left of his file
+-- the host stops, and his node is served again from a file that says what is left of his file: that
+-- itself, the same bytes in a new file, or a clean copy
 pub record Restarts (old new : Moment) : Type 0 where
-  pub left : IsLeft old.file old.node new.file
+  pub kept : List ℕ
+  pub left : IsLeft old.file old.node kept
+  pub says : file_state new.file ≡ file_state kept
   pub asked : Option ℕ
   pub serves : Serves asked new.file new.node
   pub held : IsTable new.node.state.table
@@ -116,14 +122,19 @@ pub record GoesOn (first last : Moment) : Type 0 where
   pub its_file : IsFileOf last.file last.node
   pub has_all : HasAllOf (file_state first.file) (file_state last.file)
 
--- a node with this file made a write of the key, which left the object there, and since then, in
--- the same life, its reply or a frame has been handed out
+-- the event writes the key, or keeps the object that is held under it
+abbrev pub StoresKey : Key → NodeEvent → Table → Type 0
+StoresKey key event held = (written_key event ≡ Some key)
+    ⊎ ((event ≡ Keep key) × (find key_cmp key held ≢ None))
+
+-- a node with this file made a step that wrote or kept the key, which left the object there, and
+-- later in the same life its reply or a frame was handed out
 pub record IsAcknowledged (key : Key) (object : List Entry) (now : Moment) : Type 0 where
   pub old : Moment
   pub its_file : IsFileOf old.file old.node
   pub event : NodeEvent
-  pub its_key : written_key event ≡ Some key
   pub wrote : HostedParts
+  pub its_key : StoresKey key event wrote.state.table
   pub typed : IsTyped event wrote
   pub acts : Acts old.node event wrote
   pub its_object : object ≡ object_at wrote.state.table key

@@ -20,10 +20,10 @@ use node_file::{FileFault, spell_append};
 use std::alloc::Global;
 
 impl HostedNode {
-    /// Makes the step of an event. What it stores is the next `record`; then the reply and the
-    /// frames are handed out.
+    /// Makes the step of an event. The record to store is the next `record`; after it, the reply
+    /// and the frames are handed out.
     ///
-    /// Refused in this order: 34 `Stopped`; 37 `Pending`; what the step refuses; 33 `FileFull`,
+    /// Refused in this order: 34 `Stopped`; 37 `Pending`; as `NodeState::step` is; 33 `FileFull`,
     /// which stops the node. 99 `Memory` may come at any time, and stops the node if the step was
     /// made. A refused call that doesn't stop the node leaves all as before.
     pub fn act(&mut self, event: NodeEvent) -> Result<(), HostFault>
@@ -69,7 +69,7 @@ impl HostedNode {
     }
 }
 
-/// What the host has to store of an event, after which this is held.
+/// Returns what the host has to store after an event that left the store like this.
 fn spelled_for(
     alloc: Global,
     gate: Option<usize>,
@@ -91,7 +91,7 @@ fn spelled_for(
     Ok(Some(spell(alloc, gate, key, object)?))
 }
 
-/// The record of what is held under a key, with its gates.
+/// Returns the record of what is held under a key, with its gates.
 fn spell(alloc: Global, gate: usize, key: &MetaKey, object: &Entries) -> Result<Vec<u8>, HostFault>
     requires { IsHeld object.now }
     ensures record { IfOk result (λ bytes. bytes.items ≡ gated (Object key.now object.now)) }

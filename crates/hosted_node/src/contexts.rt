@@ -1,5 +1,5 @@
-//! Contexts that are kept for the host, each under a number from 1. He hands the number on in place
-//! of the context, so that none leaves the process.
+//! Contexts that are kept for the host, each under a number from 1. He passes the number instead of
+//! the context, so no context leaves the process.
 
 ghost use Rattle.std.specs.Prelude.{◌≡◌, ◌≢◌, ◌⊎◌, ◌≤◌, ℕ, length, slice_get, None, Some, IfOk, IfErr, OnOk, OnErr};
 ghost use Rattle.hosted_node.specs.Hosting.{ForgetsContext, IsLooked, KeepsContext, context_at, kept_at, handed_reply};
@@ -12,7 +12,7 @@ use node_events::Reply;
 use std::alloc::AllocError;
 
 impl HostedNode {
-    /// Keeps the context of the last reply, and returns its number. Refused with 38 `Nothing` where
+    /// Keeps the context of the last reply, and returns its number. Refused with 38 `Nothing` if
     /// the last step was no read, or isn't handed out; it may be refused with 99 `Memory`. It takes
     /// memory for a copy.
     pub fn keep_context(&mut self) -> Result<u64, HostFault>
@@ -31,7 +31,7 @@ impl HostedNode {
         Ok(place as u64 + 1)
     }
 
-    /// A copy of the context of a number; none for 0. Refused with 43 `NoSuchRead`.
+    /// Returns a copy of the context of a number; none for 0. Refused with 43 `NoSuchRead`.
     pub fn context(&self, number: u64) -> Result<Option<Context>, HostFault>
         ensures value { IfOk result (λ context. context ≡ context_at number self.now) }
         ensures none { OnOk result ((number ≡ 0) ⊎ (context_at number self.now ≢ None)) }
@@ -49,7 +49,7 @@ impl HostedNode {
         }
     }
 
-    /// Forgets the context of a number, if there is one. The number may be given again.
+    /// Forgets the context of a number, if there is one. A later context may get the same number.
     pub fn forget_context(&mut self, number: u64)
         ensures { ForgetsContext number self.old self.new }
     {
@@ -62,7 +62,7 @@ impl HostedNode {
     }
 }
 
-/// The first place without a context, or the place after the last.
+/// Returns the first place without a context, or the place after the last.
 fn free_place(contexts: &[Option<Context>]) -> usize
     ensures free { kept_at (slice_get contexts.now result) ≡ None }
     ensures within { result ≤ length contexts.now }

@@ -17,8 +17,8 @@ pub enum HostFault {
     Step(StepFault),
     /// 33: the file would be too long.
     FileFull,
-    /// 34: the node is stopped: the host failed to store a record, or a step that was made could
-    /// not be handed out.
+    /// 34: the node is stopped: the host failed to store a record, or the node made a step that
+    /// could not be handed out.
     Stopped,
     /// 37: the host hasn't stored or fetched all that an earlier step gave.
     Pending,
@@ -31,7 +31,7 @@ pub enum HostFault {
 }
 
 impl HostFault {
-    /// The number of the refusal.
+    /// Returns the number of the refusal.
     pub fn code(&self) -> u16
         ensures { result ≡ code_of self.now }
     {
@@ -47,7 +47,7 @@ impl HostFault {
         }
     }
 
-    /// The name of the refusal.
+    /// Returns the name of the refusal.
     pub fn name(&self) -> &'static str
         ensures { result.now ≡ fault_name self.now }
     {

@@ -10,7 +10,7 @@ use meta_types::ByteString;
 use node_events::Reply;
 
 impl HostedNode {
-    /// The offset of the closed gate in the host's file, if he keeps one.
+    /// Returns the offset of the closed gate in the host's file, if he keeps one.
     pub fn gate(&self) -> Option<usize>
         ensures value { result ≡ self.now.gate }
         ensures there { self.now.to_store ≢ None → self.now.gate ≢ None }
@@ -18,8 +18,9 @@ impl HostedNode {
         self.gate
     }
 
-    /// The bytes of the record that the host has to store: he writes those after the first from one
-    /// byte after the gate on, syncs, writes the first over the gate, and syncs.
+    /// Returns the bytes of the record that the host has to store. He writes the bytes after the
+    /// first, beginning one byte after the gate; syncs; writes the first byte over the gate; and
+    /// syncs.
     pub fn record(&self) -> Option<&[u8]>
         ensures { option_copied result ≡ handed_record self.now }
     {
@@ -29,8 +30,8 @@ impl HostedNode {
         }
     }
 
-    /// The host stored the record, or failed to, which stops the node. Refused with 34 `Stopped`,
-    /// and with 38 `Nothing` where there is no record.
+    /// Takes note that the host stored the record, or that he failed to, which stops the node.
+    /// Refused with 34 `Stopped`, and with 38 `Nothing` if there is no record.
     pub fn stored(&mut self, is_stored: bool) -> Result<(), HostFault>
         ensures { Stores is_stored self.old result self.new }
     {
@@ -56,7 +57,7 @@ impl HostedNode {
         self.is_stopped || self.to_store.is_some()
     }
 
-    /// What the last step replied, once there is nothing to store.
+    /// Returns what the last step replied, once there is nothing to store.
     pub fn reply(&self) -> Option<&Reply>
         ensures { option_copied result ≡ handed_reply self.now }
     {
@@ -66,7 +67,7 @@ impl HostedNode {
         self.reply.as_ref()
     }
 
-    /// The next frame to send, once there is nothing to store.
+    /// Returns the next frame to send, once there is nothing to store.
     pub fn frame(&self) -> Option<&ByteString>
         ensures { option_copied result ≡ next_frame self.now }
     {
@@ -76,7 +77,7 @@ impl HostedNode {
         self.outbox.get(self.sent)
     }
 
-    /// The host has the next frame, if there is one.
+    /// Takes note that the host has the next frame, if there is one.
     pub fn sent(&mut self)
         ensures { self.new ≡ after_sending self.old }
     {
@@ -86,7 +87,7 @@ impl HostedNode {
     }
 }
 
-/// Where the gate stands after these bytes.
+/// Returns where the gate stands after these bytes.
 fn gate_after(gate: Option<usize>, bytes: &[u8]) -> Option<usize>
     requires { FitsInFile gate (Some bytes.now) }
     ensures { result ≡ gate_after gate bytes.now }

@@ -2,7 +2,7 @@
 //! nothing, or reads what the types of its arguments say: that what a node holds is a table, and
 //! that what an event has read is a vector.
 
-ghost use Rattle.std.specs.Prelude.{◌≡◌, ◌≢◌, ◌++◌, List, length, ℕ, Option, None, Ok, Some, true};
+ghost use Rattle.std.specs.Prelude.{◌≡◌, ◌≢◌, ◌<◌, ◌++◌, List, length, ℕ, Option, None, Ok, Some, true};
 ghost use Rattle.std.specs.FinMap.{find};
 ghost use Rattle.meta_types.specs.Name.{Key};
 ghost use Rattle.meta_types.specs.Order.{key_cmp};
@@ -13,7 +13,7 @@ ghost use Rattle.node_events.specs.declared.event.NodeEvent.{NodeEvent};
 ghost use Rattle.node_file.specs.File.{file_state};
 ghost use Rattle.hosted_node.specs.HostFile.{HasObjectOf, HasRecordOf, IsFileOf, IsStoredIn, host_calls, written_key};
 ghost use Rattle.hosted_node.specs.Hosting.{Acts, HostedParts, KeepsAllButContexts, RefusesActing, Serves, Stores, after_sending};
-ghost use Rattle.hosted_node.specs.Lasting.{CanBeServed, GoesOn, HasAllOf, IsAcknowledged, IsLeft, Knows, Later, Moment, OpensWithOrWithout};
+ghost use Rattle.hosted_node.specs.Lasting.{CanBeServed, GoesOn, HasAllOf, IsAcknowledged, IsLeft, Knows, Later, Moment, OpensWithOrWithout, Restarts};
 ghost use Rattle.hosted_node.specs.declared.fault.HostFault.{HostFault};
 
 use crate::node::HostedNode;
@@ -37,7 +37,7 @@ pub fn a_step_keeps_the_file(node: &HostedNode, event: &NodeEvent)
     each_step_grows(event);
 }
 
-/// A step that is refused leaves the node its file, also where it stops the node.
+/// A step that is refused leaves the node its file, even if it stops the node.
 pub fn a_refused_step_keeps_the_file(node: &HostedNode, event: &NodeEvent)
     ensures { (file : List ℕ) (old : HostedParts) (fault : HostFault)
         → RefusesActing old event.now node.now fault → IsFileOf file old → IsFileOf file node.now }
@@ -46,7 +46,7 @@ pub fn a_refused_step_keeps_the_file(node: &HostedNode, event: &NodeEvent)
     each_step_grows(event);
 }
 
-/// So do sending, and keeping and forgetting contexts.
+/// Sending, and keeping and forgetting contexts, leave the node its file too.
 pub fn sending_and_contexts_keep_the_file()
     ensures sending { (file : List ℕ) (n : HostedParts)
         → IsFileOf file n → IsFileOf file (after_sending n) }
@@ -54,7 +54,7 @@ pub fn sending_and_contexts_keep_the_file()
         → KeepsAllButContexts old new → IsFileOf file old → IsFileOf file new }
 {}
 
-/// A write of a host who keeps a file leaves its record to store, that of the object then held; so
+/// A write of a host who keeps a file leaves a record to store, that of the object then held. So
 /// does a step that keeps a key under which something is held.
 pub fn a_write_has_its_record()
     ensures writes { (old new : HostedParts) (event : NodeEvent) (key : Key) (gate : ℕ)
@@ -67,7 +67,7 @@ pub fn a_write_has_its_record()
 
 /// Once the host has stored a record by his four calls, and says so, the file says what it said and
 /// then the record. It is the node's file, and every crash until the next call of the file leaves
-/// such a file. A crash at any moment before leaves the file without the record or with it.
+/// such a file. A crash at any earlier moment leaves the file without the record or with it.
 pub fn a_stored_record_is_in_the_file()
     ensures { (file : List ℕ) (old new : HostedParts)
         → Stores true old (Ok tt) new → IsFileOf file old → IsStoredIn file old new }
@@ -81,8 +81,8 @@ pub fn a_stored_write_is_in_the_file()
         → CrashLeaves file (host_calls old) c → HasObjectOf key new c }
 {}
 
-/// Where a crash, or a call that failed, breaks off the host's calls, what is left opens as the
-/// file did, or with the record that was to be stored, and has all that the file had.
+/// If a crash or a failed call breaks off the host's calls, what is left opens as the file did, or
+/// with the record that was to be stored. It has all that the file had.
 pub fn what_is_left_has_all()
     ensures opens { (file c : List ℕ) (n : HostedParts)
         → IsFileOf file n → IsLeft file n c → OpensWithOrWithout file n c }
@@ -90,8 +90,8 @@ pub fn what_is_left_has_all()
         → IsFileOf file n → IsLeft file n c → HasAllOf (file_state file) (file_state c) }
 {}
 
-/// An append ends with a sync, so after further calls a crash leaves what it would leave had they
-/// begun with the appended file.
+/// An append ends with a sync. So a crash after further calls leaves what it would leave if they
+/// had begun with the appended file.
 pub fn later_calls_go_on_from_the_sync()
     ensures { (file c : List ℕ) (n : HostedParts) (later : List DeviceCall)
         → CrashLeftSince file (later ++ host_calls n) (length (host_calls n)) c
@@ -110,9 +110,17 @@ pub fn a_file_and_its_node_go_on()
         → IsFileOf first.file first.node → Later first last → GoesOn first last }
 {}
 
+/// **No life begins twice**: the life that begins at a restart has a greater number than each life
+/// before it whose record the host has stored.
+pub fn each_life_is_a_new_one()
+    ensures { (first old new : Moment)
+        → IsFileOf first.file first.node → first.node.to_store ≡ None → Later first old
+        → Restarts old new → first.node.state.incarnation < new.node.state.incarnation }
+{}
+
 /// **No acknowledged write is lost**: once the reply of a write, or a frame after it, has been
-/// handed out, file and node know the write, at every later moment of this life and of those to
-/// come.
+/// handed out, file and node know the write, at every later moment of this life and of later lives.
+/// So they do what was kept, once the reply of a keeping has been handed out.
 pub fn an_acknowledged_write_stays()
     ensures { (key : Key) (object : List Entry) (now last : Moment)
         → IsAcknowledged key object now → Later now last → Knows key object last }

@@ -1,6 +1,6 @@
 //! A node for a host: a program that has a transport, a clock and a disk of its own. The host asks
 //! for a step, stores what the step stores, and only then is handed the reply and the frames to
-//! send; so no write that a reply has acknowledged is lost, if the host stores records as `record`
+//! send. So no write that a reply has acknowledged is lost, if the host stores records as `record`
 //! says.
 //!
 //! ```

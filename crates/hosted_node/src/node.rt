@@ -14,7 +14,7 @@ use node_file::{FileFault, Served, serve_bytes};
 use std::alloc::{AllocError, Global};
 use std::marker::Model;
 
-/// A node in one of its lives, with what it has still to hand out.
+/// A node in one of its lives, with what it still has to hand out.
 ///
 /// The host keeps its file, if there is one, as `node_file` says: `record` is what he has to store,
 /// and until he says that he did, neither the reply nor a frame is handed out.
@@ -53,8 +53,8 @@ impl Model for HostedNode {
 }
 
 impl HostedNode {
-    /// A node without a file that holds nothing and knows nobody, in the life of this number. Fails
-    /// only when memory runs out.
+    /// Makes a node without a file that holds nothing and knows nobody, in the life of this number.
+    /// Fails only when memory runs out.
     pub fn new(alloc: Global, node: NodeId, life: u32) -> Result<HostedNode, AllocError>
         requires { 1 ≤ life }
         ensures { IfOk result (λ n. n ≡ beginning (opening node life []) None None) }
@@ -63,11 +63,11 @@ impl HostedNode {
         Ok(HostedNode::of_state(alloc, state, None, None))
     }
 
-    /// A node that is served from the bytes of its file, in its next life. The host stores the
-    /// record of the life first: it is the first `record`.
+    /// Serves a node from the bytes of its file, in its next life. The host stores the record of
+    /// the life first: it is the first `record`.
     ///
-    /// The bytes must be those that the disk holds: a host who couldn't sync the file before
-    /// doesn't serve the node from it again until the machine was restarted.
+    /// The bytes must be those that the disk holds. After a failed sync the operating system may hold
+    /// others: the host writes what he read to a new file, syncs it, and renames it over the old one.
     ///
     /// Refused as `node_file::serve_bytes` is: 31 `Damaged`, 32 `OtherNode`, 25 `StoreFull`, 36
     /// `OldVersion`, 35 `IncarnationSpent`, 33 `FileFull`, or 99 `Memory`. It takes memory for the
@@ -92,7 +92,7 @@ impl HostedNode {
         Ok(HostedNode::of_state(alloc, state, Some(gate), Some(record)))
     }
 
-    /// A node with nothing to hand out but this record.
+    /// Makes a node with nothing to hand out but this record.
     fn of_state(
         alloc: Global,
         state: NodeState,
@@ -115,7 +115,7 @@ impl HostedNode {
         }
     }
 
-    /// The node as it is now. What it holds may not be stored yet.
+    /// Returns the node as it is now. What it holds may not be stored yet.
     pub fn state(&self) -> &NodeState
         ensures { result.now ≡ self.now.state }
     {

@@ -96,7 +96,7 @@ module _ (node : ℕ) where
       }
 
   module _ (before : List ℕ) (Q : Type 0) where
-    -- what stands in the midst of a step that began with these neighbours; where Q holds, the event
+    -- what stands in the midst of a step that began with these neighbours; if Q holds, the event
     -- came from another node
     pub record StandsOf (own : ℕ) (active passive : List ℕ) (out : List ViewOut) : Type 0 where
       pub same : own ≡ node
@@ -185,7 +185,7 @@ module _ (node : ℕ) where
     room_without : (d : ℕ) (P : List ℕ) → length P ≤ passive_view_size → has P d ≡ true → length (without d P) < passive_view_size
     room_without d P few there = omega (arith, length-without_one d P there)
 
-    -- x goes in where there is room, or where the member d gave its place
+    -- x goes in if there is room, or if the member d gave its place
     Stands-goes_in : (x d : ℕ) (t : Draft) → Stands t → is_known x t ≡ false → (nat_lt (length t.passive) passive_view_size ≡ false → has t.passive d ≡ true)
         → Stands (enter_passive x (cond (nat_lt (length t.passive) passive_view_size) t (leave_passive d t)))
     Stands-goes_in x d t h unknown there =

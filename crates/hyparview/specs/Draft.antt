@@ -83,7 +83,7 @@ make_room word t =
 unfoldable pub add_passive : ℕ → ℕ → Draft → Draft
 add_passive word x t = if is_known x t then t else (t ▷ make_room word ▷ enter_passive x)
 
--- a random neighbour is told that it is one no more, and goes into the passive view
+-- a random neighbour is told that it isn't one any more, and goes into the passive view
 unfoldable pub drop_one : ℕ → Draft → Draft
 drop_one word t =
     let d = choose word t.active in

@@ -36,7 +36,7 @@ StayLawful =
 -- ---- what a step gives out
 
 -- whoever knows the old neighbours and follows each Up and Down knows the new ones; each Up names a
--- node that is no neighbour then, each Down one that is
+-- node that isn't a neighbour at that time, and each Down one that is
 abbrev pub Follows : List ℕ → List ViewOut → List ℕ → Type 0
 Follows old [] new = new ≡ old
 Follows old (Send to message ∷ os) new = Follows old os new

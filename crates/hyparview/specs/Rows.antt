@@ -39,10 +39,10 @@ abbrev pub take_in : ℕ → List ℕ → List ℕ → Draft → Draft
 take_in word given [] t = t
 take_in word given (x ∷ xs) t = take_in word given xs (take_one word given x t)
 
--- ---- Ask: a random member of the passive view that wasn't asked yet is asked for a place; where
+-- ---- Ask: a random member of the passive view that wasn't asked before is asked for a place; if
 -- none is left, or no place is free, the node forgets whom it asked
 
--- high exactly where the node has no neighbour
+-- high exactly if the node has no neighbour
 abbrev pub priority_of : List ℕ → Priority
 priority_of active = if is_empty active then High else Low
 
@@ -104,7 +104,7 @@ on_disconnect word from t =
 unfoldable pub on_neighbor_high : ℕ → ℕ → Draft → Draft
 on_neighbor_high word from t = t ▷ add_active word from ▷ send from (NeighborReply Yes)
 
--- ---- NEIGHBOR low, which is refused where there is no place and the sender is no neighbour
+-- ---- NEIGHBOR low, which is refused if there is no place and the sender is no neighbour
 
 unfoldable pub on_neighbor_low : ℕ → ℕ → Draft → Draft
 on_neighbor_low word from t =

@@ -90,7 +90,7 @@ impl Draft {
         }
     }
 
-    /// AddPassive: a node goes into reserve.
+    /// AddPassive: puts a node into reserve.
     #[tactic(auto, unfolding(crate::specs::Draft::add_passive))]
     pub(crate) fn add_passive(&mut self, word: u64, node: NodeId) -> Result<(), AllocError>
         ensures { OnOk result (self.new ≡ add_passive word node self.old) }
@@ -125,7 +125,7 @@ impl Draft {
         Ok(())
     }
 
-    /// AddActive: a node becomes a neighbour.
+    /// AddActive: makes a node a neighbour.
     #[tactic(auto, unfolding(crate::specs::Draft::add_active))]
     pub(crate) fn add_active(&mut self, word: u64, node: NodeId) -> Result<(), AllocError>
         ensures { OnOk result (self.new ≡ add_active word node self.old) }

@@ -23,6 +23,6 @@ pub enum ViewOut {
     Send(NodeId, Message),
     /// This node became a neighbour.
     Up(NodeId),
-    /// This node is a neighbour no more.
+    /// This node is no longer a neighbour.
     Down(NodeId),
 }

@@ -2,9 +2,9 @@
 //!
 //! A node talks to the few members of its active view, and keeps some more in reserve in its
 //! passive one. [`Views::step`] is one row of the table: it takes an event with a random word, and
-//! says which messages to send, to whom, and who became a neighbour or is one no more. It knows no
-//! transport and no clock: whoever sends the messages says when a peer is down and when a shuffle
-//! is due.
+//! says which messages to send, to whom, and who became a neighbour or stopped being one. It knows
+//! no transport and no clock: whoever sends the messages says when a peer is down and when a
+//! shuffle is due.
 //!
 //! ```
 //! let mut views = Views::new(alloc, node);

@@ -40,7 +40,7 @@ impl Draft {
     ghost use Rattle.hyparview.specs.Rows.{on_peer_down, on_shuffle, on_shuffle_reply, row};
     ghost use Rattle.hyparview.specs.Rows.{on_shuffle_due, take_in, take_one};
 
-    /// An event with its word: a row of the table.
+    /// Takes an event, with its word, by its row of the table.
     pub(crate) fn row(&mut self, word: u64, event: &ViewEvent) -> Result<(), AllocError>
         ensures { OnOk result (self.new ≡ row word event.now self.old) }
     {
@@ -53,7 +53,6 @@ impl Draft {
         }
     }
 
-    /// A message that came.
     fn on_message(&mut self, word: u64, from: NodeId, message: &Message) -> Result<(), AllocError>
         ensures { OnOk result (self.new ≡ on_message word from message.now self.old) }
     {
@@ -78,7 +77,6 @@ impl Draft {
         }
     }
 
-    /// The node joins through a contact.
     #[tactic(auto, unfolding(crate::specs::Rows::join_through))]
     fn join_through(&mut self, word: u64, contact: NodeId) -> Result<(), AllocError>
         ensures { OnOk result (self.new ≡ join_through word contact self.old) }
@@ -88,7 +86,6 @@ impl Draft {
         Ok(())
     }
 
-    /// JOIN.
     #[tactic(auto, unfolding(crate::specs::Rows::on_join))]
     fn on_join(&mut self, word: u64, from: NodeId) -> Result<(), AllocError>
         ensures { OnOk result (self.new ≡ on_join word from self.old) }
@@ -106,7 +103,6 @@ impl Draft {
         Ok(())
     }
 
-    /// FORWARDJOIN.
     #[tactic(auto, unfolding(crate::specs::Rows::on_forward_join))]
     fn on_forward_join(
         &mut self,
@@ -154,7 +150,6 @@ impl Draft {
         Ok(())
     }
 
-    /// DISCONNECT.
     #[tactic(auto, unfolding(crate::specs::Rows::on_disconnect))]
     fn on_disconnect(&mut self, word: u64, from: NodeId) -> Result<(), AllocError>
         ensures { OnOk result (self.new ≡ on_disconnect word from self.old) }
@@ -166,7 +161,6 @@ impl Draft {
         Ok(())
     }
 
-    /// NEIGHBOR high.
     #[tactic(auto, unfolding(crate::specs::Rows::on_neighbor_high))]
     fn on_neighbor_high(&mut self, word: u64, from: NodeId) -> Result<(), AllocError>
         ensures { OnOk result (self.new ≡ on_neighbor_high word from self.old) }
@@ -176,7 +170,6 @@ impl Draft {
         self.send(from, Message::NeighborReply { answer })
     }
 
-    /// NEIGHBOR low.
     #[tactic(auto, unfolding(crate::specs::Rows::on_neighbor_low))]
     fn on_neighbor_low(&mut self, word: u64, from: NodeId) -> Result<(), AllocError>
         ensures { OnOk result (self.new ≡ on_neighbor_low word from self.old) }
@@ -189,7 +182,6 @@ impl Draft {
         }
     }
 
-    /// NEIGHBORREPLY yes.
     #[tactic(auto, unfolding(crate::specs::Rows::on_neighbor_reply_yes))]
     fn on_neighbor_reply_yes(&mut self, word: u64, from: NodeId) -> Result<(), AllocError>
         ensures { OnOk result (self.new ≡ on_neighbor_reply_yes word from self.old) }
@@ -199,7 +191,6 @@ impl Draft {
         Ok(())
     }
 
-    /// NEIGHBORREPLY no.
     #[tactic(auto, unfolding(crate::specs::Rows::on_neighbor_reply_no))]
     fn on_neighbor_reply_no(&mut self, word: u64, from: NodeId) -> Result<(), AllocError>
         ensures { OnOk result (self.new ≡ on_neighbor_reply_no word from self.old) }
@@ -207,7 +198,7 @@ impl Draft {
         self.ask_another(word, from)
     }
 
-    /// A peer is down, or says BYE.
+    /// Handles a peer that is down, or that says BYE.
     #[tactic(auto, unfolding(crate::specs::Rows::on_peer_down))]
     fn on_peer_down(&mut self, word: u64, peer: NodeId) -> Result<(), AllocError>
         ensures { OnOk result (self.new ≡ on_peer_down word peer self.old) }
@@ -233,7 +224,7 @@ impl Draft {
         Ok(())
     }
 
-    /// Ask: a member of the passive view that wasn't asked yet is asked for a place.
+    /// Ask: asks a member of the passive view, one that wasn't asked before, for a place.
     #[tactic(auto, unfolding(crate::specs::Rows::ask))]
     fn ask(&mut self, word: u64) -> Result<(), AllocError>
         ensures { OnOk result (self.new ≡ ask word self.old) }
@@ -260,7 +251,6 @@ impl Draft {
         }
     }
 
-    /// A shuffle is due.
     #[tactic(auto, unfolding(crate::specs::Rows::on_shuffle_due))]
     fn on_shuffle_due(&mut self, word: u64) -> Result<(), AllocError>
         ensures { OnOk result (self.new ≡ on_shuffle_due word self.old) }
@@ -282,7 +272,7 @@ impl Draft {
         Ok(())
     }
 
-    /// What a shuffle offers to a neighbour.
+    /// Returns what a shuffle offers to a neighbour.
     fn offer_to(&self, word: u64, to: NodeId) -> Result<Nodes, AllocError>
         ensures { IfOk result (λ offer. offer ≡ offer_to word to self.now) }
     {
@@ -298,7 +288,6 @@ impl Draft {
         Ok(nodes_of(offer))
     }
 
-    /// SHUFFLE.
     #[tactic(auto, unfolding(crate::specs::Rows::on_shuffle))]
     fn on_shuffle(
         &mut self,
@@ -339,7 +328,6 @@ impl Draft {
         Ok(())
     }
 
-    /// SHUFFLEREPLY.
     #[tactic(auto, unfolding(crate::specs::Rows::on_shuffle_reply))]
     fn on_shuffle_reply(&mut self, word: u64, nodes: &Nodes) -> Result<(), AllocError>
         ensures { OnOk result (self.new ≡ on_shuffle_reply word nodes.now self.old) }
@@ -350,7 +338,8 @@ impl Draft {
         Ok(())
     }
 
-    /// TakeIn: the nodes that a shuffle brought, for those that were given away.
+    /// TakeIn: puts the nodes that a shuffle brought into the passive view, in place of those that
+    /// were given away.
     fn take_in(&mut self, word: u64, given: &[NodeId], nodes: &[NodeId]) -> Result<(), AllocError>
         ensures { OnOk result (self.new ≡ take_in word given.now nodes.now self.old) }
     {
@@ -381,7 +370,6 @@ impl Draft {
         }
     }
 
-    /// The node leaves the cluster.
     #[tactic(auto, unfolding(crate::specs::Rows::leave))]
     fn leave(&mut self) -> Result<(), AllocError>
         ensures { OnOk result (self.new ≡ leave self.old) }
@@ -417,7 +405,7 @@ fn say_bye(out: &mut Vec<ViewOut>, to: &[NodeId]) -> Result<(), AllocError>
     Ok(())
 }
 
-/// The member that a full passive view loses for a node that a shuffle brought.
+/// Returns the member that a full passive view loses for a node that a shuffle brought.
 #[tactic(auto, unfolding(crate::specs::Rows::member_to_replace))]
 fn member_to_replace(word: u64, given: &[NodeId], passive: &[NodeId]) -> NodeId
     requires { 0 < length passive.now }
@@ -431,7 +419,7 @@ fn member_to_replace(word: u64, given: &[NodeId], passive: &[NodeId]) -> NodeId
     choose(word, passive)
 }
 
-/// As many members as a shuffle brought, from the random place on.
+/// Returns as many members as a shuffle brought, from the random place on.
 fn pick_nodes(
     alloc: Global,
     word: u64,
@@ -444,7 +432,7 @@ fn pick_nodes(
     Ok(nodes_of(picked))
 }
 
-/// The list of a message.
+/// Returns the list of a message.
 fn nodes_of(numbers: Vec<NodeId>) -> Nodes
     requires { length numbers.items ≤ message_nodes_limit }
     ensures { result ≡ numbers.items }

@@ -40,7 +40,7 @@ impl Model for Views {
 }
 
 impl Views {
-    /// The views of a node that knows nobody. It takes no memory.
+    /// Returns the views of a node that knows nobody. It takes no memory.
     pub fn new(alloc: Global, node: NodeId) -> Self
         ensures { result ≡ empty node }
     {
@@ -63,14 +63,14 @@ impl Views {
         knows_nobody && self.asked.is_empty() && self.sent.as_slice().is_empty()
     }
 
-    /// The node whose views these are.
+    /// Returns the node whose views these are.
     pub fn node(&self) -> NodeId
         ensures { result ≡ self.now.node }
     {
         self.node
     }
 
-    /// The neighbours, the one of longest standing first.
+    /// Returns the neighbours, the one of longest standing first.
     pub fn active(&self) -> &[NodeId]
         ensures value { result.now ≡ self.now.active }
         ensures lawful { AreLawful self.now.node self.now.active self.now.passive }
@@ -78,7 +78,7 @@ impl Views {
         self.active.as_slice()
     }
 
-    /// The nodes in reserve, the one that came first at the front.
+    /// Returns the nodes in reserve, the one that came first at the front.
     pub fn passive(&self) -> &[NodeId]
         ensures value { result.now ≡ self.now.passive }
         ensures lawful { AreLawful self.now.node self.now.active self.now.passive }
@@ -87,7 +87,7 @@ impl Views {
     }
 
     /// Takes one event, with a random word, by its row of the table. Returns what it gives out, in
-    /// order: what is to be sent, and who became a neighbour or is one no more. Fails only when
+    /// order: what is to be sent, and who became a neighbour or stopped being one. Fails only when
     /// memory runs out. What holds of every row is in `laws`.
     pub fn step(&mut self, event: ViewEvent, word: u64) -> Result<Vec<ViewOut>, AllocError>
         ensures row { IfOk result (λ out. IsStep self.old event word self.new out.items) }
@@ -96,7 +96,7 @@ impl Views {
         self.take(&event, word)
     }
 
-    /// As `step`, with an event that stays the caller's.
+    /// Does what `step` does, with an event that stays the caller's.
     fn take(&mut self, event: &ViewEvent, word: u64) -> Result<Vec<ViewOut>, AllocError>
         ensures row { IfOk result (λ out. IsStep self.old event.now word self.new out.items) }
         ensures unchanged { OnErr result (self.new ≡ self.old) }
@@ -105,8 +105,8 @@ impl Views {
         Ok(self.commit(draft))
     }
 
-    /// The views after one event, and what the step gives out, while these stay as they are. Fails
-    /// only when memory runs out.
+    /// Returns the views after one event, and what the step gives out, while these stay as they
+    /// are. Fails only when memory runs out.
     pub fn after(&self, event: &ViewEvent, word: u64) -> Result<(Views, Vec<ViewOut>), AllocError>
         ensures { IfOk result (λ after. IsStep self.now event.now word after.0 after.1.items) }
     {
@@ -114,7 +114,7 @@ impl Views {
         Ok(parted(done))
     }
 
-    /// The draft after an event. A step is made on copies, so that a failed one changes nothing.
+    /// Returns the draft after an event.
     fn draft_after(&self, word: u64, event: &ViewEvent) -> Result<Draft, AllocError>
         ensures value { IfOk result (λ draft. draft ≡ draft_after event.now word self.now) }
         ensures lawful { IfOk result
@@ -126,7 +126,7 @@ impl Views {
         Ok(draft)
     }
 
-    /// The views become those of the draft. Returns what the draft gave out.
+    /// Takes over the views of the draft, and returns what the draft gave out.
     fn commit(&mut self, draft: Draft) -> Vec<ViewOut>
         requires { AreLawful draft.node draft.active draft.passive }
         ensures views { self.new ≡ views_of draft }
@@ -154,7 +154,7 @@ impl Views {
         })
     }
 
-    /// A step begins on copies, so that a failed one changes nothing.
+    /// Begins a step on copies, so that a failed one changes nothing.
     fn begin(&self) -> Result<Draft, AllocError>
         ensures value { IfOk result (λ draft. draft ≡ draft_of self.now) }
         ensures was_lawful { AreLawful self.now.node self.now.active self.now.passive }
@@ -171,7 +171,7 @@ impl Views {
     }
 }
 
-/// The views of a draft, and what it gave out.
+/// Returns the views of a draft, and what it gave out.
 fn parted(draft: Draft) -> (Views, Vec<ViewOut>)
     requires { AreLawful draft.node draft.active draft.passive }
     ensures views { result.0 ≡ views_of draft }

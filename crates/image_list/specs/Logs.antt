@@ -15,7 +15,7 @@ use Rattle.image_list.specs.declared.logs.LoggedEntry.{LoggedEntry}
 abbrev pub Logs : Type 0
 Logs = List (List ValueParts)
 
--- the values of a log; none where there is no such log
+-- the values of a log; none if there is no such log
 abbrev pub log_at : Logs → ℕ → List ValueParts
 log_at logs at = get_or logs at []
 
@@ -62,8 +62,8 @@ pub record GrowTo (old new : Logs) : Type 0 where
   pub begin : (at : ℕ) → at < length old
       → (rest : List ValueParts) × (log_at new at ≡ log_at old at ++ rest)
 
--- a log has these values, newest first, from the place `start` on, but for the `fresh` newest,
--- which are to come after its end
+-- a log has these values, newest first, from the place `start` on, except the `fresh` newest, which
+-- are to come after its end
 pub record Continues (log : List ValueParts) (start fresh : ℕ) (values : List ValueParts)
     : Type 0 where
   pub few : fresh ≤ length values
@@ -71,7 +71,7 @@ pub record Continues (log : List ValueParts) (start fresh : ℕ) (values : List 
   pub same : drop fresh values ≡ reverse (take (length values - fresh) (drop start log))
   pub at_end : (fresh ≡ 0) ⊎ (start + (length values - fresh) ≡ length log)
 
--- logs grow, also where memory runs out; what is kept of an entry has its values
+-- logs grow, even if memory runs out; what is kept of an entry has its values
 pub record Keeps {E : Type 0} (old new : Logs) (entry : Entry) (result : Result LoggedEntry E)
     : Type 0 where
   pub grow : GrowTo old new

@@ -15,14 +15,14 @@ use std::alloc::{AllocError, Global};
 use std::collections::BTreeMap;
 use std::marker::Model;
 
-/// The images of one node, but for image 0, which is empty. They are numbered from 1 in the order
-/// in which they were made.
+/// The images of one node, except image 0, which is empty. They are numbered from 1 in the order in
+/// which they were made.
 ///
-/// A value that several of them show is kept once, as far as the values of a writer under a key
-/// come one after the other, however images go to and fro between them: so images take memory in
-/// proportion to their number, the number of writers under their keys, and the values. Where some
-/// were left out that a later image has after all, or where memory ran out, values may be copied
-/// again.
+/// A value that several of them show is kept once, as long as the values of a writer under a key
+/// come one after the other, however images go back and forth between them. So images take memory
+/// in proportion to their number, the number of writers under their keys, and the values. Values
+/// may be copied again if some were left out that a later image has after all, or if memory ran
+/// out.
 #[derive(Debug, Drop)]
 pub struct Images {
     kept: Vec<Kept>,
@@ -91,14 +91,14 @@ impl<'a> Image<'a> {
     ghost use Rattle.std.specs.Prelude.{◌≡◌};
     ghost use Rattle.image_list.specs.Image.{IsChange};
 
-    /// The number of the image that this one changes.
+    /// Returns the number of the image that this one changes.
     pub fn base(&self) -> usize
         ensures { result ≡ self.now.base }
     {
         self.kept.base
     }
 
-    /// What it changes; `None` where it changes nothing.
+    /// Returns what it changes; `None` if it changes nothing.
     pub fn change(&self) -> Option<Change<'a>>
         ensures value { result ≡ self.now.change }
         ensures held { IsChange self.now.change }
@@ -117,7 +117,7 @@ impl<'a> Change<'a> {
     ghost use Rattle.std.specs.Prelude.{◌≡◌, IfOk};
     ghost use Rattle.meta_store.specs.Table.{IsHeld};
 
-    /// The key under which something else stands.
+    /// Returns the key under which something else stands.
     pub fn key(&self) -> &'a MetaKey
         ensures value { result.now ≡ self.now.0 }
         ensures held { IsHeld self.now.1 }
@@ -125,7 +125,7 @@ impl<'a> Change<'a> {
         &self.kept.key
     }
 
-    /// What stands there: a copy. Fails only when memory runs out.
+    /// Returns a copy of what stands there. Fails only when memory runs out.
     pub fn object(&self) -> Result<Entries, AllocError>
         ensures value { IfOk result (λ object. object ≡ self.now.1) }
     {
@@ -134,7 +134,7 @@ impl<'a> Change<'a> {
 }
 
 impl Images {
-    /// No images. It takes no memory; what is kept will be taken from the allocator.
+    /// Makes an empty list. It takes no memory; memory for what is kept comes from the allocator.
     pub fn new(alloc: Global) -> Self
         ensures { result ≡ [] }
     {
@@ -149,7 +149,7 @@ impl Images {
         *self.kept.allocator()
     }
 
-    /// The number of images, without image 0.
+    /// Returns the number of images, without image 0.
     pub fn len(&self) -> usize
         ensures value { result ≡ length self.now }
         ensures few { result < 2 ^ 63 }
@@ -157,7 +157,7 @@ impl Images {
         self.kept.len()
     }
 
-    /// The image of the number `at + 1`.
+    /// Returns the image of the number `at + 1`.
     pub fn at(&self, at: usize) -> Image<'_>
         requires { at < length self.now }
         ensures { result ≡ get_or self.now at result }
@@ -168,8 +168,8 @@ impl Images {
         }
     }
 
-    /// Adds an image that changes the one of the number `base`, and copies what isn't kept yet of
-    /// the object. Fails only when memory runs out, and then nothing changes.
+    /// Adds an image that changes the one of the number `base`, and copies the part of the object
+    /// that isn't kept already. Fails only when memory runs out, and then nothing changes.
     pub fn push(
         &mut self,
         base: usize,
@@ -185,7 +185,7 @@ impl Images {
         Ok(())
     }
 
-    /// Keeps only the first `len` images, or all where there are no more. It takes no memory.
+    /// Keeps only the first `len` images, or all if there are no more. It takes no memory.
     pub fn truncate(&mut self, len: usize)
         ensures { self.new ≡ take len self.old }
     {
@@ -193,7 +193,7 @@ impl Images {
     }
 }
 
-/// Keeps a change, if there is one. Where memory runs out, logs may have grown.
+/// Keeps a change, if there is one. If memory runs out, logs may have grown.
 fn keep(
     logs: &mut Logs,
     latest: &mut Latest,
@@ -211,7 +211,6 @@ fn keep(
     }
 }
 
-/// Keeps a change.
 fn keep_change(
     logs: &mut Logs,
     latest: &mut Latest,
@@ -229,7 +228,7 @@ fn keep_change(
     })
 }
 
-/// Keeps the entries of the object under the key. Where memory runs out, logs may have grown.
+/// Keeps the entries of the object under the key. If memory runs out, logs may have grown.
 fn keep_object(
     logs: &mut Logs,
     latest: &mut Latest,

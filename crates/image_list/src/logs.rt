@@ -64,7 +64,7 @@ impl Logs {
         *self.logs.allocator()
     }
 
-    /// The object of these entries. Fails only when memory runs out.
+    /// Returns the object of these entries. Fails only when memory runs out.
     pub(crate) fn object(&self, entries: &[LoggedEntry]) -> Result<Entries, AllocError>
         requires within { All (IsInLogs self.now) entries.now }
         requires lawful { IsObject (whole_object self.now entries.now) }
@@ -77,7 +77,7 @@ impl Logs {
         Ok(Entries::new(object))
     }
 
-    /// The entry with a copy of its values.
+    /// Returns the entry with a copy of its values.
     fn entry(&self, entry: &LoggedEntry) -> Result<Entry, AllocError>
         requires { IsInLogs self.now entry.now }
         ensures { IfOk result (λ whole. whole ≡ whole_entry self.now entry.now) }
@@ -90,7 +90,7 @@ impl Logs {
     }
 
     /// Keeps an entry's values: in the log that is likely to have most of them already, if they
-    /// continue it, else in a new one. What is not there yet is copied.
+    /// continue it, and otherwise in a new one. What isn't there already is copied.
     pub(crate) fn keep(
         &mut self,
         entry: &Entry,
@@ -138,7 +138,7 @@ impl Logs {
         })
     }
 
-    /// The place of the entry's values in the likely log, if they continue it.
+    /// Returns the place of the entry's values in the likely log, if they continue it.
     fn place_of(&self, entry: &Entry, likely: Option<usize>) -> Option<(usize, Place)>
         ensures { IfSome result (λ found. (found.0 < length self.now)
             × Continues (log_at self.now found.0) found.1.start found.1.fresh entry.now.values) }
@@ -172,7 +172,7 @@ impl Logs {
     }
 }
 
-/// Copies of the values, in reverse order.
+/// Returns copies of the values, in reverse order.
 fn reversed(alloc: Global, values: &[Value]) -> Result<Vec<Value>, AllocError>
     ensures { IfOk result (λ copies. copies.items ≡ reverse values.now) }
 {
@@ -181,8 +181,8 @@ fn reversed(alloc: Global, values: &[Value]) -> Result<Vec<Value>, AllocError>
     Ok(copies)
 }
 
-/// The place of the entry's values in the log: where its events have their numbers there, if the
-/// values that the log has are the same.
+/// Returns the place of the entry's values in the log: where its events have their numbers there,
+/// if the values that the log has are the same.
 fn place_in(log: &Log, entry: &Entry) -> Option<Place>
     ensures { IfSome result (λ place.
         Continues log.now.values.items place.start place.fresh entry.now.values) }

@@ -22,7 +22,7 @@ snoc_at (x ∷ xs) a b (suc j) e =
 abbrev pub Each : (ℕ → Knowledge → Type 0) → List Knowledge → Type 0
 Each F views = (place : ℕ) (v : Knowledge) → get_elem? views place ≡ some v → F place v
 
--- where one view is changed, all are as they have to be, if it is and the others are
+-- if one view is changed, all are as they have to be if it is and the others are
 pub each_set : (F : ℕ → Knowledge → Type 0) (views : List Knowledge) (place : ℕ) (w : Knowledge)
     → F place w
     → ((j : ℕ) (u : Knowledge) → j ≢ place → get_elem? views j ≡ some u → F j u)

@@ -15,8 +15,8 @@ abbrev pub HasEach : ℕ → List (ℕ × List Parcel) → List Parcel → Type 
 HasEach made [] all = Unit {0}
 HasEach made (b ∷ bs) all = (b.0 < made) × (parcels_of b.0 all ≡ b.1) × HasEach made bs all
 
--- what was taken, and then what is left, has what each pass put that came back; no pass came back
--- twice; and it has nothing of a sender that was given no pass
+-- what was taken, and then what is left, has what each pass that came back had put; no pass came
+-- back twice; and it has nothing of a sender that was given no pass
 pub record Balances (made : ℕ) (taken : List Parcel) (back : List (ℕ × List Parcel))
     (left : List Parcel) : Type 0 where
   pub each : HasEach made back (taken ++ left)

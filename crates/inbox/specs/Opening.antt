@@ -1,16 +1,21 @@
 -- An inbox with its passes, as it is made.
 use Rattle.std.specs.Prelude.{◌≡◌, ◌<◌, ◌≤◌, ℕ, false, List, [], length, slice_get, Some}
+use Rattle.meta_types.specs.Node.{most_nodes}
 use Rattle.atomic_table.specs.Seated.{TableId}
 use Rattle.inbox.specs.Views.{PutView}
 use Rattle.inbox.specs.declared.inbox.Fresh.{Fresh}
 
 -- how many senders an inbox may have
 abbrev pub IsSenderCount : ℕ → Type 0
-IsSenderCount n = (1 ≤ n) × (n ≤ 16)
+IsSenderCount n = (1 ≤ n) × (n ≤ most_nodes)
+
+-- the most parcels of an inbox
+abbrev pub most_room : ℕ
+most_room = 1024
 
 -- how many parcels an inbox may have room for
 abbrev pub IsRoom : ℕ → Type 0
-IsRoom n = (1 ≤ n) × (n ≤ 1024)
+IsRoom n = (1 ≤ n) × (n ≤ most_room)
 
 -- a pass for each of `senders` senders, in the order of their numbers from 0; nothing was put yet
 pub record AreNewPasses (line : TableId) (senders : ℕ) (passes : List PutView) : Type 0 where

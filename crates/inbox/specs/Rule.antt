@@ -34,7 +34,7 @@ taker made taken back = record {
   back = back;
 }
 
--- what a pass knows that came back: nothing
+-- what a pass that came back knows: nothing
 abbrev pub nobody : Knowledge
 nobody = record {
   sends = false;

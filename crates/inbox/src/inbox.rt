@@ -52,7 +52,8 @@ pub struct Fresh {
     pub takes: TakePass,
 }
 
-/// The inbox over the queue, with a pass for each sender. The passes have room in `puts`.
+/// Returns the inbox over the queue, with a pass for each sender. There is room for the passes in
+/// `puts`.
 #[tactic(auto, using(crate::proofs::Passes::one_pass_more, crate::proofs::Passes::no_passes))]
 fn deal(queue: Line, pass: Pass<Parcel, Knowledge>, puts: Vec<PutPass>, senders: usize) -> Fresh
     requires queue { IsPassOf queue pass }
@@ -73,7 +74,7 @@ fn deal(queue: Line, pass: Pass<Parcel, Knowledge>, puts: Vec<PutPass>, senders:
 }
 
 impl Inbox {
-    /// An inbox with room for 1,024 frames. Refused only with 99 `Memory`.
+    /// Makes an inbox with room for 1,024 frames. Refused only with 99 `Memory`.
     pub fn new(alloc: Global, senders: usize) -> Result<Fresh, InboxFault>
         requires { IsSenderCount senders }
         ensures fresh { IfOk result (IsFresh senders 1024) }
@@ -82,9 +83,9 @@ impl Inbox {
         Inbox::with_room(alloc, senders, MAX_ROOM)
     }
 
-    /// An inbox with room for `room` frames, of 1 to 16 senders, numbered from 0. Refused with 55
-    /// `BadLimit` where the room isn't 1 to 1,024, and with 99 `Memory`. All memory is taken here;
-    /// no later call takes any.
+    /// Makes an inbox with room for `room` frames, of 1 to 16 senders, numbered from 0. Refused
+    /// with 55 `BadLimit` if the room isn't 1 to 1,024, and with 99 `Memory`. All memory is taken
+    /// here; no later call takes any.
     pub fn with_room(alloc: Global, senders: usize, room: usize) -> Result<Fresh, InboxFault>
         requires { IsSenderCount senders }
         ensures fresh { IfOk result (IsFresh senders room) }
@@ -99,7 +100,7 @@ impl Inbox {
         Ok(deal(queue, pass, puts, senders))
     }
 
-    /// A pass for the next sender.
+    /// Returns a pass for the next sender.
     fn another(&self, takes: &mut TakePass, from: u64) -> PutPass
         requires line { takes.old.line ≡ self.now.line }
         requires next { from ≡ takes.old.made }
@@ -112,7 +113,7 @@ impl Inbox {
 
     /// Puts a frame after all others. It may wait for other threads in the midst of a call.
     ///
-    /// Refused with 53 `Closed`, and where it isn't closed with 50 `Full`. The frame comes back.
+    /// Refused with 53 `Closed`, and if it isn't closed, with 50 `Full`. The frame comes back.
     pub fn put<R: Wait>(&self, rt: &R, pass: &mut PutPass, frame: ByteString) -> Result<(), NotPut>
         requires { pass.old.line ≡ self.now.line }
         ensures put { MatchResult result (λ _. pass.new ≡ with_put pass.old frame)
@@ -139,8 +140,8 @@ impl Inbox {
         }
     }
 
-    /// Takes the oldest frame, whether the inbox is closed or not; `None` where there is none. It
-    /// may wait for other threads in the midst of a call.
+    /// Takes the oldest frame, whether the inbox is closed or not; `None` if there is none. It may
+    /// wait for other threads in the midst of a call.
     pub fn take<R: Wait>(&self, rt: &R, pass: &mut TakePass) -> Option<Parcel>
         requires { pass.old.line ≡ self.now.line }
         ensures some { IfSome result (λ parcel. pass.new ≡ with_taken pass.old parcel) }
@@ -165,7 +166,7 @@ impl Inbox {
     }
 
     /// Closes the inbox: from here on nothing is put; what is left may still be taken. No other
-    /// thread has the inbox any more, since `&mut` is asked for.
+    /// thread has the inbox then, since `&mut` is required.
     pub fn close(&mut self)
         ensures { self.new ≡ record self.old { closed = true } }
     {

@@ -11,7 +11,7 @@ pub fn all_is_here()
     ensures { AllIsHere }
 {}
 
-/// Faults are equal exactly where they are the same.
+/// Faults are equal exactly if they are the same.
 pub fn equal_faults_are_the_same(one: &InboxFault, other: &InboxFault) -> bool
     ensures { IsTrue result ↔ (one.now ≡ other.now) }
 {

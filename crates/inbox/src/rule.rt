@@ -50,7 +50,7 @@ impl Join<Knowledge> for Sender {
     ghost spent = { nobody };
 }
 
-/// A frame is put; where it can't be, what its sender put before is still there.
+/// A frame is put; if it can't be, what its sender put before is still there.
 pub struct Puts;
 
 impl Outcome<Parcel, Knowledge> for Puts {
@@ -66,7 +66,7 @@ impl Lesson<Parcel, Knowledge> for Puts {
     ghost fact = { λ v items. HasPuts v.from v.put items };
 }
 
-/// A frame is taken; where there is none, all that came back has been taken.
+/// A frame is taken; if there is none, all that came back has been taken.
 pub struct Takes;
 
 impl Outcome<Parcel, Knowledge> for Takes {

@@ -1,6 +1,7 @@
 -- Frames: a header of 20 bytes, and a body for each kind of message.
 use Rattle.std.specs.Prelude.{◌≡◌, ℕ, ◌+◌, ◌-◌, ◌<◌, ◌≤◌, ◌^◌, ◌==◌, ◌≢◌, nat_lt, nat_le, ◌⊎◌, List, [], ◌∷◌, ◌++◌, length, take, drop, Bool, not, ◌&&◌, ◌||◌, MatchOption, codes}
 use Rattle.std.specs.Int.{Width, byte_len, w8, w16, w32, w64, to_be_bytes, from_be_bytes}
+use Rattle.meta_types.specs.Node.{most_nodes}
 use Rattle.meta_frame.specs.declared.message.Message.{Message}
 use Rattle.meta_frame.specs.declared.message.Message.TheVariants.{Gossip, IHave, Graft, Prune, Join, ForwardJoin, Disconnect, Neighbor, NeighborReply, Shuffle, ShuffleReply, XRoot, XPrefixes, XInner, XLeaves, XBucket, XObject, XWant, Hello, Bye}
 use Rattle.meta_frame.specs.declared.message.Frame.{Frame}
@@ -116,7 +117,7 @@ abbrev pub IsMessage : Message → Type 0
 IsMessage m = (row_of m).Fits
 
 -- a field of a body of this kind is at fault; the messages of a kind have one form, so any of them
--- will do
+-- serves
 pub record BadFields (number : ℕ) (bytes : List ℕ) (left : ℕ) : Type 0 where
   pub message : Message
   pub kind_is : number ≡ kind_of message
@@ -140,8 +141,8 @@ spelling f = header f ++ body f.message
 
 -- the fields of the frame have a spelling, whatever its length
 pub record IsLawful (f : Frame) : Type 0 where
-  pub from : f.from < 16
-  pub to : f.to < 16
+  pub from : f.from < most_nodes
+  pub to : f.to < most_nodes
   pub apart : f.from ≢ f.to
   pub number : f.number < 2 ^ 64
   pub message : IsMessage f.message
@@ -154,7 +155,7 @@ pub record Spells (f : Frame) (bytes : List ℕ) : Type 0 where
 
 -- ---- which refusal comes first
 
--- the number of a width at an offset, asked only where there are enough bytes
+-- the number of a width at an offset, asked only if there are enough bytes
 abbrev pub number_in : Width → ℕ → List ℕ → ℕ
 number_in w at bytes = from_be_bytes w (take (byte_len w) (drop at bytes))
 
@@ -181,8 +182,8 @@ header_tests bytes =
     ∷ (nat_lt limit (20 + len_in bytes), TooLong)
     ∷ (nat_lt (length bytes) (20 + len_in bytes), Short)
     ∷ (nat_lt (20 + len_in bytes) (length bytes), LeftOver)
-    ∷ (not (nat_lt (from_in bytes) 16), BadBody 4)
-    ∷ (not (nat_lt (to_in bytes) 16) || (to_in bytes == from_in bytes), BadBody 6)
+    ∷ (not (nat_lt (from_in bytes) most_nodes), BadBody 4)
+    ∷ (not (nat_lt (to_in bytes) most_nodes) || (to_in bytes == from_in bytes), BadBody 6)
     ∷ []
 
 -- bytes are left over after the last field

@@ -1,6 +1,7 @@
 -- The header of a frame, for whoever passes frames on without reading them.
 use Rattle.std.specs.Prelude.{ℕ, ◌+◌, ◌==◌, nat_lt, List, [], ◌∷◌, length, Bool, not, ◌||◌}
 use Rattle.std.specs.Int.{w8, w16, w64}
+use Rattle.meta_types.specs.Node.{most_nodes}
 use Rattle.meta_frame.specs.Frame.{body, from_in, is_kind, kind_in, kind_of, len_in, limit, number_in, to_in}
 use Rattle.meta_frame.specs.declared.header.Header.{Header}
 use Rattle.meta_frame.specs.declared.message.Frame.{Frame}
@@ -49,6 +50,6 @@ length_tests bytes =
 -- the tests of the two nodes that it names
 abbrev pub node_tests : List ℕ → List (Bool × FrameFault)
 node_tests bytes =
-    (not (nat_lt (from_in bytes) 16), BadBody 4)
-    ∷ (not (nat_lt (to_in bytes) 16) || (to_in bytes == from_in bytes), BadBody 6)
+    (not (nat_lt (from_in bytes) most_nodes), BadBody 4)
+    ∷ (not (nat_lt (to_in bytes) most_nodes) || (to_in bytes == from_in bytes), BadBody 6)
     ∷ []

@@ -4,6 +4,7 @@ use Rattle.std.specs.Prelude.{◌≡◌, ℕ, List, length, drop, Option, Some, 
 use Rattle.std.specs.Int.{w8, w16, w32, w64}
 use Rattle.meta_types.specs.Name.{Key}
 use Rattle.meta_types.specs.First.{first_that_applies}
+use Rattle.meta_types.specs.Node.{most_nodes}
 use Rattle.dvvset.specs.Object.{Counter}
 use Rattle.frame_readers.specs.Reader.{Reader, number_reader, then_reader, made_reader, within_reader, node_reader, nodes_reader, priority_reader, answer_reader, digest_reader, digests_reader, prefix_reader, prefixes_reader, keys_reader, key_reader, vector_reader, object_reader}
 use Rattle.meta_frame.specs.Frame.{number_in, kind_in, from_in, to_in, header_tests}
@@ -111,8 +112,8 @@ Decodes (Err fault) read = (fault ≡ frames.Memory) ⊎ (read ≡ Err fault)
 -- what a header that passed its tests keeps
 pub record IsHeader (bytes : List ℕ) : Type 0 where
   pub long : 20 ≤ length bytes
-  pub from : from_in bytes < 16
-  pub to : to_in bytes < 16
+  pub from : from_in bytes < most_nodes
+  pub to : to_in bytes < most_nodes
 
 -- a fault by its offset
 abbrev pub offset_of : List ℕ → FieldFault → FrameFault

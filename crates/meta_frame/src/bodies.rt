@@ -15,7 +15,7 @@ use frame_readers::reading::{
 };
 use std::alloc::Global;
 
-/// The message of this kind at the front of the bytes.
+/// Reads the message of this kind at the front of the bytes.
 #[tactic(auto, unfolding(crate::specs::Reading::message_reader))]
 pub(crate) fn read_message(
     alloc: Global,

@@ -13,7 +13,7 @@ use crate::message::{Frame, Message};
 use frame_readers::FieldFault;
 use std::alloc::Global;
 
-/// The frame that the bytes spell.
+/// Returns the frame that the bytes spell.
 #[tactic(auto, unfolding(crate::specs::Reading::decode_of))]
 fn read(alloc: Global, bytes: &[u8]) -> Result<Frame, FrameFault>
     ensures { Decodes result (decode_of bytes.now) }
@@ -27,15 +27,15 @@ fn read(alloc: Global, bytes: &[u8]) -> Result<Frame, FrameFault>
         Err(fault) => return Err(offset(bytes, fault)),
     };
     if !rest.is_empty() {
-        // By a call: where a message is dropped in place, each call of `read` clears the room of
-        // its parts.
+        // Dropped by a call: if a message were dropped in place, each call of `read` would clear
+        // the room of its parts.
         drop(message);
         return Err(offset(bytes, FieldFault::Left(rest.len())));
     }
     Ok(frame_of(bytes, message))
 }
 
-/// The frame of a header that is right and a message.
+/// Returns the frame of a header that is right, and of a message.
 fn frame_of(bytes: &[u8], message: Message) -> Frame
     requires { IsHeader bytes.now }
     ensures { result ≡ framed bytes.now message }
@@ -49,8 +49,8 @@ fn frame_of(bytes: &[u8], message: Message) -> Frame
     }
 }
 
-/// The frame that all of the bytes spell. Otherwise the first refusal that applies: of the tests of
-/// the header in their order, 10 `Short`, 11 `BadMagic`, 12 `BadVersion`, 13 `BadKind`, 14
+/// Returns the frame that all of the bytes spell. Otherwise the first refusal that applies: of the
+/// tests of the header in their order, 10 `Short`, 11 `BadMagic`, 12 `BadVersion`, 13 `BadKind`, 14
 /// `TooLong`, 10, 16 `LeftOver`, 15 `BadBody` at 4 for the sender and at 6 for the addressee; then
 /// 15 `BadBody` at the first byte of the first field of the body that is at fault, or of what is
 /// left of the body after its last field.

@@ -30,8 +30,8 @@ fn write(out: &mut Vec<u8>, frame: &Frame, len: u32) -> Result<(), AllocError>
     Ok(())
 }
 
-/// The spelling of a lawful frame, in a buffer of just its length. Refused with 14 `TooLong` where
-/// it is longer than a frame may be, and only then.
+/// Returns the spelling of a lawful frame, in a buffer of just its length. Refused with 14
+/// `TooLong` if it is longer than a frame may be, and only then.
 pub fn encode(alloc: Global, frame: &Frame) -> Result<Vec<u8>, FrameFault>
     requires { IsLawful frame.now }
     ensures ok { IfOk result (λ bytes. Spells frame.now bytes.items) }
@@ -47,8 +47,8 @@ pub fn encode(alloc: Global, frame: &Frame) -> Result<Vec<u8>, FrameFault>
     Ok(out)
 }
 
-/// Adds the spelling of an object at the end of bytes, which stay as they were where memory is
-/// refused. It takes memory for the spelling once more, besides what the bytes grow by.
+/// Adds the spelling of an object at the end of bytes, which stay as they were if memory is
+/// refused. It takes memory for a second copy of the spelling, besides what the bytes grow by.
 pub fn put_object(out: &mut Vec<u8>, o: &Entries) -> Result<(), AllocError>
     requires { object.Fits o.now }
     ensures ok { OnOk result (out.new.items ≡ out.old.items ++ object.spell o.now) }

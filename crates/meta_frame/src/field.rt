@@ -13,8 +13,9 @@ use frame_readers::reading::{read_key, read_object, read_prefix, read_vector};
 use meta_types::{FullPrefix, MetaKey};
 use std::alloc::Global;
 
-/// The full prefix at the front of the bytes, and the bytes after it. Otherwise 15 `BadBody` at the
-/// first byte of the first field that is at fault, counted from the front of these bytes.
+/// Returns the full prefix at the front of the bytes, and the bytes after it. Otherwise 15
+/// `BadBody` at the first byte of the first field that is at fault, counted from the front of these
+/// bytes.
 pub fn get_prefix(alloc: Global, bytes: &[u8]) -> Result<(FullPrefix, &[u8]), FrameFault>
     ensures found { IfOk result (λ x. Begins prefix bytes.now x.0 x.1.now) }
     ensures refused { FailsWith FrameFault.Memory (RefusesField prefix bytes.now) result }
@@ -25,7 +26,7 @@ pub fn get_prefix(alloc: Global, bytes: &[u8]) -> Result<(FullPrefix, &[u8]), Fr
     }
 }
 
-/// The key at the front of the bytes, and the bytes after it; refused as `get_prefix` is.
+/// Returns the key at the front of the bytes, and the bytes after it; refused as `get_prefix` is.
 pub fn get_key(alloc: Global, bytes: &[u8]) -> Result<(MetaKey, &[u8]), FrameFault>
     ensures found { IfOk result (λ x. Begins key bytes.now x.0 x.1.now) }
     ensures refused { FailsWith FrameFault.Memory (RefusesField key bytes.now) result }
@@ -36,7 +37,8 @@ pub fn get_key(alloc: Global, bytes: &[u8]) -> Result<(MetaKey, &[u8]), FrameFau
     }
 }
 
-/// The vector at the front of the bytes, and the bytes after it; refused as `get_prefix` is.
+/// Returns the vector at the front of the bytes, and the bytes after it; refused as `get_prefix`
+/// is.
 pub fn get_vector(alloc: Global, bytes: &[u8]) -> Result<(Vector, &[u8]), FrameFault>
     ensures found { IfOk result (λ x. Begins vector bytes.now x.0 x.1.now) }
     ensures refused { FailsWith FrameFault.Memory (RefusesField vector bytes.now) result }
@@ -47,7 +49,8 @@ pub fn get_vector(alloc: Global, bytes: &[u8]) -> Result<(Vector, &[u8]), FrameF
     }
 }
 
-/// The object at the front of the bytes, and the bytes after it; refused as `get_prefix` is.
+/// Returns the object at the front of the bytes, and the bytes after it; refused as `get_prefix`
+/// is.
 pub fn get_object(alloc: Global, bytes: &[u8]) -> Result<(Entries, &[u8]), FrameFault>
     ensures found { IfOk result (λ x. Begins object bytes.now x.0 x.1.now) }
     ensures refused { FailsWith FrameFault.Memory (RefusesField object bytes.now) result }
@@ -58,7 +61,7 @@ pub fn get_object(alloc: Global, bytes: &[u8]) -> Result<(Entries, &[u8]), Frame
     }
 }
 
-/// A fault by its offset in the bytes.
+/// Returns the refusal of a fault, with its offset in the bytes.
 pub(crate) fn offset(bytes: &[u8], fault: FieldFault) -> FrameFault
     ensures { result ≡ offset_of bytes.now fault }
 {

@@ -41,10 +41,10 @@ pub struct Header {
     pub body_len: u32,
 }
 
-/// The header at the front of bytes, whatever follows it. It takes no memory. Otherwise the first
-/// refusal of `decode` that applies, without its tests of what follows: 10 `Short` below twenty
-/// bytes, 11 `BadMagic`, 12 `BadVersion`, 13 `BadKind`, 14 `TooLong`, 15 `BadBody` at 4 for the
-/// sender and at 6 for the addressee.
+/// Returns the header at the front of bytes, whatever follows it. It takes no memory. Otherwise the
+/// first refusal of `decode` that applies, without its tests of what follows: 10 `Short` below
+/// twenty bytes, 11 `BadMagic`, 12 `BadVersion`, 13 `BadKind`, 14 `TooLong`, 15 `BadBody` at 4 for
+/// the sender and at 6 for the addressee.
 pub fn read_header(bytes: &[u8]) -> Result<Header, FrameFault>
     ensures value { IfOk result (λ header. header ≡ header_in bytes.now) }
     ensures accepted { OnOk result
@@ -63,7 +63,7 @@ pub fn read_header(bytes: &[u8]) -> Result<Header, FrameFault>
     Ok(header_at(bytes))
 }
 
-/// The header that these bytes are.
+/// Returns the header that these bytes are.
 pub(crate) fn header_at(bytes: &[u8]) -> Header
     requires { IsHeader bytes.now }
     ensures { result ≡ header_in bytes.now }
@@ -77,7 +77,7 @@ pub(crate) fn header_at(bytes: &[u8]) -> Header
     }
 }
 
-/// The first test of the header that applies.
+/// Returns the refusal of the first test of the header that applies.
 pub(crate) fn header_fault(bytes: &[u8]) -> Option<FrameFault>
     ensures value { result ≡ first_that_applies (header_tests bytes.now) }
     ensures right { IfNone result (IsHeader bytes.now) }
@@ -91,7 +91,8 @@ pub(crate) fn header_fault(bytes: &[u8]) -> Option<FrameFault>
     node_fault(bytes)
 }
 
-/// The first test of the twenty bytes that applies, without the tests of the nodes.
+/// Returns the refusal of the first test of the twenty bytes that applies, without the tests of the
+/// nodes.
 fn front_fault(bytes: &[u8]) -> Option<FrameFault>
     ensures value { result ≡ first_that_applies (front_tests bytes.now) }
     ensures long { IfNone result (20 ≤ length bytes.now) }
@@ -111,7 +112,7 @@ fn front_fault(bytes: &[u8]) -> Option<FrameFault>
     }
 }
 
-/// How many bytes the frame has by its header.
+/// Returns how many bytes the frame has, as its header says.
 fn frame_len(bytes: &[u8]) -> u64
     requires { 20 ≤ length bytes.now }
     ensures { result ≡ 20 + len_in bytes.now }
@@ -119,7 +120,7 @@ fn frame_len(bytes: &[u8]) -> u64
     HEADER_LEN as u64 + u64::from(u32_at(bytes, 16))
 }
 
-/// The refusal of fewer bytes than the header names, or of more.
+/// Returns the refusal of fewer bytes than the header names, or of more.
 fn length_fault(bytes: &[u8]) -> Option<FrameFault>
     requires { 20 ≤ length bytes.now }
     ensures { result ≡ first_that_applies (length_tests bytes.now) }
@@ -134,7 +135,7 @@ fn length_fault(bytes: &[u8]) -> Option<FrameFault>
     }
 }
 
-/// The refusal of a number that is no node's, or of an addressee that is the sender.
+/// Returns the refusal of a number that is no node's, or of an addressee that is the sender.
 fn node_fault(bytes: &[u8]) -> Option<FrameFault>
     requires { 20 ≤ length bytes.now }
     ensures value { result ≡ first_that_applies (node_tests bytes.now) }

@@ -71,7 +71,6 @@ macro_rules! number_kind {
     };
 }
 
-/// The number of the message's kind.
 pub(crate) fn kind_number(message: &Message) -> u8
     ensures { result ≡ kind_of message.now }
 {
@@ -87,7 +86,7 @@ macro_rules! name_kind {
     };
 }
 
-/// The name of the message's kind, in capitals.
+/// Returns the name of the message's kind, in capitals.
 pub fn kind_name(message: &Message) -> &'static str
     ensures { result.now ≡ name_of message.now }
 {
@@ -292,7 +291,6 @@ macro_rules! kind_len {
     };
 }
 
-/// The length of the body of the message.
 pub(crate) fn body_len(message: &Message) -> usize
     requires { IsMessage message.now }
     ensures value { result ≡ length (body message.now) }

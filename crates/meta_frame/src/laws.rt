@@ -54,7 +54,7 @@ pub fn fields_are_unambiguous()
     ensures object { IsUnambiguous object }
 {}
 
-/// Faults are equal exactly where they are the same.
+/// Faults are equal exactly if they are the same.
 pub fn equal_faults_are_the_same(one: &FrameFault, other: &FrameFault) -> bool
     ensures { IsTrue result ↔ (one.now ≡ other.now) }
 {

@@ -27,7 +27,7 @@ pub enum Message {
         key: MetaKey,
         vector: Vector,
     },
-    /// 4: the sender wants no more objects on this link, but their announcements.
+    /// 4: the sender wants only announcements on this link, not the objects.
     Prune,
     /// 5: the sender joins at this node.
     Join,

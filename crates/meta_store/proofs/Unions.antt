@@ -16,7 +16,7 @@ module _ (hs : List Happening) (history : IsHistory hs) (k : Key) (S T : Places)
   pub fresh_object : IsObjectOf (writes hs) k (union S T) (sync a b)
   fresh_object = sync_object (writes hs) k S T a b (orderly hs history) is came
 
-  -- where all that came was known, what is held is that already
+  -- if all that came was known, what is held is that already
   pub stale_object : descends (join a) (join b) ≡ true → IsObjectOf (writes hs) k (union S T) a
   stale_object stale =
       let within : IsSubset T S = (descends-subset (writes hs) k T S b a (orderly hs history).ordered.falling came is).0 stale in

@@ -50,7 +50,7 @@ pub passed_by : {F : Type 0} (b : Bool) (x : F) (rest : Option F) → b ≡ fals
 passed_by true x rest e = cc
 passed_by false x rest e = refl
 
--- where its key is that of its context and there is room, a write has the refusals by its object
+-- if its key is that of its context and there is room, a write has the refusals by its object
 pub refusal_by_object : (table : Table) (id : ℕ) (key : Key) (value : ValueParts) (context : Option Reading) (read : List Counter) (held : List Entry) → is_of_another_key key context ≡ false → is_full_for table key ≡ false → read ≡ vector_read context → held ≡ object_at table key
     → refusal_of_update read held id value ≡ refusal_of_put table id key value context
 refusal_by_object table id key value context read held own room reads holds =

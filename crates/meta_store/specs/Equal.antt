@@ -1,4 +1,4 @@
--- The comparisons of rows and of tables: equal exactly where all keys and objects are.
+-- The comparisons of rows and of tables: equal exactly if all keys and objects are.
 use Rattle.std.specs.Prelude.{◌≡◌, nat_eq, Bool, ◌&&◌, List}
 use Rattle.std.specs.Bool.{Decides}
 use Rattle.std.specs.Cmp.{IsEquivalence, decided}

@@ -39,8 +39,8 @@ abbrev pub is_spent : Table → ℕ → Key → Option Reading → Bool
 is_spent table id key context =
     max (count_for (vector_read context) id) (count_of (object_at table key) id) == greatest_count
 
--- the refusals of a write that is of the key of its context, where there is room, by the object
--- that is held
+-- the refusals of a write that is of the key of its context, if there is room, by the object that
+-- is held
 abbrev pub refusal_of_update : List Counter → List Entry → ℕ → ValueParts → Option StoreFault
 refusal_of_update read held id value = first_that_applies (
     (max (count_for read id) (count_of held id) == greatest_count, CounterSpent)
@@ -64,12 +64,12 @@ refusal_of_put table id key value context = first_that_applies (
 abbrev pub merge_of : Table → Key → List Entry → List Entry
 merge_of table key came = sync (object_at table key) came
 
--- what a merge holds anew, unless what came is stale
+-- what a merge holds in place of the old, unless what came is stale
 abbrev pub merged_if_fresh : Table → Key → List Entry → Option (List Entry)
 merged_if_fresh table key came =
     if is_stale table key (join came) then None else Some (merge_of table key came)
 
--- what stands under the key after a merge; what came is stale where its vector is, and then nothing
+-- what stands under the key after a merge; what came is stale if its vector is, and then nothing
 -- changes
 abbrev pub object_after_merge : Table → Key → List Entry → List Entry
 object_after_merge table key came =

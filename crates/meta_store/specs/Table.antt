@@ -36,7 +36,7 @@ is_stale table key vector = descends (join (object_at table key)) vector
 abbrev pub keys_under : {X : Type 0} → Prefix → List (Key × X) → List Key
 keys_under prefix rows = filter (λ key. prefix_eq prefix key.prefix) (map (λ row. row.0) rows)
 
--- the full prefixes that hold a key, in order; each once, where rows rise
+-- the full prefixes that hold a key, in order; each once, if rows rise
 abbrev pub prefixes_of : {X : Type 0} → List (Key × X) → List Prefix
 prefixes_of rows = dedup prefix_eq (map (λ row. row.0.prefix) rows)
 

@@ -36,21 +36,20 @@ impl Context {
         }
     }
 
-    /// The key that was read.
+    /// Returns the key that was read.
     pub fn key(&self) -> &MetaKey
         ensures { result.now ≡ self.now.key }
     {
         &self.key
     }
 
-    /// The vector of the object that stood there: what a write with this context has read.
+    /// Returns the vector of the object that stood there: what a write with this context has read.
     pub fn vector(&self) -> &Vector
         ensures { result.now ≡ self.now.vector }
     {
         &self.vector
     }
 
-    /// Who read.
     pub fn source(&self) -> Source
         ensures { result ≡ self.now.source }
     {

@@ -28,7 +28,7 @@ pub enum StoreFault {
 }
 
 impl StoreFault {
-    /// The number of the refusal, as programs print it.
+    /// Returns the number of the refusal, as programs print it.
     pub fn code(&self) -> u16
         ensures { result ≡ code_of self.now }
     {
@@ -42,7 +42,7 @@ impl StoreFault {
         }
     }
 
-    /// The name of the refusal, as programs print it.
+    /// Returns the name of the refusal, as programs print it.
     pub fn name(&self) -> &'static str
         ensures { result.now ≡ fault_name self.now }
     {

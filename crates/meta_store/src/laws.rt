@@ -30,7 +30,7 @@ pub fn forgetting_takes_back_what_was_held()
         → without_object key (with_object key object table) ≡ table }
 {}
 
-/// Faults are equal exactly where they are the same.
+/// Faults are equal exactly if they are the same.
 pub fn equal_faults_are_the_same(one: &StoreFault, other: &StoreFault) -> bool
     ensures { IsTrue result ↔ (one.now ≡ other.now) }
 {

@@ -35,14 +35,14 @@ pub enum Merged {
 }
 
 impl Store {
-    /// Merges an object that came from another store into what is held under the key. Where it
-    /// counts no write that isn't known, returns `Stale`, and nothing changes; that takes no memory
+    /// Merges an object that came from another store into what is held under the key. If it counts
+    /// no write that isn't known, this returns `Stale`, and nothing changes; that takes no memory
     /// and is never refused. Nothing changes under other keys.
     ///
-    /// What isn't stale is refused, in this order, with 21 `BadEntries` where the merge would show
-    /// no value, which happens only with forged objects, 25 `StoreFull` for a new key where 8,192
-    /// are held, and 27 `ObjectTooLarge` where the merge would have more than 65,535 entries, more
-    /// than 65,535 values of one writer, or more than 16,000,000 bytes as its field of a frame; 99
+    /// What isn't stale is refused, in this order, with 21 `BadEntries` if the merge would show no
+    /// value, which happens only with forged objects, 25 `StoreFull` for a new key if 8,192 are
+    /// held, and 27 `ObjectTooLarge` if the merge would have more than 65,535 entries, more than
+    /// 65,535 values of one writer, or more than 16,000,000 bytes as its field of a frame; 99
     /// `Memory` may stand in place of any other result. Then nothing changes. Key and object are
     /// dropped with a refusal.
     pub fn merge(&mut self, key: MetaKey, object: Entries) -> Result<Merged, StoreFault>
@@ -69,8 +69,8 @@ impl Store {
         Ok(Merged::Fresh)
     }
 
-    /// The object that `merge` would hold, by the same rules and with the same refusals, or none
-    /// where what came is stale; that takes no memory and is never refused. Nothing changes.
+    /// Returns the object that `merge` would hold, or none if what came is stale; that takes no
+    /// memory and is never refused. Nothing changes. Refused as `merge` is.
     pub fn preview_merge(
         &self,
         key: &MetaKey,
@@ -92,8 +92,8 @@ impl Store {
         Ok(Some(synced(alloc, held, came, has_room)?))
     }
 
-    /// The object under the key, the absent one where nothing is held, for which `absent` is
-    /// borrowed; and whether an object may be held there.
+    /// Returns the object under the key, or `absent` if nothing is held, and whether an object may
+    /// be held there.
     fn held_or<'a>(&'a self, key: &MetaKey, absent: &'a Entries) -> (&'a Entries, bool)
         requires { absent.now ≡ [] }
         ensures object { result.0.now ≡ object_at self.now key.now }
@@ -106,7 +106,7 @@ impl Store {
     }
 }
 
-/// The merge of what is held and what came.
+/// Returns the merge of what is held and what came.
 fn synced(
     alloc: Global,
     held: &Entries,

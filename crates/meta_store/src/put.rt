@@ -22,8 +22,8 @@ use std::alloc::Global;
 pub const MAX_WRITTEN_LEN: usize = 1_048_576;
 
 impl Store {
-    /// The object that `put` would hold, by the same rules and with the same refusals. Nothing
-    /// changes. The value is dropped with a refusal.
+    /// Returns the object that `put` would hold. Nothing changes. Refused as `put` is; then the
+    /// value is dropped.
     pub fn preview_put(
         &self,
         id: Actor,
@@ -52,18 +52,17 @@ impl Store {
         written(alloc, read, self.object_or(key, &absent), id, value)
     }
 
-    /// A write by `id`. It has read what its context says, or nothing where it has no context: the
-    /// values that were read are no longer shown, the others stay beside the new one as siblings.
-    /// The context counts also where nothing is held, or less than it has read. Nothing changes
-    /// under other keys.
+    /// Writes the value under the key, by `id`. The write has read what its context says, or
+    /// nothing if it has no context: the values that were read are no longer shown, and the others
+    /// stay beside the new one as siblings. The context counts even if nothing is held, or less
+    /// than it has read. Nothing changes under other keys.
     ///
-    /// Refused, in this order, with 26 `WrongKey` where the context is of another key, 25
-    /// `StoreFull` for a new key where 8,192 are held, 20 `CounterSpent` where the writer's
-    /// counter, in what is held or in what was read, is 18,446,744,073,709,551,615, and 27
-    /// `ObjectTooLarge` where the object would have more than 65,535 entries, more than 65,535
-    /// values of one writer, or more than 1,048,576 bytes as its field of a frame; 99 `Memory` may
-    /// stand in place of any other result. Then nothing changes. Key and value are dropped with a
-    /// refusal.
+    /// Refused, in this order, with 26 `WrongKey` if the context is of another key, 25 `StoreFull`
+    /// for a new key if 8,192 are held, 20 `CounterSpent` if the writer's counter, in what is held
+    /// or in what was read, is 18,446,744,073,709,551,615, and 27 `ObjectTooLarge` if the object
+    /// would have more than 65,535 entries, more than 65,535 values of one writer, or more than
+    /// 1,048,576 bytes as its field of a frame; 99 `Memory` may stand in place of any other result.
+    /// Then nothing changes. Key and value are dropped with a refusal.
     pub fn put(
         &mut self,
         id: Actor,
@@ -85,8 +84,8 @@ impl Store {
             (refusal_of_put self.old id key value (option_copied context.entry)) result }
         ensures same { OnErr result (self.new ≡ self.old) }
     {
-        // The key is dropped by calls: where it is dropped in place, each call of this function
-        // clears the room of its parts.
+        // The key is dropped by calls: if it were dropped in place, each call of this function
+        // would clear the room of its parts.
         match self.put_or_make(id, &key, value, context) {
             Ok(Some(object)) => Ok(self.hold(key, object)?),
             Ok(None) => {
@@ -100,8 +99,8 @@ impl Store {
         }
     }
 
-    /// `put` where the key is held. Where it isn't, nothing changes, and the object comes back that
-    /// is to be held under it.
+    /// Does what `put` does if the key is held. If it isn't, nothing changes, and the object that
+    /// is to be held under it is returned.
     fn put_or_make(
         &mut self,
         id: Actor,
@@ -146,7 +145,7 @@ fn is_of_another_key(key: &MetaKey, context: Option<&Context>) -> bool
     context.is_some_and(|context| context.key() != key)
 }
 
-/// The vector of the context, or `nothing` where there is none.
+/// Returns the vector of the context, or `nothing` if there is none.
 fn vector_read<'a>(context: Option<&'a Context>, nothing: &'a Vector) -> &'a Vector
     requires { nothing.now ≡ [] }
     ensures { result.now ≡ vector_read (option_copied context.entry) }
@@ -154,7 +153,7 @@ fn vector_read<'a>(context: Option<&'a Context>, nothing: &'a Vector) -> &'a Vec
     context.map_or(nothing, |context| context.vector())
 }
 
-/// The object that a write leaves of the one that is held, or of the absent one.
+/// Returns the object that a write makes of the one that is held, or of the absent one.
 pub(crate) fn written(
     alloc: Global,
     read: &Vector,

@@ -39,7 +39,7 @@ impl Model for Rows {
 }
 
 impl Rows {
-    /// One key with its object.
+    /// Returns the rows of one key with its object.
     pub(crate) fn of_one(
         alloc: Global,
         key: ByteString,
@@ -66,9 +66,9 @@ impl Rows {
         Ok(before.is_none())
     }
 
-    /// A write by `id` to the key, with what it has read, where the key is held: it is searched
-    /// once. Where it isn't, the value comes back. Where it is refused, or the value comes back,
-    /// nothing changes.
+    /// Writes to the key by `id`, with what the write has read, if the key is held; it is searched
+    /// for once. If it isn't held, the value comes back. If the write is refused or the value comes
+    /// back, nothing changes.
     pub(crate) fn put_held(
         &mut self,
         alloc: Global,
@@ -110,14 +110,14 @@ impl Rows {
         self.by_key.remove(key).is_some()
     }
 
-    /// The object that is held under the key of these bytes.
+    /// Returns the object that is held under the key of these bytes.
     pub fn object(&self, key: &ByteString) -> Option<&Entries>
         ensures { option_copied result ≡ find bytes_cmp key.now self.now }
     {
         self.by_key.get(key)
     }
 
-    /// How many keys there are.
+    /// Returns how many keys there are.
     pub fn len(&self) -> usize
         ensures { result ≡ length self.now }
     {
@@ -132,7 +132,7 @@ impl Rows {
         self.by_key.iter()
     }
 
-    /// The keys under this full prefix, in order. They are copies.
+    /// Returns the keys under this full prefix, in order. They are copies.
     pub(crate) fn keys(
         &self,
         alloc: Global,

@@ -51,7 +51,7 @@ impl Model for Store {
 }
 
 impl Store {
-    /// A store that holds nothing. It takes no memory; memory for what is held will come from the
+    /// Makes a store that holds nothing. It takes no memory; memory for what is held comes from the
     /// allocator.
     pub fn new(alloc: Global) -> Self
         ensures { result ≡ [] }
@@ -63,7 +63,7 @@ impl Store {
         }
     }
 
-    /// How many keys are held, at most 8,192.
+    /// Returns how many keys are held, at most 8,192.
     pub fn len(&self) -> usize
         ensures value { result ≡ length self.now }
         ensures is_table { IsTable self.now }
@@ -78,7 +78,7 @@ impl Store {
         self.len == 0
     }
 
-    /// The object that is held under the key.
+    /// Returns the object that is held under the key.
     pub fn object(&self, key: &MetaKey) -> Option<&Entries>
         ensures value { option_copied result ≡ find key_cmp key.now self.now }
         ensures lawful { IfSome result (λ object. IsHeld object.now) }
@@ -86,9 +86,9 @@ impl Store {
         self.parts.get(key.prefix())?.object(key.own_bytes())
     }
 
-    /// The values under the key, by writer and the newest first for each, which are siblings if
-    /// there are several; and the vector of their object. Both are empty where nothing is held.
-    /// They are copies. Fails only when memory runs out.
+    /// Returns the values under the key, by writer and of each writer the newest first, and the
+    /// vector of their object. Several values are siblings. Both are empty if nothing is held. They
+    /// are copies. Fails only when memory runs out.
     pub fn get(&self, key: &MetaKey) -> Result<(Vec<Value>, Vector), AllocError>
         ensures values { IfOk result
             (λ read. read.0.items ≡ values_of (object_at self.now key.now)) }
@@ -98,8 +98,8 @@ impl Store {
         read(self.alloc, self.object_or(key, &absent))
     }
 
-    /// The values under the key, as `get` has them, and a context for a later write that has read
-    /// them, as `context` makes it. Fails only when memory runs out.
+    /// Returns the values under the key, as `get` has them, and a context for a later write that
+    /// has read them, as `context` makes it. Fails only when memory runs out.
     pub fn look(&self, key: &MetaKey, source: Source) -> Result<(Vec<Value>, Context), AllocError>
         ensures values { IfOk result
             (λ read. read.0.items ≡ values_of (object_at self.now key.now)) }
@@ -109,16 +109,16 @@ impl Store {
         Ok((values, Context::new(key.copy()?, vector, source)))
     }
 
-    /// A context for a later write that has read what is under the key; where nothing is held its
-    /// vector has read nothing. `source` says who reads. No value is copied. Fails only when memory
-    /// runs out.
+    /// Returns a context for a later write that has read what is under the key; if nothing is held,
+    /// its vector has read nothing. `source` says who reads. No value is copied. Fails only when
+    /// memory runs out.
     pub fn context(&self, key: &MetaKey, source: Source) -> Result<Context, AllocError>
         ensures { IfOk result (λ context. context ≡ reading_at self.now key.now source) }
     {
         Ok(Context::new(key.copy()?, self.vector(key)?, source))
     }
 
-    /// The vector of the object under the key, which has read nothing where nothing is held.
+    /// Returns the vector of the object under the key, which has read nothing if nothing is held.
     fn vector(&self, key: &MetaKey) -> Result<Vector, AllocError>
         ensures { IfOk result (λ vector. vector ≡ join (object_at self.now key.now)) }
     {
@@ -160,9 +160,9 @@ impl Store {
         Ok(())
     }
 
-    /// A write by `id` to the key, with what it has read, where the key is held: it is searched
-    /// once. Where it isn't, the value comes back. Where it is refused, or the value comes back,
-    /// nothing changes.
+    /// Writes to the key by `id`, with what the write has read, if the key is held; it is searched
+    /// for once. If it isn't held, the value comes back. If the write is refused or the value comes
+    /// back, nothing changes.
     pub(crate) fn put_held(
         &mut self,
         id: Actor,
@@ -192,10 +192,10 @@ impl Store {
         rows.put_held(alloc, id, key.own_bytes(), value, read)
     }
 
-    /// Takes the key and its object out again; nothing changes where the key isn't held. It takes
-    /// no memory. It is for taking back a merge or a `hold` under a new key, where what belongs to
-    /// it elsewhere could not be kept. It is no deletion, which is a write of a tombstone: what is
-    /// forgotten isn't known any more, so a node would count its own writes under the key anew.
+    /// Takes the key and its object out again. Nothing changes if the key isn't held. It takes no
+    /// memory. It is for taking back a merge or a `hold` under a new key, if what belongs to it
+    /// elsewhere could not be kept. It is no deletion, which is a write of a tombstone: what is
+    /// forgotten isn't known, so a node would count its own writes under the key from 1 again.
     pub fn forget(&mut self, key: &MetaKey)
         ensures { self.new ≡ without_object key.now self.old }
     {
@@ -204,8 +204,8 @@ impl Store {
         }
     }
 
-    /// The keys under the full prefix, in order; none where it holds none. They are copies. Fails
-    /// only when memory runs out.
+    /// Returns the keys under the full prefix, in order; none if it holds none. They are copies.
+    /// Fails only when memory runs out.
     pub fn list(&self, prefix: &FullPrefix) -> Result<Vec<MetaKey>, AllocError>
         ensures { IfOk result (λ keys. keys.items ≡ keys_under prefix.now self.now) }
     {
@@ -215,8 +215,8 @@ impl Store {
         }
     }
 
-    /// The full prefixes that hold a key, in order. They are copies. Fails only when memory runs
-    /// out.
+    /// Returns the full prefixes that hold a key, in order. They are copies. Fails only when memory
+    /// runs out.
     pub fn prefixes(&self) -> Result<Vec<FullPrefix>, AllocError>
         ensures { IfOk result (λ prefixes. prefixes.items ≡ prefixes_of self.now) }
     {
@@ -247,7 +247,7 @@ impl Store {
         })
     }
 
-    /// The object under the key, the absent one where nothing is held. `absent` is borrowed for it.
+    /// Returns the object under the key, or `absent` if nothing is held.
     pub(crate) fn object_or<'a>(&'a self, key: &MetaKey, absent: &'a Entries) -> &'a Entries
         requires { absent.now ≡ [] }
         ensures { result.now ≡ object_at self.now key.now }
@@ -260,7 +260,7 @@ impl Store {
     }
 }
 
-/// The values of an object and its vector, both copies. Fails only when memory runs out.
+/// Returns copies of the values of an object and of its vector. Fails only when memory runs out.
 fn read(alloc: Global, object: &Entries) -> Result<(Vec<Value>, Vector), AllocError>
     ensures values { IfOk result (λ read. read.0.items ≡ values_of object.now) }
     ensures vector { IfOk result (λ read. read.1 ≡ join object.now) }

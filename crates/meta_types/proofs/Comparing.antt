@@ -155,7 +155,7 @@ value_cmp-Less v w = (forth, back)
     back (inl less) = then_from_less (nat_cmp v.stamp w.stamp) (option_cmp bytes_cmp v.body w.body) (inl (sym (nat_cmp_is v.stamp w.stamp Less less)))
     back (inr both) = then_from_less (nat_cmp v.stamp w.stamp) (option_cmp bytes_cmp v.body w.body) (inr (sym (nat_cmp_is v.stamp w.stamp Equal both.0), cmp_from_body_before v.body w.body both.1))
 
--- ---- what a comparison answered, where it answered this
+-- ---- what a comparison answered, if it answered this
 
 pub bytes_before : (r : Ordering) (xs ys : List ℕ) → r ≡ bytes_cmp xs ys → (r ≡ Less) ↔ BytesBefore xs ys
 bytes_before r xs ys e = ((λ h. before_from_cmp xs ys (sym e ∙ h)), (λ b. e ∙ cmp_from_before xs ys b))

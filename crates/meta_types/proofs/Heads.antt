@@ -74,7 +74,7 @@ head_is (a ∷ b ∷ c ∷ d ∷ e ∷ f ∷ []) = omega arith
 head_is (a ∷ b ∷ c ∷ d ∷ e ∷ f ∷ g ∷ []) = omega arith
 head_is (a ∷ b ∷ c ∷ d ∷ e ∷ f ∷ g ∷ h ∷ xs) = omega arith
 
--- where what both spell is the same, first bytes that are equal decide nothing
+-- if what both spell is the same, first bytes that are equal decide nothing
 same_step : (n a x y : ℕ) (xs ys : List ℕ) (r o : Ordering) → MatchOrdering o (x < y) (x ≡ y) (y < x)
     → AreBytes xs → AreBytes ys → (spelled n (a * 256 + y) xs ≡ spelled n (a * 256 + y) ys → bytes_cmp xs ys ≡ r)
     → spelled n (a * 256 + x) xs ≡ spelled n (a * 256 + y) ys → ordering_then o (bytes_cmp xs ys) ≡ r
@@ -95,7 +95,7 @@ after a b Greater more = let h : b < a = more in omega arith
 rank_after : (a b : ℕ) → nat_cmp a b ≡ nat_cmp (suc a) (suc b)
 rank_after a b = nat_cmp_is (suc a) (suc b) (nat_cmp a b) (after a b (nat_cmp a b) (ranked a b (nat_cmp a b) refl))
 
--- where so many bytes spell the same, and one string has no others, the lengths decide
+-- if so many bytes spell the same, and one string has no others, the lengths decide
 by_lengths : (n a : ℕ) (xs ys : List ℕ) → AreBytes xs → AreBytes ys → (length xs ≤ n) ⊎ (length ys ≤ n) → spelled n a xs ≡ spelled n a ys → bytes_cmp xs ys ≡ nat_cmp (length xs) (length ys)
 unfolding spelled
 by_lengths n a [] [] p q k h = refl
@@ -109,7 +109,7 @@ by_lengths (suc n) a (x ∷ xs) (y ∷ ys) p q k h =
     (by_lengths n (a * 256 + y) xs ys (λ at. p (suc at)) (λ at. q (suc at)) rest) h
     ∙ rank_after (length xs) (length ys)
 
--- where so many bytes spell the same, and both strings have as many, those after them decide
+-- if so many bytes spell the same, and both strings have as many, those after them decide
 by_rest : (n a : ℕ) (xs ys : List ℕ) → AreBytes xs → AreBytes ys → n ≤ length xs → n ≤ length ys → spelled n a xs ≡ spelled n a ys → bytes_cmp xs ys ≡ bytes_cmp (drop n xs) (drop n ys)
 unfolding spelled
 by_rest zero a xs ys p q k l h = refl
@@ -123,11 +123,11 @@ module _ (xs ys : List ℕ) (head other : ℕ) (p : IsHeadOf head xs) (q : IsHea
   spelled_same : spelled 8 0 xs ≡ spelled 8 0 ys
   spelled_same = sym (head_is xs) ∙ sym p.value ∙ same ∙ q.value ∙ head_is ys
 
-  -- where one of the byte strings has at most eight bytes, they compare as their lengths
+  -- if one of the byte strings has at most eight bytes, they compare as their lengths
   pub by_short : (length xs ≤ 8) ⊎ (length ys ≤ 8) → bytes_cmp xs ys ≡ nat_cmp (length xs) (length ys)
   by_short k = by_lengths 8 0 xs ys p.in_range q.in_range k spelled_same
 
-  -- where both have more, they compare as what is past their heads
+  -- if both have more, they compare as what is past their heads
   pub by_long : 8 < length xs → 8 < length ys → bytes_cmp xs ys ≡ bytes_cmp (drop 8 xs) (drop 8 ys)
   by_long k l = by_rest 8 0 xs ys p.in_range q.in_range (omega arith) (omega arith) spelled_same
 

@@ -1,5 +1,5 @@
--- The comparisons that `==` makes of names, part by part: equal exactly where all parts are, by
--- lemmas that impls cite.
+-- The comparisons that `==` makes of names, part by part: equal exactly if all parts are, by lemmas
+-- that impls cite.
 use Rattle.std.specs.Prelude.{◌≡◌, nat_eq, Bool, ◌&&◌}
 use Rattle.std.specs.Bool.{Decides}
 use Rattle.std.specs.Ordering.{on, eq_of_both}

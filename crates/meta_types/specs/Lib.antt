@@ -9,7 +9,7 @@ pub mod Name
 pub mod Value
 -- byte order, and the order of prefixes and keys
 pub mod Order
--- lemmas, which stand here since impls cite them: two values tie exactly where they are equal
+-- lemmas, which stand here since impls cite them: two values tie exactly if they are equal
 pub mod Ties
 -- the comparisons of `==`, which are equality
 pub mod Equal

@@ -14,10 +14,17 @@ pub record Key : Type 0 where
 abbrev pub IsName : ℕ → List ℕ → Type 0
 IsName most bytes = (1 ≤ length bytes) × (length bytes ≤ most)
 
+-- the most bytes of each part of a full prefix, and of a key under it
+abbrev pub most_prefix_len : ℕ
+most_prefix_len = 64
+
+abbrev pub most_key_len : ℕ
+most_key_len = 256
+
 -- both parts of a full prefix have a length in range
 abbrev pub IsFullPrefix : Prefix → Type 0
-IsFullPrefix p = IsName 64 p.prefix × IsName 64 p.sub
+IsFullPrefix p = IsName most_prefix_len p.prefix × IsName most_prefix_len p.sub
 
 -- each part of a key has a length in range
 abbrev pub IsKey : Key → Type 0
-IsKey k = IsFullPrefix k.prefix × IsName 256 k.key
+IsKey k = IsFullPrefix k.prefix × IsName most_key_len k.key

@@ -28,11 +28,11 @@ pub record IsLessAtFirstDifference (lesser greater : List ℕ) : Type 0 where
 abbrev pub BytesBefore : List ℕ → List ℕ → Type 0
 BytesBefore xs ys = IsProperStart xs ys ⊎ IsLessAtFirstDifference xs ys
 
--- the first parts decide; where they are equal, the second parts do
+-- the first parts decide; if they are equal, the second parts do
 abbrev pub PrefixBefore : Prefix → Prefix → Type 0
 PrefixBefore p q = BytesBefore p.prefix q.prefix ⊎ ((p.prefix ≡ q.prefix) × BytesBefore p.sub q.sub)
 
--- the prefixes decide; where they are equal, the keys' own bytes do
+-- the prefixes decide; if they are equal, the keys' own bytes do
 abbrev pub KeyBefore : Key → Key → Type 0
 KeyBefore k l = PrefixBefore k.prefix l.prefix ⊎ ((k.prefix ≡ l.prefix) × BytesBefore k.key l.key)
 
@@ -43,7 +43,7 @@ BodyBefore None (Some bytes) = Unit {0}
 BodyBefore (Some bytes) None = ⊥
 BodyBefore (Some bytes) (Some others) = BytesBefore bytes others
 
--- the stamps decide; where they are equal, the bodies do
+-- the stamps decide; if they are equal, the bodies do
 abbrev pub ValueBefore : ValueParts → ValueParts → Type 0
 ValueBefore v w = (v.stamp < w.stamp) ⊎ ((v.stamp ≡ w.stamp) × BodyBefore v.body w.body)
 

@@ -1,5 +1,5 @@
--- Lemmas that impls cite: two values tie in their order exactly where they are equal, and tests of
--- the parts of a fact together decide the fact.
+-- Lemmas that impls cite: two values tie in their order exactly if they are equal, and tests of the
+-- parts of a fact together decide the fact.
 use Rattle.std.proofs.Common.{ℕ, ◌≡◌, ◌&&◌, ◌==◌, Bool, List, Option, Some, None, nat_eq, refl, sym, ◌∙◌}
 use Rattle.std.specs.Bool.{Decides}
 use Rattle.std.specs.declared.cmp.Ordering.{Ordering}

@@ -5,10 +5,14 @@ pub record ValueParts : Type 0 where
   pub stamp : ℕ
   pub body : Option (List ℕ)
 
+-- the most bytes of a value
+abbrev pub most_body_len : ℕ
+most_body_len = 1024
+
 -- a tombstone, or at most as many bytes as a value may have
 abbrev pub IsBody : Option (List ℕ) → Type 0
 IsBody None = Unit {0}
-IsBody (Some bytes) = length bytes ≤ 1024
+IsBody (Some bytes) = length bytes ≤ most_body_len
 
 -- a stamp of 64 bits and a body in range
 abbrev pub IsValue : ValueParts → Type 0

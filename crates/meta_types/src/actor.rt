@@ -57,7 +57,7 @@ impl Actor {
         self.incarnation
     }
 
-    /// Node and incarnation as one number, which keeps the order of actors.
+    /// Returns the node and the incarnation as one number, which keeps the order of actors.
     pub fn number(self) -> u64
         ensures value { result ≡ self }
         ensures in_range { IsWriter self }

@@ -16,8 +16,8 @@ const HEAD_LEN: usize = 8;
 /// A byte string that contracts see as the list of its bytes, so that names and values are compared
 /// lawfully, in byte order.
 ///
-/// Its first eight bytes stand beside it as one number, the head, by which most comparisons end:
-/// a search of a map reads the bytes of a key only where the heads are equal.
+/// Its first eight bytes stand beside it as one number, the head, by which most comparisons end: a
+/// search of a map reads the bytes of a key only if the heads are equal.
 #[derive(Debug, Drop)]
 pub struct ByteString {
     bytes: SmallVec<u8, SHORT_LEN>,
@@ -35,14 +35,14 @@ impl Model for ByteString {
     ghost invariant = { λ s. IsHeadOf s.head s.bytes.items };
 }
 
-/// The byte at this place, 0 past the end.
+/// Returns the byte at this place, or 0 past the end.
 fn byte_at(bytes: &[u8], at: usize) -> u8
     ensures { result ≡ byte_at bytes.now at }
 {
     bytes.get(at).copied().unwrap_or(0)
 }
 
-/// Four bytes as one number, the first of them the greatest digit.
+/// Returns four bytes as one number, in big-endian order.
 fn number_of(a: u8, b: u8, c: u8, d: u8) -> u64
     ensures value { result ≡ ((a * 256 + b) * 256 + c) * 256 + d }
     ensures small { result < 4294967296 }
@@ -50,7 +50,7 @@ fn number_of(a: u8, b: u8, c: u8, d: u8) -> u64
     (u64::from(a) * 256 + u64::from(b)) * 65_536 + u64::from(c) * 256 + u64::from(d)
 }
 
-/// The four bytes from this place on as one number, the first of them the greatest digit.
+/// Returns the four bytes from this place on as one number, in big-endian order.
 fn four_from(bytes: &[u8], at: usize) -> u64
     requires { at < 8 }
     ensures value { result ≡ four_from bytes.now at }
@@ -63,15 +63,15 @@ fn four_from(bytes: &[u8], at: usize) -> u64
     number_of(a, b, byte_at(bytes, at + 2), byte_at(bytes, at + 3))
 }
 
-/// The first eight bytes as one number, the first of them the greatest digit.
+/// Returns the first eight bytes as one number, in big-endian order.
 fn head_of(bytes: &[u8]) -> u64
     ensures { IsHeadOf result bytes.now }
 {
     four_from(bytes, 0) * 4_294_967_296 + four_from(bytes, 4)
 }
 
-/// The order of two byte strings that have these heads. Bytes are read only where the heads are
-/// equal and both have more than eight, and then those past the heads.
+/// Returns the order of two byte strings that have these heads. Bytes are read only if the heads
+/// are equal and both have more than eight, and then those past the heads.
 fn order(mine: &[u8], others: &[u8], head: u64, other_head: u64) -> Ordering
     requires { IsHeadOf head mine.now × IsHeadOf other_head others.now }
     ensures { result ≡ bytes_cmp mine.now others.now }
@@ -86,7 +86,7 @@ fn order(mine: &[u8], others: &[u8], head: u64, other_head: u64) -> Ordering
 }
 
 impl ByteString {
-    /// The bytes that are handed in. It takes no memory.
+    /// Makes a byte string of these bytes. It takes no memory.
     pub fn new(bytes: Vec<u8>) -> Self
         ensures { result ≡ bytes.items }
     {
@@ -99,7 +99,8 @@ impl ByteString {
         ByteString { bytes, head }
     }
 
-    /// A copy of these bytes. It takes memory where there are more than `SHORT_LEN` of them.
+    /// Makes a byte string of copies of these bytes. It takes memory if there are more than
+    /// `SHORT_LEN` of them.
     #[inline(always)]
     pub fn from_slice(alloc: Global, bytes: &[u8]) -> Result<Self, AllocError>
         ensures value { IfOk result (λ string. string ≡ bytes.now) }
@@ -112,7 +113,7 @@ impl ByteString {
         })
     }
 
-    /// The bytes as a vector. It takes memory where there are at most `SHORT_LEN` of them.
+    /// Returns the bytes as a vector. It takes memory if there are at most `SHORT_LEN` of them.
     pub fn into_vec(self) -> Result<Vec<u8>, AllocError>
         ensures { IfOk result (λ bytes. bytes.items ≡ self) }
     {
@@ -125,7 +126,8 @@ impl ByteString {
         self.bytes.as_slice()
     }
 
-    /// The bytes are copied as one block: `clone` of a vector goes from element to element.
+    /// Returns a copy, which takes memory if there are more than `SHORT_LEN` bytes. The bytes are
+    /// copied as one block; `clone` of a vector goes from element to element.
     pub fn copy(&self) -> Result<Self, AllocError>
         ensures { IfOk result (λ copy. copy ≡ self.now) }
     {

@@ -34,16 +34,16 @@ impl MetaKey {
     ghost use Rattle.meta_types.specs.Name.{Key, IsName, IsKey};
     ghost use Rattle.meta_types.specs.declared.fault.TypeFault.TheVariants.{BadName};
 
-    /// The key of these parts. Refused with 1 `BadName` where the length is out of range, and only
-    /// then. What was handed in is dropped with a refusal: a caller that needs it afterwards
-    /// compares its length first.
+    /// Returns the key of these parts. Refused with 1 `BadName` if the length is out of range,
+    /// and only then. What was handed in is dropped with a refusal: a caller that needs it
+    /// afterwards compares its length first.
     pub fn new(prefix: FullPrefix, key: Vec<u8>) -> Result<Self, TypeFault>
         ensures range { IsOk result ↔ IsName 256 key.items }
         ensures value { IfOk result (λ k. k ≡ record { prefix = prefix; key = key.items }) }
         ensures fault { IfErr result (λ fault. fault ≡ BadName) }
     {
         if is_name(key.as_slice(), MAX_KEY_LEN) {
-            // Read for its contract, which says that the prefix is in range.
+            // (for its type)
             let _ = prefix.prefix();
             Ok(MetaKey {
                 prefix,
@@ -61,7 +61,7 @@ impl MetaKey {
         &self.prefix
     }
 
-    /// The bytes of the key itself, without its prefix.
+    /// Returns the bytes of the key itself, without its prefix.
     pub fn key(&self) -> &[u8]
         ensures value { result.now ≡ self.now.key }
         ensures in_range { IsKey self.now }
@@ -69,8 +69,8 @@ impl MetaKey {
         self.key.as_slice()
     }
 
-    /// The bytes of the key itself as a `ByteString`, by which ordered maps find a key under its
-    /// prefix.
+    /// Returns the bytes of the key itself as a `ByteString`, by which ordered maps find a key
+    /// under its prefix.
     pub fn own_bytes(&self) -> &ByteString
         ensures value { result.now ≡ self.now.key }
         ensures in_range { IsKey self.now }
@@ -78,7 +78,7 @@ impl MetaKey {
         &self.key
     }
 
-    /// The full prefix and the key's own bytes, without taking memory.
+    /// Returns the full prefix and the key's own bytes, without taking memory.
     pub fn into_parts(self) -> (FullPrefix, ByteString)
         ensures prefix { result.0 ≡ self.prefix }
         ensures key { result.1 ≡ self.key }
@@ -87,12 +87,12 @@ impl MetaKey {
         (self.prefix, self.key)
     }
 
-    /// The key of a full prefix and own bytes whose length is in range. It takes no memory.
+    /// Returns the key of a full prefix and own bytes whose length is in range. It takes no memory.
     pub fn under(prefix: FullPrefix, key: ByteString) -> Self
         requires in_range { IsName 256 key }
         ensures { result ≡ record { prefix = prefix; key = key } }
     {
-        // Read for its contract, which says that the prefix is in range.
+        // (for its type)
         let _ = prefix.prefix();
         MetaKey { prefix, key }
     }

@@ -24,7 +24,7 @@ pub fn actors_are_ordered_by_node_and_incarnation(first: Actor, second: Actor) -
     first.cmp(&second)
 }
 
-/// Actors are equal exactly where they are the same.
+/// Actors are equal exactly if they are the same.
 pub fn equal_actors_are_the_same(first: Actor, second: Actor) -> bool
     ensures { IsTrue result ↔ (first ≡ second) }
 {
@@ -38,7 +38,7 @@ pub fn a_writer_is_its_node_and_incarnation(actor: Actor) -> (NodeId, u32)
     (actor.node(), actor.incarnation())
 }
 
-/// Faults are equal exactly where they are the same.
+/// Faults are equal exactly if they are the same.
 pub fn equal_faults_are_the_same(one: &TypeFault, other: &TypeFault) -> bool
     ensures { IsTrue result ↔ (one.now ≡ other.now) }
 {

@@ -1,7 +1,8 @@
 //! Node numbers, names, keys and values: the plain types that every crate of the store speaks of.
 //!
 //! Each type keeps its limits by itself: a value that exists is in range. A constructor returns a
-//! refusal for what is out of range, and `copy` is the only call that takes memory.
+//! refusal for what is out of range. Only three kinds of call take memory: `copy`,
+//! `ByteString::from_slice` and `ByteString::into_vec`.
 //!
 //! ```
 //! let prefix = FullPrefix::new(b"app".to_vec(alloc)?, b"flags".to_vec(alloc)?)?;

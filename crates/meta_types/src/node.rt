@@ -28,7 +28,7 @@ impl NodeId {
     ghost use Rattle.meta_types.specs.Node.{IsNode};
     ghost use Rattle.meta_types.specs.declared.fault.TypeFault.TheVariants.{BadNode};
 
-    /// The node of this number. Refused with 3 `BadNode` from 16 on, and only then.
+    /// Returns the node of this number. Refused with 3 `BadNode` from 16 on, and only then.
     pub fn new(number: u16) -> Result<Self, TypeFault>
         ensures range { IsOk result ↔ IsNode number }
         ensures value { IfOk result (λ node. node ≡ number) }

@@ -43,9 +43,9 @@ impl FullPrefix {
     ghost use Rattle.meta_types.specs.Name.{Prefix, IsName, IsFullPrefix};
     ghost use Rattle.meta_types.specs.declared.fault.TypeFault.TheVariants.{BadName};
 
-    /// The full prefix of these parts. Refused with 1 `BadName` where a length is out of range, and
-    /// only then. What was handed in is dropped with a refusal: a caller that needs it afterwards
-    /// compares its length first.
+    /// Returns the full prefix of these parts. Refused with 1 `BadName` if a length is out of
+    /// range, and only then. What was handed in is dropped with a refusal: a caller that needs it
+    /// afterwards compares its length first.
     pub fn new(prefix: Vec<u8>, sub: Vec<u8>) -> Result<Self, TypeFault>
         ensures range { IsOk result
             ↔ IsFullPrefix (record { prefix = prefix.items; sub = sub.items }) }
@@ -62,7 +62,7 @@ impl FullPrefix {
         }
     }
 
-    /// The full prefix of two parts whose lengths are in range. It takes no memory.
+    /// Returns the full prefix of two parts whose lengths are in range. It takes no memory.
     pub fn of(prefix: ByteString, sub: ByteString) -> Self
         requires in_range { IsFullPrefix (record { prefix = prefix; sub = sub }) }
         ensures { result ≡ record { prefix = prefix; sub = sub } }
@@ -77,7 +77,6 @@ impl FullPrefix {
         self.prefix.as_slice()
     }
 
-    /// The sub-prefix.
     pub fn sub(&self) -> &[u8]
         ensures value { result.now ≡ self.now.sub }
         ensures in_range { IsFullPrefix self.now }

@@ -35,9 +35,9 @@ impl Value {
     ghost use Rattle.meta_types.specs.Value.{ValueParts, IsBody, IsValue, body_of};
     ghost use Rattle.meta_types.specs.declared.fault.TypeFault.TheVariants.{ValueTooLong};
 
-    /// The value of these parts. Refused with 2 `ValueTooLong` where the body is too long, and only
-    /// then. What was handed in is dropped with a refusal: a caller that needs it afterwards
-    /// compares its length first.
+    /// Returns the value of these parts. Refused with 2 `ValueTooLong` if the body is too long,
+    /// and only then. What was handed in is dropped with a refusal: a caller that needs it
+    /// afterwards compares its length first.
     pub fn new(stamp: u64, body: Option<Vec<u8>>) -> Result<Self, TypeFault>
         ensures range { IsOk result ↔ IsBody (body_of body) }
         ensures value { IfOk result (λ v. v ≡ record { stamp = stamp; body = body_of body }) }
@@ -58,7 +58,7 @@ impl Value {
         }
     }
 
-    /// The value of a stamp and a body whose length is in range. It takes no memory.
+    /// Returns the value of a stamp and a body whose length is in range. It takes no memory.
     pub fn of(stamp: u64, body: Option<ByteString>) -> Self
         requires in_range { IsBody body }
         ensures { result ≡ record { stamp = stamp; body = body } }
@@ -73,7 +73,7 @@ impl Value {
         self.stamp
     }
 
-    /// The bytes of the body, or none for a tombstone.
+    /// Returns the bytes of the body, or none for a tombstone.
     pub fn body(&self) -> Option<&[u8]>
         ensures value { option_copied result ≡ self.now.body }
         ensures in_range { IsValue self.now }

@@ -31,7 +31,7 @@ All-flat_map P f each (x ∷ xs) =
     All-same P (flat_map f (x ∷ xs)) (f x ++ flat_map f xs) (flat_map-cons f x xs)
     (All-append P (f x) (flat_map f xs) (each x) (All-flat_map P f each xs))
 
--- where whatever the function gives has the property
+-- if whatever the function gives has the property
 pub All-mapped : {A B : Type 0} (P : B → Type 0) (f : A → B) → ((x : A) → P (f x)) → (xs : List A) → All P (map f xs)
 All-mapped P f each xs = All-map P f xs (λ k d inside. each _)
 

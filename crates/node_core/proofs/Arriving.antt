@@ -113,7 +113,7 @@ stale_taken {old = old} from round key came new stepped stale is sends frames co
     (outbox_is ∙ sends) frames
     (counts ∙ ap (λ outbox. with_counts (length outbox) after) (sym outbox_is))
 
--- the same, where the overlay was told so
+-- the same, if the overlay was told so
 pub overlay_told : {old s : NodeParts} {overlay : Overlay} (from : ℕ) → s ≡ old
     → overlay ≡ overlay_after_call (TakesStale from) s.overlay
     → with_overlay overlay s ≡ with_overlay (overlay_after_call (TakesStale from) old.overlay) old

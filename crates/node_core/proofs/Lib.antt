@@ -2,7 +2,7 @@
 pub mod Making
 -- a change in the order of the code is that of the table
 pub mod Changing
--- what a change gives out may be sent, and is taken back where memory ends
+-- what a change gives out may be sent, and is taken back if memory runs out
 pub mod Spreading
 -- the steps that change an object are those of the table
 pub mod Stepping

@@ -1,4 +1,4 @@
--- What a change gives out may be sent, and where memory ends it is taken back.
+-- What a change gives out may be sent, and is taken back if memory runs out.
 use Rattle.std.proofs.Common.{◌≡◌, ℕ, true, leb, List, [], ◌∷◌, length, Result, Ok, Err, OnErr, refl, sym, ap, subst, ◌∙◌, arith}
 use Rattle.std.specs.Int.{w16, w64}
 use Rattle.std.proofs.lemmas.Bool.{and_parts, leb-true}
@@ -30,7 +30,7 @@ joined_spells es is =
     let size : length (join es) ≡ length es = length-map es _ in
     vector_fits (join es) (IsVector-join es is.lawful) (omega (arith, size, count.most)) (omega (arith, size, count.least))
 
--- where nothing is held, no spelled object is stale
+-- if nothing is held, no spelled object is stale
 pub known_by_none : (es : List Entry) → object.Fits es → descends [] (join es) ≡ true → ⊥
 known_by_none [] fits stale = absurd (omega (arith, (number_within w16 1 65535 0 fits.0.0).least))
 known_by_none (e ∷ es) fits stale =
@@ -60,7 +60,7 @@ told_behind origin key vector s = record {
   rest = refl;
 }
 
--- the same of what the code left of a node's parts, where memory ended
+-- the same of what the code left of a node's parts, if memory ran out
 pub left_behind : {T E : Type 0} (r : Result T E) (origin : Origin) (key : Key) (vector : List Counter)
     {old s : NodeParts} {overlay : Overlay} {held : Table} → s ≡ old
     → overlay ≡ overlay_after_call (call_of origin key vector) s.overlay → held ≡ s.table

@@ -49,7 +49,7 @@ abbrev pub AreNews : Key → List Entry → NodeParts → NewsParts → Type 0
 AreNews key object s news =
     news ≡ record { change = change_to key object; notes = hearing_count key s.watches }
 
--- the same node, but for a broadcast that may be ahead: rolling it back makes it the old one
+-- the same node, except for a broadcast that may be ahead: rolling it back makes it the old one
 pub record IsBehind (old new : NodeParts) : Type 0 where
   pub views : new.overlay.views ≡ old.overlay.views
   pub cast : rolled_back (savepoint_of old.overlay.cast) new.overlay.cast ≡ old.overlay.cast

@@ -53,7 +53,7 @@ step_views event word t =
       sent = t.sent ++ sent_by_view event word t.parts.overlay;
     }
 
--- ---- the table, and who hears of a change: the watches, and the broadcast, which waits no longer
+-- ---- the table, and who hears of a change: the watches, and the broadcast, which stops waiting
 -- for what is known
 
 abbrev pub hold : Key → List Entry → NodeDraft → NodeDraft

@@ -1,4 +1,4 @@
--- What two steps gave is equal where their replies and all their frames are.
+-- What two steps gave is equal if their replies and all their frames are.
 use Rattle.std.specs.Prelude.{◌≡◌, Bool}
 use Rattle.std.specs.Bool.{Decides}
 use Rattle.std.specs.Ordering.{on, eq_of_both}

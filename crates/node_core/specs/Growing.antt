@@ -39,7 +39,7 @@ IsKeyChanged (PutOver written value) reply key = key ≡ written
 IsKeyChanged (Take bytes word) TookFresh key = CarriesUnder key bytes
 IsKeyChanged event reply key = ⊥
 
--- under that key there may be another object now, and all else is as before; where there is no such
+-- under that key there may be another object now, and all else is as before; if there is no such
 -- key, all is as before
 pub record ChangesUnder (event : NodeEvent) (reply : Reply) (old new : Table) : Type 0 where
   pub there : (key : Key) → IsKeyChanged event reply key

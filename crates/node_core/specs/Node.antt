@@ -2,6 +2,7 @@
 use Rattle.std.specs.Prelude.{ℕ, ◌≡◌, ◌≤◌, List, [], replicate, length}
 use Rattle.meta_types.specs.Actor.{writer_number}
 use Rattle.meta_types.specs.Name.{Key}
+use Rattle.meta_types.specs.Node.{most_nodes}
 use Rattle.dvvset.specs.Clock.{join}
 use Rattle.dvvset.specs.Object.{Counter}
 use Rattle.meta_store.specs.Context.{Reading, reading_at}
@@ -12,9 +13,9 @@ use Rattle.node_parts.specs.Overlay.{IsOverlay, Overlay, empty_overlay}
 use Rattle.node_parts.specs.Watches.{most_watches}
 
 -- which node it is, and in which of its lives; what it holds, whom it talks to, and who watches it;
--- the greatest life that it heard of each of the sixteen nodes, in the order of their numbers, 0
--- where it heard of none; and of its life, how many steps it made, how many frames it sent, and how
--- many ticks it had
+-- the greatest life that it heard of each of the sixteen nodes, in the order of their numbers, 0 if
+-- it heard of none; and of its life, how many steps it made, how many frames it sent, and how many
+-- ticks it had
 pub record NodeParts : Type 0 where
   pub node : ℕ
   pub incarnation : ℕ
@@ -52,7 +53,7 @@ pub record IsNodeState (s : NodeParts) : Type 0 where
   pub overlay : IsOverlay s.overlay
   pub few_watches : length s.watches ≤ most_watches
   pub in_life : IsInLife s
-  pub lives_heard : length s.heard ≡ 16
+  pub lives_heard : length s.heard ≡ most_nodes
 
 -- a life begins with a table, and with nothing else
 abbrev pub opening : ℕ → ℕ → Table → NodeParts
@@ -62,7 +63,7 @@ opening node incarnation table = record {
   table = table;
   overlay = empty_overlay node;
   watches = [];
-  heard = replicate 16 0;
+  heard = replicate most_nodes 0;
   steps = 0;
   frames = 0;
   ticks = 0;

@@ -1,4 +1,4 @@
--- The repair of siblings: where two or more stand under a key, the chosen one is written over all.
+-- The repair of siblings: if two or more stand under a key, the chosen one is written over all.
 use Rattle.std.specs.Prelude.{ℕ, ◌≡◌, nat_le, List, [], length, slice_get, Option, None, Some, if◌then◌else◌}
 use Rattle.std.specs.Option.{option_map}
 use Rattle.meta_types.specs.Name.{Key}
@@ -25,7 +25,7 @@ abbrev pub repair_event : (List ValueParts → ℕ) → Key → NodeParts → Op
 repair_event choice key s =
     option_map (PutOver key) (chosen choice (values_of (object_at s.table key)))
 
--- the step of that event; where there is none, nothing changes, nothing is sent, and it is done
+-- the step of that event; if there is none, nothing changes, nothing is sent, and it is done
 abbrev pub IsRepair : Option NodeEvent → NodeParts → NodeParts → Stepped → Type 0
 IsRepair None old new stepped =
     (new ≡ old) × (stepped ≡ record { reply = Done; outbox = [] })

@@ -63,7 +63,7 @@ row_of_graft from round key vector t =
     call_broadcast (TakesGraft from round key (is_stale t.parts.table key vector)) t
 
 -- ---- HELLO: a life greater than any heard of its sender is noted, and the sender, if a neighbour,
--- is taken down: it came anew
+-- is taken down, since it may have restarted
 
 abbrev pub hear : ℕ → ℕ → NodeDraft → NodeDraft
 hear from life t = record t { parts = record t.parts { heard = slice_set t.parts.heard from life } }

@@ -12,7 +12,7 @@ use meta_types::{MetaKey, NodeId};
 use node_events::{Reply, StepFault};
 
 impl NodeState {
-    /// IHAVE: what isn't here is waited for.
+    /// Takes an IHAVE: what isn't here is waited for.
     pub(crate) fn on_ihave(
         &mut self,
         from: NodeId,
@@ -29,7 +29,7 @@ impl NodeState {
         Ok(self.finish(Reply::Took, self.nothing_sent()))
     }
 
-    /// GRAFT: the sender is sent what it asks for, if it is here.
+    /// Takes a GRAFT: the sender is sent what it asks for, if it is here.
     pub(crate) fn on_graft(
         &mut self,
         from: NodeId,
@@ -50,7 +50,8 @@ impl NodeState {
         }
     }
 
-    /// GRAFT, where what is held under the key descends the vector, which has read something.
+    /// Takes a GRAFT whose vector, which has read something, is descended by what is held under the
+    /// key.
     fn on_held_graft(
         &mut self,
         from: NodeId,
@@ -66,7 +67,7 @@ impl NodeState {
         // Only the contract needs it.
         let _ = vector;
         let Some(object) = self.held.store().object(key) else {
-            // Never so: an absent object descends no vector that has read something.
+            // This never happens: an absent object descends no vector that has read something.
             return Ok(self.finish(Reply::Took, self.nothing_sent()));
         };
         let (alloc, number) = (self.alloc, self.frames);
@@ -76,7 +77,7 @@ impl NodeState {
         Ok(self.finish(Reply::Took, outbox))
     }
 
-    /// PRUNE: the sender wants only announcements.
+    /// Takes a PRUNE: the sender wants only announcements.
     pub(crate) fn on_prune(&mut self, from: NodeId) -> Result<Stepped, StepFault>
         ensures { StepsOnMessage self.old from 0 Prune result self.new }
     {

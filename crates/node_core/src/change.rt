@@ -19,8 +19,8 @@ use node_events::{Outbox, StepFault};
 use node_parts::{News, Origin, gossips};
 
 impl NodeState {
-    /// This object is held under the key, and all that hear of it are told. Returns its vector, and
-    /// the frames. Fails only when memory runs out, and then all is as before.
+    /// Holds this object under the key, and tells all that hear of it. Returns its vector, and the
+    /// frames. Fails only when memory runs out, and then all is as before.
     pub(crate) fn change(
         &mut self,
         origin: Origin,
@@ -46,8 +46,8 @@ impl NodeState {
         Ok((self.tell(key, news), outbox))
     }
 
-    /// This object is held under the key, and the peers aren't told. Fails only when memory runs
-    /// out, and then all is as before.
+    /// Holds this object under the key, without telling the peers. Fails only when memory runs out,
+    /// and then all is as before.
     pub(crate) fn change_quietly(&mut self, key: &MetaKey, object: Entries) -> Result<(), StepFault>
         requires held { IsHeld object }
         requires room { is_full_for self.old.table key.now ≡ false }
@@ -62,7 +62,7 @@ impl NodeState {
         Ok(())
     }
 
-    /// The news of this object under the key. Fails only when memory runs out.
+    /// Returns the news of this object under the key. Fails only when memory runs out.
     fn news(&self, key: &MetaKey, object: &Entries) -> Result<News, StepFault>
         ensures news { IfOk result (λ news. AreNews key.now object.now self.now news) }
         ensures memory { IfErr result (λ fault. fault ≡ Memory) }
@@ -71,8 +71,8 @@ impl NodeState {
         Ok(self.watches.news(key, vector)?)
     }
 
-    /// The object is held, and the peers are told. Returns the frames. Where memory runs out, all
-    /// is as before.
+    /// Holds the object, and tells the peers. Returns the frames. If memory runs out, all is as
+    /// before.
     fn spread(
         &mut self,
         origin: Origin,
@@ -92,7 +92,7 @@ impl NodeState {
         ensures memory { IfErr result (λ fault. fault ≡ Memory) }
         ensures same { OnErr result (self.new ≡ self.old) }
     {
-        // Read for what its type says: the peers are the active view.
+        // (for its type)
         let _ = self.overlay.views();
         let savepoint = self.overlay.savepoint()?;
         match self.try_spread(origin, key, object, vector) {
@@ -104,7 +104,8 @@ impl NodeState {
         }
     }
 
-    /// As `spread`; but where memory runs out, the broadcast may be ahead, and can be rolled back.
+    /// Does what `spread` does; but if memory runs out, the broadcast may be ahead, and can be
+    /// rolled back.
     fn try_spread(
         &mut self,
         origin: Origin,
@@ -124,7 +125,7 @@ impl NodeState {
         ensures memory { IfErr result (λ fault. fault ≡ Memory) }
         ensures ahead { OnErr result (IsBehind self.old self.new) }
     {
-        // Read for what their types say: the key and the round are in range.
+        // (for its type)
         let _ = key.key();
         reveal_round(&origin);
         let outs = self.overlay.spread(origin, key, vector)?;
@@ -134,7 +135,7 @@ impl NodeState {
         Ok(outbox)
     }
 
-    /// Watches note the change, and it isn't waited for any more. Returns the vector. It never
+    /// Notes the change in the watches, and stops waiting for it. Returns the vector. It never
     /// fails.
     fn tell(&mut self, key: &MetaKey, news: News) -> Vector
         requires key { key.now ≡ news.change.key }

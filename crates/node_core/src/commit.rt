@@ -15,8 +15,8 @@ use node_events::{Outbox, Reply, StepFault};
 use node_parts::{Envelope, outbox};
 
 impl NodeState {
-    /// The frames of these messages, with the numbers that come next. Fails only when memory runs
-    /// out.
+    /// Returns the frames of these messages, with the numbers that come next. Fails only when
+    /// memory runs out.
     pub(crate) fn outbox(&self, sent: Vec<Envelope>) -> Result<Outbox, StepFault>
         requires { All (MaySend self.now.node) sent.items }
         ensures frames { IfOk result (λ outbox. outbox
@@ -28,7 +28,6 @@ impl NodeState {
         Ok(outbox(self.alloc, self.node, self.frames, sent)?)
     }
 
-    /// The frame of one message.
     pub(crate) fn one_frame(&self, to: NodeId, message: Message) -> Result<Outbox, StepFault>
         requires { MaySend self.now.node (envelope to message) }
         ensures frames { IfOk result (λ outbox. outbox ≡ map spelling
@@ -42,14 +41,13 @@ impl NodeState {
         self.outbox(sent)
     }
 
-    /// No frame.
     pub(crate) fn nothing_sent(&self) -> Outbox
         ensures { result ≡ [] }
     {
         Outbox::new(Vec::new(self.alloc))
     }
 
-    /// The step is made: it counts, and so does each of its frames.
+    /// Ends a step: it counts, and so does each of its frames.
     pub(crate) fn finish(&mut self, reply: Reply, outbox: Outbox) -> Stepped
         ensures counts { self.new ≡ with_counts (length outbox) self.old }
         ensures value { result ≡ record { reply = reply; outbox = outbox } }

@@ -46,7 +46,7 @@ pub fn what_a_step_leaves()
 pub fn each_step_grows(event: &NodeEvent)
     ensures { EachStepGrows event.now }
 {
-    // Read for what its type says: what a write has read is a vector.
+    // (for its type)
     match context_of_write(event) {
         Some(context) => {
             let _counters = context.vector().counters();

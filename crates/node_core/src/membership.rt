@@ -17,7 +17,6 @@ use node_events::{Outbox, Reply, StepFault};
 use peer_lists::has;
 
 impl NodeState {
-    /// The node joins the cluster through a contact.
     pub(crate) fn join(&mut self, contact: NodeId, word: u64) -> Result<Stepped, StepFault>
         ensures { Steps self.old (Local (Join contact word)) result self.new }
     {
@@ -26,7 +25,7 @@ impl NodeState {
         Ok(self.finish(Reply::Done, outbox))
     }
 
-    /// Somebody found that a peer doesn't answer.
+    /// Takes note that a peer doesn't answer.
     pub(crate) fn peer_down(&mut self, peer: NodeId, word: u64) -> Result<Stepped, StepFault>
         ensures { Steps self.old (Local (PeerDown peer word)) result self.new }
     {
@@ -35,7 +34,6 @@ impl NodeState {
         Ok(self.finish(Reply::Done, outbox))
     }
 
-    /// The node leaves the cluster.
     pub(crate) fn leave(&mut self) -> Result<Stepped, StepFault>
         ensures { Steps self.old (Local Leave) result self.new }
     {
@@ -43,7 +41,7 @@ impl NodeState {
         Ok(self.finish(Reply::Done, outbox))
     }
 
-    /// A message of the views came.
+    /// Takes a message of the views.
     pub(crate) fn on_views(
         &mut self,
         from: NodeId,
@@ -59,8 +57,8 @@ impl NodeState {
         Ok(self.finish(Reply::Took, outbox))
     }
 
-    /// HELLO: a life that is greater than any heard of the sender is noted, and the sender, if a
-    /// neighbour, is taken down: it came anew.
+    /// Takes a HELLO. A life that is greater than any heard of the sender is noted; and the sender,
+    /// which may have restarted, is taken down if it is a neighbour.
     pub(crate) fn on_hello(
         &mut self,
         from: NodeId,
@@ -81,7 +79,7 @@ impl NodeState {
         Ok(self.finish(Reply::Took, outbox))
     }
 
-    /// The node, if a neighbour, is one no more. Returns the frames.
+    /// Takes the node down, if it is a neighbour. Returns the frames.
     fn drop_neighbour(&mut self, node: NodeId, word: u64) -> Result<Outbox, StepFault>
         requires { node ≢ self.old.node }
         ensures { Does self.old (drop_neighbour node word (begun self.old)) result self.new }
@@ -104,12 +102,12 @@ impl NodeState {
         outbox
     }
 
-    /// As `step_views`, with an event that stays the caller's.
+    /// Does what `step_views` does, with an event that stays the caller's.
     fn step_views_on(&mut self, event: &ViewEvent, word: u64) -> Result<Outbox, StepFault>
         requires { IsOfAnother self.old.node event.now }
         ensures { Does self.old (step_views event.now word (begun self.old)) result self.new }
     {
-        // Read for what its type says: the views are lawful.
+        // (for its type)
         let _ = self.overlay.views();
         let (alloc, number) = (self.alloc, self.frames);
         let outbox = self.overlay.on_view_event(alloc, number, event, word)?;

@@ -14,7 +14,7 @@ use node_events::{Reply, StepFault};
 use node_parts::Origin;
 
 impl NodeState {
-    /// GOSSIP: what wasn't known is merged and passed on.
+    /// Takes a GOSSIP: what wasn't known is merged and passed on.
     pub(crate) fn on_gossip(
         &mut self,
         from: NodeId,
@@ -35,7 +35,7 @@ impl NodeState {
         }
     }
 
-    /// A GOSSIP that brought nothing new: its sender is sent PRUNE.
+    /// Takes a GOSSIP that brought nothing new: its sender is sent PRUNE.
     fn on_stale(
         &mut self,
         from: NodeId,
@@ -55,7 +55,7 @@ impl NodeState {
         Ok(self.finish(Reply::TookStale, outbox))
     }
 
-    /// XOBJECT: what wasn't known is merged, and not passed on.
+    /// Takes an XOBJECT: what wasn't known is merged, and not passed on.
     pub(crate) fn on_object(&mut self, key: &MetaKey, came: &Entries) -> Result<Stepped, StepFault>
         ensures { StepsOnMessage self.old 0 0 (XObject key.now came.now) result self.new }
     {

@@ -14,7 +14,7 @@ use meta_types::{Actor, MetaKey};
 use node_events::{Reply, StepFault, Values};
 
 impl NodeState {
-    /// The node is read: what it shows, and a context for a write that has read it.
+    /// Reads the node: returns what it shows, and a context for a write that has read it.
     pub(crate) fn read(&mut self, key: &MetaKey) -> Result<Stepped, StepFault>
         ensures { Steps self.old (Local (Read key.now)) result self.new }
     {
@@ -23,7 +23,8 @@ impl NodeState {
         Ok(self.finish(Reply::Looked { values, context }, self.nothing_sent()))
     }
 
-    /// What is held under the key is to be stored: nothing changes but the count of steps.
+    /// Takes note that what is held under the key is to be stored: nothing changes except the count
+    /// of steps.
     pub(crate) fn keep(&mut self, key: &MetaKey) -> Stepped
         ensures { IsStepOf self.old (Local (Keep key.now)) self.new result }
     {
@@ -31,14 +32,14 @@ impl NodeState {
         self.finish(Reply::Done, self.nothing_sent())
     }
 
-    /// The writer of what the node writes: the node in its life.
+    /// Returns the writer of what the node writes: the node in its life.
     pub fn actor(&self) -> Actor
         ensures { result ≡ writer self.now }
     {
         Actor::new(self.node, self.incarnation)
     }
 
-    /// Who reads in the next step.
+    /// Returns who reads in the next step.
     pub fn source(&self) -> Source
         ensures { result ≡ record { actor = writer self.now; step = count_on self.now.steps 1 } }
     {

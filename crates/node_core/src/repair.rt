@@ -10,9 +10,10 @@ use resolvers::Resolver;
 use std::alloc::AllocError;
 
 impl NodeState {
-    /// Where two or more siblings stand under the key, the node writes over them the one that the
-    /// resolver chooses, as it does with a `PutOver`. Otherwise nothing changes, not even the count
-    /// of steps, no frame is sent, and the reply is `Done`. It is refused as that `PutOver` is.
+    /// Repairs the siblings under the key. If there are two or more, the node writes over them the
+    /// one that the resolver chooses, as it does with a `PutOver`. Otherwise nothing changes, not
+    /// even the count of steps, no frame is sent, and the reply is `Done`. Refused as `step` is of
+    /// that `PutOver`.
     pub fn repair(
         &mut self,
         key: &MetaKey,
@@ -35,8 +36,8 @@ impl NodeState {
     }
 }
 
-/// The sibling that the resolver chooses, where there are two or more. Fails only when memory runs
-/// out.
+/// Returns the sibling that the resolver chooses, if there are two or more. Fails only when memory
+/// runs out.
 fn chosen(resolver: &Box<dyn Resolver>, siblings: &[Value]) -> Result<Option<Value>, AllocError>
     ensures { IfOk result (λ value. value ≡ chosen (choice resolver.now) siblings.now) }
 {
@@ -47,7 +48,7 @@ fn chosen(resolver: &Box<dyn Resolver>, siblings: &[Value]) -> Result<Option<Val
     Ok(Some(siblings[place].copy()?))
 }
 
-/// The place of the sibling that the resolver chooses.
+/// Returns the place of the sibling that the resolver chooses.
 fn choice(resolver: &Box<dyn Resolver>, siblings: &[Value]) -> usize
     requires { 0 < length siblings.now }
     ensures place { result < length siblings.now }

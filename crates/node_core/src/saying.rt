@@ -13,7 +13,7 @@ use meta_types::NodeId;
 use node_events::{Reply, StepFault};
 
 impl NodeState {
-    /// The node begins an exchange with a peer.
+    /// Begins an exchange with a peer.
     pub(crate) fn exchange(&mut self, peer: NodeId) -> Result<Stepped, StepFault>
         ensures { Steps self.old (Local (Exchange peer)) result self.new }
     {
@@ -22,7 +22,7 @@ impl NodeState {
         Ok(self.finish(Reply::Done, outbox))
     }
 
-    /// The node tells a peer which life it is in.
+    /// Tells a peer which life the node is in.
     pub(crate) fn hello(&mut self, peer: NodeId) -> Result<Stepped, StepFault>
         ensures { Steps self.old (Local (Hello peer)) result self.new }
     {
@@ -32,7 +32,7 @@ impl NodeState {
         Ok(self.finish(Reply::Done, outbox))
     }
 
-    /// Refused where the other is the node itself.
+    /// Refuses the node itself.
     pub(crate) fn is_another(&self, other: NodeId) -> Result<(), StepFault>
         ensures accepted { OnOk result (refusal_of_peer other self.now ≡ None) }
         ensures refused { IfErr result (λ fault. refusal_of_peer other self.now ≡ Some fault) }

@@ -78,8 +78,8 @@ impl Model for NodeState {
 }
 
 impl NodeState {
-    /// A node that holds nothing and knows nobody, in the life of this number. Fails only when
-    /// memory runs out.
+    /// Makes a node that holds nothing and knows nobody, in the life of this number. Fails only
+    /// when memory runs out.
     pub fn new(alloc: Global, node: NodeId, incarnation: u32) -> Result<Self, AllocError>
         requires { 1 ≤ incarnation }
         ensures { IfOk result (λ state. state ≡ opening node incarnation []) }
@@ -87,8 +87,8 @@ impl NodeState {
         NodeState::from_store(alloc, node, incarnation, Store::new(alloc))
     }
 
-    /// A node that begins the life of this number with what this store holds, and knows nobody.
-    /// Fails only when memory runs out.
+    /// Makes a node that begins the life of this number with what this store holds, and knows
+    /// nobody. Fails only when memory runs out.
     pub fn from_store(
         alloc: Global,
         node: NodeId,
@@ -102,8 +102,8 @@ impl NodeState {
         Ok(NodeState::of_held(alloc, node, incarnation, held))
     }
 
-    /// A node that begins the life of this number with these keys and their objects, and knows
-    /// nobody. Fails only when memory runs out.
+    /// Makes a node that begins the life of this number with these keys and their objects, and
+    /// knows nobody. Fails only when memory runs out.
     pub fn from_table(
         alloc: Global,
         node: NodeId,
@@ -118,7 +118,7 @@ impl NodeState {
         NodeState::from_store(alloc, node, incarnation, store)
     }
 
-    /// As `from_store`; but where memory runs out, the store comes back.
+    /// As `from_store`; but if memory runs out, the store comes back.
     pub fn begin(
         alloc: Global,
         node: NodeId,
@@ -135,7 +135,7 @@ impl NodeState {
         }
     }
 
-    /// A node that begins the life of this number, holds this, and knows nobody.
+    /// Makes a node that begins the life of this number, holds this, and knows nobody.
     fn of_held(alloc: Global, node: NodeId, incarnation: u32, held: Held) -> Self
         requires { 1 ≤ incarnation }
         ensures { result ≡ opening node incarnation held }
@@ -165,42 +165,40 @@ impl NodeState {
         uncounted && unwatched && self.overlay.is_new() && has_heard_none(&self.heard)
     }
 
-    /// How many steps it made in its life; at the greatest number, the count stays.
+    /// Returns how many steps it made in its life; at the greatest number, the count stays.
     pub fn steps(&self) -> u64
         ensures { result ≡ self.now.steps }
     {
         self.steps
     }
 
-    /// What it holds, without taking memory.
+    /// Returns what it holds, without taking memory.
     pub fn into_store(self) -> Store
         ensures { result ≡ self.table }
     {
         self.held.into_store()
     }
 
-    /// Which node it is.
     pub fn node(&self) -> NodeId
         ensures { result ≡ self.now.node }
     {
         self.node
     }
 
-    /// The life that it is in, from 1.
+    /// Returns the life that it is in, from 1.
     pub fn incarnation(&self) -> u32
         ensures { result ≡ self.now.incarnation }
     {
         self.incarnation
     }
 
-    /// What it holds.
     pub fn store(&self) -> &Store
         ensures { result.now ≡ self.now.table }
     {
         self.held.store()
     }
 
-    /// The tree that stands for what it holds.
+    /// Returns the tree that stands for what it holds.
     pub fn tree(&self) -> &Tree
         ensures { result.now ≡ rows_of self.now.table }
     {
@@ -214,7 +212,7 @@ impl NodeState {
         self.overlay.views()
     }
 
-    /// The broadcast, whose peers are the members of the active view.
+    /// Returns the broadcast, whose peers are the members of the active view.
     pub fn cast(&self) -> &Cast
         ensures value { result.now ≡ self.now.overlay.cast }
         ensures peers { ArePeers self.now.overlay }
@@ -222,13 +220,12 @@ impl NodeState {
         self.overlay.cast()
     }
 
-    /// The watches, in the order in which they were made; they are numbered from 1.
+    /// Returns the watches, in the order in which they were made; they are numbered from 1.
     pub fn watches(&self) -> &[Watch]
         ensures value { result.now ≡ self.now.watches }
         ensures lawful { IsNodeState self.now }
     {
-        // Read for what their types say: the peers are the active view, and how many lives are
-        // noted.
+        // (for its type)
         let _ = self.overlay.views();
         reveal_heard(&self.heard);
         self.watches.as_slice()

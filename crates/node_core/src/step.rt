@@ -8,11 +8,12 @@ use node_events::{NodeEvent, StepFault};
 
 impl NodeState {
     /// Makes the step of an event. Returns the reply, and the frames to send. A refused event
-    /// changes nothing, and doesn't count as a step. The refusals are, for a `Join`, `PeerDown`,
-    /// `Exchange` or `Hello` of the node itself, 3 `BadNode`; for a `Take`, 10 to 16 as bytes are
-    /// decoded, then 40 `NotAddressed`, then for an object 21, 25 and 27 as a store merges; for a
-    /// write, as a store writes; 28 `BadWatch` and 29 `NoSuchWatch`; and 99 `Memory` at any of
-    /// them.
+    /// changes nothing, and doesn't count as a step.
+    ///
+    /// A `Join`, `PeerDown`, `Exchange` or `Hello` of the node itself is refused with 3 `BadNode`.
+    /// A `Take` is refused as `meta_frame::decode` is, then with 40 `NotAddressed`, then for an
+    /// object as `Store::merge` is. A write is refused as `Store::put` is, a watch with 28
+    /// `BadWatch`, and its changes with 29 `NoSuchWatch`. 99 `Memory` may come at any of them.
     pub fn step(&mut self, event: NodeEvent) -> Result<Stepped, StepFault>
         ensures step { IfOk result (IsNodeStep self.old event self.new) }
         ensures refused { IfErr result (λ fault. Rejects self.old event fault self.new) }
@@ -23,7 +24,7 @@ impl NodeState {
         stepped
     }
 
-    /// As `step`, with an event that stays the caller's.
+    /// Makes the step of an event that stays the caller's. Refused as `step` is.
     pub fn step_on(&mut self, event: &NodeEvent) -> Result<Stepped, StepFault>
         ensures step { IfOk result (IsNodeStep self.old event.now self.new) }
         ensures refused { IfErr result (λ fault. Rejects self.old event.now fault self.new) }

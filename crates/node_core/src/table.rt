@@ -8,7 +8,7 @@ use meta_store::Store;
 use meta_types::MetaKey;
 use std::alloc::{AllocError, Global};
 
-/// The store that holds these objects under these keys. Fails only when memory runs out.
+/// Returns the store that holds these objects under these keys. Fails only when memory runs out.
 pub(crate) fn store_of(alloc: Global, rows: Vec<(MetaKey, Entries)>) -> Result<Store, AllocError>
     requires { IsTable rows.items }
     ensures { IfOk result (λ store. store ≡ rows.items) }

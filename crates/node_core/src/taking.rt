@@ -20,7 +20,7 @@ use node_parts::Envelope;
 use std::alloc::{AllocError, Global};
 
 impl NodeState {
-    /// Bytes came that should be a frame for the node.
+    /// Takes bytes that should be a frame for the node.
     pub(crate) fn take(&mut self, bytes: &ByteString, word: u64) -> Result<Stepped, StepFault>
         ensures step { IfOk result
             (λ stepped. IsNodeStep self.old (Take bytes.now word) self.new stepped) }
@@ -34,7 +34,6 @@ impl NodeState {
         taken
     }
 
-    /// A frame came.
     fn receive(&mut self, frame: &Frame, word: u64) -> Result<Stepped, StepFault>
         requires { IsLawful frame.now }
         ensures { Steps self.old (Received frame.now word) result self.new }
@@ -45,7 +44,7 @@ impl NodeState {
         self.on_message(frame.from, word, &frame.message)
     }
 
-    /// A message came: a row for each kind.
+    /// Takes a message that came, by the row of its kind.
     fn on_message(
         &mut self,
         from: NodeId,
@@ -80,7 +79,7 @@ impl NodeState {
         }
     }
 
-    /// A question of an exchange, whose answers go to the sender.
+    /// Takes a question of an exchange, and answers it to the sender.
     fn on_question(&mut self, from: NodeId, message: &Message) -> Result<Stepped, StepFault>
         requires another { from ≢ self.old.node }
         requires question { IsQuestion message.now }
@@ -91,7 +90,7 @@ impl NodeState {
         Ok(self.finish(Reply::Took, outbox))
     }
 
-    /// The answers to a question, each to the sender. Fails only when memory runs out.
+    /// Returns the answers to a question, each to the sender. Fails only when memory runs out.
     fn answers(&self, to: NodeId, message: &Message) -> Result<Vec<Envelope>, StepFault>
         requires { to ≢ self.now.node }
         ensures sent { IfOk result (λ sent. sent.items
@@ -99,14 +98,14 @@ impl NodeState {
         ensures may { IfOk result (λ sent. All (MaySend self.now.node) sent.items) }
         ensures memory { IfErr result (λ fault. fault ≡ Memory) }
     {
-        // Read for what its type says: what is held is a table.
+        // (for its type)
         let _few = self.held.store().len();
         let messages = answer(self.alloc, &self.held, message)?;
         Ok(addressed(self.alloc, to, messages)?)
     }
 }
 
-/// These messages, each to the same node. Fails only when memory runs out.
+/// Returns these messages, each addressed to the same node. Fails only when memory runs out.
 fn addressed(alloc: Global, to: NodeId, messages: Vec<Message>) -> Result<Vec<Envelope>, AllocError>
     ensures { IfOk result (λ sent. sent.items ≡ map (envelope to) messages.items) }
 {

@@ -8,12 +8,12 @@ use crate::state::{NodeState, Stepped};
 use node_events::{Reply, StepFault};
 
 impl NodeState {
-    /// Time passes: announcements go out, what is overdue is asked for, and each tenth tick
+    /// Makes a tick: announcements go out, what is overdue is asked for, and each tenth tick
     /// shuffles.
     pub(crate) fn tick(&mut self, word: u64) -> Result<Stepped, StepFault>
         ensures { Steps self.old (Local (Tick word)) result self.new }
     {
-        // Read for what its type says: the views are lawful.
+        // (for its type)
         let _ = self.overlay.views();
         let ticks = self.ticks.saturating_add(1);
         let (alloc, number) = (self.alloc, self.frames);

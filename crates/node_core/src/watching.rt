@@ -9,7 +9,7 @@ use meta_types::FullPrefix;
 use node_events::{Reply, StepFault};
 
 impl NodeState {
-    /// Somebody wants to hear of the changes under the prefix.
+    /// Adds a watch of the changes under the prefix.
     pub(crate) fn watch(
         &mut self,
         prefix: &FullPrefix,
@@ -21,7 +21,7 @@ impl NodeState {
         Ok(self.finish(Reply::Watching { number }, self.nothing_sent()))
     }
 
-    /// A watch hands out what it has noted.
+    /// Hands out what a watch has noted.
     pub(crate) fn changes(&mut self, number: u64) -> Result<Stepped, StepFault>
         ensures { Steps self.old (Local (Changes number)) result self.new }
     {

@@ -12,7 +12,7 @@ use node_events::{Reply, StepFault};
 use node_parts::Origin;
 
 impl NodeState {
-    /// The node writes a value, which has read what the context says, or nothing.
+    /// Writes a value, which has read what the context says, or nothing.
     pub(crate) fn write(
         &mut self,
         key: &MetaKey,
@@ -28,7 +28,7 @@ impl NodeState {
         Ok(self.finish(Reply::Wrote { vector }, outbox))
     }
 
-    /// The node is read and writes at once a value that has read what was shown.
+    /// Reads the node, and writes at once a value that has read what was shown.
     pub(crate) fn put_over(&mut self, key: &MetaKey, value: &Value) -> Result<Stepped, StepFault>
         ensures { Steps self.old (Local (PutOver key.now value.now)) result self.new }
     {

@@ -51,7 +51,7 @@ told number life old new e copy list changes of_life known published is =
     let lived = subst (λ l. TellsOfEntry (writer_number number l) e (list ++ changes)) of_life.life named in
     subst (λ x. TellsOfEntry (writer_number number life) x (list ++ changes)) (sym is) lived
 
--- a step of which there are few counts one more
+-- a step counts one more, if there are few
 pub one_more : (old new : NodeParts) (sent : ℕ) → CountsOn 1 sent old new → old.steps < 2 ^ 64 - 1
     → new.steps ≡ old.steps + 1
 one_more old new sent counts few = counts.steps ∙ min-eq_left (omega (arith, few))
@@ -196,7 +196,7 @@ new_journal start base state list at_base at_state none = record {
   whole = λ _. refl;
 }
 
--- the file's table is held, where both are the one with which it opened
+-- the file's table is held, if both are the one with which it opened
 pub file_within : (opened held stored : Table) → IsTable opened → held ≡ opened → stored ≡ opened
     → IsStoredOf held stored
 file_within opened held stored lawful at_held at_stored =

@@ -25,8 +25,8 @@ pub record ListsChange (event : NodeEvent) (reply : Reply) (held : Table) (old n
   pub list : new ≡ old ++ changes
 
 -- why what is ready isn't kept: the file would be too long with what is to be stored; the device
--- failed, which stops the node; or memory ran out, which may stop it where something was to be
--- stored or published
+-- failed, which stops the node; or memory ran out, which may stop it if something was to be stored
+-- or published
 abbrev pub RefusesKeeping : ℕ → Option Record → Option Published → ℕ → ℕ → Bool → LockFault → Type 0
 RefusesKeeping gate stored change before now stopped FileFull =
     IsTooLong gate stored × (stopped ≡ false)
@@ -56,7 +56,7 @@ LeavesSomething {event = event} k =
     (stored_by k ≢ None) ⊎ ((key : Key) × IsKeyChanged event k.can.stepped.reply key)
 
 -- why a call is refused, and whether the node is stopped then: a device that fails while something
--- is stored stops it; memory that runs out may stop it where something is stored or published
+-- is stored stops it; memory that runs out may stop it if something is stored or published
 abbrev pub Refuses : {D : Type 0} → (D → ℕ) → DeskView D → NodeEvent → LockFault → DeskView D
     → Type 0
 Refuses failed old event Stopped new =

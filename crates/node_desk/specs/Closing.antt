@@ -21,8 +21,8 @@ pub record IsWithin (list : List Published) (seat : SeatView) : Type 0 where
   pub shown : IsPrefix seat.shown list
   pub learnt : IsPrefix seat.learnt list
 
--- the seats that were handed in are not as many as are out; or, where they are, a reader was shown
--- or has learnt what isn't in the list
+-- the seats that were handed in are not as many as are out; or, if they are, a reader was shown or
+-- has learnt what isn't in the list
 abbrev pub RefusesClosing : ℕ → ℕ → List Published → List SeatView → LockFault → Type 0
 RefusesClosing out given list readers SeatsMissing = given ≢ out
 RefusesClosing out given list readers Stopped =

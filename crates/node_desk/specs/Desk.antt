@@ -28,7 +28,7 @@ pub record DeskView (D : Type 0) : Type 0 where
   pub limit : ℕ
   pub stopped : Bool
 
--- all that the desk is, but its file, and whether it is stopped
+-- all that the desk is, except its file and whether it is stopped
 pub record KeepsAll {D : Type 0} (old new : DeskView D) : Type 0 where
   pub base : new.base ≡ old.base
   pub state : new.state ≡ old.state
@@ -67,7 +67,7 @@ pub record IsGoing (file_stopped publisher_stopped : Bool) (stored held : Table)
   pub publisher : publisher_stopped ≡ false
   pub within : IsStoredOf held stored
 
--- all but base and journal is as before
+-- all except base and journal is as before
 pub record KeepsButJournal {D : Type 0} (old new : DeskView D) : Type 0 where
   pub state : new.state ≡ old.state
   pub list : new.list ≡ old.list
@@ -77,7 +77,7 @@ pub record KeepsButJournal {D : Type 0} (old new : DeskView D) : Type 0 where
   pub limit : new.limit ≡ old.limit
   pub stopped : new.stopped ≡ old.stopped
 
--- all but the seats that are out, and what was counted by those that were given up
+-- all except the seats that are out, and what was counted by those that were given up
 pub record KeepsButSeats {D : Type 0} (old new : DeskView D) : Type 0 where
   pub base : new.base ≡ old.base
   pub state : new.state ≡ old.state
@@ -87,7 +87,11 @@ pub record KeepsButSeats {D : Type 0} (old new : DeskView D) : Type 0 where
   pub limit : new.limit ≡ old.limit
   pub stopped : new.stopped ≡ old.stopped
 
--- why a new seat is refused: eight are out, or the node is stopped
+-- the most seats of a node for writers, and for readers
+abbrev pub most_seats : ℕ
+most_seats = 8
+
+-- why a new seat is refused: as many as there may be are out, or the node is stopped
 abbrev pub refusal_of_seat : ℕ → Bool → Option LockFault
 refusal_of_seat out stopped =
-    first_that_applies ((nat_le 8 out, NoSeat) ∷ (stopped, Stopped) ∷ [])
+    first_that_applies ((nat_le most_seats out, NoSeat) ∷ (stopped, Stopped) ∷ [])

@@ -9,13 +9,17 @@ use Rattle.node_readers.specs.Views.{SeatView}
 use Rattle.desk_parts.specs.declared.fault.LockFault.{LockFault}
 use Rattle.desk_parts.specs.declared.fault.LockFault.TheVariants.{BadLimit, NoSeat, Memory}
 use Rattle.node_desk.specs.declared.starting.Capacity.{Capacity}
-use Rattle.node_desk.specs.Desk.{DeskView}
+use Rattle.node_desk.specs.Desk.{DeskView, most_seats}
 
--- the first that applies: the journal's limit is out of range, more than eight seats are asked for
+-- the most entries of a journal
+abbrev pub most_journal : ℕ
+most_journal = 1048576
+
+-- the first that applies: the journal's limit is out of range, too many seats are asked for
 abbrev pub refusal_of_start : Capacity → Option LockFault
 refusal_of_start c = first_that_applies (
-    (nat_lt c.journal 1 || nat_lt 1048576 c.journal, BadLimit)
-    ∷ (nat_lt 8 c.writers || nat_lt 8 c.readers, NoSeat)
+    (nat_lt c.journal 1 || nat_lt most_journal c.journal, BadLimit)
+    ∷ (nat_lt most_seats c.writers || nat_lt most_seats c.readers, NoSeat)
     ∷ [])
 
 -- memory ran out, or it is the refusal of this capacity

@@ -34,11 +34,11 @@ impl<D: Device + Drop, J: Naming, H: Wait + Drop> Desk<D, J, H> {
     /// Makes a step of the node for the event: its entry is journaled, what it stores is durable in
     /// the file, and what it changes is shown to readers. It adds one to the seat's count.
     ///
-    /// Refused in this order: 34 `Stopped`; what the step refuses; 51 `JournalFull`; 33 `FileFull`;
-    /// 30 `Device`, which stops the node. 99 `Memory` may come at any time, and stops the node
-    /// where a byte went out to the device, or readers couldn't be shown the change. A refused call
-    /// leaves all as before, except that where it stops the node a crash may leave its object in
-    /// the file.
+    /// Refused in this order: 34 `Stopped`; as `NodeState::step` is; 51 `JournalFull`; 33
+    /// `FileFull`; 30 `Device`, which stops the node. 99 `Memory` may come at any time, and stops
+    /// the node if a byte went out to the device, or if readers couldn't be shown the change. A
+    /// refused call leaves all as before, except that if it stops the node, a crash may leave its
+    /// object in the file.
     ///
     /// It waits for readers that are inside a `peek` while it publishes, and for the device.
     pub fn act<R: Wait>(
@@ -76,7 +76,7 @@ impl<D: Device + Drop, J: Naming, H: Wait + Drop> Desk<D, J, H> {
         if self.is_stopped {
             return Err(LockFault::Stopped);
         }
-        // Read for its contract, which says that a crash leaves what the file has.
+        // (for its type)
         let _ = self.file.device();
         let ready = prepare(
             self.alloc,
@@ -88,7 +88,7 @@ impl<D: Device + Drop, J: Naming, H: Wait + Drop> Desk<D, J, H> {
             event,
         )?;
         let mut ready = ready;
-        let done = settle(
+        let done = store_and_show(
             rt,
             self.alloc,
             &mut self.file,
@@ -117,10 +117,10 @@ impl<D: Device + Drop, J: Naming, H: Wait + Drop> Desk<D, J, H> {
     }
 }
 
-/// What may still fail: the file stores what the event stores, and readers are shown what it
+/// Does what may still fail: stores in the file what the event stores, and shows readers what it
 /// changed.
 #[tactic(auto, using(crate::proofs::Kept::keeping_refused))]
-fn settle<D: Device + Drop, J: Naming, H: Wait + Drop, R: Wait>(
+fn store_and_show<D: Device + Drop, J: Naming, H: Wait + Drop, R: Wait>(
     rt: &R,
     alloc: Global,
     file: &mut NodeFile<D>,
@@ -168,7 +168,7 @@ fn settle<D: Device + Drop, J: Naming, H: Wait + Drop, R: Wait>(
     Ok(())
 }
 
-/// The refusal of an append, as a refusal of a call.
+/// Returns the refusal of an append, as a refusal of a call.
 fn of_append(fault: FileFault) -> LockFault
     ensures { result ≡ of_append fault }
 {

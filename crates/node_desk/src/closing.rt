@@ -23,12 +23,12 @@ pub struct NotClosed<D: Device + Drop, J: Naming, H: Wait + Drop> {
 }
 
 impl<D: Device + Drop, J: Naming, H: Wait + Drop> Desk<D, J, H> {
-    /// Ends the desk, where all seats that are out are handed in, and returns what is left of the
+    /// Ends the desk, if all seats that are out are handed in, and returns what is left of the
     /// node, and its file's device. What each of the readers was shown is a beginning of what was
     /// published. It takes no memory, and waits for readers that are inside a `peek`.
     ///
     /// Refused with 54 `SeatsMissing`, and then desk and seats come back. It would be refused with
-    /// 34 `Stopped` where a reader was shown more than was published, which no reader is.
+    /// 34 `Stopped` if a reader was shown more than was published, which no reader is.
     pub fn close(
         self,
         seats: Vec<WriteSeat<J>>,

@@ -16,10 +16,10 @@ pub const MAX_SEATS: u64 = 8;
 
 /// A node's state, its journal, its file and what readers are shown, which are moved together.
 ///
-/// The state is held twice: each step is tried on the spare, and only once the file has what it
-/// stores and readers are shown what it changed, the two change places, and the other makes the
+/// The state is held twice. Each step is tried on the spare. Once the file has what the step
+/// stores, and readers are shown what it changed, the two change places, and the other makes the
 /// step too. So nothing of the node can fail once a byte went out, and no table is copied for a
-/// call; each step is made twice.
+/// call; but each step is made twice.
 #[derive(Drop)]
 pub struct Desk<D: Device + Drop, J: Naming, H: Wait + Drop> {
     pub(crate) alloc: Global,

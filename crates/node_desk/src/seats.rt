@@ -36,9 +36,9 @@ impl<D: Device + Drop, J: Naming, H: Wait + Drop> Desk<D, J, H> {
         Ok(count)
     }
 
-    /// One more seat, which has counted nothing yet. It takes no memory.
+    /// Hands out one more seat, which has counted nothing. It takes no memory.
     ///
-    /// Refused in this order: 52 `NoSeat` where 8 are out, 34 `Stopped`.
+    /// Refused in this order: 52 `NoSeat` if 8 are out, 34 `Stopped`.
     pub fn new_seat(&mut self) -> Result<WriteSeat<J>, LockFault>
         requires { 9 ≤ J.parts }
         ensures seat { IfOk result (λ seat. seat ≡ 0) }
@@ -60,7 +60,7 @@ impl<D: Device + Drop, J: Naming, H: Wait + Drop> Desk<D, J, H> {
         Ok(WriteSeat::of(share))
     }
 
-    /// The seat goes for good; what it counted stays counted. A stopped node takes it too.
+    /// Gives up the seat for good; what it counted stays counted. A stopped node takes it too.
     pub fn give_up(&mut self, given: WriteSeat<J>)
         ensures given_up { self.new.given_up ≡ self.old.given_up + given }
         ensures out { self.new.out + 1 ≡ self.old.out }

@@ -33,7 +33,8 @@ pub struct Capacity {
 }
 
 impl Capacity {
-    /// `writers` write seats, `readers` read seats, and the longest journal.
+    /// Returns the capacity of `writers` write seats, `readers` read seats, and the longest
+    /// journal.
     pub fn new(writers: usize, readers: usize) -> Self
         ensures { result ≡ record { writers = writers; readers = readers; journal = 1048576 } }
     {
@@ -61,7 +62,7 @@ pub struct NotStarted<D: Device + Drop> {
     pub table: Store,
 }
 
-/// Why no node is started with this capacity.
+/// Returns why no node is started with this capacity.
 fn refusal_of(capacity: Capacity) -> Option<LockFault>
     ensures { result ≡ refusal_of_start capacity }
 {
@@ -74,7 +75,7 @@ fn refusal_of(capacity: Capacity) -> Option<LockFault>
     None
 }
 
-/// A node that opens with a copy of the table.
+/// Makes a node that opens with a copy of the table.
 fn opened(alloc: Global, node: NodeId, life: u32, table: &Store) -> Result<NodeState, AllocError>
     requires { 1 ≤ life }
     ensures { IfOk result (λ state. state ≡ opening node life table.now) }
@@ -83,7 +84,7 @@ fn opened(alloc: Global, node: NodeId, life: u32, table: &Store) -> Result<NodeS
     NodeState::from_store(alloc, node, life, table)
 }
 
-/// `count` read seats, which were shown nothing yet.
+/// Makes `count` read seats, which were shown nothing.
 fn read_seats<J: Naming, H: Wait + Drop>(
     alloc: Global,
     publisher: &Publisher<J, H>,
@@ -98,7 +99,7 @@ fn read_seats<J: Naming, H: Wait + Drop>(
     Ok(seats)
 }
 
-/// `count` write seats, which have counted nothing, out of the share.
+/// Makes `count` write seats, which have counted nothing, out of the share.
 fn write_seats<J: Naming>(
     alloc: Global,
     rest: &mut Share<J>,
@@ -118,7 +119,7 @@ fn write_seats<J: Naming>(
     Ok(seats)
 }
 
-/// All of a desk but its state and its file.
+/// All of a desk except its state and its file.
 #[derive(Drop)]
 struct Parts<J: Naming, H: Wait + Drop> {
     base: NodeState,
@@ -131,7 +132,7 @@ struct Parts<J: Naming, H: Wait + Drop> {
     readers: Vec<ReadSeat<J>>,
 }
 
-/// A publisher of copies of the table, and `readers` read seats.
+/// Makes a publisher of copies of the table, and `readers` read seats.
 fn published<J: Naming, H: Wait + Drop>(
     handle: H,
     alloc: Global,
@@ -150,7 +151,7 @@ fn published<J: Naming, H: Wait + Drop>(
     both(Ok(publisher), seats)
 }
 
-/// The share that is left, and `writers` write seats.
+/// Returns the share that is left, and `writers` write seats.
 fn shared<J: Naming>(
     alloc: Global,
     whole: Share<J>,
@@ -166,7 +167,7 @@ fn shared<J: Naming>(
     both(Ok(rest), seats)
 }
 
-/// The parts that are made of copies of the table.
+/// Makes the parts that are made of copies of the table.
 fn make_parts<J: Naming, H: Wait + Drop>(
     handle: H,
     alloc: Global,
@@ -215,7 +216,6 @@ fn make_parts<J: Naming, H: Wait + Drop>(
     })
 }
 
-/// The desk of these parts.
 fn desk_of<D: Device + Drop, J: Naming, H: Wait + Drop>(
     alloc: Global,
     parts: Parts<J, H>,
@@ -261,7 +261,7 @@ fn desk_of<D: Device + Drop, J: Naming, H: Wait + Drop>(
     }
 }
 
-/// The desk of these parts, whose state takes the table.
+/// Returns the desk of these parts, whose state takes the table.
 fn begun<D: Device + Drop, J: Naming, H: Wait + Drop>(
     alloc: Global,
     parts: Parts<J, H>,
@@ -285,7 +285,7 @@ fn begun<D: Device + Drop, J: Naming, H: Wait + Drop>(
     ensures refused { IfErr result (λ not. not.fault ≡ Memory) }
     ensures back { IfErr result (λ not. (not.file ≡ file) × (not.table ≡ table)) }
 {
-    // Read for its contract, which says that what the store holds is a table.
+    // (for its type)
     let _ = table.len();
     match NodeState::begin(alloc, file.node(), file.life(), table) {
         Ok(state) => Ok(desk_of(alloc, parts, state, file, capacity)),
@@ -304,9 +304,9 @@ impl<D: Device + Drop, J: Naming, H: Wait + Drop> Desk<D, J, H> {
     /// Starts a node in the life that was begun by the call that opened its file, with the table
     /// that the file holds. The ledger of its seats has nine parts: eight seats, and the rest.
     ///
-    /// Refused in this order, and then file and table come back: 55 `BadLimit` where the journal's
-    /// limit is 0 or more than 1,048,576; 52 `NoSeat` where more than eight seats of a kind are
-    /// asked for. 99 `Memory` may come at any time.
+    /// Refused in this order, and then file and table come back: 55 `BadLimit` if the journal's
+    /// limit is 0 or more than 1,048,576; 52 `NoSeat` if more than eight seats of a kind are asked
+    /// for. 99 `Memory` may come at any time.
     ///
     /// It makes four copies of the table: for the base, for the spare, and two for readers.
     pub fn start(

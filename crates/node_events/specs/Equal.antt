@@ -1,4 +1,4 @@
--- Lists of values, of changes and of frames are equal where all their parts are.
+-- Lists of values, of changes and of frames are equal if all their parts are.
 use Rattle.std.specs.Prelude.{◌≡◌, ℕ, Bool, List, nat_eq}
 use Rattle.std.specs.Bool.{Decides}
 use Rattle.std.specs.Ordering.{on, eq_of_both}

@@ -1,4 +1,4 @@
--- Events, and replies, are equal where their kinds and all their parts are.
+-- Events, and replies, are equal if their kinds and all their parts are.
 use Rattle.std.specs.Prelude.{◌≡◌, nat_eq, Bool, true, false, ◌&&◌, Option, Some, None, refl}
 use Rattle.std.specs.Ordering.{on, eq_of_both}
 use Rattle.std.specs.Option.{option_eq}

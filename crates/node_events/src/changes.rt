@@ -26,7 +26,7 @@ impl Changes {
         Changes { changes }
     }
 
-    /// The changes, without taking memory.
+    /// Returns the changes, without taking memory.
     pub fn into_vec(self) -> Vec<Change>
         ensures { result.items ≡ self }
     {

@@ -72,7 +72,7 @@ pub enum NodeEvent {
 }
 
 impl NodeEvent {
-    /// The other node that the event names: a contact or a peer.
+    /// Returns the other node that the event names: a contact or a peer.
     pub fn other(&self) -> Option<NodeId>
         ensures { result ≡ other_of self.now }
     {
@@ -85,7 +85,7 @@ impl NodeEvent {
         }
     }
 
-    /// The key under which there is something to be stored once a node accepted the event.
+    /// Returns the key under which there is something to be stored once a node accepted the event.
     pub fn stored_key(&self) -> Option<&MetaKey>
         ensures { option_copied result ≡ stored_key self.now }
     {

@@ -25,7 +25,7 @@ impl Outbox {
         Outbox { frames }
     }
 
-    /// The frames, without taking memory.
+    /// Returns the frames, without taking memory.
     pub fn into_vec(self) -> Vec<ByteString>
         ensures { result.items ≡ self }
     {

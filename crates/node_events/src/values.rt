@@ -27,7 +27,7 @@ impl Values {
         Values { values }
     }
 
-    /// The values, without taking memory.
+    /// Returns the values, without taking memory.
     pub fn into_vec(self) -> Vec<Value>
         ensures { result.items ≡ self }
     {

@@ -18,8 +18,8 @@ abbrev pub answer_of : {A : Type 0} → Result A HostFault → ℕ
 answer_of (Ok done) = 0
 answer_of (Err fault) = code_of fault
 
--- what an export does with the node in the slot, of which there is one before and after; 80 where
--- there is none
+-- what an export does with the node in the slot, which is there before and after; 80 if there is
+-- none
 abbrev pub InSlot : (HostedParts → HostedParts → ℕ → Type 0)
     → Option HostedParts → Option HostedParts → ℕ → Type 0
 InSlot does None new answer = (answer ≡ 80) × (new ≡ None)
@@ -62,13 +62,13 @@ abbrev pub AnswersCopied : NodeEvent → HostedParts → HostedParts → ℕ →
 AnswersCopied event old new answer =
     AnswersAs (StepsOrRefuses event) old new answer ⊎ Declines 99 old new answer
 
--- a step that names something; 1 where that is out of range
+-- a step that names something; 1 if that is out of range
 pub record AnswersNamed (in_range : Type 0) (event : NodeEvent) (old new : HostedParts)
     (answer : ℕ) : Type 0 where
   pub lawful : in_range → AnswersCopied event old new answer
   pub unlawful : (in_range → ⊥) → DeclinesOrFails 1 old new answer
 
--- a step that names another node; 3 where there is none of the number
+-- a step that names another node; 3 if no node has the number
 pub record AnswersPeer (peer : ℕ) (event : NodeEvent) (old new : HostedParts) (answer : ℕ)
     : Type 0 where
   pub lawful : peer < 16 → AnswersAs (StepsOrRefuses event) old new answer
@@ -129,13 +129,13 @@ CopiedUnless true bytes old new answer = (answer ≡ 81) × (new ≡ old)
 CopiedUnless false bytes old new answer =
     (answer ≡ 0) × (new ≡ bytes ++ drop (length bytes) old)
 
--- the bytes, with their length, where the buffer has room for them; 38 where there are none
+-- the bytes, with their length, if the buffer has room for them; 38 if there are none
 abbrev pub Hands : Option (List ℕ) → List ℕ → List ℕ → ℕ → ℕ → ℕ → Type 0
 Hands None old new before len answer = HandsNothing 38 old new before len answer
 Hands (Some bytes) old new before len answer =
     (len ≡ length bytes) × CopiedUnless (nat_lt (length old) (length bytes)) bytes old new answer
 
--- what is handed out of the node in the slot; 80 where there is none
+-- what is handed out of the node in the slot; 80 if there is none
 abbrev pub HandsFrom : Option HostedParts
     → (HostedParts → List ℕ → List ℕ → ℕ → ℕ → ℕ → Type 0)
     → List ℕ → List ℕ → ℕ → ℕ → ℕ → Type 0
@@ -157,7 +157,7 @@ HandsReply n old new before len answer =
     Hands (handed_reply_bytes n) old new before len answer
     ⊎ (HandsNothing 99 old new before len answer × (handed_reply n ≢ None))
 
--- the keys under a full prefix; 1 where that is out of range; or memory ran out
+-- the keys under a full prefix; 1 if that is out of range; or memory ran out
 pub record HandsList (prefix : Prefix) (n : HostedParts) (old new : List ℕ)
     (before len answer : ℕ) : Type 0 where
   pub lawful : IsFullPrefix prefix → Hands (Some (list_bytes prefix n.state.table)) old new before
@@ -172,7 +172,7 @@ Sends old new answer = (answer ≡ 0) × (new ≡ after_sending old)
 
 -- ---- contexts
 
--- the context of the last reply stands under the number; 38 where that is of no read
+-- the context of the last reply stands under the number; 38 if that reply is no read's
 abbrev pub KeepsAs : ℕ → HostedParts → HostedParts → ℕ → Type 0
 KeepsAs number old new answer =
     ((answer ≡ 0) × KeepsContext old new number)

@@ -1,2 +1,5 @@
+-- What must be believed of the exports, in the order in which to read it.
+-- the bytes of a reply and of a list of keys
 pub mod Spelling
+-- what each export does with the node in the slot, and what it returns and hands out
 pub mod Exports

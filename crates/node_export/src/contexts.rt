@@ -7,8 +7,8 @@ use crate::numbers::{NO_NODE, OK};
 use node_handle::Slot;
 use std::alloc::Global;
 
-/// Keeps the context of the last reply, a read's, and says its number. Refused with 80 `NoNode`, 38
-/// `Nothing` and 99 `Memory`.
+/// Keeps the context of the last reply, which must be that of a read, and says its number. Refused
+/// with 80 `NoNode`, 38 `Nothing` and 99 `Memory`.
 #[unsafe(no_mangle)]
 pub extern "C" fn zomtagi_keep_context(alloc: Global, slot: &mut Slot, number: &mut u64) -> u16
     ensures kept { InSlot (KeepsAs number.new) slot.old.handle.held slot.new.handle.held result }

@@ -12,8 +12,8 @@ use meta_types::TypeFault;
 use node_handle::Slot;
 use std::alloc::Global;
 
-/// Copies bytes to the front of a buffer, and says how many they are. Refused with 38 `Nothing`
-/// where there are none, and 81 `ShortBuffer`.
+/// Copies bytes to the front of a buffer, and says how many there are. Refused with 38 `Nothing` if
+/// there are none, and 81 `ShortBuffer`.
 pub(crate) fn copy_out(bytes: Option<&[u8]>, buffer: &mut [u8], len: &mut usize) -> u16
     ensures { Hands (option_copied bytes.entry) buffer.old buffer.new len.old len.new result }
 {
@@ -28,11 +28,12 @@ pub(crate) fn copy_out(bytes: Option<&[u8]>, buffer: &mut [u8], len: &mut usize)
     OK
 }
 
-/// The record that the program has to store before it is handed the reply and the frames, and the
-/// offset of the closed gate of its file: it writes the bytes after the first from one byte after
-/// the gate on, syncs, writes the first over the gate, and syncs.
+/// Hands out the record that the program has to store before it is handed the reply and the frames,
+/// and the offset of the closed gate of its file. The program writes the bytes after the first,
+/// beginning one byte after the gate; syncs; writes the first byte over the gate; and syncs.
 ///
-/// Refused with 80 `NoNode`, 38 `Nothing` and 81 `ShortBuffer`, where `len` says how long it is.
+/// Refused with 80 `NoNode`, 38 `Nothing` and 81 `ShortBuffer`; with 81, `len` says how long the
+/// record is.
 #[unsafe(no_mangle)]
 pub extern "C" fn zomtagi_record(
     alloc: Global,
@@ -60,8 +61,8 @@ pub extern "C" fn zomtagi_record(
     number
 }
 
-/// The program stored the record, or failed to: then `is_stored` is 0, and the node is stopped.
-/// Refused with 80 `NoNode`, 34 `Stopped` and 38 `Nothing`.
+/// Takes note that the program stored the record, or that it failed to: then `is_stored` is 0, and
+/// the node is stopped. Refused with 80 `NoNode`, 34 `Stopped` and 38 `Nothing`.
 #[unsafe(no_mangle)]
 pub extern "C" fn zomtagi_stored(alloc: Global, slot: &mut Slot, is_stored: u8) -> u16
     ensures { InSlot (AnswersAs (Stores (not (nat_eq is_stored 0))))
@@ -75,8 +76,8 @@ pub extern "C" fn zomtagi_stored(alloc: Global, slot: &mut Slot, is_stored: u8) 
     answer_of(stored)
 }
 
-/// What the last step replied, as bytes: see `bindings/c/zomtagi.h`. Refused with 80 `NoNode`, 38
-/// `Nothing`, 99 `Memory` and 81 `ShortBuffer`, as `zomtagi_record` is.
+/// Hands out what the last step replied, as bytes: see `bindings/c/zomtagi.h`. Refused with 80
+/// `NoNode`, 38 `Nothing`, 99 `Memory` and 81 `ShortBuffer`, as `zomtagi_record` is.
 #[unsafe(no_mangle)]
 pub extern "C" fn zomtagi_reply(
     alloc: Global,
@@ -108,7 +109,8 @@ fn copy_reply(alloc: Global, node: &HostedNode, buffer: &mut [u8], len: &mut usi
     }
 }
 
-/// The next frame to send; its bytes 6 and 7 are its addressee. Refused as `zomtagi_record` is.
+/// Hands out the next frame to send; its bytes 6 and 7 are its addressee. Refused as
+/// `zomtagi_record` is.
 #[unsafe(no_mangle)]
 pub extern "C" fn zomtagi_frame(
     alloc: Global,
@@ -131,7 +133,7 @@ pub extern "C" fn zomtagi_frame(
     number
 }
 
-/// The program has the next frame, if there is one. Refused with 80 `NoNode`.
+/// Takes note that the program has the next frame, if there is one. Refused with 80 `NoNode`.
 #[unsafe(no_mangle)]
 pub extern "C" fn zomtagi_sent(alloc: Global, slot: &mut Slot) -> u16
     ensures { InSlot Sends slot.old.handle.held slot.new.handle.held result }

@@ -19,7 +19,7 @@ use node_handle::Slot;
 use std::alloc::Global;
 
 /// Puts a node without a file into the slot, in the life of this number, and frees what was there.
-/// The program sees to it that the node never had a life of this number or a greater one.
+/// The program must make sure that the node never had a life of this number or a greater one.
 ///
 /// Refused with 3 `BadNode`, with 82 `BadLife` for a life of 0, and with 99 `Memory`.
 #[unsafe(no_mangle)]
@@ -66,7 +66,6 @@ pub extern "C" fn zomtagi_serve(alloc: Global, slot: &mut Slot, bytes: &[u8], no
     }
 }
 
-/// Puts a node into the slot.
 fn put(alloc: Global, slot: &mut Slot, node: HostedNode) -> u16
     ensures put { result ≡ OK → slot.new.handle.held ≡ Some node }
     ensures kept { result ≢ OK → slot.new.handle.held ≡ slot.old.handle.held }
@@ -89,8 +88,8 @@ pub extern "C" fn zomtagi_free(alloc: Global, slot: &mut Slot)
     drop(slot.take(alloc));
 }
 
-/// The bytes of a file of a node that had no life yet. The program writes and syncs them before it
-/// serves the node. Refused with 3 `BadNode`, 99 `Memory` and 81 `ShortBuffer`.
+/// Hands out the bytes of the file of a node that had no life. The program writes and syncs them
+/// before it serves the node. Refused with 3 `BadNode`, 99 `Memory` and 81 `ShortBuffer`.
 #[unsafe(no_mangle)]
 pub extern "C" fn zomtagi_empty_file(
     alloc: Global,

@@ -17,7 +17,7 @@ pub const SHORT_BUFFER: u16 = 81;
 /// 82: lives are numbered from 1.
 pub const BAD_LIFE: u16 = 82;
 
-/// The number of how a call ended.
+/// Returns the number that says how a call ended.
 pub(crate) fn answer_of(outcome: Result<(), HostFault>) -> u16
     ensures { result ≡ answer_of outcome }
 {

@@ -16,8 +16,8 @@ use meta_types::{FullPrefix, MetaKey, TypeFault};
 use node_handle::Slot;
 use std::alloc::{AllocError, Global};
 
-/// The keys under a full prefix, in order, each as a frame has it. What the node holds may not be
-/// stored yet. Refused with 80 `NoNode`, 1 `BadName`, 99 `Memory` and 81 `ShortBuffer`.
+/// Hands out the keys under a full prefix, in order, each as frames have it. What the node holds
+/// may not be stored yet. Refused with 80 `NoNode`, 1 `BadName`, 99 `Memory` and 81 `ShortBuffer`.
 #[unsafe(no_mangle)]
 pub extern "C" fn zomtagi_list(
     alloc: Global,
@@ -82,7 +82,7 @@ fn spell_keys(alloc: Global, node: &HostedNode, prefix: &FullPrefix) -> Result<V
     Ok(bytes)
 }
 
-/// Adds each key, as a frame has it.
+/// Adds each key, as frames have it.
 fn add_keys(bytes: &mut Vec<u8>, keys: &[MetaKey]) -> Result<(), AllocError>
     ensures { OnOk result (bytes.new.items ≡ bytes.old.items ++ flat_map key.spell keys.now) }
 {
@@ -92,8 +92,8 @@ fn add_keys(bytes: &mut Vec<u8>, keys: &[MetaKey]) -> Result<(), AllocError>
     Ok(())
 }
 
-/// The 32 bytes of the root of the tree over all that the node holds, which may not be stored yet.
-/// Refused with 80 `NoNode` and 81 `ShortBuffer`.
+/// Hands out the 32 bytes of the root of the tree over all that the node holds, which may not be
+/// stored yet. Refused with 80 `NoNode` and 81 `ShortBuffer`.
 #[unsafe(no_mangle)]
 pub extern "C" fn zomtagi_root(
     alloc: Global,
@@ -115,7 +115,8 @@ pub extern "C" fn zomtagi_root(
     number
 }
 
-/// The node's number, the number of its life, and whether it is stopped. Refused with 80 `NoNode`.
+/// Says the node's number, the number of its life, and whether it is stopped. Refused with 80
+/// `NoNode`.
 #[unsafe(no_mangle)]
 pub extern "C" fn zomtagi_about(
     alloc: Global,

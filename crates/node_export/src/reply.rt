@@ -10,8 +10,8 @@ use node_events::Reply;
 use std::alloc::{AllocError, Global};
 use subscriptions::Change;
 
-/// The bytes of a reply: a byte that says which, and its fields. Numbers are written with the
-/// highest byte first; keys stand as in frames.
+/// Returns the bytes of a reply: a byte that says which reply it is, and its fields. Numbers have
+/// their highest byte first; keys stand as in frames.
 pub(crate) fn spell_reply(alloc: Global, reply: &Reply) -> Result<Vec<u8>, AllocError>
     ensures { IfOk result (λ bytes. bytes.items ≡ reply_bytes reply.now) }
 {
@@ -39,7 +39,7 @@ pub(crate) fn spell_reply(alloc: Global, reply: &Reply) -> Result<Vec<u8>, Alloc
     Ok(bytes)
 }
 
-/// Adds how many values there are, and each.
+/// Adds the number of values, and each value.
 fn add_values(bytes: &mut Vec<u8>, values: &[Value]) -> Result<(), AllocError>
     ensures { OnOk result (bytes.new.items ≡ bytes.old.items ++ values_bytes values.now) }
 {
@@ -56,7 +56,7 @@ fn add_each_value(bytes: &mut Vec<u8>, values: &[Value]) -> Result<(), AllocErro
     Ok(())
 }
 
-/// Adds the stamp of a value, whether it has a body, and the length and the bytes of that.
+/// Adds the stamp of a value, whether it has a body, and the length and the bytes of the body.
 fn add_value(bytes: &mut Vec<u8>, value: &Value) -> Result<(), AllocError>
     ensures { OnOk result (bytes.new.items ≡ bytes.old.items ++ value_bytes value.now) }
 {
@@ -71,7 +71,7 @@ fn add_value(bytes: &mut Vec<u8>, value: &Value) -> Result<(), AllocError>
     }
 }
 
-/// Adds how many changes there are, and the key of each.
+/// Adds the number of changes, and the key of each.
 fn add_changes(bytes: &mut Vec<u8>, changes: &[Change]) -> Result<(), AllocError>
     ensures { OnOk result (bytes.new.items ≡ bytes.old.items ++ changes_bytes changes.now) }
 {

@@ -1,4 +1,4 @@
-//! Steps that name no value: each is refused with 80 `NoNode`, with 1 `BadName` or 3 `BadNode` for
+//! Steps that name no value. Each is refused with 80 `NoNode`, with 1 `BadName` or 3 `BadNode` for
 //! what it names, and then as `HostedNode::act` is.
 
 ghost use Rattle.std.specs.Prelude.{◌≡◌, ◌⊎◌, [], IfOk, IfErr, OnOk};
@@ -26,7 +26,7 @@ pub(crate) fn act_in(alloc: Global, slot: &mut Slot, event: NodeEvent) -> u16
     answer_of(acted)
 }
 
-/// Refuses what was asked for, where there is a node in the slot.
+/// Refuses what was asked for, if there is a node in the slot.
 fn refuse_in(alloc: Global, slot: &mut Slot, fault: TypeFault) -> u16
     ensures { InSlot (Declines (code_of fault)) slot.old.handle.held slot.new.handle.held result }
 {
@@ -37,7 +37,6 @@ fn refuse_in(alloc: Global, slot: &mut Slot, fault: TypeFault) -> u16
     fault.code()
 }
 
-/// The key of these names.
 pub(crate) fn key_of(
     alloc: Global,
     prefix: &[u8],
@@ -53,8 +52,9 @@ pub(crate) fn key_of(
     MetaKey::new(prefix, key.to_vec(alloc)?)
 }
 
-/// The node is read; `zomtagi_reply` has what it shows. Refused with 80 `NoNode`, 1 `BadName`, then
-/// as `HostedNode::act` is; 99 `Memory` of a copy may come in place of 34 and 37 too.
+/// Reads a key at the node; `zomtagi_reply` has what it shows. Refused with 80 `NoNode`, 1
+/// `BadName`, then as `HostedNode::act` is; 99 `Memory` of a copy may come in place of 34 and 37
+/// too.
 #[unsafe(no_mangle)]
 pub extern "C" fn zomtagi_read(
     alloc: Global,
@@ -73,7 +73,7 @@ pub extern "C" fn zomtagi_read(
     }
 }
 
-/// What is held under the key is to be stored. Refused as `zomtagi_read` is.
+/// Has what is held under the key stored. Refused as `zomtagi_read` is.
 #[unsafe(no_mangle)]
 pub extern "C" fn zomtagi_keep(
     alloc: Global,
@@ -92,7 +92,7 @@ pub extern "C" fn zomtagi_keep(
     }
 }
 
-/// Bytes came that should be a frame for the node. The word is a random number. Refused with 80
+/// Hands the node bytes that should be a frame for it. The word is a random number. Refused with 80
 /// `NoNode`, then as `HostedNode::act` is; 99 `Memory` of a copy may come in place of 34 and 37
 /// too.
 #[unsafe(no_mangle)]
@@ -109,7 +109,7 @@ pub extern "C" fn zomtagi_take(alloc: Global, slot: &mut Slot, frame: &[u8], wor
     }
 }
 
-/// Time passes. Refused with 80 `NoNode`, then as `HostedNode::act` is.
+/// Lets time pass. Refused with 80 `NoNode`, then as `HostedNode::act` is.
 #[unsafe(no_mangle)]
 pub extern "C" fn zomtagi_tick(alloc: Global, slot: &mut Slot, word: u64) -> u16
     ensures { Answers slot.old.handle.held (Tick word) slot.new.handle.held result }
@@ -117,7 +117,7 @@ pub extern "C" fn zomtagi_tick(alloc: Global, slot: &mut Slot, word: u64) -> u16
     act_in(alloc, slot, NodeEvent::Tick { word })
 }
 
-/// The node joins the cluster through a contact. Refused with 80 `NoNode`, 3 `BadNode`, then as
+/// Lets the node join the cluster through a contact. Refused with 80 `NoNode`, 3 `BadNode`, then as
 /// `HostedNode::act` is.
 #[unsafe(no_mangle)]
 pub extern "C" fn zomtagi_join(alloc: Global, slot: &mut Slot, contact: u16, word: u64) -> u16
@@ -130,7 +130,7 @@ pub extern "C" fn zomtagi_join(alloc: Global, slot: &mut Slot, contact: u16, wor
     }
 }
 
-/// Somebody found that a peer doesn't answer. Refused as `zomtagi_join` is.
+/// Tells the node that a peer doesn't answer. Refused as `zomtagi_join` is.
 #[unsafe(no_mangle)]
 pub extern "C" fn zomtagi_peer_down(alloc: Global, slot: &mut Slot, peer: u16, word: u64) -> u16
     ensures { InSlot (AnswersPeer peer (PeerDown peer word))
@@ -142,7 +142,7 @@ pub extern "C" fn zomtagi_peer_down(alloc: Global, slot: &mut Slot, peer: u16, w
     }
 }
 
-/// The node begins an exchange with a peer. Refused as `zomtagi_join` is.
+/// Begins an exchange of the node with a peer. Refused as `zomtagi_join` is.
 #[unsafe(no_mangle)]
 pub extern "C" fn zomtagi_exchange(alloc: Global, slot: &mut Slot, peer: u16) -> u16
     ensures { InSlot (AnswersPeer peer (Exchange peer))
@@ -154,7 +154,7 @@ pub extern "C" fn zomtagi_exchange(alloc: Global, slot: &mut Slot, peer: u16) ->
     }
 }
 
-/// The node tells a peer which life it is in. Refused as `zomtagi_join` is.
+/// Lets the node tell a peer which life it is in. Refused as `zomtagi_join` is.
 #[unsafe(no_mangle)]
 pub extern "C" fn zomtagi_hello(alloc: Global, slot: &mut Slot, peer: u16) -> u16
     ensures { InSlot (AnswersPeer peer (Hello peer))
@@ -166,7 +166,7 @@ pub extern "C" fn zomtagi_hello(alloc: Global, slot: &mut Slot, peer: u16) -> u1
     }
 }
 
-/// The node leaves the cluster. Refused as `zomtagi_tick` is.
+/// Lets the node leave the cluster. Refused as `zomtagi_tick` is.
 #[unsafe(no_mangle)]
 pub extern "C" fn zomtagi_leave(alloc: Global, slot: &mut Slot) -> u16
     ensures { Answers slot.old.handle.held Leave slot.new.handle.held result }
@@ -174,8 +174,8 @@ pub extern "C" fn zomtagi_leave(alloc: Global, slot: &mut Slot) -> u16
     act_in(alloc, slot, NodeEvent::Leave)
 }
 
-/// Somebody wants to hear of the changes under a full prefix, the last `capacity` of them. Refused
-/// as `zomtagi_read` is.
+/// Begins a watch of the changes under a full prefix, which notes the last `capacity` of them.
+/// Refused as `zomtagi_read` is.
 #[unsafe(no_mangle)]
 pub extern "C" fn zomtagi_watch(
     alloc: Global,
@@ -194,7 +194,6 @@ pub extern "C" fn zomtagi_watch(
     }
 }
 
-/// The full prefix of these names.
 pub(crate) fn prefix_of(alloc: Global, prefix: &[u8], sub: &[u8]) -> Result<FullPrefix, TypeFault>
     ensures value { IfOk result (λ p. p ≡ (key_named prefix.now sub.now []).prefix) }
     ensures lawful { OnOk result (IsFullPrefix (key_named prefix.now sub.now []).prefix) }
@@ -205,7 +204,7 @@ pub(crate) fn prefix_of(alloc: Global, prefix: &[u8], sub: &[u8]) -> Result<Full
     FullPrefix::new(prefix.to_vec(alloc)?, sub.to_vec(alloc)?)
 }
 
-/// The watch of that number hands out what it has noted. Refused as `zomtagi_tick` is.
+/// Has the watch of that number hand out what it has noted. Refused as `zomtagi_tick` is.
 #[unsafe(no_mangle)]
 pub extern "C" fn zomtagi_changes(alloc: Global, slot: &mut Slot, number: u64) -> u16
     ensures { Answers slot.old.handle.held (Changes number) slot.new.handle.held result }

@@ -16,7 +16,8 @@ use node_events::NodeEvent;
 use node_handle::Slot;
 use std::alloc::Global;
 
-/// The key of these names, and the value of this stamp and body, a tombstone without one.
+/// Returns the key of these names, and the value of this stamp and body; without a body, a
+/// tombstone.
 fn parts_of(
     alloc: Global,
     names: (&[u8], &[u8], &[u8]),
@@ -46,7 +47,7 @@ fn parts_of(
     Ok((key, Value::new(stamp, body)?))
 }
 
-/// Writes, and has read what the context of this number says, or nothing for 0.
+/// Writes, having read what the context of this number says, or nothing for 0.
 fn write_on(
     alloc: Global,
     node: &mut HostedNode,
@@ -123,9 +124,9 @@ fn write_over_in(
     answer_of(written)
 }
 
-/// Writes a value, which has read what the context of this number says, or nothing for 0. Refused
-/// with 80 `NoNode`; 43 `NoSuchRead`; 1 `BadName`, 2 `ValueTooLong`; then as `HostedNode::act` is.
-/// 99 `Memory` of a copy may come in place of 34 and 37 too.
+/// Writes a value, having read what the context of this number says, or nothing for 0. Refused with
+/// 80 `NoNode`; 43 `NoSuchRead`; 1 `BadName`, 2 `ValueTooLong`; then as `HostedNode::act` is. 99
+/// `Memory` of a copy may come in place of 34 and 37 too.
 #[unsafe(no_mangle)]
 pub extern "C" fn zomtagi_write(
     alloc: Global,
@@ -144,7 +145,8 @@ pub extern "C" fn zomtagi_write(
     write_in(alloc, slot, (prefix, sub, key), Some(body), stamp, context)
 }
 
-/// Writes a tombstone, as `zomtagi_write` writes a value. Refused as `zomtagi_write` is, but for 2.
+/// Writes a tombstone, as `zomtagi_write` writes a value. Refused as `zomtagi_write` is, except for
+/// 2.
 #[unsafe(no_mangle)]
 pub extern "C" fn zomtagi_delete(
     alloc: Global,
@@ -161,7 +163,7 @@ pub extern "C" fn zomtagi_delete(
     write_in(alloc, slot, (prefix, sub, key), None, stamp, context)
 }
 
-/// Writes a value over all that the node shows. Refused as `zomtagi_write` is, but for 43.
+/// Writes a value over all that the node shows. Refused as `zomtagi_write` is, except for 43.
 #[unsafe(no_mangle)]
 pub extern "C" fn zomtagi_write_over(
     alloc: Global,
@@ -179,8 +181,8 @@ pub extern "C" fn zomtagi_write_over(
     write_over_in(alloc, slot, (prefix, sub, key), Some(body), stamp)
 }
 
-/// Writes a tombstone over all that the node shows. Refused as `zomtagi_write` is, but for 43 and
-/// 2.
+/// Writes a tombstone over all that the node shows. Refused as `zomtagi_write` is, except for 43
+/// and 2.
 #[unsafe(no_mangle)]
 pub extern "C" fn zomtagi_delete_over(
     alloc: Global,

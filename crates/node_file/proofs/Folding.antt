@@ -110,9 +110,9 @@ pub looked_no_gate : (version life : ℕ) (rest : List ℕ) (total : Result (ℕ
 unfolding life_from
 looked_no_gate version life rest total none so_far = sym so_far ∙ no_turn may_follow_life life_with version life rest none
 
--- ---- lives alone, where the keys are too many
+-- ---- lives alone, if the keys are too many
 
--- the same fold_records, of which only the life is told
+-- the same fold_records, but only the life is told
 abbrev pub told : Result (Contents × ℕ) ℕ → Result (ℕ × ℕ) ℕ
 told (Ok r) = Ok (r.0.life, r.1)
 told (Err left) = Err left

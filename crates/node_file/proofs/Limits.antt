@@ -50,7 +50,7 @@ size_put : (found : Option (List Entry)) (n m : ℕ) → m ≡ cond (is_some fou
 size_put None n m is room few = let less : n < most_keys = leb-false most_keys n room in omega (arith, is, less)
 size_put (Some o) n m is room few = omega (arith, is, few)
 
--- where there is room for a key, they aren't too many with it
+-- if there is room for a key, they aren't too many with it
 pub few_with : (k : Key) (o : List Entry) (table : Table) → is_sorted key_cmp table ≡ true → length table ≤ most_keys → is_full_for table k ≡ false → length (with_object k o table) ≤ most_keys
 few_with k o table sorted few room = size_put (find key_cmp k table) (length table) (length (put key_cmp k o table)) (length-put key_cmp key_total k o table (passes (is_sorted key_cmp table) sorted)) room few
 

@@ -20,7 +20,7 @@ use Rattle.node_file.specs.Lives.{FallFrom, IsTold, contents_of, life_numbers}
 use Rattle.node_file.proofs.Folding.{closed, opens}
 use Rattle.node_file.proofs.Parting.{laid_out, taken_ok, no_bytes, inside, both_are, read_of}
 
--- what another fold_records over the same records keeps, where nothing is refused
+-- what another fold_records over the same records keeps, if nothing is refused
 simulate : {S T : Type 0} (may : S → Record → Bool) (next : S → Record → S) (any : T → Record → Bool) (put : T → Record → T) (R : S → T → Type 0)
     → ((u : T) (record_ : Record) → any u record_ ≡ true)
     → ((s : S) (u : T) (record_ : Record) → may s record_ ≡ true → R s u → R (next s record_) (put u record_))
@@ -87,7 +87,7 @@ keys_rise bytes s gate e =
     let h = simulate may_follow with_record any_may_follow put_first (λ c records. T (is_sorted key_cmp c.table)) (λ u record_. refl) sorted_with s.version (drop 10 bytes) no_contents [] 0 s.contents r.0 tt r.1 in
     from_T (is_sorted key_cmp s.contents.table) h.2
 
--- where there is room for a key, they aren't too many with it
+-- if there is room for a key, they aren't too many with it
 pub room_for : (bytes : List ℕ) (gate : ℕ) (k : Key) (o : List Entry) → opened None bytes ≡ Ok (file_state bytes, gate) → is_full_for (file_state bytes).contents.table k ≡ false → length (state_with (file_state bytes) (Object k o)).contents.table ≤ most_keys
 room_for bytes gate k o opens room =
     few_with k o (file_state bytes).contents.table (keys_rise bytes (file_state bytes) gate opens) (laid_out (file_state bytes) gate bytes opens).few room

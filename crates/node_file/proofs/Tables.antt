@@ -46,8 +46,8 @@ front_rises (row ∷ front) rest rising =
 abbrev pub Held : Key × List Entry → Type 0
 Held row = IsHeld row.1
 
--- the file that began as the old one was stands for a front of a table, of which the rest is still
--- to be written behind the gate
+-- the file that began as the old one was stands for a front of a table, whose rest is still to be
+-- written behind the gate
 pub record IsWritten (old now : List ℕ) (whole rest : Table) (gate : ℕ) : Type 0 where
   pub done : Table
   pub opens : opened None now ≡ Ok (with_table done (file_state old), gate)

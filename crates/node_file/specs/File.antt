@@ -68,7 +68,7 @@ for_node asked total behind (Ok front) =
     else ended total front (contents_from front.0 no_contents 0 behind)
 
 -- What a file of these bytes stands for, and the offset of the closed gate that ends it; or why it
--- is no file of the node that is asked for, or of any node where none is.
+-- is no file of the node that is asked for, or of any node if none is.
 unfoldable pub opened : Option ℕ → List ℕ → Result (FileState × ℕ) FileFault
 opened asked bytes =
     if nat_lt (length bytes) 11 then Err (Damaged (length bytes))

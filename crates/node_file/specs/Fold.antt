@@ -7,7 +7,7 @@ use Rattle.node_file.specs.Record.{record_in}
 
 -- ---- any fold: which record may follow, and what it makes of what was read before
 
--- a record that was read is taken in where it may follow; `left` bytes are left at its gate
+-- a record that was read is taken in if it may follow; `left` bytes are left at its gate
 abbrev pub after_record : {S A : Type 0} → (S → Record → Bool) → (S → Record → S) → S → ℕ
     → Option (Record × ℕ) → (S → ℕ → Result A ℕ) → Result A ℕ
 after_record may_follow next s left None more = Err left

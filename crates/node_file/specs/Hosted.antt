@@ -22,8 +22,8 @@ pub record CanTake (s : FileState) (record_ : Record) : Type 0 where
   pub follows : may_follow s.contents record_ ≡ true
   pub room : length (state_with s record_).contents.table ≤ most_keys
 
--- after the calls the file has the record, and so is what every crash until the next call leaves; a
--- crash at any moment before leaves it without the record or with it
+-- after the calls the file has the record, and so has what every crash until the next call leaves;
+-- a crash at any moment before leaves it without the record or with it
 pub record TakesRecord (file : List ℕ) (gate : ℕ) (record_ : Record) : Type 0 where
   pub opens : opened None (content_after file (append_calls gate record_))
       ≡ Ok (state_with (file_state file) record_, gate + record_size record_)

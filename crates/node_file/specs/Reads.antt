@@ -46,7 +46,7 @@ abbrev pub ReadsAs : Result (Contents × ℕ) ReadFault → Result (Contents × 
 ReadsAs (Ok x) read = (read ≡ Ok x) × (length x.0.table ≤ most_keys)
 ReadsAs (Err fault) read = FailsLike fault read
 
--- where the keys are too many, the rest is only looked over
+-- if the keys are too many, the rest is only looked over
 abbrev pub EndsAs : {X : Type 0} → Result X ReadFault → Result (ℕ × ℕ) ℕ → Type 0
 EndsAs (Ok x) read = Ends read
 EndsAs (Err reads.Memory) read = Unit {0}

@@ -70,7 +70,7 @@ impl Contents {
         (self.life, self.store)
     }
 
-    /// Takes a record in, where it may follow and there is room for its key.
+    /// Takes a record in, if it may follow and there is room for its key.
     #[tactic(auto, using(crate::proofs::Limits::would_be_too_many))]
     fn take_in(&mut self, read: Record) -> Result<Taken, AllocError>
         requires lawful { IsRecord read }
@@ -85,7 +85,7 @@ impl Contents {
                 Ok(Taken::Done)
             }
             Record::Object(key, object) => {
-                // Read for its contract, which says that what is held is a table.
+                // (for its type)
                 let _ = self.store.len();
                 if !self.store.has_room_for(&key) {
                     return Ok(Taken::TooMany);
@@ -114,7 +114,7 @@ pub(crate) fn read_contents(
     while !rest.is_empty() {
         let (gate, behind) = rest.split_at(1);
         if gate[0] != OPEN_GATE {
-            // Read for its contract, which says that the keys are few enough.
+            // (for its type)
             let _ = contents.store.len();
             return Ok((contents, rest.len()));
         }
@@ -157,7 +157,7 @@ fn look_over(alloc: Global, version: u8, begun: u32, bytes: &[u8]) -> Result<(),
     Err(ReadFault::Left(0))
 }
 
-/// Why a file of too many keys is refused, where these records are left to read: a record among
+/// Returns why a file of too many keys is refused, with these records left to read: a record among
 /// them that isn't whole or may not follow comes first.
 fn fault_behind(alloc: Global, version: u8, life: u32, bytes: &[u8]) -> ReadFault
     ensures { FailsBehind result (life_from version life 0 bytes.now) }
@@ -170,7 +170,7 @@ fn fault_behind(alloc: Global, version: u8, life: u32, bytes: &[u8]) -> ReadFaul
     }
 }
 
-/// The last life after the record, or `None` where the record may not follow.
+/// Returns the last life after the record, or `None` if the record may not follow.
 fn risen(life: u32, read: &Record) -> Option<u32>
     ensures { RisesTo life read.now result }
 {

@@ -22,18 +22,19 @@ pub enum FileFault {
     OtherNode,
     /// 33: the file would have more than 1,099,511,627,776 bytes.
     FileFull,
-    /// 34: an append failed after the device may have changed. The file is opened again first.
+    /// 34: an append failed after the device may have changed. The file has to be opened again
+    /// first.
     Stopped,
     /// 35: the last life has the greatest number that there is, 4,294,967,295.
     IncarnationSpent,
-    /// 36: the file is of version 1, which has no lives. It is rewritten first.
+    /// 36: the file is of version 1, which has no lives. It has to be rewritten first.
     OldVersion,
     /// 99: an allocation was refused.
     Memory,
 }
 
 impl FileFault {
-    /// The number of the refusal, as programs print it.
+    /// Returns the number of the refusal, as programs print it.
     pub fn code(&self) -> u16
         ensures { result ≡ code_of self.now }
     {
@@ -50,7 +51,7 @@ impl FileFault {
         }
     }
 
-    /// The name of the refusal, as programs print it.
+    /// Returns the name of the refusal, as programs print it.
     pub fn name(&self) -> &'static str
         ensures { result.now ≡ fault_name self.now }
     {

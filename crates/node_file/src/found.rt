@@ -37,7 +37,7 @@ pub(crate) struct Found {
 }
 
 impl Found {
-    /// Why the node can't begin its next life in the file.
+    /// Returns why the node can't begin its next life in the file.
     pub(crate) fn refusal(&self) -> Option<FileFault>
         ensures first { result ≡ refusal_of_life (Ok (
           record {
@@ -62,7 +62,7 @@ impl Found {
     }
 }
 
-/// The version and the node of a file's first ten bytes.
+/// Returns the version and the node of a file's first ten bytes.
 #[tactic(auto, unfolding(crate::specs::File::front_in))]
 fn read_front(bytes: &[u8]) -> Result<(u8, NodeId), FileFault>
     requires { length bytes.now ≡ 10 }
@@ -94,7 +94,7 @@ pub fn is_refused_by_front(front: &[u8]) -> bool
     front.len() >= MIN_FILE_LEN && read_front(&front[..FRONT_LEN]).is_err()
 }
 
-/// What the bytes of a file stand for.
+/// Returns what the bytes of a file stand for.
 #[tactic(auto, unfolding(crate::specs::File::opened))]
 pub(crate) fn open_bytes(
     alloc: Global,
@@ -128,7 +128,7 @@ pub(crate) fn open_bytes(
             at: bytes.len().saturating_sub(left),
         }),
         Ok((contents, left)) => {
-            // Read for its contract, which says that the node's number is in range.
+            // (for its type)
             let _ = node.number();
             Ok(Found {
                 version,

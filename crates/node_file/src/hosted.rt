@@ -19,7 +19,7 @@ use meta_store::Store;
 use meta_types::{MetaKey, NodeId};
 use std::alloc::Global;
 
-/// What a host needs who serves a node from bytes. The node begins its next life once the record of
+/// What a host needs to serve a node from bytes. The node begins its next life once the record of
 /// it was appended.
 #[derive(Drop)]
 pub struct Served {
@@ -33,11 +33,11 @@ pub struct Served {
     pub record: Vec<u8>,
 }
 
-/// What a host appends who serves a node from these bytes, and the table that they hold.
+/// Returns what a host appends to serve a node from these bytes, and the table that they hold.
 ///
-/// The host writes the record but for its first byte after the closed gate, syncs, writes that byte
-/// over the gate, and syncs; then the life is begun (`laws::an_append_is_safe`). Refused as
-/// [`serve`](crate::serve) is, but for 30 `Device`. It takes memory for the table.
+/// The host writes the record, without its first byte, after the closed gate, syncs, writes that
+/// byte over the gate, and syncs; then the life is begun (`laws::an_append_is_safe`). Refused as
+/// [`serve`](crate::serve) is, except with 30 `Device`. It takes memory for the table.
 pub fn serve_bytes(alloc: Global, bytes: &[u8], asked: Option<NodeId>) -> Result<Served, FileFault>
     ensures none { OnOk result (refusal_of_serve asked bytes.now ≡ None) }
     ensures opens { IfOk result (λ s. opened None bytes.now ≡ Ok (file_state bytes.now, s.gate)) }
@@ -71,10 +71,10 @@ pub fn serve_bytes(alloc: Global, bytes: &[u8], asked: Option<NodeId>) -> Result
     })
 }
 
-/// The record that a host appends, as [`serve_bytes`] says, so that this is the object under the
-/// key from then on; the closed gate of his file stands at this offset.
+/// Returns the record that a host appends, as [`serve_bytes`] says, so that this is the object
+/// under the key from then on. The closed gate of his file stands at this offset.
 ///
-/// Refused as [`NodeFile::append`](crate::NodeFile::append) is, but for 34 `Stopped` and 30
+/// Refused as [`NodeFile::append`](crate::NodeFile::append) is, except with 34 `Stopped` and 30
 /// `Device`. It takes memory for the record.
 pub fn spell_append(
     alloc: Global,

@@ -9,8 +9,8 @@ ghost use Rattle.node_file.specs.Record.{IsRecord, payload, record_bytes, record
 ghost use Rattle.node_file.specs.Refusal.{refusal_of_serve};
 ghost use Rattle.node_file.specs.declared.record.Record.{Record};
 
-/// A payload of version 2 is read as a record exactly where it is the payload of that record. So
-/// no payload says two things, and each record that may be written is read again.
+/// A payload of version 2 is read as a record exactly if it is the payload of that record. So no
+/// payload says two things, and each record that may be written is read again.
 pub fn a_payload_says_one_record()
     ensures { (bytes : List ℕ) (said : Record) → IsBytes bytes
         → (record_of 2 bytes ≡ Some said) ↔ Says bytes said }
@@ -39,15 +39,15 @@ pub fn a_record_is_read_again()
 {}
 
 /// A node can be served from the empty file that [`create`](crate::create) makes for it. The file
-/// has no life yet, and holds no key.
+/// has no life, and holds no key.
 pub fn an_empty_file_is_served()
     ensures { (node : ℕ) → node < 16 → (refusal_of_serve (Some node) (empty_file node) ≡ None)
         × (file_state (empty_file node) ≡ new_state node 0 []) }
 {}
 
-/// Who appends a record to the bytes of a file by the four calls of an append has the record in it
-/// then, and every crash after the last call leaves the file with the record. A crash at any moment
-/// before leaves it without the record or with it.
+/// A record that is appended to the bytes of a file by the four calls of an append is then in the
+/// file, and every crash after the last call leaves the file with it. A crash at any moment before
+/// leaves the file without the record or with it.
 pub fn an_append_is_safe()
     ensures { (file : List ℕ) (gate : ℕ) (said : Record)
         → opened None file ≡ Ok (file_state file, gate) → CanTake (file_state file) said

@@ -9,8 +9,7 @@
 //! ```
 //!
 //! Read `node_file` and `opening`, then `hosted` (a file without a device), `record`, `laws` and
-//! `fault`; `reading`, `contents`,
-//! `found`, `putting` and `rewriting` hold the code.
+//! `fault`; `reading`, `contents`, `found`, `putting` and `rewriting` hold the code.
 #![tactic(auto)]
 
 mod contents;
@@ -29,5 +28,5 @@ pub use fault::FileFault;
 pub use found::{MAX_FILE_LEN, MIN_FILE_LEN, is_refused_by_front};
 pub use hosted::{Served, serve_bytes, spell_append};
 pub use node_file::NodeFile;
-pub use opening::{create, open_node, serve};
+pub use opening::{create, empty_file, open_node, serve};
 pub use record::Record;

@@ -69,7 +69,7 @@ impl<D: Device> Model for NodeFile<D> {
 }
 
 impl<D: Device> NodeFile<D> {
-    /// A file that was opened or made.
+    /// Returns a file that was opened or made.
     pub(crate) fn new(
         device: D,
         node: NodeId,
@@ -104,7 +104,7 @@ impl<D: Device> NodeFile<D> {
         }
     }
 
-    /// The device, as it stands.
+    /// Returns the device, as it stands.
     pub fn device(&self) -> &D
         ensures value { result.now ≡ self.now.device }
         ensures settled { self.now.is_stopped ≡ false
@@ -113,7 +113,6 @@ impl<D: Device> NodeFile<D> {
         &self.device
     }
 
-    /// The device, by value.
     pub fn into_device(self) -> D
         ensures value { result ≡ self.device }
         ensures settled { self.is_stopped ≡ false → IsSettled D.content D.may_leave self }
@@ -121,14 +120,13 @@ impl<D: Device> NodeFile<D> {
         self.device
     }
 
-    /// The node whose file it is.
     pub fn node(&self) -> NodeId
         ensures { result ≡ self.now.node }
     {
         self.node
     }
 
-    /// The number of the node's last life in the file, 0 for none.
+    /// Returns the number of the node's last life in the file, 0 for none.
     pub fn life(&self) -> u32
         ensures { result ≡ self.now.life }
     {
@@ -152,9 +150,9 @@ impl<D: Device> NodeFile<D> {
 
     /// Appends that this is the object under the key from now on. After `Ok` it is durable.
     ///
-    /// Refused in this order: 34 `Stopped`; 33 `FileFull`, where the file would have more than
-    /// 1,099,511,627,776 bytes; 27 `ObjectTooLarge`, where a store may not hold the object; 30
-    /// `Device`, which stops the file. 99 `Memory` stops it too where the device was asked for
+    /// Refused in this order: 34 `Stopped`; 33 `FileFull`, if the file would have more than
+    /// 1,099,511,627,776 bytes; 27 `ObjectTooLarge`, if a store may not hold the object; 30
+    /// `Device`, which stops the file. 99 `Memory` stops it too if the device was asked for
     /// something before. The object of a call that stopped the file may stand in it or not.
     ///
     /// It makes four calls of the device: a write, a sync, a write of one byte, and a sync. It
@@ -243,14 +241,14 @@ fn has_spelling(object: &Entries) -> bool
     entries.len() <= MAX_ENTRIES && have_few_values(entries)
 }
 
-/// Why no record of the object is put after this gate.
+/// Returns why no record of the object is put after this gate.
 #[tactic(auto, using(crate::proofs::Limits::of_refusals))]
 pub(crate) fn refusal_of(gate: usize, key: &MetaKey, object: &Entries) -> Option<FileFault>
     requires shows { has_value object.now ≡ true }
     ensures first { result ≡ refusal_of_append false gate key.now object.now }
     ensures lawful { result ≡ None → IsRecord (Object key.now object.now) }
 {
-    // Read for their contracts, which say that the key and the object are lawful.
+    // (for its type)
     let _ = key.key();
     let _ = object.entries();
     if has_spelling(object) {

@@ -11,7 +11,7 @@ ghost use Rattle.node_file.specs.declared.fault.FileFault.{FileFault};
 ghost use Rattle.node_file.specs.declared.record.Record.TheVariants.{Life};
 
 use crate::fault::FileFault;
-use crate::found::{FRONT_LEN, Found, MAGIC, open_bytes};
+use crate::found::{FRONT_LEN, Found, MAGIC, MIN_FILE_LEN, open_bytes};
 use crate::node_file::NodeFile;
 use crate::putting::put_record;
 use crate::record::{CLOSED_GATE, NewRecord, spell_record};
@@ -22,8 +22,8 @@ use std::alloc::Global;
 
 /// Makes the device an empty file of the node, whatever it holds. After `Ok` it is durable.
 ///
-/// Refused with 30 `Device` and 99 `Memory`; the device may hold anything then, and is made anew.
-/// It makes three calls of the device: a cut, a write and a sync.
+/// Refused with 30 `Device` and 99 `Memory`; the device may hold anything then, and has to be made
+/// again. It makes three calls of the device: a cut, a write and a sync.
 pub fn create<D: Device>(device: D, node: NodeId) -> Result<NodeFile<D>, (D, FileFault)>
     ensures bytes { IfOk result (λ file. D.content file.device ≡ empty_file node) }
     ensures made { IfOk result (λ file. file_state (D.content file.device)
@@ -92,11 +92,11 @@ pub fn open_node<D: Device>(
 /// Opens a file and begins the node's next life in it. Returns the file, its table, and the number
 /// of that life, which is greater than each before it in the file. After `Ok` it is durable.
 ///
-/// Refused as `open_node` refuses, and then in this order: 36 `OldVersion`; 35
-/// `IncarnationSpent`, where the last life is 4,294,967,295; 33 `FileFull`; 30 `Device`. With any
-/// of these but 30 nothing was written, and the device can be opened again.
+/// Refused as `open_node` refuses, and then in this order: 36 `OldVersion`; 35 `IncarnationSpent`,
+/// if the last life is 4,294,967,295; 33 `FileFull`; 30 `Device`. With any of these except 30,
+/// nothing was written, and the device can be opened again.
 ///
-/// Besides reading it makes four calls of the device, as `append` does.
+/// Besides reading, it makes four calls of the device, as `append` does.
 pub fn serve<D: Device>(
     alloc: Global,
     device: D,
@@ -191,7 +191,7 @@ fn begin_life<D: Device>(
     Ok(gate + spelled.len())
 }
 
-/// What a device's file stands for.
+/// Returns what a device's file stands for.
 fn find<D: Device>(alloc: Global, device: &mut D, asked: Option<NodeId>) -> Result<Found, FileFault>
     requires pending { IsDurable (D.content device.old) (D.may_leave device.old) }
     ensures asked { IfOk result (λ f. opened asked (D.content device.old)
@@ -218,7 +218,7 @@ fn find<D: Device>(alloc: Global, device: &mut D, asked: Option<NodeId>) -> Resu
     stands_for(alloc, &bytes, asked)
 }
 
-/// What the bytes of a file stand for.
+/// Returns what the bytes of a file stand for.
 pub(crate) fn stands_for(
     alloc: Global,
     bytes: &[u8],
@@ -239,7 +239,7 @@ pub(crate) fn stands_for(
     }
 }
 
-/// All the bytes of a device.
+/// Returns all the bytes of a device.
 fn read_all<D: Device>(alloc: Global, device: &mut D) -> Result<Vec<u8>, DeviceFault>
     ensures value { IfOk result (λ bytes. bytes.items ≡ D.content device.old) }
     ensures same { D.content device.new ≡ D.content device.old }
@@ -253,15 +253,12 @@ fn read_all<D: Device>(alloc: Global, device: &mut D) -> Result<Vec<u8>, DeviceF
     Ok(bytes)
 }
 
-/// Makes the device an empty file of the node.
-pub(crate) fn write_front<D: Device>(device: &mut D, node: NodeId) -> Result<(), DeviceFault>
-    ensures made { OnOk result (D.content device.new ≡ empty_file node) }
-    ensures synced { OnOk result (IsDurable (D.content device.new) (D.may_leave device.new)) }
-    ensures node { IsNode node }
-    ensures cause { CountsFailure (D.failed device.old) (D.failed device.new) result }
+/// Returns the bytes of a file of the node that has no record, as `create` makes it.
+pub fn empty_file(node: NodeId) -> [u8; MIN_FILE_LEN]
+    ensures { result ≡ empty_file node }
 {
     let number = node.number().to_be_bytes();
-    let front = [
+    [
         MAGIC[0],
         MAGIC[1],
         MAGIC[2],
@@ -273,8 +270,17 @@ pub(crate) fn write_front<D: Device>(device: &mut D, node: NodeId) -> Result<(),
         number[0],
         number[1],
         CLOSED_GATE,
-    ];
+    ]
+}
+
+/// Makes the device an empty file of the node.
+pub(crate) fn write_front<D: Device>(device: &mut D, node: NodeId) -> Result<(), DeviceFault>
+    ensures made { OnOk result (D.content device.new ≡ empty_file node) }
+    ensures synced { OnOk result (IsDurable (D.content device.new) (D.may_leave device.new)) }
+    ensures node { IsNode node }
+    ensures cause { CountsFailure (D.failed device.old) (D.failed device.new) result }
+{
     device.cut(0)?;
-    device.write_at(0, &front)?;
+    device.write_at(0, &empty_file(node))?;
     device.sync()
 }

@@ -14,7 +14,7 @@ use std::alloc::Global;
 /// How many bytes stand around a payload after its gate: its length and its digest.
 const LENGTH_AND_DIGEST: usize = 36;
 
-/// The life that a payload says after its kind.
+/// Reads the life that a payload says after its kind.
 fn read_life(bytes: &[u8]) -> Result<Record, FieldFault>
     ensures value { ReadsRecord result (life_in bytes.now) }
     ensures lawful { IfOk result IsRecord }
@@ -26,7 +26,7 @@ fn read_life(bytes: &[u8]) -> Result<Record, FieldFault>
     Ok(Record::Life(number))
 }
 
-/// A key and an object to the last byte, in the form of frames.
+/// Reads a key and an object to the last byte, in the form of frames.
 fn read_held(alloc: Global, bytes: &[u8]) -> Result<Record, FieldFault>
     ensures value { ReadsRecord result (object_in bytes.now) }
     ensures lawful { IfOk result IsRecord }
@@ -42,7 +42,7 @@ fn read_held(alloc: Global, bytes: &[u8]) -> Result<Record, FieldFault>
     }
 }
 
-/// A key and an object to the last byte, in the form of version 1.
+/// Reads a key and an object to the last byte, in the form of version 1.
 fn read_old_held(alloc: Global, bytes: &[u8]) -> Result<Record, FieldFault>
     ensures value { ReadsRecord result (old_object_in bytes.now) }
     ensures lawful { IfOk result IsRecord }
@@ -58,7 +58,7 @@ fn read_old_held(alloc: Global, bytes: &[u8]) -> Result<Record, FieldFault>
     }
 }
 
-/// What a payload says.
+/// Reads what a payload says.
 #[tactic(auto, unfolding(crate::specs::Record::record_of))]
 fn read_payload(alloc: Global, version: u8, bytes: &[u8]) -> Result<Record, FieldFault>
     ensures value { ReadsRecord result (record_of version bytes.now) }
@@ -74,8 +74,8 @@ fn read_payload(alloc: Global, version: u8, bytes: &[u8]) -> Result<Record, Fiel
     }
 }
 
-/// What the first record of these bytes says, which begin after its gate, and how many bytes it
-/// takes; `None` where it isn't whole. Fails only when memory runs out.
+/// Reads the first record of these bytes, which begin after its gate. Returns what it says, and how
+/// many bytes it takes; `None` if it isn't whole. Fails only when memory runs out.
 #[tactic(auto, unfolding(crate::specs::Record::record_in, crate::specs::Record::record_of_length))]
 pub(crate) fn read_record(
     alloc: Global,
@@ -101,7 +101,8 @@ pub(crate) fn read_record(
     read_whole(alloc, version, len, &bytes[..LENGTH_AND_DIGEST + len])
 }
 
-/// What the bytes of one record say, whose payload has `len` bytes, and how many they are.
+/// Reads the bytes of one record, whose payload has `len` bytes. Returns what they say, and how
+/// many they are.
 #[tactic(auto, unfolding(crate::specs::Record::whole_record))]
 fn read_whole(
     alloc: Global,

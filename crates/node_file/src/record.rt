@@ -51,7 +51,7 @@ pub(crate) enum NewRecord<'a> {
 }
 
 impl NewRecord<'_> {
-    /// How many bytes its payload has.
+    /// Returns how many bytes its payload has.
     #[tactic(auto, using(crate::proofs::Limits::held_spells))]
     pub(crate) fn payload_len(self) -> usize
         requires lawful { IsRecord (record_given self) }
@@ -65,12 +65,12 @@ impl NewRecord<'_> {
     }
 }
 
-/// The record of an object that a store may hold.
+/// Returns the record of an object, if a store may hold it.
 pub(crate) fn record_if_held(key: MetaKey, object: Entries) -> Option<Record>
     ensures value { result ≡ record_if_held key object }
     ensures lawful { IfSome result IsRecord }
 {
-    // Read for their contracts, which say that the key and the object are lawful.
+    // (for its type)
     let _ = key.key();
     let _ = object.entries();
     if may_be_held(&object) {
@@ -100,8 +100,8 @@ fn write_payload(out: &mut Vec<u8>, given: NewRecord<'_>) -> Result<(), AllocErr
     }
 }
 
-/// The bytes of a record, with the open gate before and the closed gate after them. Fails only when
-/// memory runs out.
+/// Returns the bytes of a record, with the open gate before and the closed gate after them. Fails
+/// only when memory runs out.
 #[tactic(auto, unfolding(crate::specs::Record::record_bytes))]
 pub(crate) fn spell_record(alloc: Global, given: NewRecord<'_>) -> Result<Vec<u8>, AllocError>
     requires lawful { IsRecord (record_given given) }

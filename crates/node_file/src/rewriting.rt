@@ -29,8 +29,8 @@ impl<D: Device> NodeFile<D> {
     /// one record for the life, unless it is 0, and one for each key, in order. After `Ok` it is
     /// durable.
     ///
-    /// Refused with 30 `Device` and 99 `Memory`; the target may hold anything then, and is made
-    /// anew. It takes memory for one record at a time, and makes one write for each.
+    /// Refused with 30 `Device` and 99 `Memory`; the target may hold anything then, and has to be
+    /// made again. It takes memory for one record at a time, and makes one write for each.
     pub fn rewrite<E: Device>(
         &self,
         alloc: Global,
@@ -207,7 +207,7 @@ fn write_object<D: Device>(
         IsOfDevice fault (D.failed device.old) (D.failed device.new)) }
     ensures still { OnOk result (D.failed device.new ≡ D.failed device.old) }
 {
-    // Read for its contract, which says that the key is lawful.
+    // (for its type)
     let _ = key.key();
     write_record(alloc, device, gate, NewRecord::Object(key, object))
 }

@@ -26,7 +26,7 @@ use std::marker::Model;
 use std::mem::replace;
 use std::ptr::null_mut;
 
-/// A node on the heap, or nothing. It is dropped only where it owns nothing.
+/// A node on the heap, or nothing. It may be dropped only if it owns nothing.
 #[repr(C)]
 #[derive(Drop)]
 pub struct Handle {
@@ -106,7 +106,7 @@ impl Slot {
         }
     }
 
-    /// Puts a node in. One that is there is freed.
+    /// Puts a node in, and frees the one that was there.
     pub fn put(&mut self, node: Box<HostedNode>)
         ensures { self.new.handle.held ≡ Some node.value }
     {

@@ -22,8 +22,8 @@ CountsChanges cells list = cells ≡ (length list, true) ∷ (0, true) ∷ []
 abbrev pub word_of : Book → Named
 word_of book = record { tracked = true; key = 0; book = book }
 
--- where the number that was found is the one that was expected, the change was added to all that
--- had been seen; otherwise `found` changes are seen
+-- if the number that was found is the one that was expected, the change was added to all that had
+-- been seen; otherwise `found` changes are seen
 abbrev pub AddsChange : Step Published → View Published ℕ → ℕ → View Published ℕ → Type 0
 AddsChange s before found after =
     MatchBool (found == s.old) (after.0 ≡ before.0 ++ s.ask ∷ []) (length after.0 ≡ found)

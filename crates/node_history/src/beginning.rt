@@ -38,8 +38,8 @@ impl Beginning {
         }
     }
 
-    /// The history of the node whose book this is: where its first change is added, and how far it
-    /// goes, which is nowhere yet.
+    /// Returns the history of the node whose book this is, without a change: where its first change
+    /// is added, and how far it goes.
     pub fn named<J: Naming>(self) -> (Tail<J>, Revision<J>)
         requires book { self ≡ J.book }
         ensures { result.1 ≡ [] }

@@ -8,7 +8,7 @@ use logbook::{Offer, Seen, Word};
 use std::marker::Model;
 
 /// A history up to some change: whose book it is in, and the changes. What readers take has one,
-/// where no type may name the node; all else has a `Revision`.
+/// since no type there may name the node; all else has a `Revision`.
 #[derive(Drop)]
 pub struct Extent {
     number: u64,
@@ -27,7 +27,7 @@ impl Model for Extent {
 }
 
 impl Extent {
-    /// Nothing was added yet.
+    /// Makes the extent of a history to which nothing was added.
     pub(crate) fn first(seen: Seen<Published, u64, Law>) -> Self
         requires { seen.log ≡ [] }
         ensures { result ≡ record { book = seen.book; list = [] } }
@@ -35,7 +35,7 @@ impl Extent {
         Extent { number: 0, seen }
     }
 
-    /// How many changes there are.
+    /// Returns how many changes there are.
     pub fn number(&self) -> u64
         ensures { result ≡ length self.now.list }
     {
@@ -64,8 +64,8 @@ impl Extent {
         other.number <= self.number
     }
 
-    /// Adds a change to all that it has, and returns whether it did. It did not where the history
-    /// had gone on beyond it; then it has all that there was.
+    /// Adds a change to all that it has, and returns whether it did. It did not if the history had
+    /// gone on beyond it; then it has all that there was.
     pub(crate) fn add(&mut self, word: &Word<Published, u64, Law>, change: &Published) -> bool
         requires word { word.now ≡ word_of self.old.book }
         requires room { length self.old.list < most_changes }

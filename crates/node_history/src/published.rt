@@ -26,7 +26,7 @@ impl Model for Published {
 }
 
 impl Published {
-    /// The change to this object under this key.
+    /// Makes the change to this object under this key.
     pub fn new(key: MetaKey, object: Entries) -> Self
         requires held { IsHeld object }
         ensures { result ≡ record { key = key; object = object } }
@@ -34,14 +34,14 @@ impl Published {
         Published { key, object }
     }
 
-    /// The key that it changes.
+    /// Returns the key that it changes.
     pub fn key(&self) -> &MetaKey
         ensures { result.now ≡ self.now.key }
     {
         &self.key
     }
 
-    /// The object under the key from then on.
+    /// Returns the object under the key from then on.
     pub fn object(&self) -> &Entries
         ensures value { result.now ≡ self.now.object }
         ensures held { IsHeld self.now.object }

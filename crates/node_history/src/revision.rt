@@ -12,7 +12,7 @@ use std::marker::{Model, PhantomData};
 const MAX_CHANGES: u64 = 1 << 62;
 
 /// How far the history of a node goes: the changes up to one of them. At run time it is their
-/// number. Of two revisions of one node the one with fewer changes begins the other.
+/// number. Of two revisions of one node, the one with fewer changes is a beginning of the other.
 #[derive(Drop)]
 pub struct Revision<J: Naming> {
     extent: Extent,
@@ -31,7 +31,7 @@ impl<J: Naming> Model for Revision<J> {
 }
 
 impl<J: Naming> Revision<J> {
-    /// The revision of a history that is known to be of this node.
+    /// Returns the revision of a history that is known to be of this node.
     pub fn of(extent: &Extent) -> Self
         requires { extent.now.book ≡ J.book }
         ensures { result ≡ extent.now.list }
@@ -42,7 +42,7 @@ impl<J: Naming> Revision<J> {
         }
     }
 
-    /// The history up to it, without the name of the node.
+    /// Returns the history up to it, without the name of the node.
     pub fn extent(&self) -> &Extent
         ensures book { result.now.book ≡ J.book }
         ensures list { result.now.list ≡ self.now }
@@ -50,7 +50,7 @@ impl<J: Naming> Revision<J> {
         &self.extent
     }
 
-    /// How many changes there are.
+    /// Returns how many changes there are.
     pub fn number(&self) -> u64
         ensures { result ≡ length self.now }
     {
@@ -67,7 +67,8 @@ impl<J: Naming> Revision<J> {
         }
     }
 
-    /// Of two revisions the one with more changes, which the other begins. It takes no memory.
+    /// Returns the one of two revisions that has more changes; the other is a beginning of it. It
+    /// takes no memory.
     pub fn later(&self, other: &Revision<J>) -> Self
         ensures one { (result ≡ self.now) ⊎ (result ≡ other.now) }
         ensures this { IsPrefix self.now result }
@@ -94,9 +95,9 @@ impl<J: Naming> Revision<J> {
         self.extent.number() < MAX_CHANGES
     }
 
-    /// Adds a change to all that it has, and returns whether it did. It did not where the history
-    /// had gone on beyond it, as when two threads add at once; then nothing was added, and it has
-    /// all that there was. It takes no memory and never waits.
+    /// Adds a change to all that it has, and returns whether it did. It did not if the history had
+    /// gone on beyond it, as when two threads add at once; then nothing was added, and it has all
+    /// that there was. It takes no memory and never waits.
     pub fn add(&mut self, tail: &Tail<J>, change: &Published) -> bool
         requires room { length self.old < most_changes }
         ensures { MatchBool result

@@ -1,4 +1,4 @@
--- A table whose keys another has holds no more than that.
+-- A table whose keys another table has holds no more keys than that one.
 use Rattle.std.proofs.Common.{◌≡◌, ◌≢◌, ℕ, zero, suc, ◌+◌, ◌<◌, ◌≤◌, Bool, true, false, not, cond, ◌&&◌, T, List, [], ◌∷◌, length, Option, Some, None, is_some, is_none, refl, sym, ap, subst, ◌∙◌, arith, leb}
 use Rattle.std.specs.Bool.{passes}
 use Rattle.std.specs.Option.{unwrap_or}
@@ -111,7 +111,7 @@ shows_by : (o : Option (List Entry)) → unwrap_or o [] ≢ [] → is_some o ≡
 shows_by None some = absurd (some refl)
 shows_by (Some p) some = refl
 
--- where an object is read the key is one of the table
+-- if an object is read, the key is one of the table
 pub found_from : (k : Key) (table : Table) → object_at table k ≢ [] → is_some (find key_cmp k table) ≡ true
 found_from k table some = shows_by (find key_cmp k table) some
 

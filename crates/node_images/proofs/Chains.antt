@@ -18,7 +18,7 @@ stays there last (image ∷ later) j low =
     stays (set_at there (last + 1) made) (last + 1) later j (omega arith)
     ∙ set_at-other there (last + 1) j made (λ e. omega arith)
 
--- what one image has is what its base has, but for its change
+-- what one image has is what its base has, except its change
 step_from : (there : ℕ → Holding) (last : ℕ) (images : List Image) (at : ℕ) (d : Image) → at < length images
     → ((j : ℕ) → j < length images → (get_or images j d).base ≤ last + j)
     → holdings_from there last images (last + at + 1) ≡ changed (holdings_from there last images (get_or images at d).base) (get_or images at d).change

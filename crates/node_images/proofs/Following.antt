@@ -1,4 +1,5 @@
--- A node that stands where a history left it stands, after one more happening, where that leaves it.
+-- If a node stands where a history left it, then after one more happening it stands where that
+-- leaves it.
 use Rattle.std.proofs.Common.{◌≡◌, ◌≢◌, ℕ, ◌+◌, ◌<◌, ◌≤◌, Bool, true, false, cond, List, [], ◌∷◌, ◌++◌, length, Option, Some, None, refl, sym, ap, subst, ◌∙◌, arith, leb}
 use Rattle.std.specs.Prelude.{slice_get}
 use Rattle.std.specs.Option.{unwrap_or}
@@ -31,7 +32,7 @@ use Rattle.past_objects.proofs.Deliveries.{stale_unchanged}
 use Rattle.past_objects.proofs.Standing.{sent_under}
 use Rattle.node_images.proofs.Noding.{reads_before, reads_new}
 
--- ---- where nothing changes for the node
+-- ---- if nothing changes for the node
 
 same : (hs more : List Happening) (n : ℕ) (node : Keeping) → FollowsHistory hs n node → ((k : Key) → held_object more n k ≡ held_object hs n k) → last_image more n ≡ last_image hs n
     → ((j : ℕ) (k : Key) → image_object more n j k ≡ image_object hs n j k) → ((k : Key) → standing_object more n k ≡ standing_object hs n k) → incarnation more n ≡ incarnation hs n → FollowsHistory more n node

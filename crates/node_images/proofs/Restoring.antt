@@ -1,4 +1,5 @@
--- A store is filled from an image: from the newest change down, each where nothing is held yet under its key.
+-- A store is filled from an image: from the newest change down, each if nothing is held under its
+-- key.
 use Rattle.std.proofs.Common.{◌≡◌, ℕ, ◌-◌, ◌<◌, ◌≤◌, Bool, true, false, cond, ◌&&◌, List, [], length, get_or, Option, Some, None, is_some, is_none, refl, sym, ap, subst, ◌∙◌, arith, leb}
 use Rattle.std.specs.Option.{unwrap_or}
 use Rattle.std.specs.Ordering.{is_eq}

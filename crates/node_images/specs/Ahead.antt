@@ -29,7 +29,7 @@ change_left (PutOver key value) s =
 change_left (Keep key) s = Some (change_at s.table key)
 change_left event s = None
 
--- the reply to an event, where it takes memory
+-- the reply to an event, if it takes memory
 abbrev pub reply_ahead : NodeEvent → NodeParts → Option Reply
 reply_ahead (Read key) s = Some (Looked (values_of (object_at s.table key)) (present key s))
 reply_ahead (Write key value context) s = Some (Wrote (join (object_written s key value context)))

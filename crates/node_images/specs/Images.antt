@@ -19,7 +19,7 @@ abbrev pub changed : Holding → Option (Key × List Entry) → Holding
 changed there None = there
 changed there (Some change) = with_held there change.0 change.1
 
--- what the images have, by number: the next one has what its base has, but for its change
+-- what the images have, by number: the next one has what its base has, except its change
 abbrev pub holdings_from : (ℕ → Holding) → ℕ → List Image → ℕ → Holding
 holdings_from there last [] = there
 holdings_from there last (image ∷ later) =

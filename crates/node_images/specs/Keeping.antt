@@ -18,8 +18,8 @@ pub record Keeping : Type 0 where
 abbrev pub most_incarnation : ℕ
 most_incarnation = 4294967295
 
--- images can be read and restored; under each key where the standing one has an object the node has
--- one
+-- images can be read and restored; the node has an object under each key under which the standing
+-- one has one
 pub record IsRestorable (node : Keeping) : Type 0 where
   pub earlier : ChangeEarlier node.images
   pub standing : node.standing ≤ length node.images

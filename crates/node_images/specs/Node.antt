@@ -30,7 +30,7 @@ keeping n = record {
   incarnation = n.state.incarnation;
 }
 
--- a node in its first life, which holds nothing and has no image but the empty one
+-- a node in its first life, which holds nothing and has no image except the empty one
 abbrev pub new_node : ℕ → ImagedNode
 new_node number = record { state = opening number 1 []; images = []; standing = 0 }
 
@@ -42,11 +42,11 @@ context_read (Read key) s = Some (present key s)
 context_read (PutOver key value) s = Some (present key s)
 context_read event s = None
 
--- the node in this state, with these images, of which this one stands
+-- the node in this state, with these images; this one stands
 abbrev pub with_images : NodeParts → List Image → ℕ → ImagedNode
 with_images state images standing = record { state = state; images = images; standing = standing }
 
--- the images, with one more where a change is left: it changes the standing one
+-- the images, with one more if a change is left: it changes the standing one
 abbrev pub images_with : Option (Option (Key × List Entry)) → ℕ → List Image → List Image
 images_with None standing images = images
 images_with (Some change) standing images =
@@ -57,7 +57,7 @@ abbrev pub standing_with : Option (Option (Key × List Entry)) → ℕ → List 
 standing_with None standing images = standing
 standing_with (Some change) standing images = length images + 1
 
--- the node in this state; where an image is left, it has what the node then holds under the key
+-- the node in this state; if an image is left, it has what the node then holds under the key
 abbrev pub arrived : NodeParts → Option Key → ImagedNode → ImagedNode
 arrived state key n =
     let change = option_map (change_at state.table) key in
@@ -68,7 +68,7 @@ arrived state key n =
 abbrev pub stepped_of : ImagedStep → Stepped
 stepped_of given = record { reply = given.reply; outbox = given.outbox }
 
--- the node makes its step, and an image where the event leaves one; the step gives its reply twice,
+-- the node makes its step, and an image if the event leaves one; the step gives its reply twice,
 -- and the context of its read
 pub record IsImagedStep (old : ImagedNode) (event : NodeEvent) (new : ImagedNode)
     (given : ImagedStep) : Type 0 where

@@ -8,7 +8,7 @@ use Rattle.dvvset.specs.Object.{Entry}
 use Rattle.meta_store.specs.Table.{Table, with_object}
 use Rattle.meta_store.specs.Step.{is_full_for}
 
--- a change where nothing is held yet under its key
+-- a change under whose key nothing is held
 abbrev pub filled : Table → Option (Key × List Entry) → Table
 filled table None = table
 filled table (Some change) =

@@ -23,7 +23,7 @@ use std::alloc::{AllocError, Global};
 use subscriptions::Watch;
 
 /// What is ready: the change of the image that the event leaves, the context of the read that it
-/// makes, and the reply where that takes memory.
+/// makes, and the reply if that takes memory.
 #[derive(Drop)]
 pub(crate) struct Ahead {
     pub(crate) change: Option<Option<(MetaKey, Entries)>>,
@@ -32,8 +32,8 @@ pub(crate) struct Ahead {
 }
 
 impl Ahead {
-    /// What is made ready for the step of an event. It is refused as the step is, but for causes
-    /// that only the step finds.
+    /// Makes ready the step of an event. It is refused as the step is, except for causes that only
+    /// the step finds.
     pub(crate) fn of(alloc: Global, state: &NodeState, event: &NodeEvent) -> Result<Self, StepFault>
         ensures ready { IfOk result (IsAhead state.now event.now) }
         ensures held { IfOk result (λ ahead. IfSome ahead.change IsChange) }
@@ -92,7 +92,7 @@ impl Ahead {
         Ok(Ahead::of_object(alloc, key, object)?)
     }
 
-    /// What is made ready for a write that leaves this object.
+    /// Returns what is made ready for a write that leaves this object.
     fn of_object(alloc: Global, key: &MetaKey, object: Entries) -> Result<Self, AllocError>
         ensures { IfOk result (λ ahead. ahead ≡ record {
           change = Some (Some (key.now, object));
@@ -154,12 +154,12 @@ impl Ahead {
     }
 }
 
-/// What a key has in a store, as a change of an image: a copy.
+/// Returns a copy of what a key has in a store, as a change of an image.
 fn change_at(store: &Store, key: &MetaKey) -> Result<Option<(MetaKey, Entries)>, AllocError>
     ensures value { IfOk result (λ change. change ≡ change_at store.now key.now) }
     ensures held { IfOk result IsChange }
 {
-    // Read for what its type says: this is a table.
+    // (for its type)
     let _ = store.len();
     match store.object(key) {
         Some(object) => Ok(Some((key.copy()?, object.copy()?))),
@@ -167,7 +167,7 @@ fn change_at(store: &Store, key: &MetaKey) -> Result<Option<(MetaKey, Entries)>,
     }
 }
 
-/// What the watch of this number would hand out, if there is one: a copy.
+/// Returns a copy of what the watch of this number would hand out, if there is one.
 fn changes_at(state: &NodeState, number: u64) -> Result<Reply, AllocError>
     ensures { IfOk result
         (λ reply. reply ≡ reply_of_changes (at_number state.now.watches number)) }
@@ -187,7 +187,7 @@ fn watch_at(watches: &[Watch], number: u64) -> Option<&Watch>
     watches.get((number - 1) as usize)
 }
 
-/// What a watch would hand out: a copy.
+/// Returns a copy of what a watch would hand out.
 fn changes_of(watch: &Watch) -> Result<Reply, AllocError>
     ensures { IfOk result (λ reply. reply ≡ reply_of_changes (Some watch.now)) }
 {
@@ -200,7 +200,7 @@ fn changes_of(watch: &Watch) -> Result<Reply, AllocError>
     })
 }
 
-/// A copy of a reply: the one that was made ready, or one that takes no memory.
+/// Returns a copy of a reply: the one that was made ready, or one that takes no memory.
 pub(crate) fn copy_of(reply: &Reply, ready: Option<Reply>) -> Reply
     requires { IsReady ready reply.now }
     ensures { result ≡ reply.now }

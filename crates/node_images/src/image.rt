@@ -1,4 +1,4 @@
-//! What an image has: what it changes, and else what its base has.
+//! What an image has: what it changes, and otherwise what its base has.
 
 ghost use Rattle.std.specs.Prelude.{◌≡◌, ◌≤◌, [], length, IfOk, IfSome};
 ghost use Rattle.std.specs.Option.{unwrap_or};
@@ -11,8 +11,8 @@ use image_list::{Image, Images};
 use meta_types::MetaKey;
 use std::alloc::AllocError;
 
-/// What the image of that number has under the key: a copy, or `None` for the absent object. Fails
-/// only when memory runs out.
+/// Returns a copy of what the image of that number has under the key, or `None` for the absent
+/// object. Fails only when memory runs out.
 pub fn object_in(
     images: &Images,
     number: usize,
@@ -35,7 +35,7 @@ pub fn object_in(
     Ok(None)
 }
 
-/// What stands under the key instead: a copy.
+/// Returns a copy of what stands under the key instead.
 fn object_instead(image: &Image, key: &MetaKey) -> Result<Option<Entries>, AllocError>
     ensures value { IfOk result (λ object. object ≡ instead image.now.change key.now) }
     ensures held { IfOk result (λ object. IfSome object IsHeld) }

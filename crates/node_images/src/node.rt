@@ -51,8 +51,8 @@ impl Model for ImagedNode {
 }
 
 impl ImagedNode {
-    /// A node in its first life, which holds nothing and has no image but the empty one. Fails only
-    /// when memory runs out.
+    /// Makes a node in its first life, which holds nothing and has no image except the empty one.
+    /// Fails only when memory runs out.
     pub fn new(alloc: Global, number: NodeId) -> Result<Self, AllocError>
         ensures { IfOk result (λ node. node ≡ new_node number) }
     {
@@ -69,7 +69,7 @@ impl ImagedNode {
         &self.state
     }
 
-    /// The images, but for image 0, which is empty.
+    /// Returns the images, except image 0, which is empty.
     pub fn images(&self) -> &Images
         ensures value { result.now ≡ self.now.images }
         ensures restorable { IsRestorable (keeping self.now) }
@@ -77,9 +77,8 @@ impl ImagedNode {
         &self.images
     }
 
-    /// Makes the step of an event, as the node itself does, with its refusals; a write and a
-    /// keeping leave an image of what is then held under their key. A refused event changes
-    /// nothing.
+    /// Makes the step of an event, as the node itself does; a write and a keeping leave an image of
+    /// what is then held under their key. Refused as `NodeState::step` is; then nothing changes.
     pub fn step(&mut self, event: NodeEvent) -> Result<ImagedStep, StepFault>
         ensures step { IfOk result (IsImagedStep self.old event self.new) }
         ensures held { OnOk result (IsTable self.new.state.table) }
@@ -88,12 +87,12 @@ impl ImagedNode {
         ensures same { OnErr result (self.new ≡ self.old) }
     {
         let count = self.images.len();
-        // What is owned goes through `both`, so that the step owns nothing where it fails.
+        // What is owned goes through `both`, so that the step owns nothing if it fails.
         let ready = prepare(&mut self.images, self.standing, &self.state, &event);
         let (event, (ahead, standing)) = both(Ok(event), ready)?;
         match self.state.step(event) {
             Ok(stepped) => {
-                // Read for what its type says: what is held now is a table.
+                // (for its type)
                 let _few = self.state.store().len();
                 self.standing = standing;
                 Ok(given(ahead, stepped))
@@ -116,7 +115,7 @@ impl ImagedNode {
     {
         let alloc = self.images.alloc();
         let store = restore(alloc, &self.images, number)?;
-        // Read for what its type says: this is a table.
+        // (for its type)
         let _few = store.len();
         let life = self.state.incarnation() + 1;
         let state = NodeState::from_store(alloc, self.state.node(), life, store)?;
@@ -126,7 +125,7 @@ impl ImagedNode {
     }
 }
 
-/// What a step gives, by what was made ready before it.
+/// Returns what a step gives, by what was made ready before it.
 fn given(ahead: Ahead, stepped: Stepped) -> ImagedStep
     requires { IsReady ahead.reply stepped.reply }
     ensures { result ≡ record {

@@ -10,7 +10,7 @@ use image_list::{Image, Images};
 use meta_store::Store;
 use std::alloc::{AllocError, Global};
 
-/// Holds what the image has instead of its base, where nothing is held yet under that key.
+/// Holds what the image has instead of its base, if nothing is held under that key.
 fn fill(store: &mut Store, image: &Image) -> Result<(), AllocError>
     requires { IsChange image.now.change → HasRoomFor store.old image.now.change }
     ensures value { OnOk result (store.new ≡ filled store.old image.now.change) }
@@ -25,7 +25,7 @@ fn fill(store: &mut Store, image: &Image) -> Result<(), AllocError>
     Ok(())
 }
 
-/// A store that holds what the image of that number has. Fails only when memory runs out.
+/// Returns a store that holds what the image of that number has. Fails only when memory runs out.
 pub(crate) fn restore(alloc: Global, images: &Images, number: usize) -> Result<Store, AllocError>
     requires number { number ≤ length images.now }
     requires earlier { ChangeEarlier images.now }

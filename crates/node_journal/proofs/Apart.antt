@@ -1,4 +1,4 @@
--- No number stands twice in a list where none stands twice in what is left of it, and the first of
+-- No number stands twice in a list if none stands twice in what is left of it, and the first of
 -- what is left stands in no later place.
 use Rattle.std.proofs.Common.{◌≡◌, ◌<◌, ◌||◌, ◌+◌, ℕ, zero, suc, nat_eq, Bool, true, false, List, [], ◌∷◌, length, get_or, map, drop, refl, sym, subst, add-one, ◌∙◌}
 use Rattle.std.specs.List.{AllByRecursion, IsDistinct, list_any}

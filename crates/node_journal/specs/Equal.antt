@@ -1,4 +1,4 @@
--- Entries are equal where their events are, and what they gave.
+-- Entries are equal if their events are, and what they gave.
 use Rattle.std.specs.Prelude.{◌≡◌, Bool}
 use Rattle.std.specs.Bool.{Decides}
 use Rattle.std.specs.Ordering.{on, eq_of_both}

@@ -30,8 +30,8 @@ impl Model for Closed {
 }
 
 impl Closed {
-    /// A node with this base, journal and table. Nothing is asked of them: a journal that was made
-    /// up is found out when it is assembled with others.
+    /// Makes a closed node of this base, journal and table. Nothing is required of them: a journal
+    /// that was made up is found out when it is assembled with others.
     pub fn from_parts(base: NodeState, journal: Vec<Entry>, table: Store) -> Self
         ensures { result ≡ record { base = base; journal = journal.items; table = table } }
     {
@@ -42,28 +42,27 @@ impl Closed {
         }
     }
 
-    /// Which node it is.
     pub fn node(&self) -> NodeId
         ensures { result ≡ number_of self.now }
     {
         self.base.node()
     }
 
-    /// The state from which the journal began.
+    /// Returns the state from which the journal began.
     pub fn base(&self) -> &NodeState
         ensures { result.now ≡ self.now.base }
     {
         &self.base
     }
 
-    /// The entries, the oldest first.
+    /// Returns the entries, the oldest first.
     pub fn journal(&self) -> &[Entry]
         ensures { result.now ≡ self.now.journal }
     {
         self.journal.as_slice()
     }
 
-    /// What the node held at the end.
+    /// Returns what the node held at the end.
     pub fn table(&self) -> &Store
         ensures { result.now ≡ self.now.table }
     {
@@ -111,7 +110,7 @@ fn has_twin(one: &Closed, others: &[Closed]) -> bool
     others.iter().any(|other| node == other.node())
 }
 
-/// The items after this place. It is a function so that a proof can name what it returns.
+/// Returns the items after this place. It is a function so that a proof can name what it returns.
 fn behind(closed: &[Closed], place: usize) -> &[Closed]
     requires { place < length closed.now }
     ensures { result.now ≡ drop (place + 1) closed.now }

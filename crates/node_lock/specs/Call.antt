@@ -19,8 +19,8 @@ use Rattle.desk_parts.specs.Journaled.{IsJournaled}
 use Rattle.desk_parts.specs.Ready.{CanStep}
 use Rattle.node_desk.specs.Desk.{BeganWith, IsReceiptOf}
 
--- from some state that a node comes to which opens with this table in this life, the event makes
--- the step of the receipt, at its place
+-- the event makes the step of the receipt, at its place, from some state that a node comes to after
+-- it opened with this table in this life
 pub record AnswersCall (node incarnation : ℕ) (opened : Table) (event : NodeEvent)
     (a : Acknowledged) : Type 0 where
   pub old : NodeParts
@@ -29,7 +29,7 @@ pub record AnswersCall (node incarnation : ℕ) (opened : Table) (event : NodeEv
   pub step : IsNodeStep old event new (stepped_of a.receipt.entry)
   pub receipt : IsReceiptOf old event a.receipt
 
--- the seat counts the call where it is accepted
+-- the seat counts the call if it is accepted
 abbrev pub Counts : {A : Type 0} → Result A LockFault → ℕ → ℕ → Type 0
 Counts result old new = MatchResult result (λ _. new ≡ old + 1) (λ _. new ≡ old)
 

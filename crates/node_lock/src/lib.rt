@@ -1,5 +1,5 @@
-//! A node that threads share: whoever calls it from any thread gets a step of the proved core,
-//! which is journaled, durable where it writes, and shown to readers that take no lock.
+//! A node that threads share: a call from any thread makes a step of the proved core, which is
+//! journaled, durable if it writes, and shown to readers that take no lock.
 //!
 //! ```
 //! let tokens = (Blank::new(9), Beginning::new());

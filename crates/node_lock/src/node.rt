@@ -22,9 +22,9 @@ use std::alloc::Global;
 use std::sync::ledger::Blank;
 use std::sync::{Mutex, Wait};
 
-/// A node under its lock. Threads share it by reference; each call but those of readers takes the
-/// lock, and may wait for it. What is under the lock is a [`Desk`], whose contracts say what a call
-/// does; through a lock only what always holds is known.
+/// A node under its lock. Threads share it by reference; each call except those of readers takes
+/// the lock, and may wait for it. What is under the lock is a [`Desk`], whose contracts say what a
+/// call does; through a lock only what always holds is known.
 #[derive(Drop)]
 pub struct Node<D: Device + Drop, J: Naming, H: Wait + Drop> {
     desk: Mutex<Desk<D, J, H>>,
@@ -53,7 +53,7 @@ impl<D: Device + Drop, J: Naming, H: Wait + Drop> Node<D, J, H> {
         }
     }
 
-    /// Takes the lock and makes the event.
+    /// Takes the lock, and makes the step of the event.
     fn act<R: Wait>(
         &self,
         rt: &R,
@@ -67,8 +67,8 @@ impl<D: Device + Drop, J: Naming, H: Wait + Drop> Node<D, J, H> {
         self.desk.lock(rt).act(rt, seat, event)
     }
 
-    /// A write: the value stands under the key, in place of all that the context has read. Refused
-    /// as [`Desk::act`] is.
+    /// Writes the value under the key, in place of all that the context has read. Refused as
+    /// [`Desk::act`] is.
     pub fn put<R: Wait>(
         &self,
         rt: &R,
@@ -94,8 +94,8 @@ impl<D: Device + Drop, J: Naming, H: Wait + Drop> Node<D, J, H> {
         )
     }
 
-    /// A read, by a step of the node: its reply has the values and the context for a later write.
-    /// Refused as [`Desk::act`] is.
+    /// Reads the key, by a step of the node: its reply has the values and the context for a later
+    /// write. Refused as [`Desk::act`] is.
     pub fn get<R: Wait>(
         &self,
         rt: &R,
@@ -109,7 +109,8 @@ impl<D: Device + Drop, J: Naming, H: Wait + Drop> Node<D, J, H> {
         self.act(rt, seat, NodeEvent::Read { key })
     }
 
-    /// A write in place of all that the node holds under the key. Refused as [`Desk::act`] is.
+    /// Writes the value in place of all that the node holds under the key. Refused as [`Desk::act`]
+    /// is.
     pub fn put_over<R: Wait>(
         &self,
         rt: &R,
@@ -126,7 +127,7 @@ impl<D: Device + Drop, J: Naming, H: Wait + Drop> Node<D, J, H> {
         self.act(rt, seat, NodeEvent::PutOver { key, value })
     }
 
-    /// A frame comes in. Refused as [`Desk::act`] is.
+    /// Takes a frame. Refused as [`Desk::act`] is.
     pub fn take<R: Wait>(
         &self,
         rt: &R,
@@ -143,7 +144,7 @@ impl<D: Device + Drop, J: Naming, H: Wait + Drop> Node<D, J, H> {
         self.act(rt, seat, NodeEvent::Take { frame, word })
     }
 
-    /// Time goes on. Refused as [`Desk::act`] is.
+    /// Makes a tick. Refused as [`Desk::act`] is.
     pub fn tick<R: Wait>(
         &self,
         rt: &R,
@@ -157,7 +158,7 @@ impl<D: Device + Drop, J: Naming, H: Wait + Drop> Node<D, J, H> {
         self.act(rt, seat, NodeEvent::Tick { word })
     }
 
-    /// Joins the cluster by a contact. Refused as [`Desk::act`] is.
+    /// Joins the cluster through a contact. Refused as [`Desk::act`] is.
     pub fn join<R: Wait>(
         &self,
         rt: &R,
@@ -174,7 +175,7 @@ impl<D: Device + Drop, J: Naming, H: Wait + Drop> Node<D, J, H> {
         self.act(rt, seat, NodeEvent::Join { contact, word })
     }
 
-    /// A peer is known to be down. Refused as [`Desk::act`] is.
+    /// Takes note that a peer is down. Refused as [`Desk::act`] is.
     pub fn peer_down<R: Wait>(
         &self,
         rt: &R,
@@ -206,8 +207,8 @@ impl<D: Device + Drop, J: Naming, H: Wait + Drop> Node<D, J, H> {
         self.act(rt, seat, NodeEvent::Exchange { peer })
     }
 
-    /// What is held under the key is stored in the file once more, or for the first time. Refused
-    /// as [`Desk::act`] is.
+    /// Stores what is held under the key in the file, once more or for the first time. Refused as
+    /// [`Desk::act`] is.
     pub fn keep<R: Wait>(
         &self,
         rt: &R,
@@ -290,7 +291,7 @@ impl<D: Device + Drop, J: Naming, H: Wait + Drop> Node<D, J, H> {
         self.desk.lock(rt).cut()
     }
 
-    /// One more seat. Refused in this order: 52 `NoSeat` where eight are out, 34 `Stopped`.
+    /// Hands out one more seat. Refused in this order: 52 `NoSeat` if eight are out, 34 `Stopped`.
     pub fn new_seat<R: Wait>(&self, rt: &R) -> Result<WriteSeat<J>, LockFault>
         requires { 9 ≤ J.parts }
         ensures seat { IfOk result (λ seat. seat ≡ 0) }
@@ -299,7 +300,7 @@ impl<D: Device + Drop, J: Naming, H: Wait + Drop> Node<D, J, H> {
         self.desk.lock(rt).new_seat()
     }
 
-    /// The seat goes for good; what it counted stays counted. A stopped node takes it too.
+    /// Gives up the seat for good; what it counted stays counted. A stopped node takes it too.
     pub fn give_up<R: Wait>(&self, rt: &R, seat: WriteSeat<J>) {
         self.desk.lock(rt).give_up(seat);
     }
@@ -334,11 +335,11 @@ impl<D: Device + Drop, J: Naming, H: Wait + Drop> Node<D, J, H> {
         }
     }
 
-    /// Ends the node, where all seats that are out are handed in, and returns what is left of it,
-    /// and its file's device. No other thread has it any more. It takes no memory, and waits for
-    /// readers that are inside a `peek`.
+    /// Ends the node, if all seats that are out are handed in, and returns what is left of it, and
+    /// its file's device. It is taken by value, so no other thread has it. It takes no memory, and
+    /// waits for readers that are inside a `peek`.
     ///
-    /// Refused, and then node and seats come back: 54 `SeatsMissing`; then 34 `Stopped`, where a
+    /// Refused, and then node and seats come back: 54 `SeatsMissing`; then 34 `Stopped`, if a
     /// reader was shown more than was published, which no reader is.
     pub fn close(
         self,

@@ -23,7 +23,7 @@ pub hearing_count-drop : (key : Key) (ws : List Watching) (i : ℕ) (w : Watchin
 hearing_count-drop key ws i w within is =
     ap (hearing_count key) (drop_is ws i w within is) ∙ hearing_count-cons key w (drop (i + 1) ws)
 
--- the notes that are left for the watch at this place and for those after it, where those before it
+-- the notes that are left for the watch at this place and for those after it, if those before it
 -- have noted the change
 pub notes_left : (change : Change) (first list : List Watching) (place : ℕ) (watch : Watching) (notes : ℕ)
     → place < length list → length list ≡ length first

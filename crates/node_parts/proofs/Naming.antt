@@ -106,7 +106,7 @@ told_on {views = views} {old = old} {call = call} same h row of_none may =
     let at_views = subst (λ (o : Overlay). MayCome o.views.node call) (sym same) may in
     subst (λ cast. IsOverlay (overlay_of views cast)) (sym row.broadcast) (IsOverlay-told (overlay_of views old) call of_none at_views h)
 
--- where a call's result is handed on as it is
+-- if a call's result is handed on as it is
 pub told_or_kept : {X E : Type 0} (items : X → List CastOut) (r : Result X E) (new : Broadcast)
     (call : CastCall) {o : Overlay} {views : NodeViews} {old : Broadcast} → overlay_of views old ≡ o
     → IsOverlay (overlay_of views old) → IfOk r (λ x. IsCall call old new (items x))
@@ -134,7 +134,7 @@ pub framed : {E : Type 0} (r : Result (List (List ℕ)) E) (node number : ℕ) {
 framed (Ok outbox) node number is frames lawful = same_frames refl is (record { frames = frames; lawful = lawful })
 framed (Err fault) node number is frames lawful = tt
 
--- ---- a call that is taken back where memory ran out
+-- ---- a call that is taken back if memory ran out
 
 pub taken_back : {old between : Broadcast} {call : CastCall} {standing : Standing} {out : List CastOut}
     → IsCall call old between out → standing ≡ savepoint_of old → IsOfObjects call

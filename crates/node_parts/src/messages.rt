@@ -9,7 +9,8 @@ use meta_frame::Message;
 use plumtree::CastOut;
 use std::alloc::{AllocError, Global};
 
-/// Each of these as a message; a GOSSIP carries this object. Fails only when memory runs out.
+/// Returns each of these as a message; a GOSSIP carries this object. Fails only when memory runs
+/// out.
 pub fn gossips(
     alloc: Global,
     outs: Vec<CastOut>,
@@ -39,7 +40,7 @@ fn gossip(out: CastOut, object: &Entries) -> Result<Envelope, AllocError>
     })
 }
 
-/// The messages that are whole: all of them, where no GOSSIP is among them.
+/// Returns the messages that are whole: all of them, if no GOSSIP is among them.
 pub fn whole_messages(alloc: Global, outs: Vec<CastOut>) -> Result<Vec<Envelope>, AllocError>
     ensures { IfOk result (λ sent. sent.items ≡ whole_messages outs.items) }
 {

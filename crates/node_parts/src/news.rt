@@ -27,7 +27,7 @@ impl Model for News {
 }
 
 impl News {
-    /// The change, with `count` notes of it. Fails only when memory runs out.
+    /// Makes the news of a change, with `count` notes of it. Fails only when memory runs out.
     pub fn new(alloc: Global, change: Change, count: usize) -> Result<Self, AllocError>
         ensures { IfOk result (λ news. news ≡ record { change = change; notes = count }) }
     {
@@ -38,7 +38,7 @@ impl News {
         Ok(News { change, notes })
     }
 
-    /// One of the notes that are left.
+    /// Returns one of the notes that are left.
     pub fn next(&mut self) -> Change
         requires { 1 ≤ self.old.notes }
         ensures note { result ≡ self.old.change }
@@ -59,7 +59,7 @@ impl News {
         &self.change.vector
     }
 
-    /// The vector of the change, without taking memory.
+    /// Returns the vector of the change, without taking memory.
     pub fn into_vector(self) -> Vector
         ensures { result ≡ self.change.vector }
     {

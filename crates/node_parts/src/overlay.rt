@@ -34,7 +34,7 @@ impl Model for Overlay {
 }
 
 impl Overlay {
-    /// A node that knows nobody. It takes no memory.
+    /// Makes the overlay of a node that knows nobody. It takes no memory.
     pub fn new(alloc: Global, node: NodeId) -> Self
         ensures { result ≡ empty_overlay node }
     {
@@ -73,7 +73,7 @@ impl Overlay {
         Ok(Overlay { views, cast })
     }
 
-    /// Takes an event of the views, and the broadcast hears who came and who went. Returns the
+    /// Takes an event of the views, and tells the broadcast who came and who went. Returns the
     /// frames to send, numbered from the one after `number` on. Fails only when memory runs out,
     /// and then all is as before. The broadcast is changed in place, and never copied.
     pub fn on_view_event(
@@ -95,7 +95,7 @@ impl Overlay {
         Ok(outbox)
     }
 
-    /// The views after the event, who came and who went, and the frames.
+    /// Returns the views after the event, who came and who went, and the frames.
     fn after_view_event(
         &self,
         alloc: Global,
@@ -117,7 +117,7 @@ impl Overlay {
     }
 }
 
-/// Who came and who went, and the frames of the messages.
+/// Returns who came and who went, and the frames of the messages.
 fn told_by(
     alloc: Global,
     node: NodeId,
@@ -134,7 +134,7 @@ fn told_by(
     both(Ok(changes), outbox)
 }
 
-/// Who came and who went, and the messages, each in order. Fails only when memory runs out.
+/// Returns who came and who went, and the messages, each in order. Fails only when memory runs out.
 pub(crate) fn parted(
     alloc: Global,
     outs: Vec<ViewOut>,

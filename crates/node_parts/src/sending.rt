@@ -16,8 +16,8 @@ use meta_types::{ByteString, FullPrefix, MetaKey, NodeId};
 use node_events::Outbox;
 use std::alloc::{AllocError, Global};
 
-/// The frames of these messages, numbered from the one after `number` on. Fails only when memory
-/// runs out.
+/// Returns the frames of these messages, numbered from the one after `number` on. Fails only when
+/// memory runs out.
 pub fn outbox(
     alloc: Global,
     from: NodeId,
@@ -36,8 +36,8 @@ pub fn outbox(
     Ok(Outbox::new(spelled?))
 }
 
-/// The messages as frames. They are spelled later, since each is first compared with the one before
-/// it.
+/// Returns the messages as frames. They are spelled later, since each is first compared with the
+/// one before it.
 fn numbered(
     alloc: Global,
     from: NodeId,
@@ -59,7 +59,6 @@ fn numbered(
     Ok(frames)
 }
 
-/// The frame of the message.
 fn lawful_frame(from: NodeId, number: u64, envelope: Envelope) -> Frame
     requires { MaySend from envelope }
     ensures frame { result ≡ frame_of from number envelope }
@@ -71,14 +70,14 @@ fn lawful_frame(from: NodeId, number: u64, envelope: Envelope) -> Frame
         number,
         message: envelope.message,
     };
-    // Read for what their type says: both are nodes.
+    // (for its type)
     let _nodes = (frame.from.number(), frame.to.number());
     reveal_message(&frame.message);
     frame
 }
 
-/// The bytes of each frame. A broadcast hands one message to many peers, so its body is spelled
-/// once, and copied for each further peer.
+/// Returns the bytes of each frame. A broadcast hands one message to many peers, so its body is
+/// spelled once, and copied for each further peer.
 fn spelled_each(alloc: Global, frames: &[Frame]) -> Result<Vec<ByteString>, AllocError>
     requires { All HasSpelling frames.now }
     ensures { IfOk result (λ spelled. spelled.items ≡ map spelling frames.now) }
@@ -91,7 +90,7 @@ fn spelled_each(alloc: Global, frames: &[Frame]) -> Result<Vec<ByteString>, Allo
     Ok(spelled)
 }
 
-/// The bytes of the frame at this place, where those of the frames before it are given.
+/// Returns the bytes of the frame at this place, given those of the frames before it.
 fn spelled_at(
     alloc: Global,
     frames: &[Frame],
@@ -115,8 +114,8 @@ fn spelled_at(
     )
 }
 
-/// The bytes of a frame. Where the frame before it says the same, its bytes `last` are copied as a
-/// block, and no body is spelled field by field.
+/// Returns the bytes of a frame. If the frame before it says the same, its bytes `last` are copied
+/// as a block, and no body is spelled field by field.
 fn spelled_after(
     alloc: Global,
     before: &Frame,
@@ -133,7 +132,7 @@ fn spelled_after(
     bytes_of(alloc, frame)
 }
 
-/// Whether the frames differ in their addressees and numbers alone.
+/// Returns whether the frames differ in their addressees and numbers alone.
 fn says_the_same(frame: &Frame, other: &Frame) -> bool
     ensures from { IsTrue result → frame.now.from ≡ other.now.from }
     ensures message { IsTrue result → frame.now.message ≡ other.now.message }
@@ -141,8 +140,8 @@ fn says_the_same(frame: &Frame, other: &Frame) -> bool
     frame.from == other.from && is_same_broadcast(&frame.message, &other.message)
 }
 
-/// Whether both are one message of a broadcast. Of other messages it says no without a look at
-/// them: they go to one peer, or are so short that a copy saves nothing.
+/// Returns whether both are one message of a broadcast. It says no of other messages without
+/// comparing them: they go to one peer, or are so short that a copy saves nothing.
 fn is_same_broadcast(message: &Message, other: &Message) -> bool
     ensures { IsTrue result → message.now ≡ other.now }
 {
@@ -186,7 +185,8 @@ fn is_same_keyed(round: u16, key: &MetaKey, other_round: u16, other_key: &MetaKe
     round == other_round && key == other_key
 }
 
-/// The bytes of a frame with another addressee and number, which stand in the bytes 6 to 15.
+/// Returns the bytes of a frame with another addressee and number, which stand in the bytes 6 to
+/// 15.
 fn readdressed(
     alloc: Global,
     frame: &[u8],
@@ -266,7 +266,7 @@ fn reveal_key(k: &MetaKey)
     let _key = k.key();
 }
 
-/// Of a walk: where it began, and how far it still goes.
+/// Does the same for a walk: where it began, and how far it still goes.
 #[tactic(auto, using(crate::proofs::Sendable::fields))]
 fn reveal_walk(start: NodeId, ttl: u8)
     ensures node { node.Fits start }
@@ -321,7 +321,7 @@ fn reveal_bucket(p: &FullPrefix, leaf: u8, rows: &KeyDigests)
     let _rows = rows.as_slice();
 }
 
-/// A life is numbered from 1, which its type leaves open.
+/// Does the same for a life. Its number is at least 1, which its type leaves open.
 #[tactic(auto, using(crate::proofs::Sendable::fields))]
 fn reveal_life(number: u32)
     requires { 1 ≤ number }

@@ -21,7 +21,7 @@ use plumtree::{Cast, CastOut, Savepoint};
 use std::alloc::{AllocError, Global};
 
 impl Overlay {
-    /// The object under the key changed, and is broadcast. Returns what goes to whom.
+    /// Broadcasts the object under the key, which changed. Returns what goes to whom.
     pub fn spread(
         &mut self,
         origin: Origin,
@@ -42,7 +42,7 @@ impl Overlay {
         }
     }
 
-    /// Where the broadcast stands.
+    /// Returns where the broadcast stands.
     pub fn savepoint(&self) -> Result<Savepoint, AllocError>
         ensures { IfOk result (λ savepoint. savepoint ≡ savepoint_of self.now.cast) }
     {
@@ -57,15 +57,16 @@ impl Overlay {
         self.cast.roll_back(savepoint);
     }
 
-    /// The object under the key changed, and isn't waited for any more. It never fails.
+    /// Stops waiting for what the vector descends, since the object under the key changed. It never
+    /// fails.
     pub fn on_change(&mut self, key: &MetaKey, vector: &Vector)
         ensures { self.new ≡ overlay_after_call (Changes key.now vector.now) self.old }
     {
         self.cast.on_change(key, vector);
     }
 
-    /// A GOSSIP was stale: its sender becomes lazy, and is sent PRUNE. Returns the frames, numbered
-    /// from the one after `number` on.
+    /// Takes a GOSSIP that was stale: its sender becomes lazy, and is sent PRUNE. Returns the
+    /// frames, numbered from the one after `number` on.
     pub fn on_stale(
         &mut self,
         alloc: Global,
@@ -85,7 +86,7 @@ impl Overlay {
         or_take_back(&mut self.cast, savepoint, outbox)
     }
 
-    /// PRUNE.
+    /// Takes a PRUNE: its sender becomes lazy.
     pub fn on_prune(&mut self, from: NodeId) -> Result<(), AllocError>
         ensures overlay { OnOk result (self.new ≡ overlay_after_call (TakesPrune from) self.old) }
         ensures unchanged { OnErr result (self.new ≡ self.old) }
@@ -94,7 +95,7 @@ impl Overlay {
         Ok(())
     }
 
-    /// IHAVE.
+    /// Takes an IHAVE: unless it is stale, its object is waited for.
     pub fn on_ihave(
         &mut self,
         from: NodeId,
@@ -110,14 +111,14 @@ impl Overlay {
             ≡ overlay_after_call (TakesIHave from round key.now vector.now stale) self.old) }
         ensures unchanged { OnErr result (self.new ≡ self.old) }
     {
-        // Read for what its type says: the key is in range.
+        // (for its type)
         let _ = key.key();
         self.cast.on_ihave(from, round, key, vector, stale)?;
         Ok(())
     }
 
-    /// GRAFT of what is held: its sender becomes eager, and is sent the object. Returns the frames,
-    /// numbered from the one after `number` on.
+    /// Takes a GRAFT of what is held: its sender becomes eager, and is sent the object. Returns the
+    /// frames, numbered from the one after `number` on.
     pub fn on_graft(
         &mut self,
         alloc: Global,
@@ -142,7 +143,7 @@ impl Overlay {
         or_take_back(&mut self.cast, savepoint, outbox)
     }
 
-    /// GRAFT of what isn't held: its sender becomes eager, and is sent nothing.
+    /// Takes a GRAFT of what isn't held: its sender becomes eager, and is sent nothing.
     pub fn on_bare_graft(
         &mut self,
         from: NodeId,
@@ -159,7 +160,7 @@ impl Overlay {
     }
 }
 
-/// The frames of messages that are whole.
+/// Returns the frames of messages that are whole.
 fn whole_outbox(
     alloc: Global,
     node: NodeId,
@@ -173,7 +174,7 @@ fn whole_outbox(
     outbox(alloc, node, number, sent)
 }
 
-/// The frames of messages; each GOSSIP carries this object.
+/// Returns the frames of messages; each GOSSIP carries this object.
 fn object_outbox(
     alloc: Global,
     node: NodeId,
@@ -190,8 +191,8 @@ fn object_outbox(
     outbox(alloc, node, number, sent)
 }
 
-/// Hands the frames of a call of the broadcast on. Where memory ran out, the broadcast comes back
-/// to where it stood before the call.
+/// Hands on the frames of a call of the broadcast. If memory ran out, the broadcast goes back to
+/// where it stood before the call.
 fn or_take_back(
     cast: &mut Cast,
     savepoint: Savepoint,

@@ -48,7 +48,7 @@ impl Overlay {
         }
     }
 
-    /// A tick of the broadcast alone.
+    /// Makes a tick of the broadcast alone.
     fn on_quiet_tick(&mut self, alloc: Global, number: u64) -> Result<Outbox, AllocError>
         ensures overlay { OnOk result (self.new ≡ overlay_after_call Tick self.old) }
         ensures sends { IfOk result (AreFramesOf self.old.views.node number
@@ -62,7 +62,7 @@ impl Overlay {
         Ok(outbox)
     }
 
-    /// A tick of the broadcast and then a shuffle, in which nobody comes or goes.
+    /// Makes a tick of the broadcast and then a shuffle, in which nobody comes or goes.
     fn on_shuffling_tick(
         &mut self,
         alloc: Global,
@@ -84,7 +84,7 @@ impl Overlay {
         Ok(outbox)
     }
 
-    /// The peers of the broadcast after a tick, and the messages that go out.
+    /// Returns the peers of the broadcast after a tick, and the messages that go out.
     fn after_broadcast_tick(
         &self,
         alloc: Global,
@@ -100,7 +100,7 @@ impl Overlay {
         both(Ok(peers), sent)
     }
 
-    /// The views after a shuffle, and the messages that go out.
+    /// Returns the views after a shuffle, and the messages that go out.
     fn after_shuffle(&self, alloc: Global, word: u64) -> Result<(Views, Vec<Envelope>), AllocError>
         ensures views { IfOk result (λ after.
             after.0 ≡ views_of (draft_after ShuffleDue word self.now.views)) }
@@ -114,7 +114,7 @@ impl Overlay {
     }
 }
 
-/// The frames of the messages of the one list, and then of the other.
+/// Returns the frames of the messages of the one list, and then of the other.
 fn joined_outbox(
     alloc: Global,
     node: NodeId,
@@ -130,7 +130,7 @@ fn joined_outbox(
     outbox(alloc, node, number, sent)
 }
 
-/// The items of `front`, then those of `back`.
+/// Returns the items of `front`, then those of `back`.
 fn joined<T: Drop>(front: Vec<T>, back: Vec<T>) -> Result<Vec<T>, AllocError>
     ensures { IfOk result (λ all. all.items ≡ front.items ++ back.items) }
 {

@@ -1,9 +1,9 @@
-//! Results taken together. What one of them owns is dropped in here, so that a caller owns nothing
-//! where it fails, and its proof has no case for that.
+//! Results taken together. What one of them owns is dropped in here. So a caller owns nothing if it
+//! fails, and its proof has no case for that.
 
 ghost use Rattle.std.specs.Prelude.{◌≡◌, ◌⊎◌, Ok, Err, IfOk, IfErr};
 
-/// Both values, or the first refusal.
+/// Returns both values, or the first refusal.
 pub fn both<A: Drop, B: Drop, E: Drop>(
     first: Result<A, E>,
     second: Result<B, E>,

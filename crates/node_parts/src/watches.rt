@@ -52,8 +52,8 @@ impl Watches {
         self.list.as_slice()
     }
 
-    /// Adds a watch. Returns its number. Refused with 28 `BadWatch` where there are sixteen, or the
-    /// capacity is out of range, and with 99 `Memory`.
+    /// Adds a watch, and returns its number. Refused with 28 `BadWatch` if there are sixteen, or
+    /// the capacity is out of range, and with 99 `Memory`.
     pub fn add(&mut self, prefix: &FullPrefix, capacity: usize) -> Result<u64, StepFault>
         ensures value { OnOk result (self.new ≡ self.old ++ empty prefix.now capacity ∷ []) }
         ensures number { IfOk result (λ number. number ≡ length self.old + 1) }
@@ -114,7 +114,7 @@ impl Watches {
         News::new(self.alloc, Change { key, vector }, count)
     }
 
-    /// Each watch that hears the key notes the change. It never fails, and takes no memory.
+    /// Notes the change in each watch that hears the key. It never fails, and takes no memory.
     pub fn note(&mut self, news: &mut News)
         requires { news.old.notes ≡ hearing_count news.old.change.key self.old }
         ensures watches { self.new ≡ map (with_change news.old.change) self.old }
@@ -137,7 +137,7 @@ impl Watches {
     }
 }
 
-/// The watch notes the change, if it hears the key.
+/// Notes the change in the watch, if it hears the key.
 fn note_one(watch: &mut Watch, news: &mut News)
     requires { hearing_count news.old.change.key (watch.old ∷ []) ≤ news.old.notes }
     ensures watch { watch.new ≡ with_change news.old.change watch.old }
@@ -150,7 +150,7 @@ fn note_one(watch: &mut Watch, news: &mut News)
     }
 }
 
-/// How many of the watches hear the key.
+/// Returns how many of the watches hear the key.
 fn hearing_count(watches: &[Watch], key: &MetaKey) -> usize
     ensures { result ≡ hearing_count key.now watches.now }
 {

@@ -47,7 +47,7 @@ impl PublishedTable {
         }
     }
 
-    /// How far the history of the table goes.
+    /// Returns how far the history of the table goes.
     pub(crate) fn revision<J: Naming>(&self) -> Revision<J>
         requires { self.now.book ≡ J.book }
         ensures { result ≡ self.now.list }
@@ -55,7 +55,8 @@ impl PublishedTable {
         Revision::of(&self.extent)
     }
 
-    /// The values under the key, and their vector. They are copies. The key is searched for once.
+    /// Returns the values under the key, and their vector. They are copies. The key is searched for
+    /// once.
     pub(crate) fn look(&self, key: &MetaKey) -> Result<Shown, AllocError>
         ensures values { IfOk result
             (λ it. it.values.items ≡ values_of (object_in self.now.spread key.now)) }
@@ -66,7 +67,7 @@ impl PublishedTable {
     }
 }
 
-/// The values of an object, and its vector. They are copies.
+/// Returns the values of an object, and its vector. They are copies.
 fn shown_of(alloc: Global, object: &Entries) -> Result<Shown, AllocError>
     ensures values { IfOk result (λ it. it.values.items ≡ values_of object.now) }
     ensures vector { IfOk result (λ it. it.vector ≡ join object.now) }

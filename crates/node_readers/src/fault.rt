@@ -9,14 +9,14 @@ use thiserror::Error;
 #[derive(Debug, Drop, Error, PartialEq, Eq)]
 #[error("{}", self.name())]
 pub enum PeekFault {
-    /// 34: nothing is published any more, or the seat learnt of a change that never was.
+    /// 34: nothing more is published, or the seat learnt of a change that was never published.
     Stopped,
     /// 99: an allocation was refused.
     Memory,
 }
 
 impl PeekFault {
-    /// The number of the refusal, as programs print it.
+    /// Returns the number of the refusal, as programs print it.
     pub fn code(&self) -> u16
         ensures { result ≡ code_of self.now }
     {
@@ -26,7 +26,7 @@ impl PeekFault {
         }
     }
 
-    /// The name of the refusal, as programs print it.
+    /// Returns the name of the refusal, as programs print it.
     pub fn name(&self) -> &'static str
         ensures { result.now ≡ fault_name self.now }
     {

@@ -63,7 +63,7 @@ impl<J: Naming, H: Wait + Drop> Model for Publisher<J, H> {
 }
 
 impl<J: Naming, H: Wait + Drop> Publisher<J, H> {
-    /// A publisher of two copies of the opening table, with places for `readers` readers at a
+    /// Makes a publisher of two copies of the opening table, with places for `readers` readers at a
     /// time. Fails only when memory runs out.
     pub fn new(
         alloc: Global,
@@ -77,7 +77,7 @@ impl<J: Naming, H: Wait + Drop> Publisher<J, H> {
         requires first { revision ≡ [] }
         ensures { IfOk result (λ p. p ≡ record { list = []; stopped = false }) }
     {
-        // Read for its contract, which says that what the store holds is a table.
+        // (for its type)
         let _ = table.len();
         let spread = SpreadTable::of(alloc, table)?;
         let one = PublishedTable::new(alloc, spread.copy(alloc)?, &revision);
@@ -91,8 +91,8 @@ impl<J: Naming, H: Wait + Drop> Publisher<J, H> {
         })
     }
 
-    /// A seat that was shown nothing and learnt nothing. Fails when all places are taken, and when
-    /// memory runs out.
+    /// Returns a seat that was shown nothing and learnt nothing. Fails when all places are taken,
+    /// and when memory runs out.
     pub fn seat(&self) -> Result<ReadSeat<J>, AllocError>
         ensures { IfOk result (λ seat. seat ≡ record { shown = []; learnt = [] }) }
     {
@@ -106,8 +106,8 @@ impl<J: Naming, H: Wait + Drop> Publisher<J, H> {
     /// history goes then, for a seat to learn. It waits for readers that are still inside a `peek`
     /// of the copy before.
     ///
-    /// Refused where memory runs out, where the tail isn't at the end of the history, and where
-    /// that has 2^62 changes. Then readers see what they saw, and every later `publish` is refused.
+    /// Refused if memory runs out, if the tail isn't at the end of the history, or if that has 2^62
+    /// changes. Then readers see what they saw, and every later `publish` is refused.
     pub fn publish<R: Wait>(
         &mut self,
         rt: &R,
@@ -144,14 +144,14 @@ impl<J: Naming, H: Wait + Drop> Publisher<J, H> {
         Ok(next)
     }
 
-    /// How far the history goes: all changes that were published.
+    /// Returns how far the history goes: all changes that were published.
     pub fn revision(&self) -> &Revision<J>
         ensures { result.now ≡ self.now.list }
     {
         &self.revision
     }
 
-    /// Returns whether it publishes no more, since a call failed.
+    /// Returns whether it has stopped publishing, since a call failed.
     pub fn is_stopped(&self) -> bool
         ensures { result ≡ self.now.stopped }
     {

@@ -41,7 +41,7 @@ impl<J: Naming> Model for ReadSeat<J> {
 }
 
 impl<J: Naming> ReadSeat<J> {
-    /// A seat that was shown nothing and learnt nothing.
+    /// Returns a seat that was shown nothing and learnt nothing.
     pub(crate) fn new(
         factory: &Factory<PublishedTable, Known, CopiesOf<J>>,
         none: &Revision<J>,
@@ -56,22 +56,24 @@ impl<J: Naming> ReadSeat<J> {
         })
     }
 
-    /// How far the history went when this seat looked last; nowhere before its first look.
+    /// Returns how far the history went when this seat looked last; before its first look, the
+    /// revision has no change.
     pub fn shown(&self) -> &Revision<J>
         ensures { result.now ≡ self.now.shown }
     {
         &self.shown
     }
 
-    /// How far the history goes by what this seat learnt.
+    /// Returns how far the history goes by what this seat learnt.
     pub fn learnt(&self) -> &Revision<J>
         ensures { result.now ≡ self.now.learnt }
     {
         &self.learnt
     }
 
-    /// From now on this seat shows nothing that lacks a change of the revision, which a call that
-    /// published has returned. It takes no memory, never waits and never fails.
+    /// Learns of the changes of a revision, which a call that published has returned: from now on
+    /// this seat shows nothing that lacks one of them. It takes no memory, never waits and never
+    /// fails.
     pub fn learn(&mut self, revision: &Revision<J>)
         ensures shown { self.new.shown ≡ self.old.shown }
         ensures before { IsPrefix self.old.learnt self.new.learnt }
@@ -80,14 +82,14 @@ impl<J: Naming> ReadSeat<J> {
         self.learnt = self.learnt.later(revision);
     }
 
-    /// What stands under the key in the table that is published: the opening table with the first
-    /// changes put in, never fewer than this seat was shown before or learnt of. It takes memory
-    /// only for values and vector, which are copies. It never waits, even while a change is being
-    /// published.
+    /// Returns what stands under the key in the table that is published: the opening table with the
+    /// first changes put in, never fewer than this seat was shown before or learnt of. It takes
+    /// memory only for values and vector, which are copies. It never waits, even while a change is
+    /// being published.
     ///
-    /// Refused with 34 `Stopped` where the publisher is gone, or where the seat learnt of a change
-    /// that the published copy lacks, which no revision of a publisher names; and with 99 `Memory`.
-    /// A refused look may have found that the history went on, and then that counts as shown.
+    /// Refused with 34 `Stopped` if the publisher is gone, or if the seat learnt of a change that
+    /// the published copy lacks, which no revision of a publisher names; and with 99 `Memory`. A
+    /// refused look may have found that the history went on, and then that counts as shown.
     pub fn peek(&mut self, key: &MetaKey) -> Result<Shown, PeekFault>
         ensures later { IsPrefix self.old.shown self.new.shown }
         ensures learnt { self.new.learnt ≡ self.old.learnt }
@@ -134,7 +136,7 @@ fn look<J: Naming>(
     }
 }
 
-/// What stands under the key in a copy, if that has all that was learnt.
+/// Returns what stands under the key in a copy, if that has all that was learnt.
 fn look_in<J: Naming>(
     copy: &PublishedTable,
     learnt: &Revision<J>,

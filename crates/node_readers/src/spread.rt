@@ -17,7 +17,7 @@ use std::marker::Model;
 /// How many buckets there are.
 const BUCKETS: usize = 1_024;
 
-/// The number of a key's bucket, by its own bytes.
+/// Returns the number of a key's bucket, by its own bytes.
 fn bucket_of(key: &MetaKey) -> usize
     ensures value { result ≡ bucket_of key.now }
     ensures in_range { result < bucket_count }
@@ -47,7 +47,7 @@ impl Model for SpreadTable {
 }
 
 impl SpreadTable {
-    /// It holds nothing.
+    /// Makes a table that holds nothing.
     fn empty(alloc: Global) -> Result<Self, AllocError>
         ensures { IfOk result (IsSpreadOf []) }
     {
@@ -58,7 +58,7 @@ impl SpreadTable {
         Ok(SpreadTable { buckets })
     }
 
-    /// Copies of what a store holds. Fails only when memory runs out.
+    /// Makes a table of copies of what a store holds. Fails only when memory runs out.
     pub(crate) fn of(alloc: Global, store: &Store) -> Result<Self, AllocError>
         ensures { IfOk result (IsSpreadOf store.now) }
     {
@@ -80,7 +80,6 @@ impl SpreadTable {
         Ok(())
     }
 
-    /// The object that is held under the key.
     pub(crate) fn object(&self, key: &MetaKey) -> Option<&Entries>
         ensures { option_copied result ≡ find key_cmp key.now (bucket_at key.now self.now) }
     {

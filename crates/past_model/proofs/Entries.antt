@@ -154,7 +154,7 @@ entry_by_parts (Some e) w n values is count shows =
     (λ i. Some (record { id = parts.0 i; count = more i; values = shows i }))
     ∙ (λ i. entry_with w (sym more i) values) ∙ (λ i. entry_with w (count i) values)
 
--- an entry of a list is that of its writer, and is held where all counters are
+-- an entry of a list is that of its writer, and is held if all counters are
 entry_is : (es : List Entry) (w : ℕ) (e : Entry) → All (λ (c : Counter). 1 ≤ c.count) (join es) → entry_of es w ≡ Some e → (e.id ≡ w) × (1 ≤ e.count)
 entry_is [] w e held h = absurd (cc)
 entry_is (x ∷ xs) w e held h =

@@ -61,7 +61,7 @@ none_kept : (b : Bool) → ◌≡◌ {A = List Write} [] (cond b [] [])
 none_kept true = refl
 none_kept false = refl
 
--- the write that a happening makes is kept where its place is a sibling's
+-- the write that a happening makes is kept if its place is a sibling's
 filter_made : (s : Past) (h : Happening) (ws : List Write) (S : Places) (w : ℕ) (b : Bool) → (S s.next && not (was_read ws S s.next)) ≡ b → filter (λ x. eqb x.writer w && is_sibling ws S x) (writes_of_happening s h) ≡ cond b (filter (λ x. eqb x.writer w) (writes_of_happening s h)) []
 filter_made s (Wrote n k v r) ws S w b e =
     ap (λ t. cond (eqb (writer_of s n) w && t) (written s n k v r ∷ []) []) e ∙ one_kept (eqb (writer_of s n) w) b (written s n k v r)

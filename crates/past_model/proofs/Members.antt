@@ -93,7 +93,7 @@ older_from R M (x ∷ xs) falling back =
       | false ↦ λ e. older_from R M xs falling.1 (λ y z m n. back y z (inr m) (inr n))
     ] refl
 
--- where all are kept each passes
+-- if all are kept each passes
 pub full_all : (Q : Write → Bool) (xs : List Write) (y : Write) → length (filter Q xs) ≡ length xs → In y xs → Q y ≡ true
 full_all Q [] y full m = absurd m
 full_all Q (x ∷ xs) y full m =

@@ -8,7 +8,7 @@ use Rattle.dvvset.specs.Clock.{cut}
 use Rattle.dvvset.proofs.Writers.{sync_at}
 use Rattle.past_model.specs.Past.{Write}
 
--- an entry where there is an event
+-- an entry if there is an event
 abbrev pub entry_with : ℕ → ℕ → List ValueParts → Option Entry
 entry_with w zero values = None
 entry_with w (suc n) values = Some (record { id = w; count = suc n; values = values })

@@ -41,7 +41,7 @@ pub record Sound (s : Past) : Type 0 where
 
 -- ---- each node knows its own writes
 
--- what was known stays known where the new set has it
+-- what was known stays known if the new set has it
 with_set-more : (v : Knowledge) (k : Key) (S : Places) (l : Key) (p : ℕ) → (v k p ≡ true → S p ≡ true) → v l p ≡ true → with_set v k S l p ≡ true
 with_set-more v k S l p more e =
     elim (key_eq l k) as (λ b. key_eq l k ≡ b → cond b S (v l) p ≡ true) [

@@ -17,7 +17,7 @@ pub record IsArisen (hs : List Happening) (k : Key) (object : List Entry) : Type
   pub set : Places
   pub object_of : IsObjectOf (writes hs) k set object
 
--- an object is below another where its set is a subset of the other's
+-- an object is below another if its set is a subset of the other's
 pub record IsBelow (hs : List Happening) (k : Key) (lower upper : List Entry) : Type 0 where
   pub lesser : Places
   pub greater : Places

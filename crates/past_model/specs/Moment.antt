@@ -94,8 +94,8 @@ restarts_node n (Restarted m j) = m == n
 abbrev pub marked_places : List Bool → Places
 marked_places marks p = get_or marks p false
 
--- what a node knows, and its standing image, under all keys at once: a place is marked where its
--- write is in the set of its key
+-- what a node knows, and its standing image, under all keys at once: a place is marked if its write
+-- is in the set of its key
 pub record Marks : Type 0 where
   pub known : List Bool
   pub standing : List Bool

@@ -97,7 +97,7 @@ with_image_restored n j s =
       restarts = set_at s.restarts n (s.restarts n + 1);
     }
 
--- what a happening changes, but for the next place
+-- what a happening changes, except the next place
 abbrev pub happens_at : Past → Happening → Past
 happens_at s (Wrote n k v r) = with_next_image n k (with_write_known n k v r s)
 happens_at s (Looked n k) =

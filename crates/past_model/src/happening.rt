@@ -43,7 +43,7 @@ impl Happening {
     ghost use Rattle.meta_types.specs.Node.{IsNode};
     ghost use Rattle.past_model.specs.Moment.{is_look_under, is_sending, is_write_under, makes_image, node_of, restarts_node};
 
-    /// The node that it happened to.
+    /// Returns the node that it happened to.
     pub(crate) fn node(&self) -> NodeId
         ensures value { result ≡ node_of self.now }
         ensures in_range { IsNode (node_of self.now) }
@@ -74,7 +74,6 @@ impl Happening {
         }
     }
 
-    /// Returns whether it restarts the node.
     pub(crate) fn restarts(&self, of: NodeId) -> bool
         ensures { result ≡ restarts_node of self.now }
     {
@@ -88,7 +87,6 @@ impl Happening {
         }
     }
 
-    /// Returns whether it is a write under the key.
     pub(crate) fn is_write_under(&self, key: &MetaKey) -> bool
         ensures { result ≡ is_write_under key.now (Some self.now) }
     {

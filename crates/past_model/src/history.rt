@@ -61,7 +61,7 @@ fn is_sending(before: &[Happening], place: usize) -> bool
     }
 }
 
-/// How many images the node has made.
+/// Returns how many images the node has made.
 fn images(before: &[Happening], node: NodeId) -> usize
     ensures { result ≡ (past before.now).last node }
 {
@@ -74,7 +74,7 @@ fn images(before: &[Happening], node: NodeId) -> usize
     images
 }
 
-/// How often the node has restarted.
+/// Returns how often the node has restarted.
 pub(crate) fn restarts(before: &[Happening], node: NodeId) -> u64
     ensures { result ≡ (past before.now).restarts node }
 {

@@ -80,8 +80,8 @@ pub fn merging_is_the_least_upper_bound()
         → IsLeastUpperBound hs k a b (sync a b) }
 {}
 
-/// A context descends another exactly where the other's set is a subset, and so exactly where the
-/// other object is below.
+/// A context descends another exactly if the other's set is a subset, and so exactly if the other
+/// object is below.
 pub fn descending_is_inclusion()
     ensures sets { (hs : List H) → IsHistory hs
         → (k : Key) (S T : Places) (a b : List Entry)
@@ -137,7 +137,7 @@ pub fn no_two_writes_share_a_counter()
 {}
 
 /// No incarnation number is used twice by a node: at two places of a history a node, and only it,
-/// is the same writer exactly where it did not restart between them.
+/// is the same writer exactly if it did not restart between them.
 pub fn no_incarnation_is_used_twice()
     ensures { (before between after : List H) → IsHistory (before ++ between ++ after)
         → (n m : ℕ)

@@ -1,7 +1,7 @@
 //! The past: what happened, what each node knows of it, and the laws that tie it to the arithmetic
 //! of clocks.
 //!
-//! What nodes know is defined by sets of writes and unions; counters come in only where a set is
+//! What nodes know is defined by sets of writes and unions; counters come in only when a set is
 //! shown as an object.
 //!
 //! ```

@@ -17,7 +17,7 @@ use std::alloc::{AllocError, Global};
 use std::marker::Model;
 
 /// What a node knows, and its standing image, under all keys at once: each list has a mark for each
-/// place of the history, `true` where the write there is in the set of its key.
+/// place of the history, `true` if the write there is in the set of its key.
 #[derive(Debug, Drop)]
 pub struct Moment {
     known: Vec<bool>,
@@ -50,7 +50,6 @@ impl Moment {
     }
 }
 
-/// Returns whether the place is marked.
 pub fn is_marked(marks: &[bool], place: usize) -> bool
     ensures { result ≡ marked_places marks.now place }
 {
@@ -70,7 +69,7 @@ pub fn is_write_under(history: &[Happening], place: usize, key: &MetaKey) -> boo
     }
 }
 
-/// The marks of writes under the key.
+/// Returns the marks of writes under the key.
 pub fn under(
     alloc: Global,
     history: &[Happening],
@@ -88,7 +87,7 @@ pub fn under(
     Ok(found)
 }
 
-/// The marks that `a` or `b` has, over the first `places` places.
+/// Returns the marks that `a` or `b` has, over the first `places` places.
 fn either(alloc: Global, places: usize, a: &[bool], b: &[bool]) -> Result<Vec<bool>, AllocError>
     ensures marks { IfOk result (λ both. (p : ℕ) → p < places
         → marked_places both.items p ≡ (marked_places a.now p || marked_places b.now p)) }
@@ -101,7 +100,7 @@ fn either(alloc: Global, places: usize, a: &[bool], b: &[bool]) -> Result<Vec<bo
     Ok(both)
 }
 
-/// The marks of `new` at writes under the key, and of `old` at all other places.
+/// Returns the marks of `new` at writes under the key, and of `old` at all other places.
 fn replaced(
     alloc: Global,
     history: &[Happening],
@@ -126,7 +125,7 @@ fn replaced(
     Ok(marks)
 }
 
-/// The moment after the node's last happening among the first `places`.
+/// Returns the moment after the node's last happening among the first `places`.
 pub fn latest(history: &[Happening], places: usize, node: NodeId) -> usize
     requires { places ≤ length history.now }
     ensures { IsLatest history.now places node result }
@@ -140,7 +139,7 @@ pub fn latest(history: &[Happening], places: usize, node: NodeId) -> usize
     moment
 }
 
-/// The moment in which the node's image of that number was made, among the first `places`
+/// Returns the moment in which the node's image of that number was made, among the first `places`
 /// happenings.
 fn image(history: &[Happening], places: usize, node: NodeId, number: usize) -> usize
     requires inside { places ≤ length history.now }
@@ -159,8 +158,8 @@ fn image(history: &[Happening], places: usize, node: NodeId, number: usize) -> u
     0
 }
 
-/// The account of a history: the first moment is the one before all happenings, each other stands
-/// after a happening.
+/// Returns the account of a history: the first moment is the one before all happenings, each other
+/// stands after a happening.
 pub fn account(alloc: Global, history: &[Happening]) -> Result<Vec<Moment>, AllocError>
     requires { IsHistory history.now }
     ensures { IfOk result (λ moments. IsAccount history.now moments.items) }
@@ -174,7 +173,7 @@ pub fn account(alloc: Global, history: &[Happening]) -> Result<Vec<Moment>, Allo
     Ok(moments)
 }
 
-/// The moment after the happening at the place.
+/// Returns the moment after the happening at the place.
 fn next(
     alloc: Global,
     history: &[Happening],
@@ -211,7 +210,7 @@ fn next(
     }
 }
 
-/// The moment whose knowledge a write has read: the moment of its `Looked`, or the first.
+/// Returns the moment whose knowledge a write has read: the moment of its `Looked`, or the first.
 pub fn moment_read(seen: Option<usize>) -> usize
     requires { IfSome seen (λ r. r + 1 < 2 ^ 64) }
     ensures { result ≡ moment_read seen }

@@ -41,8 +41,8 @@ impl<'a> Model for Plain<'a> {
 }
 
 impl<'a> Plain<'a> {
-    /// The account of a history. It takes memory for two marks for each pair of a place and a
-    /// happening, and time with the square of the number of happenings.
+    /// Works out the account of a history. It takes memory for two marks for each pair of a place
+    /// and a happening, and time that grows with the square of the number of happenings.
     pub fn replay(alloc: Global, history: &'a [Happening]) -> Result<Self, AllocError>
         requires { IsHistory history.now }
         ensures { IfOk result (λ plain. plain ≡ history.now) }
@@ -51,7 +51,7 @@ impl<'a> Plain<'a> {
         Ok(Plain { history, moments })
     }
 
-    /// The places of the writes that the node knows under the key, rising.
+    /// Returns the places of the writes that the node knows under the key, rising.
     pub fn known(
         &self,
         alloc: Global,
@@ -64,8 +64,8 @@ impl<'a> Plain<'a> {
         places(alloc, marks.as_slice())
     }
 
-    /// The values of those writes that the node knows under the key and that none of them had read,
-    /// by writer, and of one writer the later first.
+    /// Returns the values of those writes that the node knows under the key and that none of them
+    /// had read, by writer, and of one writer the later first.
     pub fn siblings(
         &self,
         alloc: Global,
@@ -80,8 +80,8 @@ impl<'a> Plain<'a> {
         siblings(alloc, self.history, moments, marks.as_slice(), key)
     }
 
-    /// For each writer with a write that the node knows under the key, how many such writes there
-    /// are.
+    /// Returns, for each writer with a write that the node knows under the key, how many such
+    /// writes there are.
     pub fn context(&self, alloc: Global, node: NodeId, key: &MetaKey) -> Result<Vector, AllocError>
         ensures { IfOk result (λ vector. IsContext (writes self.now)
             (known self.now node key.now) vector) }
@@ -91,7 +91,7 @@ impl<'a> Plain<'a> {
     }
 }
 
-/// The marks of what the node knows under the key.
+/// Returns the marks of what the node knows under the key.
 fn marks_of(
     alloc: Global,
     history: &[Happening],
@@ -142,7 +142,7 @@ fn siblings(
     Ok(values)
 }
 
-/// Each node in each of its lives, rising.
+/// Returns each node in each of its lives, rising.
 fn writers(alloc: Global, history: &[Happening]) -> Result<Vec<Actor>, AllocError>
     requires history { IsHistory history.now }
     requires nodes { (p : ℕ) (h : H) → slice_get history.now p ≡ Some h → IsNode (node_of h) }
@@ -315,7 +315,7 @@ fn push_counter(counters: &mut Vec<Counter>, writer: Actor, count: u64) -> Resul
     Ok(())
 }
 
-/// How many writes of the set are by that writer.
+/// Returns how many writes of the set are by that writer.
 fn count(history: &[Happening], marks: &[bool], writer: Actor) -> u64
     requires { IsHistory history.now }
     ensures { result ≡ count_in (writes history.now) (marked_places marks.now) writer }
@@ -345,7 +345,7 @@ fn is_write_by(before: &[Happening], happening: &Happening, writer: Actor) -> bo
     }
 }
 
-/// The writer of a write that the node makes after these happenings.
+/// Returns the writer of a write that the node makes after these happenings.
 fn writer_of(before: &[Happening], node: NodeId) -> Actor
     requires { IsHistory before.now }
     ensures { result ≡ writer_of (past before.now) node }
@@ -353,7 +353,7 @@ fn writer_of(before: &[Happening], node: NodeId) -> Actor
     Actor::new(node, incarnation(before, node))
 }
 
-/// The incarnation that the node has after these happenings: 1 in its first life.
+/// Returns the incarnation that the node has after these happenings: 1 in its first life.
 fn incarnation(before: &[Happening], node: NodeId) -> u32
     requires { IsHistory before.now }
     ensures value { result ≡ (past before.now).restarts node + 1 }

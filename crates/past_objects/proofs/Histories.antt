@@ -4,7 +4,7 @@ use Rattle.std.proofs.Common.{⊎_elim}
 use Rattle.past_model.specs.declared.happening.Happening.{Happening}
 use Rattle.past_model.specs.History.{Fits, IsHistory}
 
--- where a list with one more element is split, that is at the end or within the list
+-- if a list with one more element is split, that is at the end or within the list
 split_snoc : (hs : List Happening) (h : Happening) (before after : List Happening) (g : Happening) → hs ++ h ∷ [] ≡ before ++ g ∷ after
     → ((hs ≡ before) × (h ≡ g)) ⊎ ((rest : List Happening) × (hs ≡ before ++ g ∷ rest))
 split_snoc [] h [] after g e = inl (refl, cc)

@@ -35,8 +35,8 @@ pub record MakesNoImage (hs : List Happening) (h : Happening) : Type 0 where
   pub images : (m : ℕ) → Stays (image_object hs m) (image_object (hs ++ h ∷ []) m)
 
 -- the node makes its next image, and no other node does; the image has under the key what the node
--- then holds there, and under each other key what its images started from, and from now on they
--- start from this one
+-- then holds there, and under each other key what its images started from; its later images start
+-- from this one
 pub record MakesImage (hs : List Happening) (h : Happening) (n : ℕ) (k : Key) : Type 0 where
   pub number : last_image (hs ++ h ∷ []) n ≡ last_image hs n + 1
   pub image : Gains (image_object hs n) (image_object (hs ++ h ∷ []) n) (last_image hs n + 1) k

@@ -95,7 +95,7 @@ with_held_image_restored n j o =
       restarts = set_at o.restarts n (o.restarts n + 1);
     }
 
--- what a happening changes, but for the next place
+-- what a happening changes, except the next place
 abbrev pub changed_objects : Objects → Happening → Objects
 changed_objects o (Wrote n k v r) = with_next_held_image n k (holds_write n k v r o)
 changed_objects o (Looked n k) =

@@ -45,7 +45,7 @@ pub fn the_machine_goes_on_with_each_happening()
     ensures restarted { (hs : List H) (n j : ℕ) → AfterRestart hs n j }
 {}
 
-/// What was sent is stale for a node, by vectors, exactly where the node knows all that the sender
+/// What was sent is stale for a node, by vectors, exactly if the node knows all that the sender
 /// knew; then merging it changes nothing.
 pub fn a_delivery_is_stale_where_it_is_known()
     ensures exactly { (hs : List H) → IsHistory hs → (n i : ℕ) (k : Key)

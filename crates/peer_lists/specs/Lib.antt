@@ -1,1 +1,3 @@
+-- What must be believed of lists of peers.
+-- words on ordered lists: who comes, who leaves, and the random choices
 pub mod Lists

@@ -28,7 +28,8 @@ pub fn without_all(
     Ok(left)
 }
 
-/// The random choice among the members: the one at place `word` modulo their number, from 0.
+/// Returns the random choice among the members: the one at place `word` modulo their number, from
+/// 0.
 pub fn choose(word: u64, members: &[NodeId]) -> NodeId
     requires { 0 < length members.now }
     ensures { result ≡ choose word members.now }

@@ -1,12 +1,13 @@
 //! What the arguments ask for.
 
+use crate::file::Copied;
 use crate::live::LiveArguments;
 use clap::builder::ValueParser;
 use clap::error::ErrorKind;
 use clap::{Arg, ArgAction, ArgMatches, Command, Error};
 use cluster::ClusterPlan;
 use node_parts::both;
-use plumctl_draw::Part;
+use plumctl_draw::Excerpt;
 use std::alloc::{AllocError, Global};
 use std::io;
 use streams::{StreamFault, write_fault};
@@ -29,12 +30,12 @@ pub enum Asked<'a> {
     /// A picture of a part of the scenario in the file of this path or standard input.
     Draw {
         file: Option<&'a str>,
-        part: Part,
+        part: Excerpt,
     },
-    /// The report of the node file at a path, and with `rewrite` a clean copy of it at another.
+    /// The report of the node file at a path, and a clean copy of it, if that is asked for.
     File {
         path: &'a str,
-        rewrite: Option<&'a str>,
+        copied: Option<Copied<'a>>,
     },
     /// A run of threads.
     Live(LiveArguments<'a>),
@@ -51,7 +52,7 @@ const LONG_HELP: &str = "Examples:
   plumctl run siblings.scenario
   plumctl draw siblings.scenario > siblings.svg
   plumctl frame frames.hex
-  plumctl file node-0 --rewrite node-0.clean
+  plumctl file node-0 --compact
   plumctl live 4 200 7 --record tuesday.scenario
 
 'plumctl help COMMAND' says more of a command, and -h less.
@@ -100,8 +101,8 @@ The whole text is read before it is run; one that is typed ends with Ctrl-D.
 
 A space separates words, and nothing else does: a line with a tab or a carriage return is no
 command. An empty line is skipped, and so is one that begins with #. Each command prints a line,
-and a line for each frame that it sent. Where a line is no command, error 70 BadLine and its number
-is all that is printed.
+and a line for each frame that it sent. If a line is no command, error 70 BadLine and its number are
+all that is printed.
 
 Example:
   printf 'nodes 1\\nput 0 a/b/k x\\nshow 0 a/b/k\\n' | plumctl run
@@ -121,8 +122,8 @@ command has a row, with the number of its line; a settle has one for each frame 
 and a keep one for each key.
 
 An arrow goes from the sending of a frame to its delivery, with its number and kind, and its colour
-says what it is about. It is dashed where the frame was stale or refused, and ends in a cross where
-the frame was never delivered. A dot is a step of a node, a diamond one about who knows whom, and a
+says what it is about. It is dashed if the frame was stale or refused, and ends in a cross if the
+frame was never delivered. A dot is a step of a node, a diamond one about who knows whom, and a
 gap in a lane a restart. A box is tied to the lane of its node, and has what that shows under a key
 from then on: the key, its values, its context.
 
@@ -146,16 +147,18 @@ order, and a line for the root of the table's tree:
   node 0 life 1 keys 1
   key a/b/k ctx 0.1:1 values x
   root 4368d585cc1af0cf1167149ae68c0ee7ed5714817d2a67e966816308178e4dff
-Two nodes that print the same root hold the same objects. Nothing is changed, and a file that a node
-has open is not read.
+Two nodes that print the same root hold the same objects. A node may have the file, and write to it:
+then the report is of some moment.
 
-Where the file is damaged, `error 31 Damaged at 52` names the first byte that is not as a file has
-it; a node can't be started from it. Where it could not be read, or OUT not be written, `error 30
-Device` is printed. Standard error then has which path that is and why, and so it has where a file
-does not begin as a node file does.
+If the file is damaged, `error 31 Damaged at 52` names the first byte that is not as a file has it;
+a node can't be started from it. If it could not be read, or a copy not be written, `error 30
+Device` is printed. Standard error then says which path that is and why, and also if a file does not
+begin as a node file does.
 
-OUT is a node file once the status is 0: give it the name of the old one then, while no node runs.
-OUT is removed where it could not be written whole. A file of version 1 becomes one of version 2.
+A clean copy has one record for each key. With --compact it takes the place of the file, and with
+--rewrite it is a new file, OUT. No node may have the file meanwhile. A copy has its name only once
+all of it is on the disk; until then it is beside it, with .new behind the name. A file of version 1
+becomes one of version 2.
 
 Exit status: 0 done, 1 the file is damaged or has too many keys, 2 wrong arguments, 3 reading or
 writing failed, 4 memory ran out.";
@@ -167,9 +170,9 @@ What all of them did is then put together as one run of the proved core:
   live nodes 4 turns 200
   calls 803 lost 0
   assembled
-Where it is none, or the cluster gives none, `fault` with a number and a name says why.
+If it is none, or the cluster gives none, `fault` with a number and a name says why.
 
-With --record, where the run is assembled, FILE is a scenario of it: `plumctl run FILE` makes the
+With --record, if the run is assembled, FILE is a scenario of it: `plumctl run FILE` makes the
 same calls again, one after the other, and prints each reply and frame that the threads had. With
 --files DIR has the file of each node, node-0 and so on, which `plumctl file` reads. Neither may be
 there before. A node whose device fails makes no more turns, which is told at standard error.
@@ -193,6 +196,8 @@ const PATH: &str = "PATH";
 
 const REWRITE: &str = "rewrite";
 
+const COMPACT: &str = "compact";
+
 const NODES: &str = "NODES";
 
 const TURNS: &str = "TURNS";
@@ -203,14 +208,14 @@ const RECORD: &str = "record";
 
 const FILES: &str = "files";
 
-/// A command with its help, which takes no argument yet.
+/// Makes a command with its help, which takes no argument.
 fn command_of<'a>(alloc: Global, name: &'a str, about: &'a str, long_help: &'a str) -> Command<'a> {
     Command::new(alloc, name)
         .about(about)
         .after_long_help(long_help)
 }
 
-/// The command with one argument more.
+/// Returns the command with one more argument.
 fn with_argument<'a>(
     command: Result<Command<'a>, AllocError>,
     argument: Arg<'a>,
@@ -219,12 +224,12 @@ fn with_argument<'a>(
     command.arg(argument)
 }
 
-/// The file that a command reads.
+/// Makes the argument for the file that a command reads.
 fn input<'a>(alloc: Global, help: &'a str) -> Arg<'a> {
     Arg::new(alloc, FILE).help(help).action(ArgAction::Set)
 }
 
-/// An option that takes a value.
+/// Makes an option that takes a value.
 fn option<'a>(alloc: Global, name: &'a str, value_name: &'a str, help: &'a str) -> Arg<'a> {
     Arg::new(alloc, name)
         .long(name)
@@ -233,12 +238,12 @@ fn option<'a>(alloc: Global, name: &'a str, value_name: &'a str, help: &'a str) 
         .action(ArgAction::Set)
 }
 
-/// The number of a line that `draw` asks for.
+/// Makes the option for the number of a line that `draw` asks for.
 fn line<'a>(alloc: Global, name: &'a str, help: &'a str) -> Arg<'a> {
     option(alloc, name, "LINE", help).value_parser(ValueParser::unsigned(0, u64::MAX))
 }
 
-/// A number that `live` asks for, in this range.
+/// Makes the argument for a number that `live` asks for, in this range.
 fn number<'a>(alloc: Global, name: &'a str, help: &'a str, least: u64, most: u64) -> Arg<'a> {
     Arg::new(alloc, name)
         .help(help)
@@ -247,14 +252,12 @@ fn number<'a>(alloc: Global, name: &'a str, help: &'a str, least: u64, most: u64
         .action(ArgAction::Set)
 }
 
-/// The command `frame`.
 fn frame_command<'a>(alloc: Global) -> Result<Command<'a>, AllocError> {
     let about = "Print the frames that lines of hexadecimal digits spell";
     let help = "The lines; standard input if there is none, or for -";
     command_of(alloc, "frame", about, FRAME_HELP).arg(input(alloc, help))
 }
 
-/// The command `run`.
 fn run_command<'a>(alloc: Global) -> Result<Command<'a>, AllocError> {
     let about = "Run a scenario over the nodes of a new cluster";
     let help = "The scenario; standard input if there is none, or for -";
@@ -266,7 +269,6 @@ fn run_command<'a>(alloc: Global) -> Result<Command<'a>, AllocError> {
     with_argument(command, explain)
 }
 
-/// The command `draw`.
 fn draw_command<'a>(alloc: Global) -> Result<Command<'a>, AllocError> {
     let about = "Draw a run of a scenario, as an SVG picture";
     let help = "The scenario; standard input if there is none, or for -";
@@ -282,7 +284,6 @@ fn draw_command<'a>(alloc: Global) -> Result<Command<'a>, AllocError> {
     with_argument(command, fold)
 }
 
-/// The command `file`.
 fn file_command<'a>(alloc: Global) -> Result<Command<'a>, AllocError> {
     let about = "Print what the file of a node holds, or where it is damaged";
     let path = Arg::new(alloc, PATH)
@@ -291,10 +292,16 @@ fn file_command<'a>(alloc: Global) -> Result<Command<'a>, AllocError> {
         .action(ArgAction::Set);
     let command = command_of(alloc, "file", about, FILE_HELP).arg(path);
     let help = "Make a clean copy here, one record for each key, where nothing is yet";
-    with_argument(command, option(alloc, REWRITE, "OUT", help))
+    let command = with_argument(command, option(alloc, REWRITE, "OUT", help));
+    let compact = Arg::new(alloc, COMPACT)
+        .long(COMPACT)
+        .help("Put a clean copy in the place of the file")
+        .action(ArgAction::SetTrue)
+        .conflicts_with(REWRITE);
+    let (command, compact) = both(command, compact)?;
+    command.arg(compact)
 }
 
-/// The command `live`.
 fn live_command<'a>(alloc: Global) -> Result<Command<'a>, AllocError> {
     let about = "Run a cluster of threads, and judge what they did";
     let nodes = number(alloc, NODES, "How many nodes there are, 1 to 16", 1, 16);
@@ -309,7 +316,7 @@ fn live_command<'a>(alloc: Global) -> Result<Command<'a>, AllocError> {
     with_argument(command, option(alloc, FILES, "DIR", help))
 }
 
-/// The command line, with its help.
+/// Makes the command line, with its help.
 fn command<'a>(alloc: Global) -> Result<Command<'a>, AllocError> {
     let command = Command::new(alloc, "plumctl")
         .about("The commands of Zomtagi, a cluster metadata store")
@@ -324,7 +331,7 @@ fn command<'a>(alloc: Global) -> Result<Command<'a>, AllocError> {
     with_subcommand(command, live_command(alloc))
 }
 
-/// The command with one subcommand more.
+/// Returns the command with one more subcommand.
 fn with_subcommand<'a>(
     command: Result<Command<'a>, AllocError>,
     subcommand: Result<Command<'a>, AllocError>,
@@ -333,7 +340,7 @@ fn with_subcommand<'a>(
     command.subcommand(subcommand)
 }
 
-/// Returns the arguments of the program, its name among them; `None` where one is no text.
+/// Returns the arguments of the program, including its name; `None` if one is no text.
 pub fn read_words(rt: &HostRuntime) -> Result<Option<Vec<String>>, StreamFault> {
     match std::env::args(rt) {
         Ok(args) => Ok(Some(args.collect(rt.alloc())?)),
@@ -363,7 +370,16 @@ fn path(file: Option<&str>) -> Option<&str> {
     }
 }
 
-/// What the arguments of `live` ask for.
+/// Returns where `file` is asked to put a clean copy.
+fn copied<'a>(matches: &ArgMatches<'a>) -> Option<Copied<'a>> {
+    if matches.get_flag(COMPACT) {
+        Some(Copied::Same)
+    } else {
+        matches.get_str(REWRITE).map(Copied::New)
+    }
+}
+
+/// Returns what the arguments of `live` ask for.
 fn live<'a>(matches: &ArgMatches<'a>) -> Asked<'a> {
     match (
         matches.get_one::<u64>(NODES),
@@ -379,7 +395,7 @@ fn live<'a>(matches: &ArgMatches<'a>) -> Asked<'a> {
     }
 }
 
-/// What the arguments of the command of this name ask for.
+/// Returns what the arguments of the command of this name ask for.
 fn asked_of<'a>(name: &str, matches: &ArgMatches<'a>) -> Asked<'a> {
     match name {
         "frame" => Asked::Frame {
@@ -391,7 +407,7 @@ fn asked_of<'a>(name: &str, matches: &ArgMatches<'a>) -> Asked<'a> {
         },
         "draw" => Asked::Draw {
             file: path(matches.get_str(FILE)),
-            part: Part {
+            part: Excerpt {
                 from: matches.get_one::<u64>(FROM).unwrap_or(0),
                 to: matches.get_one::<u64>(TO).unwrap_or(u64::MAX),
                 fold: matches.get_flag(FOLD),
@@ -400,7 +416,7 @@ fn asked_of<'a>(name: &str, matches: &ArgMatches<'a>) -> Asked<'a> {
         "file" => match matches.get_str(PATH) {
             Some(path) => Asked::File {
                 path,
-                rewrite: matches.get_str(REWRITE),
+                copied: copied(matches),
             },
             None => Asked::Nothing(USAGE),
         },
@@ -409,7 +425,7 @@ fn asked_of<'a>(name: &str, matches: &ArgMatches<'a>) -> Asked<'a> {
     }
 }
 
-/// What the arguments ask for, once they were found to be right.
+/// Returns what the arguments ask for, once they were found to be right.
 fn asked_for<'a>(matches: &ArgMatches<'a>) -> Asked<'a> {
     match matches.subcommand() {
         Some((name, matches)) => asked_of(name, matches),
@@ -425,12 +441,12 @@ fn told(rt: &HostRuntime, error: &Error) -> Result<u8, StreamFault> {
     print(rt, error)
 }
 
-/// What the arguments ask for.
+/// Returns what the arguments ask for.
 pub fn read_arguments<'a>(rt: &HostRuntime, words: &'a [String]) -> Result<Asked<'a>, StreamFault> {
     match command(rt.alloc())?.try_get_matches_from(words) {
         Ok(matches) => {
             let asked = asked_for(&matches);
-            // Dropped by a call: no case of the proof then takes it apart.
+            // Dropped by a call, so that no case of the proof takes it apart.
             drop(matches);
             Ok(asked)
         }

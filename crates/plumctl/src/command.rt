@@ -5,7 +5,7 @@ ghost use Rattle.plumctl_draw.specs.Asked.{EndsDrawing};
 
 use crate::progress::{Known, Place, told};
 use plumctl_core::{NoProgress, Progress, run_frame, run_scenario, tell, tell_unopened};
-use plumctl_draw::{Part, draw_scenario};
+use plumctl_draw::{Excerpt, draw_scenario};
 use std::fs::{self, File};
 use std::io::{BufWriter, ErrorKind, IsTerminal};
 use std::sync::Wait;
@@ -21,7 +21,7 @@ enum Input {
     Standard,
 }
 
-/// Opens the file at a path, to be read, or takes standard input where there is none. A folder is
+/// Opens the file at a path to be read, or takes standard input if there is no path. A folder is
 /// refused, since no read of it would succeed.
 fn open(rt: &HostRuntime, file: Option<&str>) -> Result<Input, ErrorKind> {
     let Some(path) = file else {
@@ -46,7 +46,7 @@ fn unopened(rt: &HostRuntime, file: Option<&str>, kind: ErrorKind) -> u8
     ensures { result ≢ 2 }
 {
     let name = file.unwrap_or("standard input");
-    tell_unopened(rt.alloc(), &mut MayFail(rt.stderr()), name, kind)
+    tell_unopened(&mut MayFail(rt.stderr()), name, kind)
 }
 
 /// Does `frame` for the file of this path, or for standard input, to standard output. Returns the
@@ -61,7 +61,7 @@ pub fn frame(rt: &HostRuntime, file: Option<&str>) -> u8
     }
 }
 
-/// Prints the frames of a reader, to standard output.
+/// Prints the frames of a reader to standard output.
 fn frame_from<R: Source>(rt: &HostRuntime, reader: &mut R) -> u8
     ensures { result ≢ 2 }
 {
@@ -72,8 +72,8 @@ fn frame_from<R: Source>(rt: &HostRuntime, reader: &mut R) -> u8
     run_frame(rt.alloc(), reader, &mut MayFail(buffered), &mut errors)
 }
 
-/// Whether a scenario is typed: it isn't in a file, and standard input is a terminal. Says at
-/// standard error how it ends then, since nothing happens before that.
+/// Returns whether a scenario is typed: it isn't in a file, and standard input is a terminal. If
+/// so, it says at standard error how to end it, since nothing happens before that.
 fn is_typed(rt: &HostRuntime, file: Option<&str>) -> bool {
     let is_typed = file.is_none() && rt.stdin().is_terminal();
     if is_typed {
@@ -84,8 +84,8 @@ fn is_typed(rt: &HostRuntime, file: Option<&str>) -> bool {
     is_typed
 }
 
-/// Does `run`, and reports at a terminal that it takes its time, but not where the scenario is
-/// typed. Returns the exit status.
+/// Does `run`, and reports at a terminal that it takes time, unless the scenario is typed. Returns
+/// the exit status.
 pub fn run<R: Threads + Wait + Sync>(
     rt: &HostRuntime,
     handle: &R,
@@ -101,7 +101,7 @@ pub fn run<R: Threads + Wait + Sync>(
     })
 }
 
-/// Runs the scenario of the file of this path, or of standard input, to standard output; explained,
+/// Runs the scenario of the file of this path, or of standard input, to standard output, explained
 /// if that is asked for. Returns the exit status, which is never 2.
 fn run_input<G: Progress>(rt: &HostRuntime, file: Option<&str>, explain: bool, progress: &G) -> u8
     ensures { result ≢ 2 }
@@ -113,8 +113,8 @@ fn run_input<G: Progress>(rt: &HostRuntime, file: Option<&str>, explain: bool, p
     }
 }
 
-/// Runs the scenario of a reader, to standard output: at a terminal what each command prints is
-/// shown at once, elsewhere it is written in large pieces.
+/// Runs the scenario of a reader to standard output. At a terminal the output of each command is
+/// shown at once; elsewhere it is written in large pieces.
 fn run_from<R: Source, G: Progress>(
     rt: &HostRuntime,
     reader: &mut R,
@@ -132,7 +132,7 @@ fn run_from<R: Source, G: Progress>(
     }
 }
 
-/// Runs the scenario of a reader, to a writer.
+/// Runs the scenario of a reader to a writer.
 fn run_to<R: Source, W: Sink, G: Progress>(
     rt: &HostRuntime,
     reader: &mut R,
@@ -146,35 +146,48 @@ fn run_to<R: Source, W: Sink, G: Progress>(
     run_scenario(rt.alloc(), reader, writer, &mut errors, explain, progress)
 }
 
-/// Does `draw`, and reports at a terminal that it takes its time, but not where the scenario is
-/// typed. Returns the exit status.
+/// Does `draw`, and reports at a terminal how far it is, unless the scenario is typed. Returns the
+/// exit status.
 pub fn draw<R: Threads + Wait + Sync>(
     rt: &HostRuntime,
     handle: &R,
     file: Option<&str>,
-    part: Part,
+    part: Excerpt,
 ) -> u8 {
     if is_typed(rt, file) {
-        return draw_input(rt, file, part);
+        return draw_input(rt, file, part, &NoProgress);
     }
-    told(rt, handle, Known::Nothing, || draw_input(rt, file, part))
+    let place = Place::new();
+    told(rt, handle, Known::Lines(&place), || {
+        draw_input(rt, file, part, &place)
+    })
 }
 
 /// Draws the scenario of the file of this path, or of standard input, to standard output. Returns
 /// the exit status: that of `draw_from`, or that of `tell_unopened`, which is never 2: a file that
 /// can't be opened can't be read. (It has no clause of its own, since none can name what a file
 /// gives.)
-fn draw_input(rt: &HostRuntime, file: Option<&str>, part: Part) -> u8 {
+fn draw_input<G: Progress>(
+    rt: &HostRuntime,
+    file: Option<&str>,
+    part: Excerpt,
+    progress: &G,
+) -> u8 {
     match open(rt, file) {
-        Ok(Input::File(file)) => draw_from(rt, &mut MayFail(file), part),
-        Ok(Input::Standard) => draw_from(rt, &mut MayFail(rt.stdin()), part),
+        Ok(Input::File(file)) => draw_from(rt, &mut MayFail(file), part, progress),
+        Ok(Input::Standard) => draw_from(rt, &mut MayFail(rt.stdin()), part, progress),
         Err(kind) => unopened(rt, file, kind),
     }
 }
 
-/// Draws the scenario of a reader, to standard output. Returns the exit status, which is 2, that of
-/// wrong arguments, exactly where the whole input was read and no command stands in the part.
-fn draw_from<R: Source>(rt: &HostRuntime, reader: &mut R, part: Part) -> u8
+/// Draws the scenario of a reader to standard output. Returns the exit status, which is 2, that of
+/// wrong arguments, exactly if the whole input was read and no command stands in the part.
+fn draw_from<R: Source, G: Progress>(
+    rt: &HostRuntime,
+    reader: &mut R,
+    part: Excerpt,
+    progress: &G,
+) -> u8
     ensures { EndsDrawing part.from part.to (R.at reader.old) (R.at reader.new) result }
 {
     let mut errors = MayFail(rt.stderr());
@@ -184,5 +197,6 @@ fn draw_from<R: Source>(rt: &HostRuntime, reader: &mut R, part: Part) -> u8
         &mut MayFail(rt.stdout()),
         &mut errors,
         part,
+        progress,
     )
 }

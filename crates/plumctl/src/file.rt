@@ -5,25 +5,34 @@ ghost use Rattle.std.specs.Prelude.{◌≢◌};
 use crate::command::OUTPUT_LEN;
 use crate::progress::{Known, told};
 use plumctl_core::tell;
-use plumctl_file::{Reported, copy_to_path, report_path};
+use plumctl_file::{Purpose, Reported, compact_path, copy_to_path, report_path};
 use std::io::BufWriter;
 use std::sync::Wait;
 use std::thread::Threads;
 use streams::{MayFail, StreamFault};
 
-/// Does `file`, and reports at a terminal that it takes its time. Returns the exit status.
+/// Where a clean copy of a file is put.
+#[derive(Clone, Copy)]
+pub enum Copied<'a> {
+    /// At this path, where nothing is yet.
+    New(&'a str),
+    /// In the place of the file.
+    Same,
+}
+
+/// Does `file`, and reports at a terminal that it takes time. Returns the exit status.
 pub fn file<R: Threads + Wait + Sync>(
     rt: &HostRuntime,
     handle: &R,
     path: &str,
-    rewrite: Option<&str>,
+    copied: Option<Copied<'_>>,
 ) -> u8 {
-    told(rt, handle, Known::Nothing, || report(rt, path, rewrite))
+    told(rt, handle, Known::Nothing, || report(rt, path, copied))
 }
 
-/// Reports the file at a path, and makes a clean copy at another, where that is asked for and a
-/// file was shown. Returns the exit status, which is never 2, the status of wrong arguments.
-fn report(rt: &HostRuntime, path: &str, rewrite: Option<&str>) -> u8
+/// Reports the file at a path, and makes a clean copy, if that is asked for and a file was shown.
+/// Returns the exit status, which is never 2, the status of wrong arguments.
+fn report(rt: &HostRuntime, path: &str, copied: Option<Copied<'_>>) -> u8
     ensures { result ≢ 2 }
 {
     let mut errors = MayFail(rt.stderr());
@@ -31,10 +40,17 @@ fn report(rt: &HostRuntime, path: &str, rewrite: Option<&str>) -> u8
         return tell(&mut errors, StreamFault::Memory);
     };
     let mut writer = MayFail(buffered);
-    let (status, reported) = report_path(rt, path, &mut writer, &mut errors);
-    match (rewrite, reported) {
-        (Some(out), Some(Reported::Shown(shown))) => {
+    let purpose = match copied {
+        Some(_) => Purpose::Copy,
+        None => Purpose::Report,
+    };
+    let (status, reported) = report_path(rt, path, purpose, &mut writer, &mut errors);
+    match (copied, reported) {
+        (Some(Copied::New(out)), Some(Reported::Shown(shown))) => {
             copy_to_path(rt, &shown, out, &mut writer, &mut errors)
+        }
+        (Some(Copied::Same), Some(Reported::Shown(shown))) => {
+            compact_path(rt, &shown, path, &mut writer, &mut errors)
         }
         _ => status,
     }

@@ -7,10 +7,9 @@ ghost use Rattle.run_record.specs.Record.{IsOfARun};
 use crate::command::OUTPUT_LEN;
 use crate::progress::{Known, Turns, told};
 use cluster::ClusterPlan;
-use devices::{Device, FileDevice, OpenFault};
+use devices::{Device, FileDevice, NewName, OpenFault};
 use plumctl_core::tell;
 use plumctl_live::{LiveRun, new_files, run_live, run_live_on, tell_unmade, write_recording};
-use std::fs;
 use std::io::BufWriter;
 use std::sync::Wait;
 use std::thread::Threads;
@@ -22,7 +21,7 @@ pub struct LiveArguments<'a> {
     pub plan: ClusterPlan,
     /// Where the run is written down as a scenario.
     pub record: Option<&'a str>,
-    /// The folder of the nodes' files; where there is none, they are in memory.
+    /// The folder of the nodes' files. If there is none, they are in memory.
     pub files: Option<&'a str>,
 }
 
@@ -56,13 +55,16 @@ fn run<R: Threads + Wait + Sync>(
     let mut writer = MayFail(buffered);
     let target = match target_of(rt, asked) {
         Ok(target) => target,
-        Err(unmade) => return unmade.tell(rt, &mut errors),
+        Err(unmade) => return unmade.tell(&mut errors),
     };
     let devices = match devices_of(rt, asked) {
         Ok(devices) => devices,
         Err(unmade) => {
-            remove(rt, asked);
-            return unmade.tell(rt, &mut errors);
+            if let Some((device, name)) = target {
+                drop(device);
+                name.discard(rt);
+            }
+            return unmade.tell(&mut errors);
         }
     };
     let live = run_on(
@@ -80,7 +82,7 @@ fn run<R: Threads + Wait + Sync>(
     }
 }
 
-/// A path where nothing could be made, and why.
+/// A path at which nothing could be made, and why.
 #[derive(Clone, Copy)]
 struct Unmade<'a> {
     path: &'a str,
@@ -89,28 +91,29 @@ struct Unmade<'a> {
 
 impl<'a> Unmade<'a> {
     /// Prints the path and the cause at standard error, and returns the exit status.
-    fn tell<E: Sink>(self, rt: &HostRuntime, errors: &mut E) -> u8
+    fn tell<E: Sink>(self, errors: &mut E) -> u8
         ensures { result ≢ 2 }
     {
-        tell_unmade(rt.alloc(), errors, self.path, self.fault)
+        tell_unmade(errors, self.path, self.fault)
     }
 }
 
-/// The file of the recording, where one is asked for.
+/// Returns the file of the recording, which has its name once all of it is written, if one is
+/// asked for.
 fn target_of<'a>(
     rt: &HostRuntime,
     asked: LiveArguments<'a>,
-) -> Result<Option<FileDevice>, Unmade<'a>> {
+) -> Result<Option<(FileDevice, NewName)>, Unmade<'a>> {
     let Some(path) = asked.record else {
         return Ok(None);
     };
-    match FileDevice::create_new(rt, rt.alloc(), path) {
+    match NewName::at(rt, rt.alloc(), path) {
         Ok(target) => Ok(Some(target)),
         Err(fault) => Err(Unmade { path, fault }),
     }
 }
 
-/// The files of the nodes, where they are asked for.
+/// Returns the files of the nodes, if they are asked for.
 fn devices_of<'a>(
     rt: &HostRuntime,
     asked: LiveArguments<'a>,
@@ -128,7 +131,8 @@ fn devices_of<'a>(
     }
 }
 
-/// Runs the threads on these devices, or else in memory, and prints what became of them.
+/// Runs the threads on these devices, or in memory if there are none, and prints what became of
+/// them.
 fn run_on<R: Threads + Wait + Sync, W: Sink, E: Sink>(
     rt: &HostRuntime,
     handle: &R,
@@ -155,20 +159,21 @@ fn run_on<R: Threads + Wait + Sync, W: Sink, E: Sink>(
 }
 
 /// Writes down a run that was reported, if it is one of the world and its status is 0, in the file
-/// at this path. Removes the file unless all of it was written. Returns the exit status.
+/// that is to have this path. Nothing is at the path unless all of it was written. Returns the exit
+/// status.
 fn record<E: Sink>(
     rt: &HostRuntime,
     plan: ClusterPlan,
     live: &LiveRun,
     path: &str,
-    target: FileDevice,
+    target: (FileDevice, NewName),
     errors: &mut E,
 ) -> u8
     requires not_usage { live.now.status ≢ 2 }
     requires world { IfOk live.now.judged (IsOfARun plan.nodes) }
     ensures { result ≢ 2 }
 {
-    let mut target = target;
+    let (mut target, name) = target;
     let status = match &live.judged {
         Ok(world) if live.status == 0 => {
             write_recording(rt.alloc(), plan, world, path, &mut target, errors)
@@ -176,14 +181,11 @@ fn record<E: Sink>(
         _ => live.status,
     };
     if status != 0 {
-        let _ = fs::remove_file(rt, path);
+        name.discard(rt);
+        return status;
     }
-    status
-}
-
-/// Removes the file of the recording, where one was asked for.
-fn remove(rt: &HostRuntime, asked: LiveArguments<'_>) {
-    if let Some(path) = asked.record {
-        let _ = fs::remove_file(rt, path);
+    match name.put(rt, target) {
+        Ok(_) => 0,
+        Err(fault) => Unmade { path, fault }.tell(errors),
     }
 }

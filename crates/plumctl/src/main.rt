@@ -1,6 +1,6 @@
 //! The commands of the store, at the command line. Each exit status, and each line at standard
 //! error, comes from a call of `plumctl_core`, `plumctl_file` or `plumctl_live`, except those about
-//! arguments and progress, and to who types a scenario.
+//! arguments and progress, and what is said to somebody who types a scenario.
 #![tactic(auto)]
 
 mod arguments;
@@ -33,7 +33,7 @@ fn run<R: Threads + Wait + Sync>(rt: &HostRuntime, handle: &R) -> Result<u8, Str
         Asked::Frame { file } => command::frame(rt, file),
         Asked::Run { file, explain } => command::run(rt, handle, file, explain),
         Asked::Draw { file, part } => command::draw(rt, handle, file, part),
-        Asked::File { path, rewrite } => file::file(rt, handle, path, rewrite),
+        Asked::File { path, copied } => file::file(rt, handle, path, copied),
         Asked::Live(asked) => live::live(rt, handle, asked),
         Asked::Nothing(status) => status,
     })

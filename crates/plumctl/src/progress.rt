@@ -1,6 +1,6 @@
-//! Reporting at a terminal that work takes its time.
+//! Reports at a terminal that work takes time.
 
-use cluster::{ClusterPlan, Gate};
+use cluster::{ClusterPlan, TurnHook};
 use meta_types::NodeId;
 use plumctl_core::Progress;
 use plumctl_live::Counts;
@@ -10,8 +10,8 @@ use std::sync::atomic::{AtomicBool, AtomicU64, Ordering};
 use std::thread::{self, Parker, Threads};
 use std::time::{Duration, Instant};
 
-/// How many turns the nodes of a cluster have made, and how many they make in all; and, once the
-/// run is over, its counts.
+/// How many turns the nodes of a cluster have made, and how many they make in all. Once the run is
+/// over, also its counts.
 #[derive(Drop)]
 pub struct Turns {
     made: AtomicU64,
@@ -21,7 +21,7 @@ pub struct Turns {
 }
 
 impl Turns {
-    /// Makes the record of a run whose nodes have made no turn yet.
+    /// Makes the record of a run whose nodes have made no turn.
     pub fn new(plan: ClusterPlan) -> Turns {
         Turns {
             made: AtomicU64::new(0),
@@ -37,13 +37,13 @@ impl Turns {
         self.lost.store(counts.lost, Ordering::Relaxed);
     }
 
-    /// Whether all turns were made.
+    /// Returns whether all turns were made.
     fn are_made(&self) -> bool {
         self.made.load(Ordering::Relaxed) >= self.all
     }
 }
 
-impl Gate for Turns {
+impl TurnHook for Turns {
     fn before(&self, _node: NodeId, _turn: u64) {}
 
     fn after(&self, _node: NodeId, _turn: u64) {
@@ -51,7 +51,7 @@ impl Gate for Turns {
     }
 }
 
-/// Which line of a scenario is at work, and how many it has; 0 of 0 while it is read.
+/// Which line of a scenario is at work, and how many lines it has; 0 of 0 while it is read.
 #[derive(Drop)]
 pub struct Place {
     line: AtomicU64,
@@ -59,7 +59,7 @@ pub struct Place {
 }
 
 impl Place {
-    /// Makes the record of a scenario that wasn't read yet.
+    /// Makes the record of a scenario that wasn't read.
     pub fn new() -> Place {
         Place {
             line: AtomicU64::new(0),
@@ -88,9 +88,9 @@ pub enum Known<'a> {
     Turns(&'a Turns),
 }
 
-/// Does the work. Where standard error is a terminal, prints there that it is at work, after a
-/// second, and again after 2, 4, 8 seconds and so on, and what is known of how far it is; and for a
-/// cluster, if that was printed, at last how many calls it made in a second.
+/// Does the work. If standard error is a terminal, prints there that it is at work and what is
+/// known of how far it is, after a second, and again after 2, 4, 8 seconds and so on. For a
+/// cluster, if that was printed, it prints at last how many calls it made in a second.
 pub fn told<R: Threads + Wait + Sync, T: Send, F: FnOnce() -> T + Send>(
     rt: &HostRuntime,
     handle: &R,
@@ -117,8 +117,8 @@ pub fn told<R: Threads + Wait + Sync, T: Send, F: FnOnce() -> T + Send>(
     result
 }
 
-/// Prints how many seconds it has been, until the work is over; then, if that was printed, for a
-/// cluster how many calls it made in a second, by the time in which its turns were made.
+/// Prints how many seconds it has been, until the work is over. Then, if that was printed, prints
+/// for a cluster how many calls it made in a second, by the time in which its turns were made.
 fn tell<R: Wait>(
     rt: &HostRuntime,
     handle: &R,
@@ -152,7 +152,7 @@ fn tell<R: Wait>(
 }
 
 impl<'a> Known<'a> {
-    /// Whether it is known that all turns of a cluster were made.
+    /// Returns whether it is known that all turns of a cluster were made.
     fn are_turns_made(self) -> bool {
         match self {
             Known::Turns(turns) => turns.are_made(),
@@ -181,8 +181,8 @@ fn tell_once(rt: &HostRuntime, seconds: u64, known: Known<'_>) {
     }
 }
 
-/// Prints which line of a scenario is at work, of how many; before its first command only that the
-/// work goes on.
+/// Prints which line of a scenario is at work, of how many. Before its first command it prints only
+/// that the work goes on.
 fn tell_place(rt: &HostRuntime, seconds: u64, place: &Place) {
     let line = place.line.load(Ordering::Relaxed);
     let lines = place.lines.load(Ordering::Relaxed);
@@ -192,8 +192,8 @@ fn tell_place(rt: &HostRuntime, seconds: u64, place: &Place) {
     };
 }
 
-/// Prints how many turns of a cluster were made, each of which is a call, and how many in a second;
-/// once all were made, that they are judged.
+/// Prints how many turns of a cluster were made, each of which is a call, and how many in a second.
+/// Once all were made, prints that they are judged.
 fn tell_turns(rt: &HostRuntime, seconds: u64, turns: &Turns) {
     let all = turns.all;
     let made = turns.made.load(Ordering::Relaxed);

@@ -6,3 +6,5 @@ pub mod Texts
 pub mod Going
 -- how a run ended, and the exit status that says so
 pub mod Ending
+-- texts that are written one behind another
+pub mod Writing

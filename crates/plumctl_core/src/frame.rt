@@ -73,7 +73,7 @@ fn write_last_line<W: Sink>(
 /// and a line that is not an even number of digits is `error 9 BadHex`. The writer is flushed
 /// before the reader is asked for more. Ends with 7 `Read` at the first error of the reader, an
 /// interruption too, with 8 `InputTooLong` once more than 67,108,864 bytes were read, with `Write`
-/// at the first error of the writer or when it takes no more (`BrokenPipe` where its other end is
+/// at the first error of the writer or when it takes no more (`BrokenPipe` if its other end is
 /// closed), and with 99 `Memory`. It takes memory for one read, and for the longest line, its
 /// bytes, its frame and its text, which stands twice while it is made.
 pub fn frame_lines<R: Source, W: Sink>(

@@ -15,7 +15,7 @@ pub fn one_output_for_an_input()
         → IsFrameOutput input other → output ≡ other }
 {}
 
-/// Ends are equal exactly where they are the same.
+/// Ends are equal exactly if they are the same.
 pub fn equal_ends_are_the_same(one: Ended, other: Ended) -> bool
     ensures { IsTrue result ↔ (one ≡ other) }
 {

@@ -7,7 +7,7 @@
 //! ```
 //!
 //! Read `status` (`run_frame`), `frame` (`frame_lines`), `line`, `scenario_run` with `progress`,
-//! `opening` (`tell_unopened`, `add_cause`), then `laws`.
+//! `opening` (`tell_unopened`, `tell_cause`), then `laws`.
 #![tactic(auto)]
 
 mod frame;
@@ -19,7 +19,7 @@ mod scenario_run;
 mod status;
 
 pub use frame::{Ended, frame_lines};
-pub use opening::{add_cause, tell_unopened};
-pub use progress::{NoProgress, Progress};
+pub use opening::{tell_cause, tell_text, tell_unopened};
+pub use progress::{Followed, NoProgress, Progress};
 pub use scenario_run::run_scenario;
 pub use status::{run_frame, status_of_fault, tell};

@@ -59,14 +59,14 @@ impl<'a, G: Progress> Place<'a, G> {
 
 /// Runs a scenario as another runner does, and says how far it is.
 #[derive(Drop)]
-pub(crate) struct Followed<'a, P: Runner + Drop, G: Progress> {
+pub struct Followed<'a, P: Runner + Drop, G: Progress> {
     runner: P,
     place: Place<'a, G>,
 }
 
 impl<'a, P: Runner + Drop, G: Progress> Followed<'a, P, G> {
     /// Says how far this runner is in the scenario that the text is.
-    pub(crate) fn new(runner: P, text: &'a [u8], progress: &'a G) -> Self {
+    pub fn new(runner: P, text: &'a [u8], progress: &'a G) -> Self {
         progress.begin(count_lines(text));
         let lines = Lines::of(text);
         let place = Place {
@@ -75,6 +75,11 @@ impl<'a, P: Runner + Drop, G: Progress> Followed<'a, P, G> {
             progress,
         };
         Followed { runner, place }
+    }
+
+    /// Returns the runner.
+    pub fn into_runner(self) -> P {
+        self.runner
     }
 }
 

@@ -156,8 +156,8 @@ fn run_by<R: Source, W: Sink, E: Sink, G: Progress>(
 /// Runs a scenario as `run_over` does, or explains it as `explain_over` does, with the resolvers
 /// that the words `lww` and `largest` name. Prints at `errors` a fault of reading, writing or
 /// memory, and for the first bad line what it is and what it wants, and returns the exit status: 0
-/// where it was run to its end, 1 where a line breaks a rule, a settling would go on past its limit
-/// or the input is too long, 3 where reading or writing failed, 4 where memory was refused.
+/// if it was run to its end, 1 if a line breaks a rule, a settling would go on past its limit
+/// or the input is too long, 3 if reading or writing failed, 4 if memory was refused.
 pub fn run_scenario<R: Source, W: Sink, E: Sink, G: Progress>(
     alloc: Global,
     reader: &mut R,

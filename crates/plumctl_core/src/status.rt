@@ -9,7 +9,7 @@ use std::alloc::Global;
 use streams::{Sink, Source, StreamFault, write_whole};
 
 impl Ended {
-    /// Returns the exit status: 0 where each line was printed as a frame, 1 where one was refused.
+    /// Returns the exit status: 0 if each line was printed as a frame, 1 if one was refused.
     pub fn status(self) -> u8
         ensures { result ≡ status_of_end self }
     {
@@ -59,8 +59,8 @@ pub fn tell<E: Sink>(errors: &mut E, fault: StreamFault) -> u8
 }
 
 /// Runs `frame` as `frame_lines` does, prints a fault at `errors`, and returns the exit status: 0
-/// where each line was a frame, 1 where one was refused or the input is too long, 3 where reading
-/// or writing failed, 4 where memory was refused.
+/// if each line was a frame, 1 if one was refused or the input is too long, 3 if reading
+/// or writing failed, 4 if memory was refused.
 pub fn run_frame<R: Source, W: Sink, E: Sink>(
     alloc: Global,
     reader: &mut R,

@@ -56,7 +56,7 @@ pub record DrawsNothing (from to : ℕ) (writer_old writer_new errors_old errors
   pub told : TellsText errors_old errors_new (nothing_line from to)
   pub kept : Keeps writer_old.contents writer_new.contents
 
--- the status of a text that was read: 2 exactly where its part has no command
+-- the status of a text that was read: 2 exactly if its part has no command
 abbrev pub IsDrawStatus : (from to : ℕ) → List ℕ → (status : ℕ) → Type 0
 IsDrawStatus from to text status =
     ((asks_nothing from to text ≡ true) × (status ≡ 2))

@@ -4,7 +4,7 @@ ghost use Rattle.std.specs.Prelude.{◌≡◌};
 ghost use Rattle.plumctl_core.specs.Opening.{TellsText};
 ghost use Rattle.plumctl_draw.specs.Asked.{are_skipped, asks_nothing, lines_behind, nothing_line};
 
-use crate::drawing::Part;
+use crate::drawing::Excerpt;
 use scenario_hint::is_skipped;
 use scenario_text::Lines;
 use streams::{Sink, write_whole};
@@ -40,7 +40,7 @@ fn are_skipped(lines: &mut Lines<'_>, count: u64) -> bool
 }
 
 /// Whether no command stands in a part of a text.
-pub(crate) fn asks_nothing(text: &[u8], part: Part) -> bool
+pub(crate) fn asks_nothing(text: &[u8], part: Excerpt) -> bool
     ensures { result ≡ asks_nothing part.from part.to text.now }
 {
     let before = part.from.saturating_sub(1);
@@ -50,7 +50,7 @@ pub(crate) fn asks_nothing(text: &[u8], part: Part) -> bool
 }
 
 /// The line that says why there is nothing to draw.
-fn nothing_line(part: Part) -> &'static str
+fn nothing_line(part: Excerpt) -> &'static str
     ensures { result.now ≡ nothing_line part.from part.to }
 {
     if part.to < part.from {
@@ -63,7 +63,7 @@ fn nothing_line(part: Part) -> &'static str
 }
 
 /// Prints at standard error why there is nothing to draw, as far as that takes it.
-pub(crate) fn tell_nothing<E: Sink>(errors: &mut E, part: Part)
+pub(crate) fn tell_nothing<E: Sink>(errors: &mut E, part: Excerpt)
     ensures { TellsText (E.at errors.old) (E.at errors.new) (nothing_line part.from part.to) }
 {
     let _ = write_whole(errors, nothing_line(part).as_bytes());

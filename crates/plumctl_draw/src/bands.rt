@@ -39,7 +39,7 @@ pub(crate) fn count_kind(
 }
 
 /// Adds the number of frames of each kind, in the order in which the kinds came, and ends the line.
-/// The line that begins at `start` is broken where it would have more than 48 bytes.
+/// The line that begins at `start` is broken if it would have more than 48 bytes.
 pub(crate) fn add_counts(
     label: &mut Vec<u8>,
     start: usize,

@@ -4,9 +4,9 @@ ghost use Rattle.std.specs.Prelude.{◌≡◌, ◌≢◌};
 ghost use Rattle.plumctl_draw.specs.Asked.{DrawsNothing, EndsDrawing, IsDrawStatus};
 
 use crate::asked::{asks_nothing, tell_nothing};
-use crate::drawing::{MAX_COMMANDS, MAX_MOMENTS, Part, draw_text};
+use crate::drawing::{Excerpt, MAX_COMMANDS, MAX_MOMENTS, draw_text};
 use crate::fault::DrawFault;
-use plumctl_core::tell;
+use plumctl_core::{Progress, tell};
 use printing::print_number;
 use resolvers::{Largest, Lww, Resolver};
 use scenario::{ScenarioFault, read_text};
@@ -17,11 +17,11 @@ use streams::{Sink, Source, StreamFault, flush, write_whole};
 /// The exit status of a scenario that is refused.
 const REFUSED: u8 = 1;
 
-/// The exit status where no command stands in the part: the arguments are wrong.
+/// The exit status if no command stands in the part: the arguments are wrong.
 const NOTHING_ASKED: u8 = 2;
 
 /// Prints a text at standard error, as far as that takes it, and returns the exit status of a
-/// scenario that is refused, or of memory that ran out where there is no text.
+/// scenario that is refused, or of memory that ran out if there is no text.
 fn refuse<E: Sink>(errors: &mut E, text: Result<Vec<u8>, AllocError>) -> u8
     ensures { result ≢ 2 }
 {
@@ -79,18 +79,19 @@ fn write_picture<W: Sink>(writer: &mut W, picture: &[u8]) -> Result<(), StreamFa
 
 /// Draws the scenario that this text is with these resolvers, writes the picture, and returns the
 /// exit status.
-fn draw_by<W: Sink, E: Sink>(
+fn draw_by<W: Sink, E: Sink, G: Progress>(
     alloc: Global,
     text: &[u8],
     writer: &mut W,
     errors: &mut E,
     resolvers: &[Box<dyn Resolver>],
-    part: Part,
+    part: Excerpt,
+    progress: &G,
 ) -> u8
     ensures { result ≢ 2 }
 {
     let mut picture = Vec::new(alloc);
-    match draw_text(alloc, text, resolvers, part, &mut picture) {
+    match draw_text(alloc, text, resolvers, part, progress, &mut picture) {
         Ok(()) => match write_picture(writer, picture.as_slice()) {
             Ok(()) => 0,
             Err(fault) => tell(errors, fault),
@@ -101,12 +102,13 @@ fn draw_by<W: Sink, E: Sink>(
 
 /// Draws the scenario that this text is with the resolvers that the words `lww` and `largest` name,
 /// writes the picture, and returns the exit status.
-fn draw_named<W: Sink, E: Sink>(
+fn draw_named<W: Sink, E: Sink, G: Progress>(
     alloc: Global,
     text: &[u8],
     writer: &mut W,
     errors: &mut E,
-    part: Part,
+    part: Excerpt,
+    progress: &G,
 ) -> u8
     ensures { result ≢ 2 }
 {
@@ -117,17 +119,18 @@ fn draw_named<W: Sink, E: Sink>(
         return tell(errors, StreamFault::Memory);
     };
     let resolvers: [Box<dyn Resolver>; 2] = [lww, largest];
-    draw_by(alloc, text, writer, errors, &resolvers, part)
+    draw_by(alloc, text, writer, errors, &resolvers, part, progress)
 }
 
 /// Draws a part of the scenario that this text is, if a command stands there, and returns the exit
 /// status.
-fn draw_asked<W: Sink, E: Sink>(
+fn draw_asked<W: Sink, E: Sink, G: Progress>(
     alloc: Global,
     text: &[u8],
     writer: &mut W,
     errors: &mut E,
-    part: Part,
+    part: Excerpt,
+    progress: &G,
 ) -> u8
     ensures status { IsDrawStatus part.from part.to text.now result }
     ensures nothing { result ≡ 2 → DrawsNothing part.from part.to (W.at writer.old)
@@ -137,30 +140,32 @@ fn draw_asked<W: Sink, E: Sink>(
         tell_nothing(errors, part);
         return NOTHING_ASKED;
     }
-    draw_named(alloc, text, writer, errors, part)
+    draw_named(alloc, text, writer, errors, part, progress)
 }
 
 /// Reads a scenario to its end, runs it with the resolvers that the words `lww` and `largest` name,
-/// and writes a picture of a part of it. Returns the exit status: 0 where the picture was written;
-/// 1 where a line breaks a rule, a settling would go on past its limit, the part is too long for a
-/// picture, or the input is too long; 2, the status of wrong arguments, exactly where the input was
-/// read and no command stands in the part, and then nothing is run; 3 where reading or writing
-/// failed; 4 where memory ran out. Why is printed at `errors`, and then nothing is written, unless
-/// writing failed. It takes memory for what the run prints, for a note of each event and frame of
-/// the whole scenario, and for the picture.
-pub fn draw_scenario<R: Source, W: Sink, E: Sink>(
+/// and writes a picture of a part of it. `progress` is told how far the run is.
+///
+/// Returns the exit status: 0 if the picture was written; 1 if a line breaks a rule, a settling
+/// would go on past its limit, the part is too long for a picture, or the input is too long; 2, the
+/// status of wrong arguments, exactly if the input was read and no command stands in the part, and
+/// then nothing is run; 3 if reading or writing failed; 4 if memory ran out. Why is printed at
+/// `errors`, and then nothing is written, unless writing failed. It takes memory for what the run
+/// prints, for a note of each event and frame of the whole scenario, and for the picture.
+pub fn draw_scenario<R: Source, W: Sink, E: Sink, G: Progress>(
     alloc: Global,
     reader: &mut R,
     writer: &mut W,
     errors: &mut E,
-    part: Part,
+    part: Excerpt,
+    progress: &G,
 ) -> u8
     ensures status { EndsDrawing part.from part.to (R.at reader.old) (R.at reader.new) result }
     ensures nothing { result ≡ 2 → DrawsNothing part.from part.to (W.at writer.old)
         (W.at writer.new) (E.at errors.old) (E.at errors.new) }
 {
     match read_text(alloc, reader) {
-        Ok(text) => draw_asked(alloc, text.as_slice(), writer, errors, part),
+        Ok(text) => draw_asked(alloc, text.as_slice(), writer, errors, part, progress),
         Err(fault) => tell(errors, fault),
     }
 }

@@ -3,6 +3,7 @@
 use crate::fault::DrawFault;
 use crate::observer::Observer;
 use diagram::{Notes, Span, add_picture};
+use plumctl_core::{Followed, Progress};
 use resolvers::Resolver;
 use scenario::run_text;
 use std::alloc::Global;
@@ -17,7 +18,7 @@ pub const MAX_MOMENTS: u64 = 2_000;
 
 /// The part of a scenario that is drawn, by the numbers of its lines, and how.
 #[derive(Clone, Copy)]
-pub struct Part {
+pub struct Excerpt {
     /// The first line.
     pub from: u64,
     /// The last line.
@@ -26,10 +27,10 @@ pub struct Part {
     pub fold: bool,
 }
 
-impl Part {
+impl Excerpt {
     /// The whole scenario, with all its frames.
     pub fn all() -> Self {
-        Part {
+        Excerpt {
             from: 0,
             to: u64::MAX,
             fold: false,
@@ -38,7 +39,7 @@ impl Part {
 }
 
 /// Which moments the commands of a part have, and how many commands there are.
-fn drawn_of(notes: &Notes<'_>, part: Part) -> (Span, u64) {
+fn drawn_of(notes: &Notes<'_>, part: Excerpt) -> (Span, u64) {
     let (mut start, mut end) = (notes.moments.len(), notes.moments.len());
     let mut commands = 0u64;
     for command in notes.commands.iter().rev() {
@@ -57,7 +58,7 @@ fn drawn_of(notes: &Notes<'_>, part: Part) -> (Span, u64) {
 fn draw(
     alloc: Global,
     notes: &Notes<'_>,
-    part: Part,
+    part: Excerpt,
     picture: &mut Vec<u8>,
 ) -> Result<(), DrawFault> {
     let (drawn, commands) = drawn_of(notes, part);
@@ -71,15 +72,18 @@ fn draw(
 
 /// Runs a scenario, and adds a picture of a part of it. Nothing is printed of the run. What stands
 /// in `picture` after a fault is no picture.
-pub(crate) fn draw_text(
+pub(crate) fn draw_text<G: Progress>(
     alloc: Global,
     text: &[u8],
     resolvers: &[Box<dyn Resolver>],
-    part: Part,
+    part: Excerpt,
+    progress: &G,
     picture: &mut Vec<u8>,
 ) -> Result<(), DrawFault> {
-    let mut observer = Observer::new(alloc, text, part.fold);
+    let observer = Observer::new(alloc, text, part.fold);
+    let mut followed = Followed::new(observer, text, progress);
     let mut printed: Vec<u8> = Vec::new(alloc);
-    run_text(alloc, &mut observer, text, &mut printed, resolvers)?;
+    run_text(alloc, &mut followed, text, &mut printed, resolvers)?;
+    let observer = followed.into_runner();
     draw(alloc, &observer.notes, part, picture)
 }

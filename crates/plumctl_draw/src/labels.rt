@@ -27,7 +27,7 @@ pub(crate) fn key_changed(
 }
 
 /// The key of the object that a frame of the world carries, if it carries one. No frame of a world
-/// is refused but where memory runs out.
+/// is refused, except for want of memory.
 fn key_carried(alloc: Global, world: &World, frame: u64) -> Result<Option<MetaKey>, AllocError> {
     let Some(bytes) = world.frame(frame)? else {
         return Ok(None);

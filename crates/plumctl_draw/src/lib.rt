@@ -2,7 +2,7 @@
 //! `run` runs it, what happens is noted on the way, and a picture of it is written.
 //!
 //! ```
-//! let status = draw_scenario(rt.alloc(), &mut reader, &mut writer, &mut errors, Part::all());
+//! let status = draw_scenario(rt.alloc(), &mut reader, &mut writer, &mut errors, Excerpt::all());
 //! ```
 //!
 //! Read `command` (the whole), `asked` (whether there is something to draw), `drawing` (a scenario
@@ -18,4 +18,4 @@ mod labels;
 mod observer;
 
 pub use command::draw_scenario;
-pub use drawing::{MAX_COMMANDS, MAX_MOMENTS, Part};
+pub use drawing::{Excerpt, MAX_COMMANDS, MAX_MOMENTS};

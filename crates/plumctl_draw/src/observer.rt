@@ -6,7 +6,7 @@ ghost use Rattle.scenario_stage.specs.Obeying.{Obeys};
 use crate::bands::{KindCount, add_counts, count_kind};
 use crate::drawing::MAX_MOMENTS;
 use crate::labels::{add_done, add_first_line, add_held, first_line, key_changed};
-use diagram::{CommandLine, Flight, Group, Mark, Moment, Notes, Span, bit};
+use diagram::{CommandLine, DrawnRow, Flight, Group, LaneMark, Notes, Span, bit};
 use meta_frame::{Frame, Message, decode, kind_name};
 use meta_types::MetaKey;
 use node_events::Reply;
@@ -110,14 +110,14 @@ impl<'a> Observer<'a> {
             Command::Deliver { frame, node, .. } => {
                 (
                     node.unwrap_or(self.addressee(*frame)),
-                    Mark::Refused,
+                    LaneMark::Refused,
                     *frame,
                 )
             }
-            command => (node_of(command), Mark::Look, 0),
+            command => (node_of(command), LaneMark::Look, 0),
         };
         self.note_refused(node, frame);
-        self.notes.moments.push(Moment {
+        self.notes.moments.push(DrawnRow {
             node,
             with: 0,
             mark,
@@ -128,7 +128,7 @@ impl<'a> Observer<'a> {
         Ok(())
     }
 
-    /// To whom a frame was sent; 0 where there is no such frame.
+    /// To whom a frame was sent; 0 if there is no such frame.
     fn addressee(&self, frame: u64) -> u64 {
         match self.notes.flight(frame) {
             Some(flight) => flight.to,
@@ -169,7 +169,7 @@ impl<'a> Observer<'a> {
         self.note_arrival(frame);
         let start = self.notes.flights.len();
         self.note_frames(world, accepted.answer.sent)?;
-        let moment = Moment {
+        let moment = DrawnRow {
             node: accepted.event.node(),
             with: 0,
             mark: mark_of(accepted),
@@ -211,7 +211,7 @@ impl<'a> Observer<'a> {
             start,
             end: self.notes.flights.len(),
         };
-        self.note_moment(0, Mark::Band, sent, label)?;
+        self.note_moment(0, LaneMark::Band, sent, label)?;
         self.note_changes(world, events)
     }
 
@@ -219,11 +219,11 @@ impl<'a> Observer<'a> {
     fn note_moment(
         &mut self,
         node: u64,
-        mark: Mark,
+        mark: LaneMark,
         sent: Span,
         label: Span,
     ) -> Result<(), AllocError> {
-        self.notes.moments.push(Moment {
+        self.notes.moments.push(DrawnRow {
             node,
             with: 0,
             mark,
@@ -304,7 +304,7 @@ impl<'a> Observer<'a> {
     /// or otherwise at one more.
     fn note_box(&mut self, first: usize, node: u64, label: Span) -> Result<(), AllocError> {
         let Some(place) = self.same_box(first, label) else {
-            return self.note_moment(node, Mark::Shown, NONE, label);
+            return self.note_moment(node, LaneMark::Shown, NONE, label);
         };
         if let Some(moment) = self.notes.moments.get_mut(place) {
             moment.with |= bit(moment.node) | bit(node);
@@ -399,21 +399,21 @@ fn frame_of(event: &Event) -> u64 {
 }
 
 /// How an event is marked.
-fn mark_of(accepted: &Accepted) -> Mark {
+fn mark_of(accepted: &Accepted) -> LaneMark {
     match &accepted.event {
         Event::Deliver { .. } => match &accepted.answer.reply {
-            Reply::TookStale => Mark::Stale,
-            _ => Mark::Taken,
+            Reply::TookStale => LaneMark::Stale,
+            _ => LaneMark::Taken,
         },
-        Event::Join { .. } | Event::Leave { .. } | Event::PeerDown { .. } => Mark::View,
-        Event::Restart { .. } => Mark::Restart,
-        Event::Get { .. } | Event::Watch { .. } | Event::Changes { .. } => Mark::Look,
-        _ => Mark::Step,
+        Event::Join { .. } | Event::Leave { .. } | Event::PeerDown { .. } => LaneMark::View,
+        Event::Restart { .. } => LaneMark::Restart,
+        Event::Get { .. } | Event::Watch { .. } | Event::Changes { .. } => LaneMark::Look,
+        _ => LaneMark::Step,
     }
 }
 
 /// What is noted of the frame that these bytes spell, which the moment at this place sent. No frame
-/// of a world is refused but where memory runs out.
+/// of a world is refused, except for want of memory.
 fn flight_of(alloc: Global, bytes: &[u8], sent: usize) -> Result<Flight, AllocError> {
     match decode(alloc, bytes) {
         Ok(frame) => {
@@ -502,10 +502,10 @@ impl<'a> Runner for Observer<'a> {
     fn open(&mut self, stage: &Stage, text: &mut Vec<u8>) -> Result<(), AllocError> {
         self.note_line()?;
         self.notes.nodes = nodes_of(stage.world());
-        self.notes.moments.push(Moment {
+        self.notes.moments.push(DrawnRow {
             node: 0,
             with: 0,
-            mark: Mark::Look,
+            mark: LaneMark::Look,
             frame: 0,
             sent: NONE,
             label: NONE,

@@ -5,7 +5,6 @@
 -- opened, or a device or a writer failed, 4 memory ran out. Wrong arguments, with status 2, start
 -- nothing.
 use Rattle.std.specs.Prelude.{◌≡◌, ◌⊎◌, ℕ, nat_eq, if◌then◌else◌, List, [], ◌∷◌, Option, Some, None, Result, Ok, Err, Bool, true, false, MatchBool, codes}
-use Rattle.std.specs.Io.KnownBytes.{Appends}
 use Rattle.devices.specs.Device.{HasFailed, IsDurable}
 use Rattle.devices.specs.declared.opening.OpenFault.{OpenFault}
 use Rattle.devices.specs.declared.opening.OpenFault.TheVariants as opening
@@ -14,10 +13,9 @@ use Rattle.node_file.specs.declared.fault.FileFault.TheVariants as files
 use Rattle.node_file.specs.File.{StandsFor, new_state}
 use Rattle.streams.specs.declared.fault.StreamFault.{StreamFault}
 use Rattle.streams.specs.declared.fault.StreamFault.TheVariants as streams
-use Rattle.streams.specs.Fault.{FailsNoMore}
 use Rattle.streams.specs.Moment.{SinkAt}
-use Rattle.plumctl_core.specs.Opening.{cause_line}
-use Rattle.plumctl_core.specs.Status.{TellsFault, TellsFront, status_of_fault}
+use Rattle.plumctl_core.specs.Opening.{TellsText, cause_line}
+use Rattle.plumctl_core.specs.Status.{TellsFault, status_of_fault}
 use Rattle.plumctl_file.specs.declared.report.ShownFile.{ShownFile}
 use Rattle.plumctl_file.specs.declared.report.Reported.{Reported}
 use Rattle.plumctl_file.specs.declared.report.Reported.TheVariants.{Shown, Refused, Stopped}
@@ -39,6 +37,7 @@ cause_of_path opening.Missing = codes "not found"
 cause_of_path opening.Exists = codes "is there already"
 cause_of_path opening.NotAFile = codes "is no regular file"
 cause_of_path opening.InUse = codes "is in use by a node, or is being written"
+cause_of_path opening.Linked = codes "has a second name, a hard link"
 cause_of_path opening.Failed = codes "may not be read or locked, or the disk failed"
 
 -- why nothing could be made there
@@ -47,7 +46,8 @@ cause_of_unmade opening.Memory = []
 cause_of_unmade opening.Missing = codes "its folder is not there"
 cause_of_unmade opening.Exists = codes "is there already, and nothing is written over"
 cause_of_unmade opening.NotAFile = codes "is no regular file"
-cause_of_unmade opening.InUse = codes "is in use"
+cause_of_unmade opening.InUse = codes "is in use, or another process makes it"
+cause_of_unmade opening.Linked = codes "has a second name, a hard link"
 cause_of_unmade opening.Failed = codes "may not be made or locked, or the disk failed"
 
 abbrev pub write_failed : List ℕ
@@ -61,20 +61,13 @@ cause_of (files.Damaged at) =
     if nat_eq at 0 then codes "does not begin as a node file does; is this the right path?" else []
 cause_of fault = []
 
--- the text was printed at standard error, which has not failed anew; or a front of the text was,
--- and standard error failed
-abbrev pub TellsLine : (old new : SinkAt) → List ℕ → Type 0
-TellsLine old new text =
-    (Appends old.contents new.contents text × FailsNoMore old.failed new.failed)
-    ⊎ TellsFront old new text
-
 -- ---- a device that failed, or couldn't be opened
 
 -- its line was printed, and this at standard error
 pub record PrintsDevice (told_line : List ℕ) (old new : Outputs) (status : ℕ) : Type 0 where
   pub status_is : status ≡ 3
   pub prints : WritesOut old.writer new.writer (refusal_line files.Device)
-  pub told : TellsLine old.errors new.errors told_line
+  pub told : TellsText old.errors new.errors told_line
 
 -- or the writer failed after a front of the line, which was reported
 pub record StopsAtDevice (old new : Outputs) (status : ℕ) : Type 0 where
@@ -83,8 +76,8 @@ pub record StopsAtDevice (old new : Outputs) (status : ℕ) : Type 0 where
   pub stops : WritesFront old.writer new.writer (refusal_line files.Device) fault
   pub told : TellsFault old.errors new.errors fault
 
-abbrev pub EndsAtDevice : List ℕ → (old new : Outputs) → ℕ → Type 0
-EndsAtDevice told_line old new status =
+abbrev pub EndsWithDevice : List ℕ → (old new : Outputs) → ℕ → Type 0
+EndsWithDevice told_line old new status =
     PrintsDevice told_line old new status ⊎ StopsAtDevice old new status
 
 -- nothing was printed, and 99 `Memory` was reported
@@ -92,11 +85,6 @@ pub record EndsWithMemory (old new : Outputs) (status : ℕ) : Type 0 where
   pub status_is : status ≡ 4
   pub quiet : IsQuiet old.writer new.writer
   pub told : TellsFault old.errors new.errors streams.Memory
-
--- both, or memory ran out for what is said at standard error
-abbrev pub EndsWithDevice : List ℕ → (old new : Outputs) → ℕ → Type 0
-EndsWithDevice told_line old new status =
-    EndsAtDevice told_line old new status ⊎ EndsWithMemory old new status
 
 -- the path of this name couldn't be opened
 abbrev pub EndsUnopened : (OpenFault → List ℕ) → (name : List ℕ) → OpenFault
@@ -112,13 +100,12 @@ status_of_refusal files.Device = 3
 status_of_refusal files.Memory = 4
 status_of_refusal fault = 1
 
--- the status of a refusal, and what is printed at standard error: nothing, where it has no cause;
--- otherwise the path of this name and the cause, or that memory ran out for that
+-- the status of a refusal, and what is printed at standard error: nothing if it has no cause,
+-- otherwise the path of this name and the cause
 abbrev pub TellsRefusal : (name cause : List ℕ) → ℕ → (old new : SinkAt) → ℕ → Type 0
 TellsRefusal name [] refused old new status = (status ≡ refused) × IsQuiet old new
 TellsRefusal name (byte ∷ bytes) refused old new status =
-    ((status ≡ refused) × TellsLine old new (cause_line name (byte ∷ bytes)))
-    ⊎ ((status ≡ 4) × TellsFault old new streams.Memory)
+    (status ≡ refused) × TellsText old new (cause_line name (byte ∷ bytes))
 
 -- the status of a report, and what is printed at standard error: nothing for a file that was shown,
 -- and a fault that stopped the report

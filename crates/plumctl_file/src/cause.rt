@@ -1,14 +1,13 @@
 //! Why a path is of no use, in plain words.
 
-ghost use Rattle.std.specs.Prelude.{◌≡◌, ◌≢◌, IfOk};
+ghost use Rattle.std.specs.Prelude.{◌≡◌, ◌≢◌};
 ghost use Rattle.plumctl_core.specs.Opening.{cause_line};
-ghost use Rattle.plumctl_file.specs.Ends.{EndsAtDevice, EndsWithDevice, cause_of_path, cause_of_unmade};
+ghost use Rattle.plumctl_file.specs.Ends.{EndsWithDevice, cause_of_path, cause_of_unmade};
 
 use crate::report::print;
 use devices::OpenFault;
-use plumctl_core::{add_cause, tell};
-use std::alloc::{AllocError, Global};
-use streams::{Sink, StreamFault, write_whole};
+use plumctl_core::{tell, tell_cause};
+use streams::Sink;
 
 /// Why a file that was opened is not shown.
 pub(crate) const READ_FAILED: &str = "could not be read";
@@ -30,6 +29,7 @@ pub(crate) fn cause_of_path(fault: OpenFault) -> &'static str
         OpenFault::Exists => "is there already",
         OpenFault::NotAFile => "is no regular file",
         OpenFault::InUse => "is in use by a node, or is being written",
+        OpenFault::Linked => "has a second name, a hard link",
         OpenFault::Failed => "may not be read or locked, or the disk failed",
     }
 }
@@ -43,49 +43,28 @@ pub fn cause_of_unmade(fault: OpenFault) -> &'static str
         OpenFault::Missing => "its folder is not there",
         OpenFault::Exists => "is there already, and nothing is written over",
         OpenFault::NotAFile => "is no regular file",
-        OpenFault::InUse => "is in use",
+        OpenFault::InUse => "is in use, or another process makes it",
+        OpenFault::Linked => "has a second name, a hard link",
         OpenFault::Failed => "may not be made or locked, or the disk failed",
     }
-}
-
-/// Returns the line that names a path, and says why it is of no use.
-pub(crate) fn cause_text(alloc: Global, path: &str, cause: &str) -> Result<Vec<u8>, AllocError>
-    ensures { IfOk result (λ text. text.items ≡ cause_line path.now cause.now) }
-{
-    let mut text = Vec::new(alloc);
-    add_cause(&mut text, path, cause)?;
-    Ok(text)
 }
 
 /// Prints the line of a device that failed, prints at standard error which path that is and why,
 /// and returns the exit status.
 pub(crate) fn tell_device<W: Sink, E: Sink>(
-    alloc: Global,
     writer: &mut W,
     errors: &mut E,
     path: &str,
     cause: &str,
 ) -> u8
-    ensures { EndsWithDevice (cause_line path.now cause.now)
-        (record { writer = W.at writer.old; errors = E.at errors.old })
-        (record { writer = W.at writer.new; errors = E.at errors.new }) result }
-{
-    match cause_text(alloc, path, cause) {
-        Ok(told) => print_device(writer, errors, told.as_slice()),
-        Err(_) => tell(errors, StreamFault::Memory),
-    }
-}
-
-/// Prints the line of a device that failed, prints a text at standard error, and returns the exit
-/// status.
-fn print_device<W: Sink, E: Sink>(writer: &mut W, errors: &mut E, told: &[u8]) -> u8
-    ensures { EndsAtDevice told.now
+    ensures not_usage { result ≢ 2 }
+    ensures ends { EndsWithDevice (cause_line path.now cause.now)
         (record { writer = W.at writer.old; errors = E.at errors.old })
         (record { writer = W.at writer.new; errors = E.at errors.new }) result }
 {
     match print(writer, b"error 30 Device\n") {
         Ok(()) => {
-            let _ = write_whole(errors, told);
+            tell_cause(errors, "", path, cause);
             3
         }
         Err(fault) => tell(errors, fault),

@@ -23,6 +23,6 @@ mod run;
 mod text;
 
 pub use cause::cause_of_unmade;
-pub use paths::{copy_to_path, report_path};
+pub use paths::{Purpose, compact_path, copy_to_path, report_path};
 pub use report::{Reported, ShownFile, file_report, print};
 pub use run::{run_file, run_rewrite};

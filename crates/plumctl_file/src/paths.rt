@@ -3,12 +3,34 @@
 ghost use Rattle.std.specs.Prelude.{◌≡◌, ◌≢◌, IfOk};
 ghost use Rattle.devices.specs.Device.{IsDurable};
 
+use crate::cause::{cause_of_unmade, tell_device};
 use crate::report::{Reported, ShownFile};
 use crate::run::{run_file, run_rewrite};
-use devices::{Device, FileDevice, MemoryDevice, OpenFault, read_front};
+use devices::{Device, FileDevice, MemoryDevice, NewName, OpenFault, read_front};
 use node_file::{MIN_FILE_LEN, is_refused_by_front};
-use std::fs;
-use streams::Sink;
+use plumctl_core::tell;
+use streams::{Sink, StreamFault};
+
+/// What the file at a path is opened for.
+#[derive(Clone, Copy)]
+pub enum Purpose {
+    /// A report. It takes no lock: a node may have the file, and write to it.
+    Report,
+    /// A report and a copy. No node may have the file, or begin a life in it meanwhile.
+    Copy,
+}
+
+impl Purpose {
+    fn open(self, rt: &HostRuntime, path: &str) -> Result<FileDevice, OpenFault>
+        ensures { IfOk result (λ d. IsDurable
+            (⟦<FileDevice as Device>⟧.content d) (⟦<FileDevice as Device>⟧.may_leave d)) }
+    {
+        match self {
+            Purpose::Report => FileDevice::open_to_read(rt, rt.alloc(), path),
+            Purpose::Copy => FileDevice::open_to_copy(rt, rt.alloc(), path),
+        }
+    }
+}
 
 /// Reports the file at a path, by `run_file`, and returns the exit status, which is never 2, the
 /// status of wrong arguments, with what was reported. Where a file is refused for its front, no
@@ -16,6 +38,7 @@ use streams::Sink;
 pub fn report_path<W: Sink, E: Sink>(
     rt: &HostRuntime,
     path: &str,
+    purpose: Purpose,
     writer: &mut W,
     errors: &mut E,
 ) -> (u8, Option<Reported<FileDevice>>)
@@ -28,7 +51,7 @@ pub fn report_path<W: Sink, E: Sink>(
             (run_file(rt.alloc(), path, front, writer, errors).0, None)
         }
         Ok(_) => {
-            let found = FileDevice::open_to_read(rt, rt.alloc(), path);
+            let found = purpose.open(rt, path);
             run_file(rt.alloc(), path, found, writer, errors)
         }
         Err(fault) => {
@@ -54,8 +77,8 @@ fn front_device(rt: &HostRuntime, front: &[u8]) -> Result<MemoryDevice, OpenFaul
 }
 
 /// Makes a clean copy of a file that was shown, by `run_rewrite`, at a path where nothing is, and
-/// returns the exit status, which is never 2, the status of wrong arguments. What was made is
-/// removed where it isn't whole.
+/// returns the exit status, which is never 2, the status of wrong arguments. Unless the copy is
+/// whole and on the disk, nothing is at the path.
 pub fn copy_to_path<W: Sink, E: Sink>(
     rt: &HostRuntime,
     shown: &ShownFile<FileDevice>,
@@ -65,10 +88,52 @@ pub fn copy_to_path<W: Sink, E: Sink>(
 ) -> u8
     ensures { result ≢ 2 }
 {
-    let target = FileDevice::create_new(rt, rt.alloc(), out);
+    let made = NewName::at(rt, rt.alloc(), out);
+    copy(rt, shown, out, made, writer, errors)
+}
+
+/// Puts a clean copy in the place of a file that was shown for a copy, at this path, and returns
+/// the exit status, which is never 2, the status of wrong arguments. No node has the file until
+/// the copy is there. Unless that is whole and on the disk, the file stays as it was.
+pub fn compact_path<W: Sink, E: Sink>(
+    rt: &HostRuntime,
+    shown: &ShownFile<FileDevice>,
+    path: &str,
+    writer: &mut W,
+    errors: &mut E,
+) -> u8
+    ensures { result ≢ 2 }
+{
+    let made = NewName::over(rt, rt.alloc(), path, shown.file.device());
+    copy(rt, shown, path, made, writer, errors)
+}
+
+/// Makes a clean copy, and gives it the name that it is to have.
+fn copy<W: Sink, E: Sink>(
+    rt: &HostRuntime,
+    shown: &ShownFile<FileDevice>,
+    out: &str,
+    made: Result<(FileDevice, NewName), OpenFault>,
+    writer: &mut W,
+    errors: &mut E,
+) -> u8
+    ensures { result ≢ 2 }
+{
+    let (target, name) = match made {
+        Ok((target, name)) => (Ok(target), Some(name)),
+        Err(fault) => (Err(fault), None),
+    };
     let (status, target) = run_rewrite(rt.alloc(), shown, out, target, writer, errors);
-    if status != 0 && target.is_some() {
-        let _ = fs::remove_file(rt, out);
+    let (Some(target), Some(name)) = (target, name) else {
+        return status;
+    };
+    if status != 0 {
+        name.discard(rt);
+        return status;
     }
-    status
+    match name.put(rt, target) {
+        Ok(_) => 0,
+        Err(OpenFault::Memory) => tell(errors, StreamFault::Memory),
+        Err(fault) => tell_device(writer, errors, out, cause_of_unmade(fault)),
+    }
 }

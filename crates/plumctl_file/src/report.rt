@@ -44,7 +44,7 @@ pub fn print<W: Sink>(writer: &mut W, text: &[u8]) -> Result<(), StreamFault>
 /// and how many keys there are, a line for each key in order, and a line of the root of the table's
 /// tree; or the line of the refusal, as `error 31 Damaged at 10`. Nothing of the device changes.
 ///
-/// Refused with 31 `Damaged`, 25 `StoreFull` and 30 `Device`, as `open_node` refuses where no node
+/// Refused with 31 `Damaged`, 25 `StoreFull` and 30 `Device`, as `open_node` refuses if no node
 /// is asked for. Stopped by 99 `Memory`, which may come at any time before the first byte is
 /// written, and by a fault of the writer. It takes memory for the table, for its tree, and for the
 /// whole text.

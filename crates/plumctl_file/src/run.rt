@@ -6,17 +6,16 @@ ghost use Rattle.plumctl_file.specs.Ends.{EndsCopy, EndsFile, EndsRewrite, Hands
 ghost use Rattle.plumctl_file.specs.Reported.{IsUntouched};
 
 use crate::cause::{
-    BEGINS_OTHERWISE, READ_FAILED, WRITE_FAILED, cause_of_path, cause_of_unmade, cause_text,
-    tell_device,
+    BEGINS_OTHERWISE, READ_FAILED, WRITE_FAILED, cause_of_path, cause_of_unmade, tell_device,
 };
 use crate::report::{Reported, ShownFile, file_report};
 use devices::{Device, OpenFault};
 use node_file::FileFault;
-use plumctl_core::tell;
+use plumctl_core::{tell, tell_cause};
 use std::alloc::Global;
-use streams::{Sink, StreamFault, write_whole};
+use streams::{Sink, StreamFault};
 
-/// Returns why bytes are refused, where that is said at standard error.
+/// Returns why bytes are refused, if that is said at standard error.
 fn cause_of(fault: &FileFault) -> &'static str
     ensures { result.now ≡ cause_of fault.now }
 {
@@ -39,7 +38,7 @@ fn status_of_refusal(fault: &FileFault) -> u8
 
 /// Prints at `errors` the cause of a refusal whose line was printed, if it has one, and returns the
 /// exit status.
-fn refused<E: Sink>(alloc: Global, errors: &mut E, path: &str, fault: &FileFault) -> u8
+fn refused<E: Sink>(errors: &mut E, path: &str, fault: &FileFault) -> u8
     ensures { TellsRefusal path.now (cause_of fault.now) (status_of_refusal fault.now)
         (E.at errors.old) (E.at errors.new) result }
 {
@@ -47,19 +46,14 @@ fn refused<E: Sink>(alloc: Global, errors: &mut E, path: &str, fault: &FileFault
     if cause.is_empty() {
         return status_of_refusal(fault);
     }
-    match cause_text(alloc, path, cause) {
-        Ok(text) => {
-            let _ = write_whole(errors, text.as_slice());
-            status_of_refusal(fault)
-        }
-        Err(_) => tell(errors, StreamFault::Memory),
-    }
+    tell_cause(errors, "", path, cause);
+    status_of_refusal(fault)
 }
 
 /// Reports what is at a path, by how it was opened, and returns the exit status with what was
-/// reported, if the path was opened: 0 where a file was shown, 1 where the bytes are no file, or
-/// one with too many keys, 3 where the path couldn't be opened, the device failed or the report
-/// couldn't be written, 4 where memory was refused. Prints what `file_report` prints, or
+/// reported, if the path was opened: 0 if a file was shown, 1 if the bytes are no file, or
+/// one with too many keys, 3 if the path couldn't be opened, the device failed or the report
+/// couldn't be written, 4 if memory was refused. Prints what `file_report` prints, or
 /// `error 30 Device`; and at `errors` the path and why it couldn't be opened or read, or that its
 /// bytes don't begin as a node file does, and a fault of the writer, or of memory.
 pub fn run_file<D: Device + Drop, W: Sink, E: Sink>(
@@ -83,13 +77,13 @@ pub fn run_file<D: Device + Drop, W: Sink, E: Sink>(
         Err(OpenFault::Memory) => return (tell(errors, StreamFault::Memory), None),
         Err(fault) => {
             let cause = cause_of_path(fault);
-            return (tell_device(alloc, writer, errors, path, cause), None);
+            return (tell_device(writer, errors, path, cause), None);
         }
     };
     let reported = file_report(alloc, device, writer);
     let status = match &reported {
         Reported::Shown(_) => 0,
-        Reported::Refused(_, fault) => refused(alloc, errors, path, fault),
+        Reported::Refused(_, fault) => refused(errors, path, fault),
         Reported::Stopped(_, fault) => tell(errors, *fault),
     };
     (status, Some(reported))
@@ -97,8 +91,8 @@ pub fn run_file<D: Device + Drop, W: Sink, E: Sink>(
 
 /// Writes a clean copy of a file that was shown, with the same node, last life and table, to the
 /// target at the path `out`, by how it was opened. Returns the exit status, with the target where
-/// it was opened: 0 where every crash leaves the copy there, 3 where it couldn't be made or failed,
-/// which prints `error 30 Device`, 4 where memory was refused. After 3 and 4 the target may hold
+/// it was opened: 0 if every crash leaves the copy there, 3 if it couldn't be made or failed,
+/// which prints `error 30 Device`, 4 if memory was refused. After 3 and 4 the target may hold
 /// anything. The report was printed before.
 pub fn run_rewrite<D: Device, T: Device, W: Sink, E: Sink>(
     alloc: Global,
@@ -118,17 +112,16 @@ pub fn run_rewrite<D: Device, T: Device, W: Sink, E: Sink>(
         Err(OpenFault::Memory) => return (tell(errors, StreamFault::Memory), None),
         Err(fault) => {
             let cause = cause_of_unmade(fault);
-            return (tell_device(alloc, writer, errors, out, cause), None);
+            return (tell_device(writer, errors, out, cause), None);
         }
     };
     let file = &shown.file;
     let made = file.rewrite(alloc, &shown.table, file.life(), &mut target);
-    (copied(alloc, out, made, writer, errors), Some(target))
+    (copied(out, made, writer, errors), Some(target))
 }
 
 /// Prints how the making of a copy ended, if it failed, and returns the exit status.
 fn copied<W: Sink, E: Sink>(
-    alloc: Global,
     out: &str,
     made: Result<(), FileFault>,
     writer: &mut W,
@@ -145,7 +138,7 @@ fn copied<W: Sink, E: Sink>(
             if is_memory(&fault) {
                 tell(errors, StreamFault::Memory)
             } else {
-                tell_device(alloc, writer, errors, out, WRITE_FAILED)
+                tell_device(writer, errors, out, WRITE_FAILED)
             }
         }
     }

@@ -12,4 +12,5 @@ ends_unmade path opening.Missing old new status other told = told
 ends_unmade path opening.Exists old new status other told = told
 ends_unmade path opening.NotAFile old new status other told = told
 ends_unmade path opening.InUse old new status other told = told
+ends_unmade path opening.Linked old new status other told = told
 ends_unmade path opening.Failed old new status other told = told

@@ -18,8 +18,9 @@ use Rattle.cluster.specs.declared.run.ClusterRun.{ClusterRun}
 use Rattle.cluster_parts.specs.declared.fault.ClusterFault.{ClusterFault}
 use Rattle.streams.specs.declared.fault.StreamFault.{StreamFault}
 use Rattle.streams.specs.Moment.{SinkAt}
+use Rattle.plumctl_core.specs.Opening.{TellsText}
 use Rattle.plumctl_core.specs.Status.{TellsFault, status_of_fault}
-use Rattle.plumctl_file.specs.Ends.{EndsWithMemory, Outputs, TellsLine}
+use Rattle.plumctl_file.specs.Ends.{EndsWithMemory, Outputs}
 use Rattle.plumctl_file.specs.Reported.{WritesFront, WritesOut}
 use Rattle.plumctl_live.specs.declared.counts.Counts.{Counts}
 use Rattle.plumctl_live.specs.declared.judged.LiveFault.{LiveFault}
@@ -151,13 +152,13 @@ pub record PrintsLive (plan : ClusterPlan) (counts : Option Counts)
     (judged : Result World LiveFault) (old new : Outputs) (status : ℕ) : Type 0 where
   pub status_is : status ≡ status_of_verdict judged
   pub prints : WritesOut old.writer new.writer (live_text plan counts judged)
-  pub told : TellsLine old.errors new.errors (told_of counts judged)
+  pub told : TellsText old.errors new.errors (told_of counts judged)
 
 -- a fault of the writer is printed at standard error where no fault of the run is; the note isn't
 -- printed then
 abbrev pub TellsUnless : List ℕ → StreamFault → (old new : SinkAt) → Type 0
 TellsUnless [] fault old new = TellsFault old new fault
-TellsUnless (byte ∷ bytes) fault old new = TellsLine old new (byte ∷ bytes)
+TellsUnless (byte ∷ bytes) fault old new = TellsText old new (byte ∷ bytes)
 
 abbrev pub TellsStop : Result World LiveFault → StreamFault → (old new : SinkAt) → Type 0
 TellsStop (Ok w) fault old new = TellsFault old new fault

@@ -16,9 +16,9 @@ use Rattle.scenario_stage.specs.Printed.{line}
 use Rattle.scenario.specs.Output.{IsOutput, ObeyAll, plain}
 use Rattle.scenario.specs.declared.fault.ScenarioFault.{ScenarioFault}
 use Rattle.scenario_hint.specs.Hint.{shown_byte}
-use Rattle.plumctl_core.specs.Opening.{cause_line}
+use Rattle.plumctl_core.specs.Opening.{TellsText, cause_line}
 use Rattle.plumctl_core.specs.Status.{TellsFault}
-use Rattle.plumctl_file.specs.Ends.{TellsLine, cause_of_unmade, write_failed}
+use Rattle.plumctl_file.specs.Ends.{cause_of_unmade, write_failed}
 
 -- ---- the scenario
 
@@ -66,7 +66,7 @@ pub record WritesRecording {D : Type 0} (content : D → List ℕ) (may_leave : 
   pub text : List ℕ
   pub recording : IsRecording nodes w text
   pub stored : IsStored content may_leave text old new
-  pub told : TellsLine errors_old errors_new (note_of path (length text))
+  pub told : TellsText errors_old errors_new (note_of path (length text))
 
 -- ---- a device that failed
 
@@ -74,11 +74,10 @@ pub record WritesRecording {D : Type 0} (content : D → List ℕ) (may_leave : 
 abbrev pub device_text : (name cause : List ℕ) → List ℕ
 device_text name cause = line (codes "error 30 Device") ++ cause_line name cause
 
--- that was printed at standard error; or that memory ran out for it
+-- that was printed at standard error
 abbrev pub TellsDevice : (name cause : List ℕ) → (errors_old errors_new : SinkAt) → ℕ → Type 0
 TellsDevice name cause errors_old errors_new status =
-    ((status ≡ 3) × TellsLine errors_old errors_new (device_text name cause))
-    ⊎ ((status ≡ 4) × TellsFault errors_old errors_new streams.Memory)
+    (status ≡ 3) × TellsText errors_old errors_new (device_text name cause)
 
 -- the device at this path failed; memory ran out; or no text reads back as the run
 abbrev pub FailsRecording : {D : Type 0} → (D → ℕ) → (path : List ℕ) → (old new : D)
@@ -87,7 +86,7 @@ FailsRecording failed path old new errors_old errors_new status =
     (HasFailed (failed old) (failed new)
     × TellsDevice path write_failed errors_old errors_new status)
     ⊎ (((status ≡ 4) × TellsFault errors_old errors_new streams.Memory)
-    ⊎ ((status ≡ 1) × TellsLine errors_old errors_new (line (codes "error: the run has no text"))))
+    ⊎ ((status ≡ 1) × TellsText errors_old errors_new (line (codes "error: the run has no text"))))
 
 abbrev pub EndsRecording : {D : Type 0} → (D → List ℕ) → (D → List ℕ → Type 0) → (D → ℕ)
     → (path : List ℕ) → (nodes : ℕ) → World → (old new : D)

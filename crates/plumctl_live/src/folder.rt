@@ -1,16 +1,16 @@
-//! A folder with a new file for each node, and what is printed about a path where nothing could be
+//! A folder with a new file for each node, and what is printed about a path at which nothing could be
 //! made.
 
 ghost use Rattle.std.specs.Prelude.{◌≡◌, ◌≢◌, length, All, IfOk};
 ghost use Rattle.devices.specs.Device.{IsDurable};
-ghost use Rattle.plumctl_live.specs.Recording.{EndsUnmade, TellsDevice, device_text};
+ghost use Rattle.plumctl_live.specs.Recording.{EndsUnmade, TellsDevice};
 
 use devices::{Device, FileDevice, OpenFault};
-use plumctl_core::{add_cause, tell};
+use plumctl_core::{tell, tell_cause};
 use plumctl_file::cause_of_unmade;
 use std::alloc::{AllocError, Global};
 use std::fs;
-use streams::{Sink, StreamFault, write_whole};
+use streams::{Sink, StreamFault};
 
 /// The path of a node's file in a folder.
 fn path_of(alloc: Global, folder: &str, node: u64) -> Result<String, AllocError> {
@@ -23,7 +23,7 @@ fn new_file(rt: &HostRuntime, folder: &str, node: u64) -> Result<FileDevice, Ope
         (⟦<FileDevice as Device>⟧.content d) (⟦<FileDevice as Device>⟧.may_leave d)) }
 {
     match path_of(rt.alloc(), folder, node) {
-        Ok(path) => FileDevice::create_new(rt, rt.alloc(), path.as_str()),
+        Ok(path) => FileDevice::create(rt, rt.alloc(), path.as_str(), b""),
         Err(_) => Err(OpenFault::Memory),
     }
 }
@@ -48,40 +48,24 @@ pub fn new_files(rt: &HostRuntime, folder: &str, nodes: u64) -> Result<Vec<FileD
     Ok(devices)
 }
 
-/// The two lines about a device: that it failed, and the path with the cause.
-fn device_text(alloc: Global, path: &str, cause: &str) -> Result<Vec<u8>, AllocError>
-    ensures { IfOk result (λ text. text.items ≡ device_text path.now cause.now) }
-{
-    let mut text = Vec::new(alloc);
-    text.extend_from_slice(b"error 30 Device\n")?;
-    add_cause(&mut text, path, cause)?;
-    Ok(text)
-}
-
 /// Prints at standard error that a device failed, at which path and why, and returns the exit
 /// status.
-pub(crate) fn tell_device<E: Sink>(alloc: Global, errors: &mut E, path: &str, cause: &str) -> u8
+pub(crate) fn tell_device<E: Sink>(errors: &mut E, path: &str, cause: &str) -> u8
     ensures ends { TellsDevice path.now cause.now (E.at errors.old) (E.at errors.new) result }
     ensures not_usage { result ≢ 2 }
 {
-    match device_text(alloc, path, cause) {
-        Ok(text) => {
-            let _ = write_whole(errors, text.as_slice());
-            3
-        }
-        Err(_) => tell(errors, StreamFault::Memory),
-    }
+    tell_cause(errors, "error 30 Device\n", path, cause);
+    3
 }
 
 /// Prints at standard error that nothing could be made at a path, the file of a recording or the
-/// folder of the nodes, and why, and returns the exit status: 4 where memory was refused, in this
-/// call too, 3 otherwise.
-pub fn tell_unmade<E: Sink>(alloc: Global, errors: &mut E, path: &str, fault: OpenFault) -> u8
+/// folder of the nodes, and why, and returns the exit status: 4 if memory was refused, 3 otherwise.
+pub fn tell_unmade<E: Sink>(errors: &mut E, path: &str, fault: OpenFault) -> u8
     ensures ends { EndsUnmade path.now fault (E.at errors.old) (E.at errors.new) result }
     ensures not_usage { result ≢ 2 }
 {
     match fault {
         OpenFault::Memory => tell(errors, StreamFault::Memory),
-        fault => tell_device(alloc, errors, path, cause_of_unmade(fault)),
+        fault => tell_device(errors, path, cause_of_unmade(fault)),
     }
 }

@@ -47,7 +47,7 @@ impl LiveFault {
 
 /// Judges what a run left, with all its receipts, and returns the run of the world that it is.
 ///
-/// Refused with `NotWhole` where a journal isn't whole; otherwise as [`run_record::assemble`] is.
+/// Refused with `NotWhole` if a journal isn't whole; otherwise as [`run_record::assemble`] is.
 /// It takes memory for the world.
 pub fn judge(alloc: Global, run: &ClusterRun) -> Result<World, LiveFault>
     ensures world { IfOk result (IsJudged run.now) }

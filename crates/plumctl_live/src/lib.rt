@@ -4,7 +4,7 @@
 //!
 //! ```
 //! let plan = ClusterPlan { nodes: 4, turns: 200, seed: 7 };
-//! let live = run_live(rt, alloc, plan, &NoGate, &mut writer, &mut errors);
+//! let live = run_live(rt, alloc, plan, &NoHook, &mut writer, &mut errors);
 //! // printed: live nodes 4 turns 200, calls 803 lost 0, assembled
 //! if let Ok(world) = &live.judged {
 //!     let text = recording_of(alloc, plan, world)?; // a scenario that leads to this world

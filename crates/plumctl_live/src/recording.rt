@@ -34,7 +34,7 @@ fn about(alloc: Global, plan: ClusterPlan) -> Result<Vec<u8>, AllocError> {
 /// its end, with two resolvers at hand as `plumctl run` has them, makes the same events, and comes
 /// to the same world: with the same replies and frames.
 ///
-/// Returns `None` where no text reads back as this run. Each event that the workers of a cluster
+/// Returns `None` if no text reads back as this run. Each event that the workers of a cluster
 /// make has a command: a join, a write over what is there, a delivery, a tick. No contract says so.
 ///
 /// It takes memory for the text, and for each event once more.
@@ -75,8 +75,8 @@ fn note_of(alloc: Global, path: &str, len: usize) -> Result<Vec<u8>, AllocError>
 }
 
 /// Writes the run down at the front of the device at this path, which is to be empty, and returns
-/// the exit status: 0 where every crash leaves the recording there, 1 where the run has none, 3
-/// where the device failed, 4 where memory was refused. Prints at `errors` why, where the status
+/// the exit status: 0 if every crash leaves the recording there, 1 if the run has none, 3
+/// where the device failed, 4 if memory was refused. Prints at `errors` why, if the status
 /// isn't 0; the device may hold anything then. Where it is 0, prints a note there if the recording
 /// is too long to be run.
 pub fn write_recording<T: Device, E: Sink>(
@@ -109,6 +109,6 @@ pub fn write_recording<T: Device, E: Sink>(
             0
         }
         Err(DeviceFault::Memory) => tell(errors, StreamFault::Memory),
-        Err(DeviceFault::Failed) => tell_device(alloc, errors, path, "could not be written"),
+        Err(DeviceFault::Failed) => tell_device(errors, path, "could not be written"),
     }
 }

@@ -8,7 +8,9 @@ ghost use Rattle.plumctl_live.specs.Live.{EndsLive, IsJudgedAndTold, IsNewRun, I
 use crate::counts::Counts;
 use crate::judged::{LiveFault, judge};
 use crate::text::text_of;
-use cluster::{ClusterFault, ClusterPlan, ClusterRun, Gate, Limits, run_cluster, run_cluster_on};
+use cluster::{
+    ClusterFault, ClusterPlan, ClusterRun, Limits, TurnHook, run_cluster, run_cluster_on,
+};
 use devices::Device;
 use plumctl_core::{status_of_fault, tell};
 use plumctl_file::print;
@@ -21,20 +23,20 @@ use world_core::World;
 /// What became of a run of a cluster.
 #[derive(Drop)]
 pub struct LiveRun {
-    /// The exit status: 0 where the run is one of the world; 1 where it isn't, or there is no run;
-    /// 3 where a device failed before there was one, or the writer failed; 4 where memory was
+    /// The exit status: 0 if the run is one of the world; 1 if it isn't, or there is no run;
+    /// 3 if a device failed before there was one, or the writer failed; 4 if memory was
     /// refused. Where several apply, the greatest of them.
     pub status: u8,
-    /// The counts of the run, where there is one.
+    /// The counts of the run, if there is one.
     pub counts: Option<Counts>,
     /// The run of the world that the run is, or why there is none.
     pub judged: Result<World, LiveFault>,
 }
 
-/// Printed at standard error where a journal isn't whole.
+/// Printed at standard error if a journal isn't whole.
 const NOT_WHOLE: &str = "error: a journal isn't whole, so nobody can say whether this is a run\n";
 
-/// Printed at standard error where nodes stopped.
+/// Printed at standard error if nodes stopped.
 const STOPPED: &str = "note: a device failed, and its node made no more turns\n";
 
 /// Returns the exit status of what was judged.
@@ -75,7 +77,7 @@ fn told_of(counts: Option<Counts>, judged: &Result<World, LiveFault>) -> &'stati
     }
 }
 
-/// Prints at standard error that the writer failed; where a fault of the run has a line there,
+/// Prints at standard error that the writer failed; if a fault of the run has a line there,
 /// prints that line instead.
 fn tell_stop<E: Sink>(judged: &Result<World, LiveFault>, fault: StreamFault, errors: &mut E)
     ensures { TellsStop judged.now fault (E.at errors.old) (E.at errors.new) }
@@ -134,11 +136,11 @@ fn judge_run(
     }
 }
 
-/// Judges what became of a run of this plan, and prints it: a line of nodes and turns; where there
+/// Judges what became of a run of this plan, and prints it: a line of nodes and turns; if there
 /// is a run, one of calls and lost frames; and then `assembled`, or `fault` with the number and the
 /// name of the refusal.
 ///
-/// Prints at standard error that memory ran out, that a journal isn't whole, or, where the run is
+/// Prints at standard error that memory ran out, that a journal isn't whole, or, if the run is
 /// one of the world, that a node stopped. Where the writer fails, its fault is printed there unless
 /// one of the first two is; the note about a node isn't printed then. It takes memory for the
 /// world.
@@ -166,7 +168,7 @@ pub fn tell_run<W: Sink, E: Sink>(
 }
 
 /// Runs a cluster on new devices in memory, and reports what became of it as [`tell_run`] does.
-pub fn run_live<R: Threads + Wait + Sync, G: Gate + Sync, W: Sink, E: Sink>(
+pub fn run_live<R: Threads + Wait + Sync, G: TurnHook + Sync, W: Sink, E: Sink>(
     rt: &R,
     alloc: Global,
     plan: ClusterPlan,
@@ -190,7 +192,7 @@ pub fn run_live<R: Threads + Wait + Sync, G: Gate + Sync, W: Sink, E: Sink>(
 pub fn run_live_on<
     D: Device + Drop + Send,
     R: Threads + Wait + Sync,
-    G: Gate + Sync,
+    G: TurnHook + Sync,
     W: Sink,
     E: Sink,
 >(

@@ -22,7 +22,7 @@ fn add_plan(text: &mut Vec<u8>, plan: ClusterPlan) -> Result<(), AllocError>
     Ok(())
 }
 
-/// Adds the line of calls and lost frames, where there is a run.
+/// Adds the line of calls and lost frames, if there is a run.
 fn add_calls(text: &mut Vec<u8>, counts: Option<Counts>) -> Result<(), AllocError>
     ensures { OnOk result (text.new.items ≡ text.old.items ++ calls_line counts) }
 {

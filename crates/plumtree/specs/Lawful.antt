@@ -29,7 +29,7 @@ abbrev pub broadcast_after : Broadcast → List CastCall → Broadcast
 broadcast_after b [] = b
 broadcast_after b (call ∷ calls) = broadcast_after (after_call b call) calls
 
--- where each peer stands so, each does after every call; and so each does after any calls of a new
+-- if each peer stands so, each does after every call; and so each does after any calls of a new
 -- broadcast
 pub record StayLinks : Type 0 where
   pub each_call : (b : Broadcast) (call : CastCall) → HasLinks b → HasLinks (after_call b call)
@@ -40,7 +40,7 @@ pub record StayLinks : Type 0 where
 abbrev pub is_peer : ℕ → Broadcast → Bool
 is_peer x b = has b.eager x || has b.lazy x
 
--- whether x is a peer after a call, where it was one before or not
+-- whether x is a peer after a call, by whether it was one before
 abbrev pub is_peer_after : CastCall → ℕ → Bool → Bool
 is_peer_after (Up node) x was = was || nat_eq x node
 is_peer_after (Down node) x was = was && not (nat_eq x node)
@@ -81,7 +81,7 @@ pub record NamesOthers (node : ℕ) (b : Broadcast) : Type 0 where
   pub queue : All (λ a. MayBeSent node (ihave_of a)) b.queue
   pub missing : All (MayBeAsked node) b.missing
 
--- a call whose new peer is another node, and whose sender is, if the call may lead to a message to
+-- a call that names other nodes: its new peer, and its sender if the call may lead to a message to
 -- it; and a frame can spell what the call may announce or wait for
 abbrev pub MayCome : ℕ → CastCall → Type 0
 MayCome node (Up peer) = peer ≢ node
@@ -102,9 +102,8 @@ pub record TellsOthers (node : ℕ) (b : Broadcast) (call : CastCall) : Type 0 w
   pub out : All (MayBeSent node) (row call (draft_of b)).out
   pub broadcast : NamesOthers node (after_call b call)
 
--- a new broadcast names no node; where a broadcast names others, such a call names others too:
--- nothing goes to the node itself, what is sent whole is IHAVE, GRAFT or PRUNE, and it has a
--- spelling
+-- a new broadcast names no node; if a broadcast names others, such a call names others too: nothing
+-- goes to the node itself, what is sent whole is IHAVE, GRAFT or PRUNE, and it has a spelling
 pub record SendsToOthers : Type 0 where
   pub begins : (node : ℕ) → NamesOthers node empty
   pub goes_on :

@@ -23,8 +23,8 @@ unfoldable pub up : ℕ → Draft → Draft
 up x t =
     if has t.eager x || has t.lazy x then t else (record t { eager = put_last x t.eager })
 
--- ---- a node is a peer no more: announcements to it leave the queue, and it leaves the announcers
--- of each missing object, which stays missing
+-- ---- a node is no longer a peer: announcements to it leave the queue, and it leaves the
+-- announcers of each missing object, which stays missing
 
 abbrev pub is_not_to : ℕ → Announcement → Bool
 is_not_to x a = not (nat_eq x a.peer)
@@ -149,7 +149,7 @@ ihave_of a = Send a.peer (IHave a.round a.key a.vector)
 abbrev pub send_announcements : Draft → Draft
 send_announcements t = record t { queue = []; out = t.out ++ map ihave_of t.queue }
 
--- the list is made anew, in order: first it is empty
+-- the list is built again, in order: it begins empty
 abbrev pub none_missing : Draft → Draft
 none_missing t = record t { missing = [] }
 
@@ -168,7 +168,7 @@ ask_first m (a ∷ others) t =
     t ▷ becomes_eager a.peer ▷ send a.peer (Graft a.round m.key m.vector)
     ▷ keep (record m { announcers = others; ticks = asked_patience })
 
--- a missing object loses a tick, and is asked for where that was the last
+-- a missing object loses a tick, and is asked for if that was the last
 unfoldable pub tick_one : MissingObject → Draft → Draft
 tick_one m t =
     if nat_lt 1 m.ticks

@@ -54,7 +54,7 @@ impl Cast {
     ghost use Rattle.plumtree.specs.Draft.{becomes_lazy};
     ghost use Rattle.plumtree.specs.Lawful.{AreLinks};
 
-    /// The broadcast of a node without peers. It takes no memory.
+    /// Makes the broadcast of a node without peers. It takes no memory.
     pub fn new(alloc: Global) -> Self
         ensures { result ≡ empty }
     {
@@ -75,7 +75,7 @@ impl Cast {
         has_no_peer && self.queue.is_empty() && self.missing.is_empty()
     }
 
-    /// The peers that get objects at once, in their order.
+    /// Returns the peers that get objects at once, in their order.
     pub fn eager(&self) -> &[NodeId]
         ensures value { result.now ≡ self.now.eager }
         ensures lawful { AreLinks self.now.eager self.now.lazy }
@@ -83,7 +83,7 @@ impl Cast {
         self.eager.as_slice()
     }
 
-    /// The peers that get announcements, in their order.
+    /// Returns the peers that get announcements, in their order.
     pub fn lazy(&self) -> &[NodeId]
         ensures value { result.now ≡ self.now.lazy }
         ensures lawful { AreLinks self.now.eager self.now.lazy }
@@ -91,7 +91,7 @@ impl Cast {
         self.lazy.as_slice()
     }
 
-    /// A node became a peer: an eager one.
+    /// Adds a node that became a peer, as an eager one.
     #[tactic(auto, unfolding(crate::specs::Rows::up))]
     pub fn up(&mut self, node: NodeId) -> Result<(), AllocError>
         ensures row { OnOk result (IsCall (Up node) self.old self.new []) }
@@ -103,7 +103,7 @@ impl Cast {
         Ok(())
     }
 
-    /// A node is a peer no more.
+    /// Takes out a node that is no longer a peer.
     #[tactic(auto, unfolding(crate::specs::Rows::down))]
     pub fn down(&mut self, node: NodeId)
         ensures { IsCall (Down node) self.old self.new [] }
@@ -114,7 +114,8 @@ impl Cast {
         lose_announcer(&mut self.missing, node);
     }
 
-    /// The node wrote under the key, and its context of the key is now this vector.
+    /// Broadcasts a write of the node under the key. The node's context of the key is now this
+    /// vector.
     #[tactic(auto, unfolding(crate::specs::Rows::on_broadcast))]
     pub fn on_broadcast(
         &mut self,
@@ -131,8 +132,8 @@ impl Cast {
         Ok(out)
     }
 
-    /// GOSSIP, by either of the rows below: its object was fresh or not, and the node's context of
-    /// the key is now `own_vector`.
+    /// Takes a GOSSIP, by one of the two rows below. `fresh` says whether its object was fresh. The
+    /// node's context of the key is now `own_vector`.
     pub fn on_gossip(
         &mut self,
         from: NodeId,
@@ -152,7 +153,8 @@ impl Cast {
         }
     }
 
-    /// GOSSIP, whose object was fresh and is merged: it goes on to all but its sender.
+    /// Takes a GOSSIP whose object was fresh and is merged: it is passed on to all peers except its
+    /// sender.
     #[tactic(auto, unfolding(crate::specs::Rows::on_fresh))]
     pub fn on_fresh(
         &mut self,
@@ -176,7 +178,7 @@ impl Cast {
         Ok(out)
     }
 
-    /// GOSSIP, whose object was stale: it goes nowhere, and its sender is sent PRUNE.
+    /// Takes a GOSSIP whose object was stale: it goes nowhere, and its sender is sent PRUNE.
     #[tactic(auto, unfolding(crate::specs::Rows::on_stale))]
     pub fn on_stale(&mut self, from: NodeId) -> Result<Vec<CastOut>, AllocError>
         ensures row { IfOk result
@@ -189,7 +191,7 @@ impl Cast {
         Ok(out)
     }
 
-    /// PRUNE.
+    /// Takes a PRUNE: its sender becomes lazy.
     #[tactic(auto, unfolding(crate::specs::Rows::on_prune))]
     pub fn on_prune(&mut self, from: NodeId) -> Result<Vec<CastOut>, AllocError>
         ensures row { IfOk result
@@ -210,7 +212,8 @@ impl Cast {
         Ok(())
     }
 
-    /// IHAVE. `stale` says whether the node's context of the key descends the vector.
+    /// Takes an IHAVE: unless it is stale, its object is waited for. `stale` says whether the
+    /// node's context of the key descends the vector.
     #[tactic(auto, unfolding(crate::specs::Rows::on_ihave))]
     pub fn on_ihave(
         &mut self,
@@ -231,8 +234,8 @@ impl Cast {
         Ok(Vec::new(self.alloc))
     }
 
-    /// GRAFT. `held` says whether the node's context of the key descends the vector that was asked
-    /// for.
+    /// Takes a GRAFT: its sender becomes eager, and is sent the object if it is held. `held` says
+    /// whether the node's context of the key descends the vector that was asked for.
     #[tactic(auto, unfolding(crate::specs::Rows::on_graft))]
     pub fn on_graft(
         &mut self,
@@ -255,9 +258,9 @@ impl Cast {
         Ok(out)
     }
 
-    /// The object under the key changed, by a write or a fresh merge, and the node's context of the
-    /// key is now this vector: what it descends isn't waited for any more. Comes before what the
-    /// same change sends.
+    /// Stops waiting for what this vector descends: the object under the key changed, by a write or
+    /// a fresh merge, and the node's context of the key is now this vector. It is called before
+    /// what the same change sends.
     #[tactic(auto, unfolding(crate::specs::Rows::on_change))]
     pub fn on_change(&mut self, key: &MetaKey, vector: &Vector)
         ensures { IsCall (Changes key.now vector.now) self.old self.new [] }
@@ -265,8 +268,8 @@ impl Cast {
         leave_known(&mut self.missing, key, vector);
     }
 
-    /// A tick: announcements go out, and what is overdue is asked for. What waits is changed in
-    /// place.
+    /// Makes a tick: announcements go out, and what is overdue is asked for. What waits is changed
+    /// in place.
     pub fn on_tick(&mut self) -> Result<Vec<CastOut>, AllocError>
         ensures row { IfOk result (λ out. IsCall Tick self.old self.new out.items) }
         ensures unchanged { OnErr result (self.new ≡ self.old) }

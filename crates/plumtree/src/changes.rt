@@ -13,8 +13,8 @@ use meta_types::NodeId;
 use std::alloc::AllocError;
 
 impl Cast {
-    /// Nodes become peers, or are peers no more, in this order. Fails only when memory runs out,
-    /// and then all is as before: room is made first, for as many peers as there are changes.
+    /// Makes these changes of who is a peer, in this order. Fails only when memory runs out, and
+    /// then all is as before: room is made first, for as many peers as there are changes.
     pub fn change_peers(&mut self, changes: &[PeerChange]) -> Result<(), AllocError>
         ensures row { OnOk result
             (self.new ≡ broadcast_after self.old (map peer_call changes.now)) }
@@ -34,7 +34,7 @@ impl Cast {
     }
 }
 
-/// One change, for which there is room.
+/// Makes one change, for which there is room.
 #[tactic(auto, unfolding(crate::specs::Rows::up, crate::specs::Rows::down))]
 fn change_peer(
     change: PeerChange,

@@ -22,7 +22,7 @@ pub enum CastOut {
 pub enum PeerChange {
     /// This node becomes a peer.
     Up(NodeId),
-    /// This node is a peer no more.
+    /// This node is no longer a peer.
     Down(NodeId),
 }
 

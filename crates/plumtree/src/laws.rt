@@ -13,9 +13,9 @@ pub fn peers_come_up_and_go_down()
     ensures { PeersComeAndGo }
 {}
 
-/// A new broadcast names no node. In a broadcast that names only other nodes, where a call names
-/// other nodes, and what it may announce or wait for can be spelled, all that it gives out goes to
-/// other nodes, what it sends whole is IHAVE, GRAFT or PRUNE, each of these can be spelled, and the
+/// A new broadcast names no node. Let a broadcast and a call name only other nodes, and let a frame
+/// be able to spell what the call may announce or wait for. Then all that the call gives out goes
+/// to other nodes; what it sends whole is IHAVE, GRAFT or PRUNE, and can be spelled; and the
 /// broadcast still names only other nodes.
 pub fn what_is_sent_goes_to_others()
     ensures { SendsToOthers }

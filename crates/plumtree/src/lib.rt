@@ -1,9 +1,9 @@
-//! Plumtree: whom a node sends an object, and whom only its announcement.
+//! Plumtree: to which peers a node sends an object, and to which only its announcement.
 //!
 //! Objects go at once to the eager peers. Lazy ones hear at the next tick that there is one
-//! (IHAVE), and ask for it (GRAFT) if it hasn't come by another way some ticks later. A link over
-//! which an object came that was known already becomes lazy (PRUNE), which is meant to make a tree
-//! of the eager links; one over which an object had to be asked for becomes eager again.
+//! (IHAVE), and ask for it (GRAFT) if it hasn't come by another way some ticks later. A link
+//! becomes lazy if an object came over it that was known already (PRUNE), which is meant to make a
+//! tree of the eager links. It becomes eager again if an object had to be asked for over it.
 //!
 //! Each call is one row of a table. [`Cast`] holds no objects: its caller says whether one was
 //! fresh, and adds it to the [`CastOut::Gossip`] that a call gives out.

@@ -10,7 +10,7 @@ ghost use Rattle.plumtree.specs.Lawful.{AreLinks};
 use indexmap::IndexSet;
 use meta_types::NodeId;
 
-/// A lazy peer becomes eager, and goes last among them.
+/// Makes a lazy peer eager: it goes last among the eager ones.
 pub(crate) fn become_eager(node: NodeId, eager: &mut IndexSet<NodeId>, lazy: &mut IndexSet<NodeId>)
     requires room { 0 < spare eager.old }
     ensures eager { eager.new.keys ≡ gained node lazy.old.keys eager.old.keys }
@@ -21,7 +21,7 @@ pub(crate) fn become_eager(node: NodeId, eager: &mut IndexSet<NodeId>, lazy: &mu
     change_list(node, lazy, eager);
 }
 
-/// An eager peer becomes lazy, and goes last among them.
+/// Makes an eager peer lazy: it goes last among the lazy ones.
 pub(crate) fn become_lazy(node: NodeId, eager: &mut IndexSet<NodeId>, lazy: &mut IndexSet<NodeId>)
     requires room { 0 < spare lazy.old }
     ensures eager { eager.new.keys ≡ without node eager.old.keys }
@@ -32,7 +32,7 @@ pub(crate) fn become_lazy(node: NodeId, eager: &mut IndexSet<NodeId>, lazy: &mut
     change_list(node, eager, lazy);
 }
 
-/// A member of the one list goes last in the other.
+/// Moves a member of one list to the end of the other.
 fn change_list(node: NodeId, from: &mut IndexSet<NodeId>, to: &mut IndexSet<NodeId>)
     requires room { 0 < spare to.old }
     ensures left { from.new.keys ≡ without node from.old.keys }

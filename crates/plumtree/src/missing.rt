@@ -22,7 +22,7 @@ const ANNOUNCED_PATIENCE: u8 = 2;
 const ASKED_PATIENCE: u8 = 1;
 
 impl MissingObject {
-    /// An object that is announced for the first time.
+    /// Returns an object that is announced for the first time.
     fn announced_by(
         alloc: Global,
         announcer: Announcer,
@@ -72,7 +72,7 @@ impl MissingObject {
         !(self.key == *key && descends(vector, &self.vector))
     }
 
-    /// One more announcer, unless it announced the object before.
+    /// Adds an announcer, unless it announced the object before.
     fn add_announcer(&mut self, announcer: Announcer) -> Result<(), AllocError>
         ensures ok { OnOk result
             (self.new ≡ with_announcer announcer.peer announcer.round self.old) }
@@ -98,8 +98,8 @@ impl MissingObject {
         self.ticks > 1 || !self.announcers.is_empty()
     }
 
-    /// A tick: one less is left, or the first announcer is asked, and the object waits for the
-    /// next.
+    /// Makes a tick: one less is left, or the first announcer is asked and the object waits for the
+    /// next one.
     #[tactic(auto, unfolding(crate::specs::Ticking::ticked))]
     fn lose_tick(&mut self)
         ensures { self.new ≡ ticked self.old }
@@ -148,7 +148,7 @@ pub(crate) fn note(
     }
 }
 
-/// This node leaves the announcers of each missing object.
+/// Takes the node out of the announcers of each missing object.
 pub(crate) fn lose_announcer(missing: &mut Vec<MissingObject>, node: NodeId)
     ensures { missing.new.items ≡ map (without_announcer node) missing.old.items }
 {
@@ -171,7 +171,7 @@ fn leave_first(announcers: &mut Vec<Announcer>)
     }
 }
 
-/// A tick of each missing object. It takes no memory.
+/// Makes a tick of each missing object. It takes no memory.
 pub(crate) fn lose_ticks(missing: &mut Vec<MissingObject>)
     ensures { missing.new.items ≡ missing_after missing.old.items }
 {
@@ -181,14 +181,14 @@ pub(crate) fn lose_ticks(missing: &mut Vec<MissingObject>)
     }
 }
 
-/// At their last tick objects leave that there is nobody to ask for.
+/// Takes out the objects whose last tick this is, if there is nobody to ask for them.
 fn leave_overdue(missing: &mut Vec<MissingObject>)
     ensures { missing.new.items ≡ filter stays_missing missing.old.items }
 {
     missing.retain(|object| object.stays_missing());
 }
 
-/// The objects under the key leave that this vector descends.
+/// Takes out the objects under the key that this vector descends.
 pub(crate) fn leave_known(missing: &mut Vec<MissingObject>, key: &MetaKey, vector: &Vector)
     ensures { missing.new.items
         ≡ filter (is_still_missing key.now vector.now) missing.old.items }
@@ -196,14 +196,14 @@ pub(crate) fn leave_known(missing: &mut Vec<MissingObject>, key: &MetaKey, vecto
     missing.retain(|object| object.is_still_missing(key, vector));
 }
 
-/// The announcements to this node leave.
+/// Takes out the announcements to this node.
 pub(crate) fn leave_queue(queue: &mut Vec<Announcement>, node: NodeId)
     ensures { queue.new.items ≡ filter (is_not_to node) queue.old.items }
 {
     queue.retain(|announcement| node != announcement.peer);
 }
 
-/// The object under the key goes to each of these.
+/// Returns a GOSSIP of the object under the key for each of these peers.
 pub(crate) fn gossips(
     alloc: Global,
     peers: &[NodeId],
@@ -225,7 +225,7 @@ pub(crate) fn gossips(
     Ok(out)
 }
 
-/// The object under the key is announced to each of these at the next tick.
+/// Returns announcements of the object under the key to each of these peers, for the next tick.
 pub(crate) fn announcements(
     alloc: Global,
     peers: &[NodeId],
@@ -250,7 +250,7 @@ pub(crate) fn announcements(
     Ok(queue)
 }
 
-/// The announcements that wait, as messages.
+/// Returns the announcements that wait, as messages.
 pub(crate) fn announced(alloc: Global, queue: &[Announcement]) -> Result<Vec<CastOut>, AllocError>
     ensures { IfOk result (λ out. out.items ≡ map ihave_of queue.now) }
 {

@@ -27,7 +27,7 @@ impl Model for Savepoint {
 }
 
 impl Cast {
-    /// Where the broadcast stands. Fails only when memory runs out.
+    /// Returns where the broadcast stands. Fails only when memory runs out.
     pub fn savepoint(&self) -> Result<Savepoint, AllocError>
         ensures { IfOk result (λ savepoint. savepoint ≡ savepoint_of self.now) }
     {
@@ -38,9 +38,9 @@ impl Cast {
         })
     }
 
-    /// The peers are those of the savepoint again, and announcements that were added since then
-    /// wait no longer. That takes back whatever `on_broadcast`, `on_gossip`, `on_prune` and
-    /// `on_graft` did. It never fails, and takes no memory.
+    /// Goes back to the savepoint: the peers are those of the savepoint, and announcements that
+    /// were added after it are dropped. That takes back whatever `on_broadcast`, `on_gossip`,
+    /// `on_prune` and `on_graft` did. It never fails, and takes no memory.
     pub fn roll_back(&mut self, savepoint: Savepoint)
         ensures { self.new ≡ rolled_back savepoint self.old }
     {

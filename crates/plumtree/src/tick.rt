@@ -16,7 +16,7 @@ use meta_types::NodeId;
 use std::alloc::AllocError;
 use std::marker::Model;
 
-/// Who is eager and who is lazy after a tick that is still to be made.
+/// Who is eager and who is lazy after a tick that isn't made yet.
 #[derive(Drop)]
 pub struct TickedPeers {
     eager: IndexSet<NodeId>,
@@ -38,8 +38,8 @@ impl Cast {
     ghost use Rattle.plumtree.specs.Rows.{none_missing, send_announcements};
     ghost use Rattle.plumtree.specs.Ticking.{graft_each};
 
-    /// What a tick gives out, and the peers after it, for `make_tick`; the broadcast stays as it
-    /// is. Fails only when memory runs out.
+    /// Returns what a tick gives out, and the peers after it, for `make_tick`; the broadcast stays
+    /// as it is. Fails only when memory runs out.
     pub fn foresee_tick(&self) -> Result<(TickedPeers, Vec<CastOut>), AllocError>
         ensures peers { IfOk result (λ seen. seen.0 ≡ peers_of (after_call self.now Tick)) }
         ensures out { IfOk result (λ seen. seen.1.items ≡ (row Tick (draft_of self.now)).out) }
@@ -64,7 +64,7 @@ impl Cast {
         lose_ticks(&mut self.missing);
     }
 
-    /// All that goes out at a tick: what is announced, and then what is asked for.
+    /// Returns all that goes out at a tick: what is announced, and then what is asked for.
     fn tick_draft(&self) -> Result<Draft, AllocError>
         ensures { IfOk result (λ draft. draft
             ≡ graft_each self.now.missing (none_missing (send_announcements (draft_of self.now)))) }
@@ -112,7 +112,7 @@ impl Draft {
     ghost use Rattle.meta_types.specs.Chain.{◌▷◌};
     ghost use Rattle.plumtree.specs.Ticking.{graft_each, graft_one};
 
-    /// Each missing object whose last tick this is, in order, is asked for.
+    /// Asks for each missing object whose last tick this is, in order.
     fn graft_each(&mut self, missing: &[MissingObject]) -> Result<(), AllocError>
         ensures { OnOk result (self.new ≡ graft_each missing.now self.old) }
     {
@@ -122,7 +122,7 @@ impl Draft {
         Ok(())
     }
 
-    /// The first that announced the object is asked for it, if this tick is the last.
+    /// Asks the first that announced the object for it, if this tick is its last.
     #[tactic(auto, unfolding(crate::specs::Ticking::graft_one))]
     fn graft_one(&mut self, object: &MissingObject) -> Result<(), AllocError>
         ensures { OnOk result (self.new ≡ graft_one object.now self.old) }

@@ -58,7 +58,7 @@ abbrev pub frame_text : Frame → List ℕ
 frame_text f = name_of f.message ++ codes " from " ++ decimal f.from ++ codes " to " ++ decimal f.to
     ++ codes " number " ++ decimal f.number ++ message_text f.message
 
--- where the field at fault begins
+-- the offset of the field at fault
 abbrev pub offset_text : FrameFault → List ℕ
 offset_text (BadBody at) = codes " at " ++ decimal at
 offset_text fault = []

@@ -1,13 +1,13 @@
 -- Printed lists.
 use Rattle.std.specs.Prelude.{◌≡◌, ℕ, Bool, true, false, ◌&&◌, if◌then◌else◌, List, [], ◌∷◌, ◌++◌, codes}
 
--- texts with a comma before each; the first has none where `first` is true
+-- texts with a comma before each; the first has none if `first` is true
 abbrev pub separated : Bool → List (List ℕ) → List ℕ
 separated first [] = []
 separated first (text ∷ texts) = (if first then text else codes "," ++ text)
     ++ separated false texts
 
--- texts joined by commas; `-` where there are none
+-- texts joined by commas; `-` if there are none
 abbrev pub joined : List (List ℕ) → List ℕ
 joined [] = codes "-"
 joined (text ∷ texts) = separated true (text ∷ texts)

@@ -39,16 +39,16 @@ fn is_plain(byte: u8) -> bool
     matches!(byte, b'A'..=b'Z' | b'a'..=b'z' | b'0'..=b'9' | b'.' | b'_' | b'-')
 }
 
-/// Returns whether bytes stand as they are when they are printed: there is at least one, and all
-/// are letters, digits, `.`, `_` or `-`.
+/// Returns whether bytes are printed as they are: there is at least one, and all are letters,
+/// digits, `.`, `_` or `-`.
 pub fn are_plain(bytes: &[u8]) -> bool
     ensures { result ≡ are_plain bytes.now }
 {
     !bytes.is_empty() && bytes.iter().all(|byte| is_plain(*byte))
 }
 
-/// Adds the bytes of a name or a value: as they are where there is at least one and all are
-/// letters, digits, `.`, `_` or `-`, otherwise `hex:` and their digits in lower case.
+/// Adds the bytes of a name or a value. They stand as they are if there is at least one and all are
+/// letters, digits, `.`, `_` or `-`; otherwise as `hex:` and their digits in lower case.
 #[tactic(auto, unfolding(crate::specs::Field::bytes_text))]
 pub(crate) fn add_bytes(out: &mut Vec<u8>, bytes: &[u8]) -> Result<(), AllocError>
     ensures { OnOk result (out.new.items ≡ out.old.items ++ bytes_text bytes.now) }

@@ -135,7 +135,7 @@ pub(crate) fn add_frame(out: &mut Vec<u8>, frame: &Frame) -> Result<(), AllocErr
     add_message(out, &frame.message)
 }
 
-/// Adds where the field at fault begins.
+/// Adds the offset of the field at fault.
 fn add_offset(out: &mut Vec<u8>, fault: &FrameFault) -> Result<(), AllocError>
     ensures { OnOk result (out.new.items ≡ out.old.items ++ offset_text fault.now) }
 {

@@ -1,6 +1,6 @@
 //! Printed forms of keys, values, contexts and objects, which every command prints alike, and of
-//! frames and their refusals. Each call adds its text at the end of bytes, or nothing where memory
-//! is refused.
+//! frames and their refusals. Each call adds its text at the end of bytes, or nothing if memory is
+//! refused.
 //!
 //! ```
 //! let mut text = Vec::new(alloc);

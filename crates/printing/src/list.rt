@@ -31,7 +31,7 @@ fn add_counter(out: &mut Vec<u8>, counter: Counter) -> Result<(), AllocError>
     add_number(out, counter.count())
 }
 
-/// Adds counters, with a comma before each but the first.
+/// Adds counters, with a comma before each except the first.
 fn add_counters(out: &mut Vec<u8>, counters: &[Counter]) -> Result<(), AllocError>
     ensures { OnOk result (out.new.items ≡ out.old.items
         ++ separated true (map counter_text counters.now)) }
@@ -55,7 +55,7 @@ pub(crate) fn add_vector(out: &mut Vec<u8>, vector: &Vector) -> Result<(), Alloc
     add_counters(out, vector.counters())
 }
 
-/// Adds values, with a comma before each; the first has none where `first` is true. Returns whether
+/// Adds values, with a comma before each; the first has none if `first` is true. Returns whether
 /// the next value would stand first.
 fn add_values(out: &mut Vec<u8>, values: &[Value], first: bool) -> Result<bool, AllocError>
     ensures { IfOk result (λ next. AddsTexts first

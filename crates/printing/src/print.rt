@@ -1,5 +1,4 @@
-//! The public calls. Each adds its text at the end of bytes; where memory is refused it adds
-//! nothing.
+//! The public calls. Each adds its text at the end of bytes; if memory is refused it adds nothing.
 
 ghost use Rattle.std.specs.Prelude.{◌≡◌, ◌++◌, OnOk, OnErr, decimal, map};
 ghost use Rattle.printing.specs.Field.{bytes_text, key_text, value_text};
@@ -18,7 +17,7 @@ use meta_frame::{Frame, FrameFault};
 use meta_types::{MetaKey, NodeId, Value};
 use std::alloc::AllocError;
 
-/// The bytes reserved for a line of text. Most lines have no more.
+/// The bytes reserved for a line of text. Most lines need no more.
 const LINE_LEN: usize = 128;
 
 /// Adds a number in decimal digits.
@@ -29,8 +28,9 @@ pub fn print_number(out: &mut Vec<u8>, number: u64) -> Result<(), AllocError>
     add_number(out, number)
 }
 
-/// Adds the bytes of a name: as they are where there is at least one and all are letters, digits,
-/// `.`, `_` or `-`, otherwise `hex:` and their digits in lower case.
+/// Adds the bytes of a name: as they are if there is at least one and all are letters, digits, `.`,
+/// Adds the bytes of a name. They stand as they are if there is at least one and all are letters,
+/// digits, `.`, `_` or `-`; otherwise as `hex:` and their digits in lower case.
 pub fn print_name(out: &mut Vec<u8>, bytes: &[u8]) -> Result<(), AllocError>
     ensures ok { OnOk result (out.new.items ≡ out.old.items ++ bytes_text bytes.now) }
     ensures err { OnErr result (out.new.items ≡ out.old.items) }
@@ -40,8 +40,9 @@ pub fn print_name(out: &mut Vec<u8>, bytes: &[u8]) -> Result<(), AllocError>
     out.extend_from_slice(text.as_slice())
 }
 
-/// Adds a key, as `a/b/k`: each part as it is where it has at least one byte and all are letters,
-/// digits, `.`, `_` or `-`, otherwise `hex:` and its digits in lower case.
+/// Adds a key, as `a/b/k`: each part as it is if it has at least one byte and all are letters,
+/// Adds a key, as `a/b/k`. A part stands as it is if it has at least one byte and all are letters,
+/// digits, `.`, `_` or `-`; otherwise as `hex:` and its digits in lower case.
 pub fn print_key(out: &mut Vec<u8>, key: &MetaKey) -> Result<(), AllocError>
     ensures ok { OnOk result (out.new.items ≡ out.old.items ++ key_text key.now) }
     ensures err { OnErr result (out.new.items ≡ out.old.items) }
@@ -52,7 +53,8 @@ pub fn print_key(out: &mut Vec<u8>, key: &MetaKey) -> Result<(), AllocError>
 }
 
 /// Adds a value: its bytes in the form of a part of a key, or `~` for a tombstone, and then its
-/// stamp, as `@5`, unless that is 0.
+/// Adds a value: its bytes, as a part of a key stands, or `~` for a tombstone; and then its stamp,
+/// as `@5`, unless that is 0.
 pub fn print_value(out: &mut Vec<u8>, value: &Value) -> Result<(), AllocError>
     ensures ok { OnOk result (out.new.items ≡ out.old.items ++ value_text value.now) }
     ensures err { OnErr result (out.new.items ≡ out.old.items) }
@@ -123,7 +125,7 @@ pub fn print_frame(out: &mut Vec<u8>, frame: &Frame) -> Result<(), AllocError>
     out.extend_from_slice(text.as_slice())
 }
 
-/// Adds a refusal of bytes: its number and name, and for 15 where the field at fault begins, as
+/// Adds a refusal of bytes: its number and name, and for 15 the offset of the field at fault, as
 /// `error 15 BadBody at 39`.
 pub fn print_frame_fault(out: &mut Vec<u8>, fault: &FrameFault) -> Result<(), AllocError>
     ensures ok { OnOk result (out.new.items ≡ out.old.items ++ frame_fault_text fault.now) }

@@ -63,7 +63,6 @@ fn add_each_digest(out: &mut Vec<u8>, digests: &[Digest]) -> Result<(), AllocErr
     Ok(())
 }
 
-/// Adds sixteen digests.
 pub(crate) fn add_digests(out: &mut Vec<u8>, digests: &Digests) -> Result<(), AllocError>
     ensures { OnOk result (out.new.items ≡ out.old.items ++ digests_text digests.now) }
 {

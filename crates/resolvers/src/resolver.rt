@@ -21,8 +21,8 @@ pub trait Resolver: Drop {
         ensures choice { result ≡ choice self.now siblings.now };
 }
 
-/// The last writer wins: the greatest stamp. At equal stamps a tombstone is least, then byte order
-/// decides. Of equal values the first is chosen.
+/// Chooses the greatest stamp: the last writer wins. At equal stamps a tombstone is least, then
+/// byte order decides. Of equal values the first is chosen.
 #[derive(Drop)]
 pub struct Lww;
 
@@ -36,8 +36,8 @@ impl Resolver for Lww {
     }
 }
 
-/// The greatest body: a tombstone is least, then byte order decides, then the greater stamp. Of
-/// equal values the first is chosen.
+/// Chooses the greatest body: a tombstone is least, then byte order decides, then the greater
+/// stamp. Of equal values the first is chosen.
 #[derive(Drop)]
 pub struct Largest;
 
@@ -70,7 +70,7 @@ fn compare(rank: Rank, one: &Value, other: &Value) -> Ordering
     }
 }
 
-/// The place of the first of the greatest values.
+/// Returns the place of the first of the greatest values.
 fn first_greatest(rank: Rank, values: &[Value]) -> usize
     requires { 0 < length values.now }
     ensures place { result < length values.now }

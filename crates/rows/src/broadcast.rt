@@ -43,7 +43,7 @@ impl Known {
         Ok(Known { key, vector })
     }
 
-    /// The key as it is written, and how many events of node 0 the vector counts.
+    /// Returns the key as it is written, and how many events of node 0 the vector counts.
     fn named<'a>(words: &mut Words<'a>) -> Result<(&'a str, u64), RowFault> {
         let key = words.after("key")?;
         let events = number(words.after("events")?)?;
@@ -51,7 +51,7 @@ impl Known {
     }
 }
 
-/// From whom a message came, and in which round.
+/// From which node a message came, and in which round.
 #[derive(Clone, Copy)]
 struct Came {
     from: NodeId,

@@ -1,9 +1,9 @@
-//! Reports on node files, as `plumctl file` does. Each line is a path; for each it prints the path,
+//! Reports on node files, as `plumctl file` does. Each line is a path. For each it prints the path,
 //! what is reported, what would be printed at standard error, and the exit status; and for a file
 //! that was shown, the bytes of its clean copy in digits.
 
 use devices::{FileDevice, MemoryDevice};
-use plumctl_file::{Reported, ShownFile, report_path, run_rewrite};
+use plumctl_file::{Purpose, Reported, ShownFile, report_path, run_rewrite};
 use std::alloc::AllocError;
 use std::io;
 
@@ -16,7 +16,6 @@ pub fn run(rt: &HostRuntime, paths: &str) -> io::Result<()> {
     Ok(())
 }
 
-/// Prints bytes that are text.
 fn print_text(rt: &HostRuntime, before: &str, bytes: &[u8]) -> io::Result<()> {
     match std::str::from_utf8(bytes) {
         Ok("") => Ok(()),
@@ -29,7 +28,7 @@ fn print_text(rt: &HostRuntime, before: &str, bytes: &[u8]) -> io::Result<()> {
 fn show(rt: &HostRuntime, path: &str) -> io::Result<()> {
     let mut printed = Vec::new(rt.alloc());
     let mut told = Vec::new(rt.alloc());
-    let (status, reported) = report_path(rt, path, &mut printed, &mut told);
+    let (status, reported) = report_path(rt, path, Purpose::Report, &mut printed, &mut told);
     print_text(rt, "", &printed)?;
     print_text(rt, "told ", &told)?;
     println!(rt; "status {status}")?;
@@ -39,7 +38,6 @@ fn show(rt: &HostRuntime, path: &str) -> io::Result<()> {
     }
 }
 
-/// A new device in memory.
 fn new_device(rt: &HostRuntime) -> Result<MemoryDevice, AllocError> {
     MemoryDevice::new(rt.alloc(), Vec::new(rt.alloc()))
 }

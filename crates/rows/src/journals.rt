@@ -1,14 +1,14 @@
-//! Journals, and what is put together of them: nodes are driven by a scenario, each node by itself,
-//! and their journals, with what is changed in them, are handed to `assemble`.
+//! Journals, and the worlds that `assemble` makes of them. A scenario drives nodes, each by itself;
+//! their journals, with changes, are handed to `assemble`.
 //!
 //! A line `== NAME` begins a row. The lines after it are a scenario, up to the first line that
-//! begins with `:`. Each line that begins so is tried on the journals that the scenario left:
+//! begins with `:`. Each line that begins with `:` is tried on the journals that the scenario left:
 //!
 //! - `: as told` puts the journals together; `: CHANGE` or `: CHANGE; CHANGE` does so with changes
 //!   of the entries of nodes at their places, at most one of a node: `leave out N P`, `double N P`,
 //!   `swap N P`, `reply N P`, `send N P BYTE`, `unsend N P`, `take N P BYTE`, `unread N P`, `down N
 //!   P PEER`, and `untable N` of a table;
-//! - `: backwards` hands the nodes in in the opposite order; `: first M` only the first M of them;
+//! - `: backwards` hands in the nodes in the opposite order; `: first M` only the first M of them;
 //! - `: receipt N P` hands in a receipt of that entry, and `: receipt N P of M Q` one that tells
 //!   the entry of node M at Q there; `: receipt N P of M Q; CHANGE` with a change of the journals;
 //! - `: whole N M` says whether node N lived its whole first life among M nodes;
@@ -16,11 +16,11 @@
 //! - `: pace` says how many microseconds it took to put the journals together, so it stands in no
 //!   stored text.
 //!
-//! For each, what came of it is printed; where an answer's claim isn't so, ` NOT SO` after it; and
-//! for a refusal what `explain_fault` says, indented.
+//! For each line it prints what came of it; ` NOT SO` after an answer whose claim isn't so; and for
+//! a refusal what `explain_fault` says, indented.
 //!
-//! `driver` has the nodes without a world, `change` what is done to a journal, and `claims` whether
-//! what `assemble` returned is so, checked by plain code.
+//! `driver` has the nodes without a world, `change` what is done to a journal, and `claims` tells
+//! whether what `assemble` returned is so, checked by plain code.
 
 mod change;
 mod claims;
@@ -52,7 +52,7 @@ pub fn run(rt: &HostRuntime, text: &str) -> io::Result<()> {
     done
 }
 
-/// A row so far: its scenario, and the nodes that this left, once a line was tried.
+/// A row so far: its scenario, and the nodes that the scenario left, once a line was tried.
 #[derive(Drop)]
 struct Row {
     scenario: String,
@@ -60,7 +60,6 @@ struct Row {
 }
 
 impl Row {
-    /// Takes each line.
     fn take_all(&mut self, rt: &HostRuntime, text: &str) -> io::Result<()> {
         for line in text.lines() {
             match line.strip_prefix(": ") {
@@ -83,7 +82,6 @@ impl Row {
         }
     }
 
-    /// Begins the row of this name.
     fn begin(&mut self, rt: &HostRuntime, name: &str) -> io::Result<()> {
         self.scenario = String::new(rt.alloc());
         self.nodes = None;
@@ -97,7 +95,6 @@ impl Row {
     }
 }
 
-/// Tries one line.
 fn try_line(rt: &HostRuntime, nodes: &Nodes, line: &str) -> io::Result<()> {
     match line {
         "each" => return try_each(rt, nodes),
@@ -132,7 +129,7 @@ fn add_closed(
     }
 }
 
-/// The nodes, closed, with the changes that a line names.
+/// Returns the nodes, closed, with the changes that a line names.
 fn closed_of(alloc: Global, nodes: &Nodes, line: &str) -> Result<Vec<Closed>, AllocError> {
     let changes = changes_of(alloc, line)?;
     nodes.closed(changes.as_slice())
@@ -163,7 +160,7 @@ fn number(word: Option<&str>) -> usize {
         .unwrap_or(0)
 }
 
-/// The changes that a line names, each with its node.
+/// Returns the changes that a line names, each with its node.
 fn changes_of(alloc: Global, line: &str) -> Result<Vec<(usize, Change)>, AllocError> {
     let mut changes = Vec::new(alloc);
     for part in line.split("; ") {
@@ -174,7 +171,7 @@ fn changes_of(alloc: Global, line: &str) -> Result<Vec<(usize, Change)>, AllocEr
     Ok(changes)
 }
 
-/// The change that a line names, and the node that it is of.
+/// Returns the change that a line names, and the node whose entry it changes.
 fn change_of(line: &str) -> Option<(usize, Change)> {
     let line = line.strip_prefix("leave out").unwrap_or(line);
     let mut words = line.split(' ');
@@ -198,15 +195,15 @@ fn change_of(line: &str) -> Option<(usize, Change)> {
     Some((node, Change { kind, place }))
 }
 
-/// Turns the order of the nodes round.
+/// Reverses the order of the nodes.
 fn turn(alloc: Global, closed: &mut Vec<Closed>) -> Result<(), AllocError> {
     let turned = backwards(alloc, closed)?;
     drop(replace(closed, turned));
     Ok(())
 }
 
-/// The items of a list, which is left empty, in the opposite order. Its type parameter hides what
-/// is dropped where memory runs out.
+/// Returns the items of a list in the opposite order, and leaves the list empty. Its type parameter
+/// hides what is dropped if memory runs out.
 fn backwards<T: Drop>(alloc: Global, items: &mut Vec<T>) -> Result<Vec<T>, AllocError> {
     let mut turned = Vec::new(alloc);
     for _place in 0..items.len() {
@@ -217,8 +214,8 @@ fn backwards<T: Drop>(alloc: Global, items: &mut Vec<T>) -> Result<Vec<T>, Alloc
     Ok(turned)
 }
 
-/// The receipt that a line asks for: it has the entry of a node at a place, and may name another
-/// node and place. None where the line asks for none.
+/// Returns the receipt that a line asks for, or none if it asks for none. The receipt has the entry
+/// of a node at a place, and may name another node and place.
 fn receipt_of(nodes: &Nodes, line: &str) -> Result<Option<Receipt>, AllocError> {
     let Some(line) = line.strip_prefix("receipt ") else {
         return Ok(None);
@@ -232,7 +229,8 @@ fn receipt_of(nodes: &Nodes, line: &str) -> Result<Option<Receipt>, AllocError> 
     nodes.receipt(node, place, of, at)
 }
 
-/// The list of one item or none. Its type parameter hides what is dropped where memory runs out.
+/// Returns the list of one item or none. Its type parameter hides what is dropped if memory runs
+/// out.
 fn listed<T: Drop>(alloc: Global, item: Option<T>) -> Result<Vec<T>, AllocError> {
     let mut list = Vec::new(alloc);
     if let Some(item) = item {
@@ -241,7 +239,7 @@ fn listed<T: Drop>(alloc: Global, item: Option<T>) -> Result<Vec<T>, AllocError>
     Ok(list)
 }
 
-/// The receipt that a line asks for, if it asks for one.
+/// Returns the receipt that a line asks for, if it asks for one.
 fn receipts_of(alloc: Global, nodes: &Nodes, line: &str) -> Result<Vec<Receipt>, AllocError> {
     listed(alloc, receipt_of(nodes, line)?)
 }
@@ -276,7 +274,7 @@ fn add_told(
     done
 }
 
-/// Adds an answer, and why where it is a refusal.
+/// Adds an answer, and the cause if it is a refusal.
 fn add_answer(
     alloc: Global,
     closed: &[Closed],
@@ -352,7 +350,7 @@ fn add_indented(words: &[u8], text: &mut String) -> Result<(), AllocError> {
     Ok(())
 }
 
-/// The kind of change with this number.
+/// Returns the kind of change with this number.
 fn nth_kind(number: usize) -> Kind {
     match number {
         0 => Kind::LeaveOut,
@@ -437,8 +435,8 @@ fn time_of_told(rt: &HostRuntime, closed: &[Closed], text: &mut String) -> io::R
     Ok(start.elapsed(rt)?.as_micros())
 }
 
-/// Returns whether the answer is so with the change of an entry of the node; none where that
-/// changes nothing, or the journals aren't whole.
+/// Returns whether the answer is so with the change of an entry of the node; none if that changes
+/// nothing, or if the journals aren't whole.
 fn try_change(
     alloc: Global,
     nodes: &Nodes,
@@ -451,8 +449,8 @@ fn try_change(
     is_so
 }
 
-/// Returns whether the answer for these journals is so; none where that of the node is the one that
-/// it left, or they aren't whole.
+/// Returns whether the answer for these journals is so; none if the node's is the one that it left,
+/// or if they aren't whole.
 fn is_so_of(
     alloc: Global,
     nodes: &Nodes,

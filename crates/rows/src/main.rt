@@ -8,8 +8,8 @@
 //! The gate compares what it prints with the stored text, so rows cost no proof.
 //!
 //! Read `rows`, `row` and `report` with `difference`; then `scenarios`, `schedule` and `past`;
-//! `overlay`, `node`, `views`, `broadcast`, `words` and `print`; `journals` with its folder; and
-//! `files`.
+//! `overlay`, `node`, `views`, `broadcast`, `words` and `print` with `fault`; `journals` with its
+//! folder; and `files`.
 #![tactic(auto)]
 
 mod broadcast;
@@ -73,7 +73,7 @@ fn try_rows(rt: &HostRuntime, rows: &str) -> Result<(), StreamFault> {
     write_whole(&mut MayFail(rt.stdout()), text.as_slice())
 }
 
-/// The fault of a part that makes no report, by its error.
+/// Returns the fault of a part that makes no report, by its error.
 fn fault_of(error: io::Error) -> StreamFault {
     match error.kind() {
         ErrorKind::OutOfMemory => StreamFault::Memory,

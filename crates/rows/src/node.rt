@@ -8,7 +8,7 @@ use meta_types::NodeId;
 use plumtree::Cast;
 use std::alloc::{AllocError, Global};
 
-/// A node: its views and its broadcast, neither of which hears of the other.
+/// A node: its views and its broadcast. Neither hears of the other.
 #[derive(Drop)]
 pub struct Node {
     number: NodeId,
@@ -17,7 +17,7 @@ pub struct Node {
 }
 
 impl Node {
-    /// A node that knows nobody.
+    /// Makes a node that knows nobody.
     pub fn new(alloc: Global, number: NodeId) -> Self {
         Node {
             number,

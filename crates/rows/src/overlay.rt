@@ -9,8 +9,8 @@ use meta_types::NodeId;
 use std::alloc::{AllocError, Global};
 use std::collections::BTreeMap;
 
-/// What the lines of a row give out. A line that begins with `#` is copied, and a line that is no
-/// command is printed after `error`.
+/// Returns what the lines of a row give out. A line that begins with `#` is copied, and a line that
+/// is no command is printed after `error`.
 pub fn output_of_events(alloc: Global, lines: &[u8]) -> Result<Vec<u8>, AllocError> {
     let mut text = Vec::new(alloc);
     let mut nodes = Nodes::new(alloc);
@@ -60,7 +60,7 @@ impl Nodes {
         }
     }
 
-    /// Does what a line says. A line with words left over is done, and is yet no command.
+    /// Does what a line says. A line with words left over is done, but is no command.
     fn obey(&mut self, alloc: Global, line: &str, text: &mut Vec<u8>) -> Result<(), RowFault> {
         let mut words = Words::of(alloc, line)?;
         match words.next()? {
@@ -78,7 +78,7 @@ impl Nodes {
         Ok(())
     }
 
-    /// The node of the line.
+    /// Returns the node of the line.
     fn node(&mut self) -> Result<&mut Node, RowFault> {
         let at = self.at.ok_or(RowFault::NoCommand)?;
         self.by_number.get_mut(&at).ok_or(RowFault::NoCommand)

@@ -12,7 +12,7 @@ use past_model::{Happening, Plain};
 use std::alloc::{AllocError, Global};
 use world_core::World;
 
-/// The keys that schedules name: p/s/k, p/s/l and p/t/k.
+/// Returns the keys that schedules name: p/s/k, p/s/l and p/t/k.
 pub fn keys(alloc: Global) -> Result<Vec<MetaKey>, AllocError> {
     let mut keys = Vec::with_capacity(alloc, 3)?;
     for (sub, letter) in [(b's', b'k'), (b's', b'l'), (b't', b'k')] {
@@ -21,7 +21,7 @@ pub fn keys(alloc: Global) -> Result<Vec<MetaKey>, AllocError> {
     Ok(keys)
 }
 
-/// The key of this letter under p and another letter.
+/// Returns the key of this letter under p and another letter.
 fn key(alloc: Global, sub: u8, letter: u8) -> Result<MetaKey, AllocError> {
     let names = both(Vec::from_slice(alloc, b"p"), Vec::from_slice(alloc, &[sub]));
     let (own, (first, second)) = both(Vec::from_slice(alloc, &[letter]), names)?;
@@ -37,7 +37,7 @@ pub fn is_right(alloc: Global, world: &World, keys: &[MetaKey]) -> Result<bool, 
     is_right
 }
 
-/// Returns whether it does by this history.
+/// Returns whether each node shows what the past of this history does.
 fn is_as_told(
     alloc: Global,
     history: &[Happening],
@@ -52,7 +52,7 @@ fn is_as_told(
     is_right
 }
 
-/// Returns whether it does by this past.
+/// Returns whether each node shows what this past does.
 fn is_as_replayed(
     alloc: Global,
     plain: &Plain<'_>,
@@ -69,7 +69,7 @@ fn is_as_replayed(
     Ok(true)
 }
 
-/// Returns whether `is_right` holds of one node and one key. The world says too what the node
+/// Returns whether `is_right` holds of one node and one key. The world also says what the node
 /// knows.
 fn is_right_under(
     alloc: Global,
@@ -125,7 +125,7 @@ fn are_siblings(
 }
 
 /// Adds `alike` to the log for each two nodes that hold the same, and something. Returns whether
-/// two nodes have one root exactly where they hold the same.
+/// two nodes have one root exactly if they hold the same.
 pub fn add_alike(world: &World, keys: &[MetaKey], log: &mut Vec<u8>) -> Result<bool, AllocError> {
     for one in 0..NODES {
         for other in 0..one {

@@ -13,13 +13,12 @@ pub fn print_list(text: &mut Vec<u8>, label: &str, nodes: &[NodeId]) -> Result<(
     print_nodes(text, nodes)
 }
 
-/// Adds a label and a number.
 fn print_labelled(text: &mut Vec<u8>, label: &str, number: u16) -> Result<(), AllocError> {
     text.extend_from_slice(label.as_bytes())?;
     print_number(text, u64::from(number))
 }
 
-/// A message to be sent, as frame number 1 of the node.
+/// Adds a message to be sent, as frame number 1 of the node.
 fn print_sent(
     text: &mut Vec<u8>,
     from: NodeId,
@@ -33,7 +32,7 @@ fn print_sent(
         message,
     };
     let done = print_frame(text, &frame);
-    // Dropped by a call: no case of the proof then takes it apart.
+    // Dropped by a call, so that no case of the proof takes it apart.
     drop(frame);
     done
 }
@@ -46,7 +45,7 @@ fn print_view_out(text: &mut Vec<u8>, from: NodeId, out: &ViewOut) -> Result<(),
     }
 }
 
-/// What a step of the views of this node gave out.
+/// Adds what a step of the views of this node gave out.
 pub fn print_view_outs(
     text: &mut Vec<u8>,
     from: NodeId,
@@ -59,7 +58,7 @@ pub fn print_view_outs(
     Ok(())
 }
 
-/// A GOSSIP, whose object the broadcast doesn't hold.
+/// Adds a GOSSIP, whose object the broadcast doesn't hold.
 fn print_gossip(
     text: &mut Vec<u8>,
     to: NodeId,
@@ -79,7 +78,7 @@ fn print_cast_out(text: &mut Vec<u8>, from: NodeId, out: &CastOut) -> Result<(),
     }
 }
 
-/// What a call of the broadcast of this node gave out.
+/// Adds what a call of the broadcast of this node gave out.
 pub fn print_cast_outs(
     text: &mut Vec<u8>,
     from: NodeId,

@@ -25,7 +25,6 @@ impl Report {
         }
     }
 
-    /// Counts a row.
     pub fn count_row(&mut self) {
         self.rows = self.rows.saturating_add(1);
     }
@@ -65,8 +64,8 @@ impl Report {
     }
 }
 
-/// Returns whether the output is what is wanted. Where `wanted` begins with a line `..`, only the
-/// last lines of the output are compared.
+/// Returns whether the output is what is wanted. If `wanted` begins with a line `..`, only the last
+/// lines of the output are compared.
 fn is_wanted(wanted: &[u8], output: &[u8]) -> bool {
     match wanted.strip_prefix(b"..\n") {
         Some(last) => output.ends_with(last),

@@ -57,7 +57,7 @@ impl Row {
         }
     }
 
-    /// The file of an example.
+    /// Returns the file of an example.
     pub fn file(&self) -> &str {
         text_of(self.name.strip_prefix(EXAMPLE).unwrap_or(b""))
     }
@@ -98,7 +98,7 @@ impl Row {
     }
 }
 
-/// Returns how often a line stands, and the line.
+/// Returns how many times a line stands, and the line.
 fn repeated(line: &str) -> (u32, &str) {
     let Some((front, rest)) = line.split_once(' ') else {
         return (1, line);

@@ -84,7 +84,7 @@ fn try_events(rt: &HostRuntime, row: &Row, report: &mut Report) -> Result<(), Al
     report.compare(rt.alloc(), row, output.as_slice())
 }
 
-/// Where in the text of rows a line stands.
+/// Where a line stands in the text of rows.
 #[derive(Clone, Copy, PartialEq, Eq)]
 pub enum Part {
     Between,
@@ -114,7 +114,7 @@ fn take(row: &mut Row, part: Part, line: &str) -> Result<Part, AllocError> {
     }
 }
 
-/// Takes a line between rows: a line that begins a row does so, and any other is skipped.
+/// Takes a line between rows. It begins a row, or is skipped.
 fn between(row: &mut Row, line: &str) -> Result<Part, AllocError> {
     match line.strip_prefix("== ") {
         Some(name) => {
@@ -125,7 +125,6 @@ fn between(row: &mut Row, line: &str) -> Result<Part, AllocError> {
     }
 }
 
-/// Adds a line.
 pub fn print_line(text: &mut Vec<u8>, label: &str, line: &str) -> Result<(), AllocError> {
     text.extend_from_slice(label.as_bytes())?;
     text.extend_from_slice(line.as_bytes())?;

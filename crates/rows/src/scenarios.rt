@@ -10,7 +10,7 @@ use scenario_explain::explain_over;
 use std::alloc::{AllocError, Global};
 use streams::StreamFault;
 
-/// Runs a scenario, and compares what it prints with what the row wants; and, where it isn't long,
+/// Runs a scenario, and compares what it prints with what the row wants; and, if it isn't long,
 /// what it prints when it is explained.
 pub fn try_scenario(
     alloc: Global,
@@ -39,8 +39,8 @@ pub fn try_explained(
     report.compare(alloc, row, output.as_slice())
 }
 
-/// The most bytes of a scenario that is explained too: what that prints grows with the square of
-/// its length.
+/// The most bytes of a scenario that is explained too. What an explained run prints grows with the
+/// square of its length.
 const MAX_EXPLAINED: usize = 4_000;
 
 /// Compares what an explained scenario prints, without its indented lines, with `output`. Adds
@@ -61,7 +61,7 @@ fn compare_explained(
     report.add_different(text_of(row.name()), told.as_slice())
 }
 
-/// The lines of a text that don't begin with two spaces.
+/// Returns the lines of a text that don't begin with two spaces.
 fn without_indented(alloc: Global, text: &str) -> Result<Vec<u8>, AllocError> {
     let mut plain = Vec::new(alloc);
     for line in text.lines() {
@@ -72,11 +72,11 @@ fn without_indented(alloc: Global, text: &str) -> Result<Vec<u8>, AllocError> {
     Ok(plain)
 }
 
-/// What is printed where the second line breaks a rule.
+/// What is printed if the second line breaks a rule.
 const BAD_LINE: &[u8] = b"error 70 BadLine 2\n";
 
 /// Tries a line after `nodes 2`: a line after `!` should be a bad one, and a line after `=`
-/// shouldn't. Adds where it is otherwise.
+/// shouldn't. Adds the line if that isn't so.
 pub fn try_line(
     alloc: Global,
     tried: &str,
@@ -94,7 +94,7 @@ pub fn try_line(
     report.add_different(tried, b"")
 }
 
-/// What a scenario prints, explained or not.
+/// Returns what a scenario prints, explained or not.
 fn output_of(
     alloc: Global,
     scenario: &[u8],

@@ -1,4 +1,5 @@
-//! A schedule: commands to four nodes, which are now and then compared with the past by sets.
+//! A schedule: commands to four nodes, which are compared with the past by sets at certain
+//! commands.
 
 use crate::past::{add_alike, is_right, keys};
 use crate::report::Report;
@@ -14,8 +15,8 @@ use std::alloc::{AllocError, Global};
 /// How many nodes each schedule has.
 pub const NODES: u64 = 4;
 
-/// Runs the schedule of a row. Adds where a node didn't show what the past does when it was
-/// compared, and which lines the log has less often than the row wants.
+/// Runs the schedule of a row. Adds where a node, when it was compared, didn't show what the past
+/// does, and which lines the log has less often than the row wants.
 pub fn try_schedule(
     alloc: Global,
     row: &Row,
@@ -35,8 +36,8 @@ pub fn try_schedule(
     report.add_different(text_of(row.name()), told.as_slice())
 }
 
-/// Adds the wanted lines, as `least 25 deliver fresh`, that the log has less often, and
-/// `ends alike` where it doesn't end so.
+/// Adds the wanted lines, as `least 25 deliver fresh`, that the log has less often, and `ends
+/// alike` if it doesn't end so.
 fn add_lacking(log: &str, wanted: &str, lacking: &mut Vec<u8>) -> Result<(), AllocError> {
     for line in wanted.lines() {
         if !has_least(log, line) {
@@ -46,7 +47,7 @@ fn add_lacking(log: &str, wanted: &str, lacking: &mut Vec<u8>) -> Result<(), All
     Ok(())
 }
 
-/// How the log ends where after the last command all four nodes hold the same.
+/// How the log ends if after the last command all four nodes hold the same.
 const ALL_ALIKE: &str = "settle done\nalike\nalike\nalike\nalike\nalike\nalike\n";
 
 /// Returns whether the log has a line as often as is wanted, or ends as is wanted.
@@ -68,7 +69,7 @@ fn has_least(log: &str, wanted: &str) -> bool {
 }
 
 /// Does the commands of a schedule, and adds to the log what came of each. Returns whether each
-/// node showed what the past does whenever it was compared.
+/// node showed what the past does each time it was compared.
 fn follow(
     alloc: Global,
     lines: &str,
@@ -102,7 +103,7 @@ fn follow_all(
 }
 
 /// Returns whether all is compared after the command at this place: after each of the first 50, and
-/// then after each fiftieth, as the past by sets takes the square of its length.
+/// then after each fiftieth, since the past by sets takes the square of its length.
 fn is_compared(place: usize) -> bool {
     place < 50 || place % 50 == 0
 }
@@ -139,7 +140,7 @@ fn take_line(
     print_line(log, " ", outcome(output.as_slice()))
 }
 
-/// Returns in a word what a command printed.
+/// Returns one word for what a command printed.
 fn outcome(output: &[u8]) -> &'static str {
     if output.starts_with(b"refused ") {
         "refused"
@@ -154,7 +155,7 @@ fn outcome(output: &[u8]) -> &'static str {
     }
 }
 
-/// The text of a scenario with this command alone.
+/// Returns the text of a scenario with this command alone.
 fn command_text(alloc: Global, line: &str, frames: u64) -> Result<Vec<u8>, AllocError> {
     let mut text = Vec::from_slice(alloc, b"nodes 4\n")?;
     match line.strip_prefix("deliver -") {
@@ -164,7 +165,8 @@ fn command_text(alloc: Global, line: &str, frames: u64) -> Result<Vec<u8>, Alloc
     Ok(text)
 }
 
-/// Adds a delivery of a frame that is named by how late it was sent: `deliver -1` is of the last.
+/// Adds a delivery of a frame that is named by its place from the last: `deliver -1` is of the last
+/// that was sent.
 fn add_delivery(text: &mut Vec<u8>, rest: &str, frames: u64) -> Result<(), AllocError> {
     let (back, more) = rest.split_once(' ').unwrap_or((rest, ""));
     let back = back.parse::<u64>().unwrap_or(1);

@@ -6,7 +6,6 @@ use hyparview::ViewEvent;
 use meta_frame::{Message, NeighborAnswer, Priority};
 use std::alloc::Global;
 
-/// The event of a row.
 pub fn event(command: &str, words: &mut Words<'_>) -> Result<ViewEvent, RowFault> {
     match command {
         "through" => Ok(ViewEvent::JoinThrough {
@@ -22,7 +21,7 @@ pub fn event(command: &str, words: &mut Words<'_>) -> Result<ViewEvent, RowFault
     }
 }
 
-/// A message that came.
+/// Returns the event of a message that came.
 fn taken(kind: &str, words: &mut Words<'_>) -> Result<ViewEvent, RowFault> {
     let from = node(words.after("from")?)?;
     let message = message(kind, words)?;
@@ -43,7 +42,7 @@ fn message(kind: &str, words: &mut Words<'_>) -> Result<Message, RowFault> {
     }
 }
 
-/// A message for another part, which changes no view.
+/// Makes a message for another part, which changes no view.
 fn message_of_others(kind: &str) -> Result<Message, RowFault> {
     match kind {
         "prune" => Ok(Message::Prune),

@@ -8,7 +8,7 @@ use node_parts::both;
 use std::alloc::Global;
 use std::str::SplitWhitespace;
 
-/// The words of a row that were not read yet, and the random word at its end.
+/// The words of a row that are still to be read, and the random word at its end.
 #[derive(Drop)]
 pub struct Words<'a> {
     alloc: Global,
@@ -17,7 +17,7 @@ pub struct Words<'a> {
 }
 
 impl<'a> Words<'a> {
-    /// The words of a row. Where it does not end with ` word W` the random word is 0.
+    /// Takes the words of a row. If it doesn't end with ` word W` the random word is 0.
     pub fn of(alloc: Global, row: &'a str) -> Result<Self, RowFault> {
         let (front, random) = match row.split_once(" word ") {
             Some((front, random)) => (front, number(random)?),
@@ -43,7 +43,7 @@ impl<'a> Words<'a> {
         self.left.next().ok_or(RowFault::NoCommand)
     }
 
-    /// Refuses where a word is left.
+    /// Refuses if a word is left.
     pub fn end(&mut self) -> Result<(), RowFault> {
         match self.left.next() {
             Some(_) => Err(RowFault::NoCommand),
@@ -51,7 +51,7 @@ impl<'a> Words<'a> {
         }
     }
 
-    /// The word after this label.
+    /// Reads the word after this label.
     pub fn after(&mut self, label: &str) -> Result<&'a str, RowFault> {
         if self.next()? == label {
             self.next()
@@ -60,7 +60,7 @@ impl<'a> Words<'a> {
         }
     }
 
-    /// Returns whether the next word is `one`. Refuses where it is neither `one` nor `other`.
+    /// Returns whether the next word is `one`. Refuses if it is neither `one` nor `other`.
     pub fn is_first_of(&mut self, one: &str, other: &str) -> Result<bool, RowFault> {
         let word = self.next()?;
         if word == one || word == other {
@@ -80,7 +80,7 @@ pub fn node(word: &str) -> Result<NodeId, RowFault> {
     NodeId::new(number).map_err(|_| RowFault::NoCommand)
 }
 
-/// Node numbers, as `2,3`, or `-` for none.
+/// Reads node numbers, as `2,3`, or `-` for none.
 pub fn nodes(alloc: Global, word: &str) -> Result<Nodes, RowFault> {
     let mut numbers = Vec::new(alloc);
     if word != "-" {
@@ -96,7 +96,7 @@ fn add_nodes(numbers: &mut Vec<NodeId>, word: &str) -> Result<(), RowFault> {
     Ok(())
 }
 
-/// A key under the full prefix `a/b`.
+/// Makes a key under the full prefix `a/b`.
 pub fn key(alloc: Global, word: &str) -> Result<MetaKey, RowFault> {
     let names = both(Vec::from_slice(alloc, b"a"), Vec::from_slice(alloc, b"b"));
     let (own, (prefix, sub)) = both(Vec::from_slice(alloc, word.as_bytes()), names)?;
@@ -105,7 +105,7 @@ pub fn key(alloc: Global, word: &str) -> Result<MetaKey, RowFault> {
     MetaKey::new(prefix, own).map_err(|_| RowFault::NoCommand)
 }
 
-/// The vector of `events` events of node 0 in its first life; one at least.
+/// Makes the vector of `events` events of node 0 in its first life; at least one.
 pub fn vector(alloc: Global, events: u64) -> Result<Vector, RowFault> {
     let writer = Actor::new(node("0")?, 1);
     let mut counters = Vec::new(alloc);

@@ -1,4 +1,4 @@
-//! Where a node does otherwise than its journal says.
+//! Where a node does something other than its journal says.
 
 use crate::explain::add_call;
 use crate::needed::add_frame;
@@ -28,7 +28,7 @@ pub(crate) fn add_difference(
     }
 }
 
-/// The place of the first entry that a node doesn't make, with what it does there.
+/// Returns the place of the first entry that a node doesn't make, with what it does there.
 fn first_difference(
     state: &mut NodeState,
     journal: &[Entry],

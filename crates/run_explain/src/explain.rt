@@ -17,15 +17,14 @@ pub(crate) fn add_call(text: &mut Vec<u8>, at: Place) -> Result<(), AllocError> 
     text.extend_from_slice(b": ")
 }
 
-/// The entry at a place, if there is one.
 pub(crate) fn entry_at(closed: &[Closed], at: Place) -> Option<&Entry> {
     journal_of(closed, at.node).get(at.place)
 }
 
-/// Why `assemble` refused these journals and receipts with this fault, a line for each thing that
-/// is wrong: of 60 what was needed and by whom, of 61 what each place waits for and who gives it,
-/// of 62 the first call of the node that differs from what a node does, with both sides, or its
-/// table, and of 63 the first receipt that is of no entry. Nothing is said of 99.
+/// Returns why `assemble` refused these journals and receipts with this fault, with a line for each
+/// thing that is wrong: of 60 what was needed and by whom, of 61 what each place waits for and who
+/// gives it, of 62 the first call of the node that differs from what a node does, with both sides,
+/// or its table, and of 63 the first receipt that is of no entry. Nothing is said of 99.
 ///
 /// It takes memory for the text, and for one node. Fails only when memory runs out.
 pub fn explain_fault(

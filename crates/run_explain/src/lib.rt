@@ -1,5 +1,5 @@
-//! Why journals are no run of the world, in words: looks again at what `assemble` refused, and says
-//! what waits for what, or where a journal and the node differ.
+//! Says in words why journals are no run of the world: looks again at what `assemble` refused, and
+//! says what waits for what, or where a journal and the node differ.
 //!
 //! ```
 //! if let Err(fault) = assemble(alloc, &closed, &receipts) {
@@ -8,8 +8,8 @@
 //! }
 //! ```
 //!
-//! Read `explain`, then `needed` (what an entry needs), `difference` (where a node does otherwise)
-//! and `reply`. Calls are counted from 1, for people.
+//! Read `explain`, then `needed` (what an entry needs), `difference` (where a node does something
+//! else) and `reply`. Calls are counted from 1, for people.
 #![tactic(auto)]
 
 mod difference;

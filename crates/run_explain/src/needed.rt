@@ -72,7 +72,7 @@ pub(crate) fn add_waiting(
     Ok(())
 }
 
-/// The first entry that gives what the event needs.
+/// Returns the first entry that gives what the event needs.
 fn giver_of(closed: &[Closed], event: &NodeEvent) -> Option<Place> {
     for node in 0..closed.len() {
         if let Some(place) = place_in(journal_of(closed, node), event) {

@@ -4,7 +4,6 @@ use node_events::Reply;
 use printing::{print_number, print_values, print_vector};
 use std::alloc::AllocError;
 
-/// Adds a reply.
 pub(crate) fn add_reply(text: &mut Vec<u8>, reply: &Reply) -> Result<(), AllocError> {
     match reply {
         Reply::Looked { values, context } => {

@@ -7,7 +7,7 @@ abbrev pub ahead : (ℕ → List Entry) → ℕ → List ℕ → ℕ
 ahead journals n [] = 0
 ahead journals n (p ∷ ps) = (length (journals n) - p) + ahead journals (suc n) ps
 
--- where a node goes on by an entry, fewer are left
+-- if a node goes on by an entry, fewer are left
 pub ahead_less : (journals : ℕ → List Entry) (n : ℕ) (ps : List ℕ) (i : ℕ) → i < length ps
     → ((k : ℕ) → k ≡ n + i → get_or ps i 0 < length (journals k))
     → ahead journals n (set ps i (get_or ps i 0 + 1)) < ahead journals n ps

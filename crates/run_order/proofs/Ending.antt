@@ -1,4 +1,4 @@
--- Where nobody can go on: all have ended, or the next places are stuck.
+-- If nobody can go on, all have ended, or the next places are stuck.
 use Rattle.std.proofs.Common.{◌≡◌, ◌<◌, ◌≤◌, ℕ, List, [], ◌∷◌, ◌++◌, zero, suc, length, get_or, slice_index, Some, refl, ap, ◌∙◌, inl, inr, arith}
 use Rattle.std.proofs.lemmas.Option.{slice_get_within}
 use Rattle.std.proofs.lemmas.Bool.{cases_lt}
@@ -10,7 +10,7 @@ use Rattle.run_order.specs.Passing.{AllWait, AreHeads, AreNextPlaces, NoneIsPast
 use Rattle.run_order.specs.Refusal.{IsStuck, Lists, NoneIsStuck}
 use Rattle.run_order.specs.declared.fault.Place.{Place}
 
--- where all entries have come, nothing is stuck
+-- if all entries have come, nothing is stuck
 pub ended_unstuck : (closed : List ClosedNode) (next : List ℕ) → NoneIsPast closed next
     → ((n : ℕ) → HasEnded closed next n) → NoneIsStuck closed
 ended_unstuck closed next past ended [] stuck = absurd (omega (arith, stuck.some))
@@ -21,7 +21,7 @@ ended_unstuck closed next past ended (p ∷ later) stuck =
     let le : slice_index next p.node ≤ p.place = past (p ∷ later) stuck p.node p.place here in
     omega (arith, within, le, ended p.node)
 
--- where no place is listed, all have ended
+-- if no place is listed, all have ended
 pub all_ended : (closed : List ClosedNode) (next : List ℕ) (ps : List Place) → HaveNodes closed
     → AreNextPlaces closed next → AreHeads closed next (length next) ps → length ps ≡ 0
     → (n : ℕ) → HasEnded closed next n

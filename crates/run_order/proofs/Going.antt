@@ -19,7 +19,7 @@ goes_on closed [] first next turn goes ready =
 goes_on closed (t ∷ later) first next turn goes ready =
     (goes.0, goes_on closed later (with_turn first t.node) next turn goes.1 ready)
 
--- where all have ended, the turns are an order
+-- if all have ended, the turns are an order
 pub goes_to_end : (closed : List ClosedNode) (order : List Turn) (first next : List ℕ)
     → Goes closed first order next → ((n : ℕ) → HasEnded closed next n)
     → IsOrderFrom closed first order

@@ -4,7 +4,7 @@ mod Ahead
 mod Heads
 -- nobody goes past a stuck place
 pub mod Waiting
--- where nobody can go on
+-- if nobody can go on
 mod Ending
 -- the place of a frame
 mod Finding

@@ -48,7 +48,7 @@ pub record AreHeads (closed : List ClosedNode) (next : List ℕ) (all : ℕ) (pl
   pub only : (n p : ℕ) → Lists places n p
       → (n < all) × ((p ≡ slice_index next n) × (p < length (journal_of closed n)))
 
--- where places are stuck, no journal has been gone through past its place
+-- if places are stuck, no journal has been gone through past its place
 abbrev pub NoneIsPast : List ClosedNode → List ℕ → Type 0
 NoneIsPast closed next = (places : List Place) → IsStuck closed places
     → (n r : ℕ) → Lists places n r → slice_index next n ≤ r

@@ -67,7 +67,7 @@ RefusesOrder closed Memory = Unit {0}
 
 -- ---- laws
 
--- where entries wait for one another, no order has each after one that gives what it needs
+-- if entries wait for one another, no order has each after one that gives what it needs
 abbrev pub AStuckRunHasNoOrder : Type 0
 AStuckRunHasNoOrder = (closed : List ClosedNode) (places : List Place) (order : List Turn)
     → IsStuck closed places → IsOrder closed order → ⊥

@@ -16,8 +16,8 @@ pub enum OrderFault {
     /// 60: the entry there takes bytes that no entry sent, or has read what no entry handed out.
     Unsent(Place),
     /// 61: these entries wait for one another: what each of them needs is given only by entries
-    /// that stand at the places listed, or after them. Of a node at most one place is listed, by
-    /// rising numbers.
+    /// that stand at the places listed, or after them. At most one place is listed for each node,
+    /// in the order of the nodes' numbers.
     Stuck { places: Vec<Place> },
     /// 99: an allocation was refused.
     Memory,

@@ -43,7 +43,7 @@ fn hands_out(reply: &Reply, context: &Context) -> bool
     }
 }
 
-/// The first place of the frame.
+/// Returns the first place of the frame.
 fn place_of(frames: &[ByteString], frame: &ByteString) -> Option<usize>
     ensures some { IfSome result (λ k. slice_get frames.now k ≡ Some frame.now) }
     ensures none { IsNone result → (k : ℕ) → slice_get frames.now k ≡ Some frame.now → ⊥ }
@@ -56,7 +56,7 @@ fn place_of(frames: &[ByteString], frame: &ByteString) -> Option<usize>
     None
 }
 
-/// Where the entry gives what the event needs, if it does.
+/// Returns where the entry gives what the event needs, if it does.
 pub(crate) fn given(entry: &Entry, event: &NodeEvent) -> Option<usize>
     ensures some { IfSome result (λ k. SuppliesAt k entry.now event.now) }
     ensures none { IsNone result → Supplies entry.now event.now → ⊥ }
@@ -77,7 +77,7 @@ pub(crate) fn given(entry: &Entry, event: &NodeEvent) -> Option<usize>
     }
 }
 
-/// The first entry that gives what the event needs.
+/// Returns the first entry that gives what the event needs.
 fn giver_in(journal: &[Entry], event: &NodeEvent) -> Option<(usize, usize)>
     ensures some { IfSome result (λ found. (e : AnEntry)
         × ((slice_get journal.now found.0 ≡ Some e) × SuppliesAt found.1 e event.now)) }
@@ -92,8 +92,8 @@ fn giver_in(journal: &[Entry], event: &NodeEvent) -> Option<(usize, usize)>
     None
 }
 
-/// An entry that was gone through and gives what the event needs. It looks at each that was gone
-/// through, one after the other.
+/// Returns an entry that was gone through and gives what the event needs. It looks at each that was
+/// gone through, one after the other.
 pub(crate) fn passed_giver(closed: &[Closed], next: &[usize], event: &NodeEvent) -> Option<Giver>
     requires { AreNextPlaces closed.now next.now }
     ensures some { IfSome result (IsPassedGiver closed.now next.now event.now) }

@@ -1,6 +1,6 @@
 //! Where a giver has to be if the journals are those of nodes, by the numbers that frames and
-//! contexts carry. What is found there is compared whole, so nothing is asked of a hint; a wrong
-//! one costs time.
+//! contexts carry. What is found there is compared whole, so a hint may be wrong: that only costs
+//! time.
 
 ghost use Rattle.std.specs.Prelude.{IfSome};
 ghost use Rattle.run_order.specs.Order.{IsPassedGiver};
@@ -21,7 +21,7 @@ pub(crate) struct Hints {
     sent: Vec<Vec<u64>>,
 }
 
-/// How many frames were sent up to each entry, itself included.
+/// Returns how many frames were sent up to each entry, itself included.
 fn sent_by(alloc: Global, journal: &[Entry]) -> Result<Vec<u64>, AllocError> {
     let mut counts = Vec::with_capacity(alloc, journal.len())?;
     let mut count = 0u64;
@@ -44,7 +44,7 @@ impl Hints {
         Ok(Hints { sent })
     }
 
-    /// The entry that sent the frame: a node numbers its frames from 1.
+    /// Returns the entry that sent the frame: a node numbers its frames from 1.
     fn of_frame(&self, frame: &ByteString) -> Option<(usize, usize)> {
         let header = read_header(frame.as_slice()).ok()?;
         let node = usize::from(header.from.number());
@@ -55,13 +55,13 @@ impl Hints {
         Some((node, place))
     }
 
-    /// The entry that reads in this step: a node numbers the steps of its life from 1.
+    /// Returns the entry that reads in this step: a node numbers the steps of its life from 1.
     fn of_read(source: Source) -> Option<(usize, usize)> {
         let place = usize::try_from(source.step.checked_sub(1)?).ok()?;
         Some((usize::from(source.actor.node().number()), place))
     }
 
-    /// Where the entry has to be that gives what the event needs.
+    /// Returns where the entry that gives what the event needs has to be.
     fn place(&self, event: &NodeEvent) -> Option<(usize, usize)> {
         match event {
             NodeEvent::Take { frame, .. } => self.of_frame(frame),
@@ -73,7 +73,8 @@ impl Hints {
         }
     }
 
-    /// The entry where the giver has to be, if it was gone through and gives what the event needs.
+    /// Returns the entry where the giver has to be, if it was gone through and gives what the event
+    /// needs.
     pub(crate) fn giver(
         &self,
         closed: &[Closed],

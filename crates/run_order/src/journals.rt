@@ -6,7 +6,7 @@ ghost use Rattle.run_order.specs.Journals.{journal_of, last_table};
 use meta_store::Store;
 use node_journal::{Closed, Entry};
 
-/// The journal of the node of this number; of one that isn't there, no entry.
+/// Returns the journal of the node of this number, or no entry if there is no such node.
 pub fn journal_of(closed: &[Closed], number: usize) -> &[Entry]
     ensures { result.now ≡ journal_of closed.now number }
 {
@@ -18,7 +18,7 @@ pub fn journal_of(closed: &[Closed], number: usize) -> &[Entry]
     &[]
 }
 
-/// What the node of this number held at the end, if it is there.
+/// Returns what the node of this number held at the end, if it is there.
 pub fn last_table(closed: &[Closed], number: usize) -> Option<&Store>
     ensures some { IfSome result (λ table. table.now ≡ last_table closed.now number) }
     ensures none { IsNone result → last_table closed.now number ≡ [] }

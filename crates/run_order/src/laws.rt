@@ -2,7 +2,7 @@
 
 ghost use Rattle.run_order.specs.Refusal.{AStuckRunHasNoOrder};
 
-/// Where some entries wait for one another, no order has each after one that gives what it needs.
+/// If some entries wait for one another, no order has each after one that gives what it needs.
 pub fn a_stuck_run_has_no_order()
     ensures { AStuckRunHasNoOrder }
 {}

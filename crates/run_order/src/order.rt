@@ -20,14 +20,14 @@ pub struct Turn {
     pub giver: Option<Giver>,
 }
 
-/// An order of all entries in which each comes after one that gives what it needs. Which node goes
-/// first when several can doesn't matter: going on takes nothing from another.
+/// Finds an order of all entries in which each comes after one that gives what it needs. It doesn't
+/// matter which node goes first if several can: going on takes nothing from another.
 ///
-/// Refused with 61 `Stuck` where some entries wait for one another, and with 99 `Memory`. An entry
+/// Refused with 61 `Stuck` if some entries wait for one another, and with 99 `Memory`. An entry
 /// that needs what no entry gives waits too; `find_all_sent` finds it first.
 ///
-/// It takes memory for a turn of each entry. Its time grows with the entries where they are those
-/// of nodes; entries that were made up are looked for one after the other.
+/// It takes memory for a turn of each entry. Its time grows with the number of entries if they are
+/// those of nodes; entries that were made up are searched for one after the other.
 pub fn find_order(alloc: Global, closed: &[Closed]) -> Result<Vec<Turn>, OrderFault>
     requires { HaveNodes closed.now }
     ensures ok { IfOk result (λ order. IsOrder closed.now order.items) }

@@ -14,7 +14,7 @@ use node_events::NodeEvent;
 use node_journal::{Closed, Entry};
 use std::alloc::{AllocError, Global};
 
-/// The places after the last entries.
+/// Returns the places after the last entries.
 fn last_places(alloc: Global, closed: &[Closed]) -> Result<Vec<usize>, AllocError>
     requires { HaveNodes closed.now }
     ensures { IfOk result (λ ends. AreEnds closed.now ends.items) }
@@ -40,7 +40,7 @@ fn is_ungiven(closed: &[Closed], hints: &Hints, ends: &[usize], event: &NodeEven
     }
 }
 
-/// The first place of an entry that needs what no entry gives.
+/// Returns the first place of an entry that needs what no entry gives.
 fn unsent_in(closed: &[Closed], hints: &Hints, ends: &[usize], journal: &[Entry]) -> Option<usize>
     requires { AreEnds closed.now ends.now }
     ensures some { IfSome result (λ p. (e : AnEntry)

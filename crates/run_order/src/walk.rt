@@ -23,7 +23,7 @@ pub(crate) enum Head {
     Ready(Option<Giver>),
 }
 
-/// The state of the next entry of the node.
+/// Returns the state of the next entry of the node.
 fn head_of(closed: &[Closed], next: &[usize], node: usize) -> Head
     requires places { AreNextPlaces closed.now next.now }
     requires node { node < length next.now }
@@ -44,7 +44,7 @@ fn head_of(closed: &[Closed], next: &[usize], node: usize) -> Head
     }
 }
 
-/// The turn of the node, if its next entry can come by what the hints find.
+/// Returns the turn of the node, if its next entry can come by what the hints find.
 fn quick_turn(closed: &[Closed], hints: &Hints, next: &[usize], node: usize) -> Option<Turn>
     requires places { AreNextPlaces closed.now next.now }
     requires node { node < length next.now }
@@ -66,7 +66,7 @@ fn quick_turn(closed: &[Closed], hints: &Hints, next: &[usize], node: usize) -> 
     })
 }
 
-/// The first turn that the hints find.
+/// Returns the first turn that the hints find.
 fn first_quick_turn(closed: &[Closed], hints: &Hints, next: &[usize]) -> Option<Turn>
     requires { AreNextPlaces closed.now next.now }
     ensures { IfSome result (IsReady closed.now next.now) }
@@ -79,7 +79,7 @@ fn first_quick_turn(closed: &[Closed], hints: &Hints, next: &[usize]) -> Option<
     None
 }
 
-/// The first turn of all.
+/// Returns the first turn of all.
 fn first_turn(closed: &[Closed], next: &[usize]) -> Option<Turn>
     requires { AreNextPlaces closed.now next.now }
     ensures some { IfSome result (IsReady closed.now next.now) }
@@ -93,8 +93,8 @@ fn first_turn(closed: &[Closed], next: &[usize]) -> Option<Turn>
     None
 }
 
-/// A turn: of the node that went on last, if the hints find that it can go on; else of the first
-/// node for which they do; else of the first node that can go on at all.
+/// Returns a turn: of the node that went on last, if the hints find that it can go on; otherwise of
+/// the first node for which they do; otherwise of the first node that can go on at all.
 pub(crate) fn next_turn(
     closed: &[Closed],
     hints: &Hints,
@@ -116,7 +116,7 @@ pub(crate) fn next_turn(
     }
 }
 
-/// The places of the first entries.
+/// Returns the places of the first entries.
 pub fn first_places(alloc: Global, closed: &[Closed]) -> Result<Vec<usize>, AllocError>
     ensures { IfOk result (λ next. AreFirst closed.now next.items) }
 {
@@ -127,7 +127,7 @@ pub fn first_places(alloc: Global, closed: &[Closed]) -> Result<Vec<usize>, Allo
     Ok(next)
 }
 
-/// The places of the next entries of those that haven't ended.
+/// Returns the places of the next entries of those that haven't ended.
 pub(crate) fn heads(
     alloc: Global,
     closed: &[Closed],

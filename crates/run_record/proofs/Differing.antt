@@ -1,4 +1,4 @@
--- Where the next entry of a node isn't what its journal tells, the journal is unequal.
+-- If the next entry of a node isn't what its journal tells, the journal is unequal.
 use Rattle.std.proofs.Common.{◌≡◌, ◌<◌, ℕ, List, length, get_or, Some, Ok, Err, sym, subst, ap, ◌∙◌, inl, inr, arith, Vec, Global}
 use Rattle.node_core.specs.Run.{NoEventHasTwoOutcomes, RunsGoOn}
 use Rattle.node_events.specs.declared.fault.StepFault.{StepFault}

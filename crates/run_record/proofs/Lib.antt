@@ -8,7 +8,7 @@ pub mod Deeds
 pub mod Making
 -- a replay, after one entry more
 pub mod Replaying
--- where the next entry isn't what its journal tells
+-- if the next entry isn't what its journal tells
 pub mod Differing
 -- what the numbers of an event name
 pub mod Naming

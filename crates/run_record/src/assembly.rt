@@ -14,7 +14,7 @@ use run_order::{Turn, find_all_sent, find_order};
 use std::alloc::Global;
 use world_core::World;
 
-/// The world in which all entries were made, in this order.
+/// Returns the world in which all entries were made, in this order.
 fn replayed(alloc: Global, closed: &[Closed], order: &[Turn]) -> Result<World, RecordFault>
     requires whole { AreWhole closed.now }
     requires order { IsOrder closed.now order.now }
@@ -28,9 +28,10 @@ fn replayed(alloc: Global, closed: &[Closed], order: &[Turn]) -> Result<World, R
     Ok(replay.into_world())
 }
 
-/// Puts the journals of nodes 0, 1 and so on together: the world that they tell of, whose accepted
-/// events, node by node, are the journals, with all replies and frames. Each node of it holds the
-/// table that the node was closed with, which shows what the node knows by the one history of all.
+/// Puts the journals of nodes 0, 1 and so on together, and returns the world that they tell of. Its
+/// accepted events, node by node, are the journals, with all replies and frames. Each of its nodes
+/// holds the table that the node was closed with, which shows what the node knows by the one
+/// history of all.
 ///
 /// Refused in this order: 60 `Unsent`, 61 `Stuck`, 62 `Unequal`, 63 `StrangeReceipt`, as
 /// `RecordFault` says of each. 99 `Memory` may come at any time. Journals that real nodes left, and

@@ -13,7 +13,6 @@ use node_journal::{Closed, Receipt};
 use run_order::{journal_of, last_table};
 use world_core::World;
 
-/// Returns whether two tables are the same.
 fn are_same(one: &Store, other: &Store) -> bool
     ensures { IsTrue result ↔ (one.now ≡ other.now) }
 {
@@ -30,7 +29,7 @@ fn is_table_of(closed: &[Closed], node: usize, held: &Store) -> bool
     }
 }
 
-/// Refused where a node of the world doesn't hold the table that it was closed with.
+/// Refuses a world in which a node doesn't hold the table that it was closed with.
 pub(crate) fn check_tables(closed: &[Closed], world: &World) -> Result<(), RecordFault>
     requires journals { HoldsJournals closed.now world.now }
     requires nodes { length world.now.nodes ≡ length closed.now }
@@ -67,7 +66,7 @@ fn is_kept(closed: &[Closed], receipt: &Receipt) -> bool
     }
 }
 
-/// Refused where a receipt is of no entry.
+/// Refuses a receipt that is of no entry.
 pub(crate) fn check_receipts(closed: &[Closed], receipts: &[Receipt]) -> Result<(), RecordFault>
     ensures ok { OnOk result (All (IsKept closed.now) receipts.now) }
     ensures err { IfErr result (RefusesReceipts closed.now receipts.now) }

@@ -19,7 +19,7 @@ use run_order::Giver;
 use std::alloc::AllocError;
 use world_core::Event;
 
-/// The mark of an entry that was made.
+/// Returns the mark of an entry that was made.
 fn mark_of(marks: &[Vec<Mark>], giver: Giver) -> Mark
     requires { IsSome (mark_at marks.now giver.node giver.place) }
     ensures { mark_at marks.now giver.node giver.place ≡ Some result }
@@ -28,7 +28,7 @@ fn mark_of(marks: &[Vec<Mark>], giver: Giver) -> Mark
 }
 
 impl Replay {
-    /// The event of the node that is its next step.
+    /// Returns the event of the node that is its next step.
     pub(crate) fn event_of(
         &self,
         closed: &[Closed],
@@ -60,7 +60,7 @@ impl Replay {
         }
     }
 
-    /// The number of the read whose context a write has.
+    /// Returns the number of the read whose context a write has.
     fn read_of(
         &self,
         closed: &[Closed],
@@ -80,7 +80,7 @@ impl Replay {
         }
     }
 
-    /// The number of the frame that is taken.
+    /// Returns the number of the frame that is taken.
     fn frame_of(
         &self,
         closed: &[Closed],
@@ -92,7 +92,7 @@ impl Replay {
         requires given { IsGivenBy closed.now self.now.next.items (Take frame.now word) giver }
         ensures { numbered self.now.world.frames result ≡ Some frame.now }
     {
-        // Read for what its type says: the frames can be counted.
+        // (for its type)
         let _ = self.world.frame_count();
         match giver {
             Some(giver) => mark_of(self.marks.as_slice(), giver).first + giver.at as u64,
@@ -100,7 +100,7 @@ impl Replay {
         }
     }
 
-    /// The event of a step that needs nothing.
+    /// Returns the event of a step that needs nothing.
     fn plain_event(&self, node: u64, step: &NodeEvent) -> Result<Event, AllocError>
         requires node { node < length self.now.world.nodes }
         requires named { NamesBelow (length self.now.world.nodes) step.now }
@@ -138,7 +138,7 @@ impl Replay {
         })
     }
 
-    /// The event of a step that names another node.
+    /// Returns the event of a step that names another node.
     fn peer_event(&self, node: u64, step: &NodeEvent) -> Event
         requires node { node < length self.now.world.nodes }
         requires named { NamesBelow (length self.now.world.nodes) step.now }
@@ -169,14 +169,13 @@ impl Replay {
     }
 }
 
-/// The number of a node, as events have it.
+/// Returns the number of a node, as events have it.
 fn number(node: &NodeId) -> u64
     ensures { result ≡ node.now }
 {
     u64::from(node.number())
 }
 
-/// The event of a write.
 fn write_event(
     node: u64,
     key: &MetaKey,

@@ -25,7 +25,7 @@ pub enum RecordFault {
 }
 
 impl RecordFault {
-    /// The number of the refusal, as programs print it.
+    /// Returns the number of the refusal, as programs print it.
     pub fn code(&self) -> u16
         ensures { result ≡ code_of self.now }
     {
@@ -38,7 +38,7 @@ impl RecordFault {
         }
     }
 
-    /// The name of the refusal, as programs print it.
+    /// Returns the name of the refusal, as programs print it.
     pub fn name(&self) -> &'static str
         ensures { result.now ≡ fault_name self.now }
     {

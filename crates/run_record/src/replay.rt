@@ -35,7 +35,7 @@ pub(crate) struct Replay {
     pub(crate) marks: Vec<Vec<Mark>>,
 }
 
-/// A row without marks for each node.
+/// Returns a row without marks for each node.
 fn empty_rows(alloc: Global, count: usize) -> Result<Vec<Vec<Mark>>, AllocError>
     ensures number { IfOk result (λ rows. length rows.items ≡ count) }
     ensures empty { IfOk result (λ rows. All (λ row. length row.items ≡ 0) rows.items) }
@@ -50,18 +50,18 @@ fn empty_rows(alloc: Global, count: usize) -> Result<Vec<Vec<Mark>>, AllocError>
     Ok(rows)
 }
 
-/// There are no more nodes than there are numbers of nodes.
+/// Does nothing. Its contract says that there are no more nodes than there are numbers of nodes.
 fn are_few(closed: &[Closed])
     requires { AreWhole closed.now }
     ensures { length closed.now ≤ 16 }
 {
     for one in closed {
-        // Read for what its type says: the number is below 16.
+        // (for its type)
         let _ = one.node().number();
     }
 }
 
-/// The node has lived what the accepted events were to it.
+/// Does nothing. Its contract says that the node has lived what the accepted events were to it.
 fn has_lived(world: &World, node: usize)
     requires { node < length world.now.nodes }
     ensures { HasLived world.now node (node_at world.now node) }
@@ -73,7 +73,7 @@ fn has_lived(world: &World, node: usize)
 }
 
 impl Replay {
-    /// A world of new nodes, in which no entry was made yet.
+    /// Makes a world of new nodes, in which no entry is made.
     pub(crate) fn begin(alloc: Global, closed: &[Closed]) -> Result<Replay, RecordFault>
         requires { AreWhole closed.now }
         ensures ok { IfOk result (IsReplay closed.now) }
@@ -90,7 +90,7 @@ impl Replay {
         }
     }
 
-    /// The next entry of the turn's node.
+    /// Returns the next entry of the turn's node.
     fn next_entry<'a>(&self, closed: &'a [Closed], turn: Turn) -> &'a Entry
         requires { IsReady closed.now self.now.next.items turn }
         ensures { entry_at closed.now turn.node (slice_index self.now.next.items turn.node)
@@ -147,7 +147,7 @@ impl Replay {
         Ok(())
     }
 
-    /// The world in which the entries were made.
+    /// Returns the world in which the entries were made.
     pub(crate) fn into_world(self) -> World
         ensures { result ≡ self.world }
     {
@@ -155,7 +155,7 @@ impl Replay {
     }
 }
 
-/// Why the next entry of the node can't be made: memory ran out, or it is unequal.
+/// Returns why the next entry of the node can't be made: memory ran out, or it is unequal.
 fn refusal(fault: WorldFault, node: usize) -> RecordFault
     ensures { IsRefusal fault node result }
 {
@@ -172,7 +172,6 @@ fn are_frames(sent: &[ByteString], frames: &[ByteString]) -> bool
     sent == frames
 }
 
-/// Returns whether two replies are the same.
 fn are_same(one: &Reply, other: &Reply) -> bool
     ensures { IsTrue result ↔ (one.now ≡ other.now) }
 {
@@ -191,7 +190,8 @@ fn is_as_told(world: &World, answer: &Answer, entry: &Entry) -> Result<bool, All
     Ok(are_frames(sent.as_slice(), entry.outbox.as_slice()))
 }
 
-/// The mark of an entry, if the answer has its reply and frames. Fails only when memory runs out.
+/// Returns the mark of an entry, if the answer has its reply and frames. Fails only when memory
+/// runs out.
 fn told_mark(world: &World, answer: Answer, entry: &Entry) -> Result<Option<Mark>, AllocError>
     ensures some { IfOk result (λ mark. IfSome mark
         (λ m. AsTold world.now answer entry.now × IsMarkOf answer m)) }

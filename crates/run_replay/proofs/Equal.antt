@@ -13,7 +13,7 @@ use Rattle.world_core.specs.contracts.event.EventPartialEq.TheImpl as compared
 
 -- ---- parts
 
--- a comparison that, where it is true, was of two that are the same
+-- two values that compare equal by this are the same
 abbrev Tells : {A : Type 0} → (A → A → Bool) → Type 0
 Tells {A} eq = (x y : A) → eq x y ≡ true → x ≡ y
 

@@ -23,8 +23,8 @@ AskFor (command ∷ commands) (event ∷ events) left =
 abbrev pub roots_of : ℕ → List Command
 roots_of nodes = map Root (range_with_len 0 nodes)
 
--- the text is a scenario of `nodes` nodes, where two resolvers are at hand; its commands ask for
--- these events, one after the other, and then for the root of each node
+-- the text is a scenario of `nodes` nodes, with two resolvers at hand; its commands ask for these
+-- events, one after the other, and then for the root of each node
 pub record Replays (nodes : ℕ) (events : List Event) (text : List ℕ) : Type 0 where
   pub is_whole : first_bad 2 text ≡ None
   pub commands : List Command

@@ -1,4 +1,4 @@
-//! A text is read back: whether its commands ask for the events that it was written for.
+//! Reads a text back, to tell whether its commands ask for the events that it was written for.
 
 ghost use Rattle.std.specs.Prelude.{◌≡◌, IfOk, IfSome, IsTrue, map};
 ghost use Rattle.scenario_text.specs.Coded.{command_word};
@@ -13,7 +13,7 @@ use world_core::{Accepted, Event};
 /// How many resolvers `plumctl run` has at hand.
 const RESOLVERS: usize = 2;
 
-/// The event that a delivery is in every world. A delivery that names no node has none: its
+/// Returns the event that a delivery is in every world. A delivery that names no node has none: its
 /// addressee depends on the frame that has that number in a world.
 fn delivery_in_all(frame: u64, node: Option<u64>, word: u64) -> Option<Event>
     ensures { IfSome result (λ event. Asks event (Deliver frame node word)) }
@@ -24,7 +24,7 @@ fn delivery_in_all(frame: u64, node: Option<u64>, word: u64) -> Option<Event>
     }
 }
 
-/// The event that a command is in every world, if it is taken, and is one.
+/// Returns the event that a command is in every world, if it is taken, and is one.
 fn event_in_all(alloc: Global, command: &Command<'_>) -> Result<Option<Event>, AllocError>
     ensures { IfOk result (λ found. IfSome found (λ event. Asks event (command_word command.now))) }
 {
@@ -37,7 +37,7 @@ fn event_in_all(alloc: Global, command: &Command<'_>) -> Result<Option<Event>, A
     }
 }
 
-/// Returns whether the command is taken, and is this event in every world.
+/// Returns whether the command is taken and is this event in every world.
 fn is_asked(alloc: Global, command: &Command<'_>, event: &Event) -> Result<bool, AllocError>
     ensures { IfOk result (λ yes. IsTrue yes → Asks event.now (command_word command.now)) }
 {

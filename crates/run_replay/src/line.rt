@@ -47,7 +47,7 @@ fn add_under(text: &mut Vec<u8>, name: &[u8], node: u64, key: &MetaKey) -> Resul
     print_key(text, key)
 }
 
-/// Adds the bytes of a value and its stamp; of a tombstone the stamp alone.
+/// Adds the bytes of a value and its stamp; for a tombstone the stamp alone.
 fn add_value(text: &mut Vec<u8>, value: &Value) -> Result<(), AllocError> {
     if let Some(body) = value.body() {
         text.push(b' ')?;
@@ -56,7 +56,7 @@ fn add_value(text: &mut Vec<u8>, value: &Value) -> Result<(), AllocError> {
     add_labelled(text, b"stamp", value.stamp())
 }
 
-/// Adds a write, which has read what the read of that number showed.
+/// Adds a write that has read what the read of that number showed.
 fn add_put(
     text: &mut Vec<u8>,
     node: u64,
@@ -84,7 +84,6 @@ fn add_over(text: &mut Vec<u8>, node: u64, key: &MetaKey, value: &Value) -> Resu
     add_value(text, value)
 }
 
-/// Adds a watch.
 fn add_watch(
     text: &mut Vec<u8>,
     node: u64,
@@ -109,8 +108,9 @@ fn add_with_word(
     add_labelled(text, b"word", word)
 }
 
-/// Adds the command of an event, without its line feed. Of junk, which is never accepted, and of a
-/// keeping of one key, which the language has no command for, it adds a name that is none.
+/// Adds the command of an event, without its line feed. For junk, which is never accepted, and for
+/// the keeping of one key, which no command of the language asks for, it adds a name that is no
+/// command.
 pub(crate) fn add_event(text: &mut Vec<u8>, event: &Event) -> Result<(), AllocError> {
     match event {
         Event::Put {

@@ -8,7 +8,7 @@ use crate::line::{add_command, add_event};
 use std::alloc::{AllocError, Global};
 use world_core::Accepted;
 
-/// A comment, `nodes` with their number, a line for each event, and `root` of each node.
+/// Returns a comment, `nodes` with their number, a line for each event, and `root` of each node.
 fn text_of(
     alloc: Global,
     about: &[u8],
@@ -37,14 +37,15 @@ fn add_line(text: &mut Vec<u8>, name: &[u8], number: u64) -> Result<(), AllocErr
     Ok(())
 }
 
-/// A scenario that makes the accepted events of a world of `nodes` nodes again, one after the
-/// other, and then prints the root of each node. On top is a comment of one line: `about`.
+/// Returns a scenario that makes the accepted events of a world of `nodes` nodes again, one after
+/// the other, and then prints the root of each node. On top is a comment of one line: `about`.
 ///
-/// The text was read back, and asks for exactly these events; that is what its contract rests on,
-/// so nothing is said of how it is spelled. `None` where it doesn't: where an event has no command,
-/// as the keeping of one key, or where a name of it has no spelling in the language, which has
-/// letters, digits, `.`, `_` and `-`; where a world can't have this number of nodes; and where
-/// `about` has more than one line. Each event that the workers of a cluster make has a command.
+/// The text is read back, to make sure that it asks for exactly these events. The contract rests on
+/// that, so nothing is said of how the text is spelled. Returns `None` if the text doesn't ask for
+/// them: if an event has no command, such as the keeping of one key; if a name has no spelling in
+/// the language, which has letters, digits, `.`, `_` and `-`; if a world can't have this number of
+/// nodes; or if `about` has more than one line. Each event that the workers of a cluster make has a
+/// command.
 ///
 /// It takes memory for the text, and for each event once more.
 pub fn replay_of(

@@ -1,5 +1,5 @@
 -- What a text prints, and how its run ends, in the manner in which it is run: with the results
--- alone, or explained. Of results alone there is one output at most, by what the resolvers choose
+-- alone, or explained. Of results alone there is at most one output, by what the resolvers choose
 -- (`laws::one_output_for_a_text`).
 use Rattle.std.specs.Prelude.{◌≡◌, ℕ, ◌⊎◌, List, [], ◌∷◌, ◌++◌, length, Option, Some, None, codes}
 use Rattle.scenario.specs.declared.fault.ScenarioFault.{ScenarioFault}
@@ -71,7 +71,7 @@ abbrev pub PlaysOrNothing : Manner → Option Scenario → List ℕ → Option S
 PlaysOrNothing manner None output ended = (output ≡ []) × (ended ≡ None)
 PlaysOrNothing manner (Some scenario) output ended = Plays manner scenario output ended
 
--- the line about the first bad line is all that is printed, or the scenario is played
+-- only the line about the first bad line is printed, or the scenario is played
 abbrev pub PlaysUnless : Option ℕ → Manner → List ℕ → List ℕ → Option ScenarioFault → Type 0
 PlaysUnless (Some number) manner text output ended =
     (output ≡ bad_line number) × (ended ≡ Some (BadLine number))

@@ -17,7 +17,7 @@ use Rattle.scenario_text.specs.Script.{Scenario, commands_of, first_bad, scenari
 
 -- ---- of a text
 
--- the output was written and passed on, by a writer that has not failed anew
+-- the output was written and passed on, by a writer that has failed in no new way
 pub record Prints (manner : Manner) (text : List ℕ) (writer_old writer_new : SinkAt)
     (ended : Option ScenarioFault) : Type 0 where
   pub output : List ℕ
@@ -43,15 +43,15 @@ EndsText manner text writer_old writer_new fault =
 
 -- ---- of a reader
 
--- the whole input was read, which is within the limit, from a reader that has not failed anew
+-- the whole input was read, which is within the limit, from a reader that has not newly failed
 pub record ReadsAll (reader_old reader_new : SourceAt) (text : List ℕ) : Type 0 where
   pub consumed : Consumes reader_old.remaining reader_new.remaining text
   pub end : IsAtEnd reader_new.remaining
   pub within : length text ≤ input_limit
   pub sound : reader_new.failed → reader_old.failed
 
--- the cause of a fault of reading, where `count` bytes were read: the reader failed within the
--- limit, or gave more without failing anew, or memory ran out before either
+-- the cause of a fault of reading, if `count` bytes were read: the reader failed within the limit,
+-- or gave more without newly failing, or memory ran out before either
 abbrev pub StopsAfter : (failed_old failed_new : Type 0) → ℕ → StreamFault → Type 0
 StopsAfter failed_old failed_new count fault =
     IsReadFault (failed_new × (count ≤ input_limit))
@@ -191,7 +191,7 @@ pub record WritesAll (manner : Manner) (old : Stage) (commands : List Command)
   pub obeyed : ObeyAll manner old commands text new
   pub appended : Appends writer_old.contents writer_new.contents text
 
--- they were obeyed up to a settling that passes its limit, of which nothing was written yet
+-- they were obeyed up to a settling that passes its limit, and nothing of it was written
 pub record WritesToLimit (manner : Manner) (old : Stage) (commands : List Command)
     (writer_old writer_new : SinkAt) : Type 0 where
   pub done : List Command
@@ -233,7 +233,7 @@ pub record PlaysAll (manner : Manner) (scenario : Scenario)
   pub obeyed : ObeyAll manner (new_stage scenario.nodes) scenario.commands text stage
   pub appended : Appends writer_old.contents writer_new.contents (opened ++ text)
 
--- they were obeyed up to a settling that passes its limit, of which nothing was written yet
+-- they were obeyed up to a settling that passes its limit, and nothing of it was written
 pub record PlaysToLimit (manner : Manner) (scenario : Scenario)
     (writer_old writer_new : SinkAt) : Type 0 where
   pub done : List Command

@@ -22,7 +22,7 @@ pub enum ScenarioFault {
 }
 
 impl ScenarioFault {
-    /// The number of the fault, as programs print it. A writer that failed has none.
+    /// Returns the number of the fault, as programs print it. A writer that failed has none.
     pub fn code(self) -> Option<u16>
         ensures { result ≡ code_of self }
     {
@@ -33,7 +33,7 @@ impl ScenarioFault {
         }
     }
 
-    /// The name of the fault, as programs print it.
+    /// Returns the name of the fault, as programs print it.
     pub fn name(&self) -> &'static str
         ensures { result.now ≡ fault_name self.now }
     {
@@ -61,7 +61,7 @@ impl<T: Drop> From<AllocFailed<T>> for ScenarioFault {
     }
 }
 
-/// A text has a line that breaks a rule.
+/// The fault of a text that has a line that breaks a rule.
 impl From<BadLine> for ScenarioFault {
     ghost from_gives = { λ bad fault. fault ≡ faults.BadLine bad.line };
 
@@ -70,7 +70,7 @@ impl From<BadLine> for ScenarioFault {
     }
 }
 
-/// A command was not obeyed to its end.
+/// The fault of a command that was not obeyed to its end.
 impl From<StageFault> for ScenarioFault {
     ghost from_gives = { λ stage fault. fault ≡ of_stage stage };
 

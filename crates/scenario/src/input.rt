@@ -10,8 +10,8 @@ use streams::{MAX_INPUT_LEN, Source, StreamFault};
 /// The most bytes of one read.
 const PIECE_LEN: usize = 65_536;
 
-/// Reads to the end of the input. Ends with 7 `Read` at the first error of the reader, an
-/// interruption too, with 8 `InputTooLong` once more than 67,108,864 bytes were read, and with 99
+/// Reads to the end of the input. Ends with 7 `Read` at the first error of the reader, even an
+/// interruption, with 8 `InputTooLong` once more than 67,108,864 bytes were read, and with 99
 /// `Memory`.
 pub fn read_text<R: Source>(alloc: Global, reader: &mut R) -> Result<Vec<u8>, StreamFault>
     ensures ok { IfOk result (λ text. ReadsAll (R.at reader.old) (R.at reader.new) text.items) }

@@ -8,14 +8,14 @@ ghost use Rattle.scenario.specs.declared.fault.ScenarioFault.{ScenarioFault as F
 
 use crate::fault::ScenarioFault;
 
-/// A text has one output at most, and one way to end, by what the resolvers choose.
+/// A text has at most one output, and one way to end, by what the resolvers choose.
 pub fn one_output_for_a_text()
     ensures { (choices : Choices) (text one other : List ℕ) (ended ending : Option Fault)
         → IsOutput (plain choices) text one ended → IsOutput (plain choices) text other ending
         → (one ≡ other) × (ended ≡ ending) }
 {}
 
-/// The output of a text begins with what was printed of it until a fault of writing ended the run,
+/// The output of a text begins with what was printed of it before a fault of writing ended the run,
 /// or memory ran out.
 pub fn the_output_begins_with_its_front()
     ensures { (choices : Choices) (text front output : List ℕ) (ended : Option Fault)
@@ -23,7 +23,7 @@ pub fn the_output_begins_with_its_front()
         → (more : List ℕ) × (output ≡ front ++ more) }
 {}
 
-/// Faults are equal exactly where they are the same.
+/// Two faults compare equal exactly if they are the same.
 pub fn equal_faults_are_the_same(one: ScenarioFault, other: ScenarioFault) -> bool
     ensures { IsTrue result ↔ (one ≡ other) }
 {

@@ -1,7 +1,7 @@
-//! Scenarios: texts of commands to the nodes of a world, and what each gives. A text is read whole;
-//! where lines break a rule, the number of the first one is all that is printed. Otherwise its
-//! commands are run over a new world, one after the other, and each prints a result line and, but
-//! for `settle`, a line for each frame that it sent.
+//! Scenarios: texts of commands to the nodes of a world, and what each gives. A text is read whole.
+//! If lines break a rule, only the number of the first one is printed. Otherwise its commands are
+//! run over a new world, one after the other. Each prints a result line and, except for `settle`, a
+//! line for each frame that it sent.
 //!
 //! ```
 //! let text = b"nodes 2\nput 0 a/b/k x\nshow 0 a/b/k\n";

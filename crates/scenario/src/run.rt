@@ -18,7 +18,7 @@ use scenario_text::{Command, Script, parse};
 use std::alloc::{AllocError, Global};
 use streams::{Sink, Source, StreamFault, flush, write_whole};
 
-/// Does what a command says, and writes what is printed of it. That is put into `text` first.
+/// Does what a command says, and writes what is printed of it, which is put into `text` first.
 fn play_command<P: Runner, W: Sink>(
     runner: &mut P,
     stage: &mut Stage,
@@ -106,7 +106,7 @@ fn play<P: Runner, W: Sink>(
     play_commands(alloc, runner, &mut stage, script, resolvers, writer)
 }
 
-/// Runs a text, and writes what is printed of it, but for the line of a fault that ends it.
+/// Runs a text, and writes what is printed of it, except the line of a fault that ends it.
 fn play_text<P: Runner, W: Sink>(
     alloc: Global,
     runner: &mut P,
@@ -194,14 +194,14 @@ pub fn run_text<P: Runner, W: Sink>(
 }
 
 /// Reads a text to its end, runs it over a new world, and writes what it prints. The whole text is
-/// read first: where a line breaks a rule, `error 70 BadLine` and its number is all that is
-/// written. It takes memory for the text, for what one command prints, and for the world.
+/// read first: if a line breaks a rule, only `error 70 BadLine` and its number are written. It
+/// takes memory for the text, for what one command prints, and for the world.
 ///
-/// Refused in this order: 7 `Read` at the first error of the reader, an interruption too, or 8
+/// Refused in this order: 7 `Read` at the first error of the reader, even an interruption, or 8
 /// `InputTooLong` past 67,108,864 bytes, and then nothing was written; 70 `BadLine`; 71 `Limit`,
-/// which is written too, where a `settle` would deliver more than 100,000 frames, or `Write` or
-/// `BrokenPipe` where the writer fails. 99 `Memory` may come at any time. After 99 or a fault of
-/// the writer a front of the output was written.
+/// which is written too, if a `settle` would deliver more than 100,000 frames, or `Write` or
+/// `BrokenPipe` if the writer fails. 99 `Memory` may come at any time. After 99 or a fault of the
+/// writer a front of the output was written.
 pub fn run_over<R: Source, W: Sink>(
     alloc: Global,
     reader: &mut R,

@@ -11,7 +11,7 @@ use scenario_stage::{Stage, StageFault, print_line};
 use scenario_text::Command;
 use std::alloc::AllocError;
 
-/// Who runs a scenario: does what its commands say, and prints what comes of each.
+/// Whoever runs a scenario: does what its commands say, and prints what comes of each.
 pub trait Runner {
     // what is printed of `nodes`
     ghost opens: { List ℕ → Type 0 };

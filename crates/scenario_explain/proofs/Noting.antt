@@ -91,7 +91,7 @@ absent frames frame place k less more low same = elim (below_or k place) [
   | inr behind ↦ let h = more k behind low in absurd (omega (arith, h, same))
 ]
 
--- after a search, where one was found it was removed
+-- after a search, and the removal of what it found: the numbers that wait once the frame is given
 pub dropped : (frames new : List ℕ) (frame : ℕ) (marks : List Bool) (found : Result ℕ ℕ) → MatchResult found (λ i. (i < length frames) × (get_or frames i 0 ≡ frame)) (λ i. (i ≤ length frames) × ((k : ℕ) → k < i → get_or frames k 0 < frame) × ((k : ℕ) → i ≤ k → k < length frames → frame < get_or frames k 0))
     → MatchResult found (λ i. new ≡ remove frames i) (λ i. new ≡ frames) → 1 ≤ frame → frames ≡ all_waiting 1 marks → new ≡ all_waiting 1 (with_given frame marks)
 dropped frames new frame marks (Ok place) at removes some is =

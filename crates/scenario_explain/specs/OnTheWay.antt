@@ -6,7 +6,7 @@ use Rattle.std.specs.Prelude.{ℕ, zero, suc, ◌-◌, List, [], ◌∷◌, ◌+
 abbrev pub spaced : List ℕ → List ℕ
 spaced numbers = flat_map (λ number. codes " " ++ decimal number) numbers
 
--- as ` and 3 more`; nothing where there are no more
+-- as ` and 3 more`; nothing if there are no more
 abbrev pub and_more : ℕ → List ℕ
 and_more zero = []
 and_more (suc more) = codes " and " ++ decimal (suc more) ++ codes " more"
@@ -19,7 +19,7 @@ first_of most numbers = spaced (take most numbers) ++ and_more (length numbers -
 unfoldable pub way_text : List ℕ → List ℕ
 way_text frames = codes "on their way:" ++ first_of 16 frames
 
--- the lines of these frames: one, or none where there are no frames
+-- the lines of these frames: one, or none if there are no frames
 abbrev pub way_lines : List ℕ → List (List ℕ)
 way_lines [] = []
 way_lines (frame ∷ frames) = way_text (frame ∷ frames) ∷ []

@@ -1,4 +1,5 @@
--- Why a command was refused, in words. Its results begin with `refused`, a number and a name then.
+-- Why a command was refused, in words. The results of such a command begin with `refused`, a number
+-- and a name.
 use Rattle.std.specs.Prelude.{ℕ, ◌==◌, if◌then◌else◌, List, [], ◌∷◌, Option, Some, None, codes, bytes_eq}
 use Rattle.scenario_text.specs.Commands.{a_number}
 use Rattle.scenario_text.specs.Word.{Word, words_of}
@@ -45,6 +46,6 @@ reasons_of_words [] = []
 reasons_of_words (first ∷ words) =
     if bytes_eq first (codes "refused") then reasons_of_number (a_number words) else []
 
--- a line of why, where results begin with a refusal
+-- a line of why, if results begin with a refusal
 abbrev pub reasons_of : List ℕ → List (List ℕ)
 reasons_of results = reasons_of_words (words_of results)

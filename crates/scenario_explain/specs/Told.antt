@@ -1,6 +1,6 @@
 -- What an explained run prints: the results of each command, and lines that tell more before them
--- and after them. These begin with two spaces. Before the results stands the line of the command,
--- after them the frames that are on their way then, and lines of nodes.
+-- and after them. These begin with two spaces. Before the results stands the line of the command;
+-- after them the frames that are then on their way, and lines of nodes.
 use Rattle.std.specs.Prelude.{◌≡◌, ◌⊎◌, ℕ, List, [], ◌∷◌, ◌++◌, map, codes, decimal}
 use Rattle.scenario_text.specs.Commands.{Command}
 use Rattle.scenario_hint.specs.Hint.{shown_byte}

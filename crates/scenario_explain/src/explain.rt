@@ -58,7 +58,7 @@ impl<'a> Explainer<'a> {
     }
 }
 
-/// The next line that isn't skipped. Each line that is passed is counted.
+/// Returns the next line that isn't skipped. Each line that is passed is counted.
 fn next_line<'a>(lines: &mut Lines<'a>, number: &mut u64) -> Option<&'a [u8]> {
     while let Some(line) = lines.next() {
         *number = number.saturating_add(1);
@@ -102,15 +102,18 @@ impl<'a> Runner for Explainer<'a> {
     }
 }
 
-/// Runs a text as `run_over` does, and writes the same lines. Before those of each command stands,
-/// indented by two spaces, the number and the text of its line. After them stand, indented too: if
-/// the command was refused, why; the numbers of the first sixteen frames that are on their way,
-/// which are those that were never given to their addressees, and how many more there are; and a
-/// line for each key under which a node shows other siblings or another context than before,
-/// `ctx - values -` if a restart has taken them away. The contract says why a command was refused
-/// and which frames are named, but not what is told of lines and of nodes. Tables with the same
-/// root are taken to show the same. If it comes to its end, or to 70 or 71, so does `run_over`. It
-/// takes memory besides for a copy of what each node holds.
+/// Runs a text as `run_over` does, and writes the same lines. Before the lines of each command
+/// stand, indented by two spaces, the number and the text of its line. After them stand, indented
+/// too: if the command was refused, why; the numbers of the first sixteen frames that are on their
+/// way, which are those that were never given to their addressees, and how many more there are; and
+/// a line for each key under which a node shows other siblings or another context than before, `ctx
+/// - values -` if a restart has taken them away.
+///
+/// The contract says why a command was refused and which frames are named, but not what is told of
+/// lines and of nodes. Tables with the same root are taken to show the same. If this comes to its
+/// end, or to 70 or 71, so does `run_over`. It also takes memory for a copy of what each node
+/// holds.
+///
 /// Refused as `run_over` is.
 pub fn explain_over<R: Source, W: Sink>(
     alloc: Global,

@@ -1,6 +1,6 @@
 //! Scenarios, explained: what `scenario` prints of each command, and besides, indented, the command
 //! with the number of its line, why it was refused, the frames that are on their way after it, and
-//! what nodes show anew.
+//! what nodes show that they didn't show before.
 //!
 //! ```
 //! let text = b"nodes 2\njoin 1 0\n";

@@ -11,7 +11,7 @@ use std::alloc::AllocError;
 /// The first word of a refusal.
 const REFUSED: &[u8] = b"refused";
 
-/// The cause that a number stands for; nothing for other numbers.
+/// Returns the cause that a number stands for; nothing for other numbers.
 fn sentence_of(number: u64) -> &'static str
     ensures { result.now ≡ sentence_of number }
 {
@@ -44,7 +44,7 @@ fn sentence_of(number: u64) -> &'static str
     }
 }
 
-/// Returns the cause that results begin with: nothing where they don't begin with a refusal.
+/// Returns the cause that results begin with, or nothing if they don't begin with a refusal.
 fn cause_in(results: &[u8]) -> &'static str
     ensures { reasons_of results.now ≡ line_of_cause result.now }
 {
@@ -61,7 +61,7 @@ fn cause_in(results: &[u8]) -> &'static str
     }
 }
 
-/// Adds a line of why, if the text behind its first `start` bytes begins with a refusal.
+/// Adds a line that says why, if the text behind its first `start` bytes begins with a refusal.
 pub(crate) fn add_reason(text: &mut Vec<u8>, start: usize) -> Result<(), AllocError>
     ensures { OnOk result (text.new.items
         ≡ text.old.items ++ told_lines (reasons_of (drop start text.old.items))) }

@@ -1,4 +1,4 @@
-//! What was told of a world, so that only what is new is told next.
+//! What was told of a world, so that only news is told next.
 
 ghost use Rattle.std.specs.Prelude.{◌≡◌, ◌++◌, ℕ, List, OnOk};
 ghost use Rattle.scenario_explain.specs.Told.{AddsOfNodes};
@@ -21,7 +21,7 @@ const MOST_NODES: u64 = 16;
 #[derive(Drop)]
 struct Shown {
     store: Store,
-    /// The root of the node's table when the whole table was looked at last.
+    /// The root of the node's table when news of it were told last.
     root: Digest,
 }
 
@@ -40,7 +40,7 @@ enum Changes<'a> {
     Tables,
 }
 
-/// What a command may change in the tables of nodes.
+/// Returns what a command may change in the tables of nodes.
 fn changes_of<'a>(command: &Command<'a>) -> Changes<'a> {
     match command {
         Command::Put { node, key, .. }
@@ -52,7 +52,7 @@ fn changes_of<'a>(command: &Command<'a>) -> Changes<'a> {
     }
 }
 
-/// The key that stands in a command, if none of its parts is too long.
+/// Returns the key that stands in a command, if none of its parts is too long.
 fn key_of(alloc: Global, key: KeyWord<'_>) -> Result<Option<MetaKey>, AllocError> {
     let prefix = key.prefix.prefix.to_vec(alloc)?;
     let sub = key.prefix.sub.to_vec(alloc)?;
@@ -64,7 +64,7 @@ fn key_of(alloc: Global, key: KeyWord<'_>) -> Result<Option<MetaKey>, AllocError
 }
 
 impl Told {
-    /// Makes what was told where there are no nodes yet: nothing.
+    /// Makes what was told before there are nodes: nothing.
     pub(crate) fn new(alloc: Global) -> Self {
         Told {
             alloc,
@@ -85,8 +85,8 @@ impl Told {
         Ok(())
     }
 
-    /// Adds a line for each key under which a node shows something else than was told last, of
-    /// those that this command may have changed.
+    /// Adds a line for each key under which a node shows something other than what was told last.
+    /// Only keys that this command may have changed are looked at.
     #[tactic(auto, using(crate::proofs::Adding::adds_none, crate::proofs::Adding::adds_then))]
     pub(crate) fn add_news(
         &mut self,
@@ -103,7 +103,7 @@ impl Told {
         }
     }
 
-    /// Adds a line where the node shows something else under the key than was told last.
+    /// Adds a line if the node shows under the key something other than what was told last.
     #[tactic(auto, using(crate::proofs::Adding::adds_none, crate::proofs::Adding::adds_then))]
     fn add_key(
         &mut self,
@@ -119,12 +119,16 @@ impl Told {
             return Ok(());
         };
         match key_of(self.alloc, key)? {
-            Some(key) => shown.add_change(self.alloc, node, key, state.store(), text),
+            Some(key) => {
+                shown.add_change(self.alloc, node, key, state.store(), text)?;
+                shown.root = state.tree().root();
+                Ok(())
+            }
             None => Ok(()),
         }
     }
 
-    /// Adds a line for each key under which a node shows something else than was told last.
+    /// Adds a line for each key under which a node shows something other than what was told last.
     #[tactic(auto, using(crate::proofs::Adding::adds_none, crate::proofs::Adding::adds_then))]
     fn add_tables(&mut self, world: &World, text: &mut Vec<u8>) -> Result<(), AllocError>
         ensures { OnOk result (AddsOfNodes text.old.items text.new.items) }
@@ -140,8 +144,8 @@ impl Told {
 }
 
 impl Shown {
-    /// Adds a line for each key under which the node's table holds something else than was told
-    /// last.
+    /// Adds a line for each key under which the node's table holds something other than what was
+    /// told last.
     #[tactic(auto, using(crate::proofs::Adding::adds_none, crate::proofs::Adding::adds_then))]
     fn add_table(
         &mut self,
@@ -169,8 +173,8 @@ impl Shown {
         self.add_changes(alloc, node, before, state.store(), text)
     }
 
-    /// Adds a line for each of these keys under which the store holds something else than was told
-    /// last.
+    /// Adds a line for each of these keys under which the store holds something other than what was
+    /// told last.
     #[tactic(auto, using(crate::proofs::Adding::adds_none, crate::proofs::Adding::adds_then))]
     fn add_changes(
         &mut self,
@@ -188,7 +192,7 @@ impl Shown {
         Ok(())
     }
 
-    /// Adds a line where what was told of the key isn't what the store holds.
+    /// Adds a line if what was told of the key isn't what the store holds.
     #[tactic(auto, using(crate::proofs::Adding::adds_none, crate::proofs::Adding::adds_then))]
     fn add_change(
         &mut self,

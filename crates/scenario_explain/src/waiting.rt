@@ -18,7 +18,7 @@ use std::alloc::{AllocError, Global};
 /// The most frames that are named.
 const MOST_NAMED: usize = 16;
 
-/// The frames of a stage that were never given to their addressees, as they were noted last. A
+/// The frames of a stage that were never given to their addressees, as they were last noted. A
 /// command is noted by what it did, so that a stage with many frames isn't gone over each time.
 #[derive(Drop)]
 pub(crate) struct Waiting {
@@ -104,7 +104,7 @@ impl Waiting {
         }
     }
 
-    /// Notes the frames that were sent since.
+    /// Notes the frames that were sent after the last that was noted.
     fn add_sent(&mut self, stage: &Stage) -> Result<(), AllocError>
         requires { NotesFront self.old.frames.items self.old.seen stage.now.given }
         ensures { OnOk result (NotesAll self.new.frames.items self.new.seen stage.now.given) }

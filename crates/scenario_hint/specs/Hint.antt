@@ -1,5 +1,5 @@
--- What is printed about the first line of a text that breaks a rule, beside its number: the line as
--- it stands, and what it wants. This is printed at standard error; the output of a run has the
+-- What is printed about the first line of a text that breaks a rule, besides its number: the line
+-- as it stands, and what it wants. This is printed at standard error; the output of a run has the
 -- number alone. The texts are this project's own.
 use Rattle.std.specs.List.{list_any}
 use Rattle.std.specs.Option.{option_copied}
@@ -34,7 +34,7 @@ pub record Found : Type 0 where
   pub begun : Bool
   pub line : List ℕ
 
--- the line after `count` lines; `begun` says whether a command stood before these
+-- the line after `count` lines; `begun` says whether a command stood before them
 abbrev pub found_behind : ℕ → Bool → List (List ℕ) → Found
 found_behind count begun [] = record { begun = begun; line = [] }
 found_behind zero begun (line ∷ lines) = record { begun = begun; line = line }
@@ -122,8 +122,8 @@ abbrev left_of : {A : Type 0} → Option (A × List Word) → Option (List Word)
 left_of None = None
 left_of (Some read) = Some read.1
 
--- the words that are left once a slot is read from the front, if that can be; of resolvers both
--- names are read
+-- the words that are left once a slot is read from the front, if it can be read; the names of both
+-- resolvers are read
 abbrev pub behind_slot : Slot → List Word → Option (List Word)
 behind_slot slots.Count words = left_of (node_count words)
 behind_slot slots.Number words = left_of (a_number words)
@@ -166,8 +166,8 @@ abbrev pub swapped : Word → Word → Bool
 swapped (a ∷ b ∷ word) (c ∷ d ∷ other) = (a == d) && ((b == c) && bytes_eq word other)
 swapped word other = false
 
--- the words are equal, or differ in one byte, which is another one, missing or too many, or in two
--- neighbours, which are swapped
+-- the words are equal or nearly so: one byte is different, missing or too many, or two neighbours
+-- are swapped
 unfoldable pub is_near : Word → Word → Bool
 is_near [] other = nat_le (length other) 1
 is_near (a ∷ word) [] = nat_le (length (a ∷ word)) 1
@@ -189,8 +189,8 @@ all_verbs = verbs.Nodes ∷ verbs.Put ∷ verbs.Del ∷ verbs.Over ∷ verbs.Rea
     ∷ verbs.Exchange ∷ verbs.Hello ∷ verbs.Leave ∷ verbs.Restart ∷ verbs.Keep ∷ verbs.Watch
     ∷ verbs.Changes ∷ verbs.List ∷ verbs.Root ∷ verbs.Images ∷ verbs.Views ∷ verbs.Settle ∷ []
 
--- by its first word: a verb, whose form the line hasn't, or it names a resolver that isn't at hand;
--- or none, and then the verb that is near
+-- by its first word: a verb whose form the line doesn't have, or the line names a resolver that
+-- isn't at hand; or no verb, and then the verb that is near
 abbrev IsHintOfWord : Word → List Word → Hint → Type 0
 IsHintOfWord word words (Form verb wrong) =
     (word ≡ verb_word verb) × (wrong_words wrong ≡ wrong_in (slots_of verb) words)

@@ -22,7 +22,7 @@ impl<'a> Model for FoundLine<'a> {
     ghost view = { λ f. record { begun = f.begun; line = f.line.now } };
 }
 
-/// Whether a line of a scenario is empty or a comment.
+/// Returns whether a line of a scenario is empty or a comment.
 pub fn is_skipped(line: &[u8]) -> bool
     ensures { result ≡ is_skipped line.now }
 {
@@ -33,7 +33,7 @@ pub fn is_skipped(line: &[u8]) -> bool
     }
 }
 
-/// Returns the line after the first `count` lines of the text; where there is none, an empty one.
+/// Returns the line after the first `count` lines of the text, or an empty one if there is none.
 pub(crate) fn found_behind(text: &[u8], count: u64) -> FoundLine<'_>
     ensures { result ≡ found_behind count false (lines_of text.now) }
 {

@@ -19,21 +19,22 @@ pub enum Hint<'a> {
     Tab,
     /// No command stands before it, and it doesn't say how many nodes there are.
     NodesFirst,
-    /// It begins with this verb, and hasn't its form: this is wrong with the words behind it. Of
-    /// `nodes` behind the first command, and of a resolver that isn't at hand, nothing else is.
+    /// It begins with this verb, but doesn't have its form; this is wrong with the words behind the
+    /// verb. If it is a second `nodes`, or names a resolver that isn't at hand, nothing is wrong
+    /// with the words.
     Form(Verb, Wrong<'a>),
-    /// It begins with no verb. This one is near.
+    /// It begins with no verb. This verb is near.
     Unknown(Option<Verb>),
 }
 
-/// Whether bytes begin with a byte order mark.
+/// Returns whether bytes begin with a byte order mark.
 fn starts_marked(line: &[u8]) -> bool
     ensures { result ≡ starts_marked line.now }
 {
     matches!(line, [239, 187, 191, ..])
 }
 
-/// Whether the last byte is a carriage return.
+/// Returns whether the last byte is a carriage return.
 fn ends_returned(line: &[u8]) -> bool
     ensures { result ≡ ends_returned line.now }
 {
@@ -43,14 +44,13 @@ fn ends_returned(line: &[u8]) -> bool
     }
 }
 
-/// Whether a line has a tab.
 fn has_tab(line: &[u8]) -> bool
     ensures { result ≡ has_tab line.now }
 {
     line.contains(&b'\t')
 }
 
-/// What is wrong with a line by its words.
+/// Returns what is wrong with a line by its words.
 fn hint_of_words(line: &[u8]) -> Hint<'_>
     ensures { IsHintOfWords (words_of line.now) result }
 {

@@ -1,5 +1,5 @@
-//! What is printed about a line of a scenario that breaks a rule, beside its number: the line as it
-//! stands, and what it wants.
+//! What is printed about a line of a scenario that breaks a rule, besides its number: the line as
+//! it stands, and what it wants.
 //!
 //! ```
 //! let text = b"nodes 1\nput 0 a/b x\n";
@@ -22,6 +22,6 @@ pub mod wrong;
 
 pub use found::is_skipped;
 pub use hint::Hint;
-pub use shown::{add_printable, add_shown};
+pub use shown::{add_printable, add_shown, shown_byte};
 pub use told::told_of_line;
 pub use wrong::{Slot, Wrong};

@@ -5,7 +5,8 @@ ghost use Rattle.scenario_hint.specs.Hint.{all_verbs, is_near, near_of, swapped}
 
 use scenario_text::{VERBS, Verb, word_of};
 
-/// Whether the first two bytes of one are those of the other in turn, and all else is equal.
+/// Returns whether the first two bytes of one are those of the other in the opposite order, and all
+/// else is equal.
 fn swapped(word: &[u8], other: &[u8]) -> bool
     ensures { result ≡ swapped word.now other.now }
 {
@@ -15,8 +16,8 @@ fn swapped(word: &[u8], other: &[u8]) -> bool
     }
 }
 
-/// Returns whether words are equal, or differ in one byte, which is another one, missing or too
-/// many, or in two neighbours, which are swapped.
+/// Returns whether words are equal or nearly so: one byte is different, missing or too many, or two
+/// neighbours are swapped.
 fn is_near(word: &[u8], other: &[u8]) -> bool
     ensures { result ≡ is_near word.now other.now }
 {
@@ -35,7 +36,7 @@ fn is_near(word: &[u8], other: &[u8]) -> bool
     (left.len() <= 1) & (right.len() <= 1)
 }
 
-/// The first verb that is near a word, in the order of the table.
+/// Returns the first verb that is near a word, in the order of the table.
 pub(crate) fn near_verb(word: &[u8]) -> Option<Verb>
     ensures { result ≡ near_of word.now all_verbs }
 {

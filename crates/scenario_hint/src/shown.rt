@@ -8,8 +8,8 @@ use std::alloc::AllocError;
 /// The most bytes of a line that are shown.
 const MOST_SHOWN: usize = 80;
 
-/// Space to `~` and a tab as they are, all else as `?`.
-fn shown_byte(byte: u8) -> u8
+/// Returns space to `~` and a tab as they are, all else as `?`.
+pub fn shown_byte(byte: u8) -> u8
     ensures { result ≡ shown_byte byte }
 {
     if (b' '..=b'~').contains(&byte) || byte == b'\t' {
@@ -29,8 +29,8 @@ pub fn add_printable(out: &mut Vec<u8>, bytes: &[u8]) -> Result<(), AllocError>
     Ok(())
 }
 
-/// Adds the line as it stands, with `?` for what can't be printed; where it has more than 80 bytes,
-/// only the first 80, and two dots.
+/// Adds the line as it stands, with `?` for what can't be printed. Of a line of more than 80 bytes
+/// it adds only the first 80, and two dots.
 #[tactic(auto, unfolding(crate::specs::Hint::shown_line))]
 pub fn add_shown(out: &mut Vec<u8>, line: &[u8]) -> Result<(), AllocError>
     ensures { OnOk result (out.new.items ≡ out.old.items ++ shown_line line.now) }

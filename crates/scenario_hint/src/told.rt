@@ -45,7 +45,7 @@ fn add_bad(out: &mut Vec<u8>, slot: Slot, word: &[u8]) -> Result<(), AllocError>
     Ok(())
 }
 
-/// Adds that a word is too many.
+/// Adds that there is a word too many.
 fn add_more(out: &mut Vec<u8>, word: &[u8]) -> Result<(), AllocError>
     ensures { OnOk result (out.new.items ≡ out.old.items ++ wrong_text (OneMore word.now)) }
 {
@@ -99,7 +99,7 @@ fn add_hint(out: &mut Vec<u8>, hint: Hint<'_>) -> Result<(), AllocError>
     }
 }
 
-/// Adds two lines: the one at fault, and what it wants.
+/// Adds two lines: the line at fault, and what it wants.
 #[tactic(auto, unfolding(crate::specs::Hint::hint_lines))]
 fn add_lines(out: &mut Vec<u8>, number: u64, line: &[u8], hint: Hint<'_>) -> Result<(), AllocError>
     ensures { OnOk result (out.new.items ≡ out.old.items ++ hint_lines number line.now hint.entry) }

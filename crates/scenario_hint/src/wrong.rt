@@ -36,7 +36,7 @@ pub enum Wrong<'a> {
     TooMany(&'a [u8]),
 }
 
-/// What stands behind a verb.
+/// Returns what stands behind a verb.
 fn slots_of(verb: Verb) -> &'static [Slot]
     ensures { result.now ≡ slots_of verb }
 {
@@ -68,7 +68,7 @@ fn slots_of(verb: Verb) -> &'static [Slot]
     }
 }
 
-/// What a slot may have.
+/// Returns what a slot may have, as text.
 pub(crate) fn slot_text(slot: Slot) -> &'static str
     ensures { result.now ≡ slot_text slot }
 {
@@ -84,8 +84,8 @@ pub(crate) fn slot_text(slot: Slot) -> &'static str
     }
 }
 
-/// Reads a slot from the front of the words, and returns whether that could be done. If it couldn't,
-/// nothing is said of the words that are left.
+/// Reads a slot from the front of the words, and returns whether that was possible. If it wasn't, nothing is said of the words
+/// that are left.
 fn read_slot(slot: Slot, words: &mut Words<'_>) -> bool
     ensures { MatchBool result (behind_slot slot words.old ≡ Some words.new)
         (behind_slot slot words.old ≡ None) }
@@ -108,7 +108,7 @@ fn read_slot(slot: Slot, words: &mut Words<'_>) -> bool
     }
 }
 
-/// What is wrong with the words behind a verb.
+/// Returns what is wrong with the words behind a verb.
 pub(crate) fn wrong_in<'a>(verb: Verb, words: &mut Words<'a>) -> Wrong<'a>
     ensures { wrong_words result ≡ wrong_in (slots_of verb) words.old }
 {

@@ -65,7 +65,7 @@ set_kept (suc settled) (suc place) (mark ∷ marks) set =
     let rest : take settled marks ≡ replicate settled true = cc in
     ap (λ m. m ∷ take settled (slice_set marks place true)) first ∙ ap (λ (xs : List Bool). true ∷ xs) (set_kept settled place marks rest)
 
--- they stay so where a mark is set and room is made
+-- they stay so if a mark is set and room is made
 pub settled_kept : (settled frame : ℕ) (marks : List Bool) → take settled marks ≡ replicate settled true → take settled (with_given frame (with_new frame marks)) ≡ replicate settled true
 settled_kept settled frame marks set =
     set_kept settled (frame - 1) (with_new frame marks)
@@ -110,7 +110,7 @@ get_front settled [] rest next = let no : None ≡ Some false = next in absurd (
 get_front zero (mark ∷ marks) rest next = next
 get_front (suc settled) (mark ∷ marks) rest next = get_front settled marks rest next
 
--- the mark behind those settled, where there are so many marks or more frames
+-- the mark behind the settled ones isn't set, if there are so many marks or more frames
 get_behind : (frames settled : ℕ) (marks : List Bool) → settled ≤ length marks → settled < frames → (settled < length marks → slice_get marks settled ≡ Some false) → slice_get (with_new frames marks) settled ≡ Some false
 get_behind frames settled marks within low next = elim (split_le settled (length marks) within) [
   | inl less ↦ get_front settled marks (replicate (frames - length marks) false) (next less)
@@ -119,7 +119,7 @@ get_behind frames settled marks within low next = elim (split_le settled (length
       subst (λ k. slice_get (marks ++ replicate k false) settled ≡ Some false) (sym more) (get_new settled marks (frames - length marks - 1) (sym here))
 ]
 
--- of so many frames the first behind those settled waits
+-- of so many frames the first behind the settled ones waits
 pub first_behind : (frames settled : ℕ) (marks : List Bool) → length marks ≤ frames → take settled marks ≡ replicate settled true
     → (settled < length marks → slice_get marks settled ≡ Some false) → settled < frames → first_waiting 1 (with_new frames marks) ≡ Some (settled + 1)
 first_behind frames settled marks few set next low =

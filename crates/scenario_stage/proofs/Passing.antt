@@ -78,7 +78,7 @@ within_numbered : {A : Type 0} (xs : List A) (number : ℕ) (x : A) → numbered
 within_numbered xs zero x e = let no : None ≡ Some x = e in absurd (cc)
 within_numbered xs (suc before) x e = let low : before < length xs = slice_get_within xs before x e in (omega arith, omega (arith, low))
 
--- a frame that is refused, but so that it was given, is there
+-- if a delivery is refused and the frame still counts as given, the frame is there
 refused_there : (w : World) (frame n word : ℕ) (fault : WorldFault) → RefusesEvent w (Deliver frame n word) fault → not (changes_no_mark fault) ≡ true → (bytes : List ℕ) × (numbered w.frames frame ≡ Some bytes)
 refused_there w frame n word fault (inl no_node) given = let e = ap (λ f. not (changes_no_mark f)) no_node.1 in let no : false ≡ true = sym e ∙ given in absurd (cc)
 refused_there w frame n word fault (inr (there, inl no_frame)) given = let e = ap (λ f. not (changes_no_mark f)) no_frame.1 in let no : false ≡ true = sym e ∙ given in absurd (cc)

@@ -37,7 +37,7 @@ printed old new event outcome text_old text_new comes prints =
 
 -- ---- a delivery
 
--- the marks after a delivery, where room was made before
+-- the marks after a delivery, if room was made before
 marks_after : (given : Bool) (n frame : ℕ) (marks : List Bool) → (given ≡ true → (1 ≤ frame) × (frame ≤ length marks))
     → (if given then with_given frame (with_new n marks) else with_new n marks) ≡ with_new n (if given then with_given frame marks else marks)
 marks_after true n frame marks there = let here = there refl in sym (given_then_new n frame marks here.0 here.1)

@@ -21,14 +21,13 @@ use Rattle.scenario_stage.specs.Obeying.{Acts, ActsOrLooks, AreSent, Choices, Go
 use Rattle.scenario_stage.specs.declared.fault.StageFault.{StageFault}
 use Rattle.scenario_stage.specs.declared.fault.StageFault.TheVariants.{Limit, Memory}
 
--- the event that a command is, if it is one; of a delivery, whose addressee only the world knows,
--- nothing is said
+-- the event that a command is, if it is one; nothing is said of a delivery, whose addressee only
+-- the world knows
 abbrev pub IsEventOf : Command → Option Event → Type 0
 IsEventOf (spoken.Deliver frame to word) event = Unit {0}
 IsEventOf command event = (w : World) → event_of w command ≡ event
 
--- the event of a command that is made of numbers alone, if it is one; of other events nothing is
--- said
+-- the event of a command of numbers alone, if it is one; nothing is said of other events
 abbrev pub IsEventOfNumbers : Command → Option Event → Type 0
 IsEventOfNumbers (spoken.Put n k v s r) event = Unit {0}
 IsEventOfNumbers (spoken.Del n k s r) event = Unit {0}
@@ -88,7 +87,7 @@ ActsOrLooksAs old command text_old text_new new = (added : List ℕ)
     × ActsOrLooks old (event_of old.world command) (report_of old.world command) added new
     × (text_new ≡ text_old ++ added)
 
--- `delivered` waiting frames are handed on: all of them, or the most that may be
+-- `delivered` waiting frames are handed on: all of them, or the greatest number that may be
 pub record HandsOnUpTo (old : Stage) (delivered : ℕ) (new : Stage) : Type 0 where
   pub within : delivered ≤ most_deliveries
   pub hands_on : HandsOnEach old delivered new

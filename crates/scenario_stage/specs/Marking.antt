@@ -20,7 +20,7 @@ abbrev pub SetsOne : ℕ → (old new : List Bool) → Type 0
 SetsOne frame old new = (1 ≤ frame) × AddsUnset (with_given frame old) new
 
 -- which marks a command sets: the mark of the frame that it delivers, or none; a settling sets all
--- of them, those of frames that it sent meanwhile too
+-- of them, including those of frames that it sends
 abbrev pub SetsMarks : Command → (old new : List Bool) → Type 0
 SetsMarks (Deliver frame to word) old new = SetsOne frame old new ⊎ AddsUnset old new
 SetsMarks Settle old new = (length old ≤ length new) × (all_waiting 1 new ≡ [])

@@ -26,7 +26,7 @@ use Rattle.scenario_text.specs.Commands.{Command, Put, Del, Over, Read, Show, De
 
 -- ---- to the world
 
--- the addressee of the frame of that number; 0 where there is none, and then no world takes the
+-- the addressee of the frame of that number; 0 if there is none, and then no world takes the
 -- delivery
 abbrev addressee_in : Option (List ℕ) → ℕ
 addressee_in None = 0

@@ -63,7 +63,7 @@ with_new frames given = given ++ replicate (frames - length given) false
 abbrev pub with_given : ℕ → List Bool → List Bool
 with_given frame given = slice_set given (frame - 1) true
 
--- whether the frame of that number was given; not where there is none
+-- whether the frame of that number was given; false if there is none
 abbrev pub was_given : ℕ → List Bool → Bool
 was_given zero given = false
 was_given (suc place) given = unwrap_or (slice_get given place) false
@@ -96,7 +96,7 @@ pub record Happens (old : Stage) (event : Event) (text : List ℕ) (new : Stage)
 
 -- ---- looking, keeping and resolving
 
--- nothing changes; the answer is printed where the world has the node
+-- nothing changes; the answer is printed if the world has the node
 abbrev pub Answers : Stage → ℕ → List ℕ → (text : List ℕ) → Stage → Type 0
 Answers old node answer text new = (text ≡
     (if nat_le (length old.world.nodes) node then world_refused NoSuchNode else line answer))
@@ -105,12 +105,12 @@ Answers old node answer text new = (text ≡
 abbrev pub Looks : Stage → Report → (text : List ℕ) → Stage → Type 0
 Looks old look text new = Answers old look.node look.text text new
 
--- the world hasn't the node, and nothing changes
+-- the world doesn't have the node, and nothing changes
 abbrev pub IsNoNode : Stage → ℕ → (text : List ℕ) → Stage → Type 0
 IsNoNode old node text new = (length old.world.nodes ≤ node)
     × (text ≡ world_refused NoSuchNode) × (new ≡ old)
 
--- the world keeps what the node holds under these keys, in a new image each
+-- the world keeps what the node holds under these keys, each in a new image
 abbrev pub KeepsAll : Stage → ℕ → List Key → Stage → Type 0
 KeepsAll old node [] new = new ≡ old
 KeepsAll old node (key ∷ keys) new = (answer : Answer) × (between : Stage)
@@ -122,7 +122,7 @@ pub record KeepsHeld (old : Stage) (node : ℕ) (text : List ℕ) (new : Stage) 
   pub keeps : KeepsAll old node (map (λ row. row.0) (table_at old.world node)) new
   pub text_is : text ≡ line (codes "ok")
 
--- the sibling that is chosen, where there are two or more, and a resolver
+-- the sibling that is chosen, if there are two or more, and a resolver
 abbrev pub chosen_as : Option (List ValueParts → ℕ) → List ValueParts → Option ValueParts
 chosen_as None siblings = None
 chosen_as (Some choice) siblings = chosen choice siblings
@@ -131,7 +131,7 @@ chosen_as (Some choice) siblings = chosen choice siblings
 abbrev pub chosen_by : Choices → ℕ → List ValueParts → Option ValueParts
 chosen_by choices by siblings = chosen_as (slice_get choices by) siblings
 
--- the chosen sibling is written over all of them; where there is none nothing changes
+-- the chosen sibling is written over all of them; if there is none nothing changes
 abbrev pub Resolves : Stage → ℕ → Key → Option ValueParts → (text : List ℕ) → Stage → Type 0
 Resolves old node key None text new = Answers old node (codes "ok") text new
 Resolves old node key (Some value) text new = Happens old (events.PutOver node key value) text new
@@ -147,16 +147,16 @@ first_waiting number (false ∷ given) = Some number
 abbrev pub waiting : Stage → Option ℕ
 waiting s = first_waiting 1 s.given
 
--- a frame is delivered to its addressee, with word 0; then it counts as given, whatever came of
--- that: 44, 42 and 40 can't come, since the frame and its addressee are there
+-- a frame is delivered to its addressee, with word 0; then it counts as given, whatever the outcome
+-- is: 44, 42 and 40 can't come, since the frame and its addressee are there
 pub record HandsOn (old : Stage) (frame : ℕ) (new : Stage) : Type 0 where
   pub outcome : Result Answer WorldFault
   pub between : Stage
   pub comes : Comes old (events.Deliver frame (addressee old.world frame) 0) outcome between
   pub new_is : new ≡ record between { given = with_given frame between.given }
 
--- this number of frames is handed on, one after the other, each the first that waits then, those
--- sent meanwhile too (one word, into which proofs do not look by themselves)
+-- this number of frames is handed on, one after the other, each the first that then waits,
+-- including those that are sent by this (one word, into which proofs do not look by themselves)
 unfoldable pub HandsOnEach : Stage → ℕ → Stage → Type 0
 HandsOnEach old zero new = new ≡ old
 HandsOnEach old (suc more) new = (frame : ℕ) × (between : Stage) × (waiting old ≡ Some frame)
@@ -170,7 +170,7 @@ pub record Settles (old : Stage) (text : List ℕ) (new : Stage) : Type 0 where
   pub none_waits : waiting new ≡ None
   pub text_is : text ≡ line (codes "delivered " ++ decimal delivered)
 
--- the most frames are handed on that may be, and yet one waits
+-- the greatest number of frames that may be handed on is handed on, and one still waits
 pub record GoesOn (old : Stage) : Type 0 where
   pub delivered : ℕ
   pub most : delivered ≡ most_deliveries
@@ -181,8 +181,8 @@ pub record GoesOn (old : Stage) : Type 0 where
 
 -- ---- a command
 
--- a command that is an event, or only looks; one that is neither, as `nodes`, which stands only in
--- front, does nothing
+-- a command that is an event, or only looks; one that is neither, such as `nodes`, which stands
+-- only in front, does nothing
 abbrev pub ActsOrLooks : Stage → Option Event → Option Report → (text : List ℕ) → Stage → Type 0
 ActsOrLooks old (Some event) look text new = Happens old event text new
 ActsOrLooks old None (Some look) text new = Looks old look text new

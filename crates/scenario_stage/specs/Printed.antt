@@ -1,4 +1,4 @@
--- Lines that are printed, beside the result lines of the table.
+-- Lines that are printed, besides the result lines of the table.
 use Rattle.std.specs.Prelude.{◌≡◌, ℕ, zero, suc, ◌+◌, List, [], ◌∷◌, ◌++◌, codes, decimal}
 use Rattle.meta_frame.specs.declared.message.Frame.{Frame}
 use Rattle.meta_frame.specs.Frame.{name_of}

@@ -1,4 +1,4 @@
-//! Delivering frames: one of them, or all that were not given yet.
+//! Delivering frames: one of them, or all that were not given.
 
 ghost use Rattle.std.specs.Prelude.{◌≡◌, ◌<◌, ◌≤◌, Some, length, replicate, slice_get, take, true, false, if◌then◌else◌, IfOk, OnOk, OnErr};
 ghost use Rattle.meta_frame.specs.Frame.{to_in};
@@ -27,7 +27,7 @@ fn changes_no_mark(fault: &WorldFault) -> bool
     )
 }
 
-/// Whether a frame that was delivered with this outcome was given.
+/// Returns whether a frame that was delivered with this outcome was given.
 fn counts_as_given(outcome: &Result<Answer, WorldFault>) -> bool
     ensures { result ≡ counts_as_given outcome.now }
 {
@@ -50,7 +50,7 @@ fn set_mark(marks: &mut Vec<bool>, frame: usize) -> Result<(), AllocError>
     Ok(())
 }
 
-/// Returns how many marks at the front are set, of which `known` are known to be.
+/// Returns how many marks at the front are set. `known` of them are known to be.
 fn count_set(marks: &[bool], known: usize) -> usize
     requires within { known ≤ length marks.now }
     requires set { take known marks.now ≡ replicate known true }
@@ -65,7 +65,7 @@ fn count_set(marks: &[bool], known: usize) -> usize
     count
 }
 
-/// The addressee that the bytes of a frame name.
+/// Returns the addressee that the bytes of a frame name.
 fn addressee_in(bytes: &[u8]) -> u64
     requires { 8 ≤ length bytes.now }
     ensures { result ≡ to_in bytes.now }
@@ -74,8 +74,8 @@ fn addressee_in(bytes: &[u8]) -> u64
 }
 
 impl Stage {
-    /// The addressee of the frame of that number; 0 where there is none. Fails only when memory
-    /// runs out.
+    /// Returns the addressee of the frame of that number, or 0 if there is none. Fails only when
+    /// memory runs out.
     fn addressee(&self, frame: u64) -> Result<u64, AllocError>
         ensures { IfOk result (λ node. node ≡ addressee self.now.world frame) }
     {
@@ -139,7 +139,7 @@ impl Stage {
         Ok(())
     }
 
-    /// The number of the first frame that was not given, if there is one.
+    /// Returns the number of the first frame that was not given, if there is one.
     fn next_waiting(&mut self) -> Option<u64>
         ensures same { self.new ≡ self.old }
         ensures value { result ≡ waiting self.old }
@@ -153,8 +153,8 @@ impl Stage {
         }
     }
 
-    /// Delivers the frame that waits first to its addressee, with word 0, and sets its mark,
-    /// whatever came of that. Fails only when memory runs out.
+    /// Delivers the first frame that waits to its addressee, with word 0, and sets its mark,
+    /// whatever the outcome is. Fails only when memory runs out.
     fn hand_on(&mut self, frame: u64) -> Result<(), AllocError>
         requires { waiting self.old ≡ Some frame }
         ensures { OnOk result (HandsOn self.old frame self.new) }
@@ -173,8 +173,8 @@ impl Stage {
         self.mark(frame)
     }
 
-    /// Delivers the frames that were not given, those sent meanwhile too, in the order of their
-    /// numbers, but no more than 100,000. Returns how many were delivered.
+    /// Delivers the frames that were not given, including those that this sends, in the order of
+    /// their numbers, but no more than 100,000. Returns how many were delivered.
     fn hand_on_all(&mut self) -> Result<u64, AllocError>
         ensures { IfOk result (λ delivered. HandsOnUpTo self.old delivered self.new) }
     {
@@ -188,7 +188,7 @@ impl Stage {
     }
 
     /// Delivers each frame that was not given, and adds how many there were. Ends with 71 `Limit`
-    /// where there are more than 100,000.
+    /// if there are more than 100,000.
     pub(crate) fn settle(&mut self, text: &mut Vec<u8>) -> Result<(), StageFault>
         ensures { SettlesOrPasses self.old text.old.items text.new.items self.new result }
     {

@@ -14,8 +14,8 @@ use scenario_text::{BytesWord, Command, KeyWord, PrefixWord};
 use std::alloc::{AllocError, Global};
 use world_core::Event;
 
-/// Returns the event that a command is, if it is one; none for a delivery too, for which the world
-/// has to be asked. Fails only when memory runs out.
+/// Returns the event that a command is, if it is one. Returns none for a delivery too, since the
+/// world must be asked for its addressee. Fails only when memory runs out.
 pub fn event_of(alloc: Global, command: &Command<'_>) -> Result<Option<Event>, AllocError>
     requires { fault_in (command_word command.now) ≡ None }
     ensures { IfOk result (λ event. IsEventOf (command_word command.now) event) }
@@ -51,7 +51,7 @@ pub fn event_of(alloc: Global, command: &Command<'_>) -> Result<Option<Event>, A
     }
 }
 
-/// Returns the event that a command made of numbers alone is, if it is one other than a delivery.
+/// Returns the event that a command of numbers alone is, if it is one other than a delivery.
 fn event_of_numbers(command: &Command<'_>) -> Option<Event>
     ensures { IsEventOfNumbers (command_word command.now) result }
 {
@@ -76,7 +76,7 @@ fn event_of_numbers(command: &Command<'_>) -> Option<Event>
     })
 }
 
-/// The value of these bytes, or a tombstone.
+/// Makes the value of these bytes, or a tombstone.
 fn value_of(alloc: Global, bytes: Option<&BytesWord<'_>>, stamp: u64) -> Result<Value, AllocError>
     requires { IsBody (option_map (λ b. bytes_word b.now) bytes) }
     ensures { IfOk result (λ value. value
@@ -89,7 +89,7 @@ fn value_of(alloc: Global, bytes: Option<&BytesWord<'_>>, stamp: u64) -> Result<
     Ok(Value::of(stamp, body))
 }
 
-/// A write, of a tombstone where there are no bytes.
+/// Makes a write; of a tombstone if there are no bytes.
 fn put(
     alloc: Global,
     node: u64,
@@ -113,7 +113,7 @@ fn put(
     }))
 }
 
-/// A write over all that is shown.
+/// Makes a write over all that is shown.
 fn over(
     alloc: Global,
     node: u64,
@@ -131,7 +131,6 @@ fn over(
     Ok(Some(Event::PutOver { node, key, value }))
 }
 
-/// A read.
 fn get(alloc: Global, node: u64, key: &KeyWord<'_>) -> Result<Option<Event>, AllocError>
     requires { IsKey (key_word key.now) }
     ensures { IfOk result (λ event. event ≡ Some (Get node (key_word key.now))) }
@@ -140,7 +139,7 @@ fn get(alloc: Global, node: u64, key: &KeyWord<'_>) -> Result<Option<Event>, All
     Ok(Some(Event::Get { node, key }))
 }
 
-/// Bytes that should be no frame.
+/// Makes bytes that should be no frame.
 fn junk(alloc: Global, node: u64, bytes: &BytesWord<'_>) -> Result<Option<Event>, AllocError>
     ensures { IfOk result (λ event. event ≡ Some (Junk node (bytes_word bytes.now))) }
 {
@@ -148,7 +147,6 @@ fn junk(alloc: Global, node: u64, bytes: &BytesWord<'_>) -> Result<Option<Event>
     Ok(Some(Event::Junk { node, bytes }))
 }
 
-/// A watch.
 fn watch(
     alloc: Global,
     node: u64,

@@ -16,7 +16,7 @@ pub enum StageFault {
 }
 
 impl StageFault {
-    /// The number of the fault, as programs print it.
+    /// Returns the number of the fault, as programs print it.
     pub fn code(self) -> u16
         ensures { result ≡ code_of self }
     {
@@ -26,7 +26,7 @@ impl StageFault {
         }
     }
 
-    /// The name of the fault, as programs print it.
+    /// Returns the name of the fault, as programs print it.
     pub fn name(&self) -> &'static str
         ensures { result.now ≡ fault_name self.now }
     {

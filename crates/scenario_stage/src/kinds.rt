@@ -1,10 +1,10 @@
-//! The names of kinds of messages by their numbers, for whoever has a header and no message.
+//! The names of kinds of messages by their numbers, for callers who have a header and no message.
 
 ghost use Rattle.std.specs.Prelude.{◌≡◌};
 ghost use Rattle.meta_frame.specs.Frame.{kind_of, name_of};
 ghost use Rattle.meta_frame.specs.declared.message.Message.{Message};
 
-/// The name of the kind of this number, in capitals.
+/// Returns the name of the kind of this number, in capitals.
 pub(crate) fn name_of_kind(kind: u8) -> &'static str
     requires { (m : Message) × (kind_of m ≡ kind) }
     ensures { (m : Message) → kind_of m ≡ kind → result.now ≡ name_of m }

@@ -26,7 +26,7 @@ use std::alloc::{AllocError, Global};
 use world_core::WorldFault;
 
 impl Stage {
-    /// Adds what a command looks at, or that the world hasn't the node.
+    /// Adds what a command looks at, or that the world doesn't have the node.
     pub(crate) fn look(&self, command: &Command<'_>, text: &mut Vec<u8>) -> Result<(), AllocError>
         requires { fault_in (command_word command.now) ≡ None }
         ensures { OnOk result (LooksAt self.now (command_word command.now)
@@ -54,7 +54,7 @@ impl Stage {
         }
     }
 
-    /// Adds how many images a node has, the empty one among them.
+    /// Adds how many images a node has, including the empty one.
     fn images(&self, node: u64, text: &mut Vec<u8>) -> Result<(), AllocError>
         ensures { OnOk result (LooksAt self.now (Images node) text.old.items text.new.items) }
     {
@@ -65,7 +65,7 @@ impl Stage {
     }
 }
 
-/// Adds that the world hasn't the node.
+/// Adds that the world doesn't have the node.
 pub(crate) fn print_no_node(text: &mut Vec<u8>) -> Result<(), AllocError>
     ensures { OnOk result (text.new.items ≡ text.old.items ++ world_refused NoSuchNode) }
 {
@@ -114,7 +114,7 @@ fn list(
     print_held_keys(text, keys.as_slice())
 }
 
-/// The keys that a store holds under a prefix.
+/// Returns the keys that a store holds under a prefix.
 fn keys_under(
     alloc: Global,
     store: &Store,

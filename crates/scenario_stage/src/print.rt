@@ -1,4 +1,4 @@
-//! Printed lines. Each call adds its text at the end of bytes; where memory runs out, a front of it
+//! Printed lines. Each call adds its text at the end of bytes; if memory runs out, a front of it
 //! may have been added.
 
 ghost use Rattle.std.specs.Prelude.{◌≡◌, ◌↔◌, ◌≤◌, ◌++◌, ◌∷◌, [], ℕ, List, Err, IsTrue, OnOk, length, map, true, decimal, codes, if◌then◌else◌};
@@ -103,7 +103,7 @@ fn print_comma(out: &mut Vec<u8>, first: bool) -> Result<(), AllocError>
     out.extend_from_slice(b",")
 }
 
-/// Adds the own parts of the keys that changed, a comma before each but the first.
+/// Adds the own parts of the keys that changed, with a comma before each except the first.
 fn print_each_change(out: &mut Vec<u8>, changes: &[Change]) -> Result<(), AllocError>
     ensures { OnOk result (out.new.items ≡ out.old.items
         ++ separated true (map (λ change. bytes_text change.key.key) changes.now)) }
@@ -140,7 +140,7 @@ fn print_changes(out: &mut Vec<u8>, missed: u64, changes: &[Change]) -> Result<(
     out.extend_from_slice(b"\n")
 }
 
-/// Adds the own parts of keys, a comma before each but the first.
+/// Adds the own parts of keys, with a comma before each except the first.
 fn print_each_key(out: &mut Vec<u8>, keys: &[MetaKey]) -> Result<(), AllocError>
     ensures { OnOk result (out.new.items ≡ out.old.items
         ++ separated true (map (λ k. bytes_text k.key) keys.now)) }
@@ -241,7 +241,7 @@ fn print_frames(
     ensures { OnOk result ((text : List ℕ) × (AreLinesOf world.now sent text
         × (out.new.items ≡ out.old.items ++ text))) }
 {
-    // Called for what its contract says: a number of a frame fits.
+    // Called for what its contract says: a frame's number fits.
     let _count = world.frame_count();
     for offset in 0..sent.count {
         print_frame_of(alloc, out, world, sent.first + offset)?;
@@ -271,7 +271,7 @@ pub(crate) fn lacks_memory(outcome: &Result<Answer, WorldFault>) -> bool
     matches!(outcome, Err(WorldFault::Memory))
 }
 
-/// Adds the outcome of an event, and what it sent. Where memory ran out nothing is printed, and the
+/// Adds the outcome of an event, and what it sent. If memory ran out nothing is printed, and the
 /// run ends.
 pub(crate) fn print_outcome(
     alloc: Global,

@@ -59,7 +59,7 @@ impl Stage {
         }
     }
 
-    /// The world, as the commands have made it. Each of its frames has a mark.
+    /// Returns the world, as the commands have made it. Each of its frames has a mark.
     pub fn world(&self) -> &World
         ensures world { result.now ≡ self.now.world }
         ensures marks { length self.now.given ≡ length self.now.world.frames }
@@ -67,8 +67,8 @@ impl Stage {
         &self.world
     }
 
-    /// Returns whether the frame of that number was given to its addressee, as `settle` asks: not
-    /// where the world has no such frame.
+    /// Returns whether the frame of that number was given to its addressee, as `settle` asks. It
+    /// wasn't if the world has no such frame.
     pub fn was_given(&self, frame: u64) -> bool
         ensures { result ≡ was_given frame self.now.given }
     {
@@ -78,8 +78,8 @@ impl Stage {
         }
     }
 
-    /// Does what a command says, and adds what that prints to `text`. Ends with 71 `Limit` where a
-    /// settling would deliver more than 100,000 frames, and with 99 `Memory`; nothing is said then
+    /// Does what a command says, and adds what that prints to `text`. Ends with 71 `Limit` if a
+    /// settling would deliver more than 100,000 frames, and with 99 `Memory`; then nothing is said
     /// of the stage and of what was added.
     pub fn obey(
         &mut self,

@@ -23,7 +23,7 @@ use std::alloc::{AllocError, Global};
 use world_core::Event;
 
 impl Stage {
-    /// The node keeps each key that it holds, in order; each makes an image.
+    /// Keeps each key that the node holds, in order; each makes an image.
     pub(crate) fn keep(&mut self, node: u64, text: &mut Vec<u8>) -> Result<(), AllocError>
         ensures { OnOk result (KeepsOrNot self.old node text.old.items text.new.items self.new) }
     {
@@ -37,7 +37,7 @@ impl Stage {
         print_line(text, "ok")
     }
 
-    /// The node keeps what it holds under each of these keys.
+    /// Keeps what the node holds under each of these keys.
     fn keep_all(&mut self, node: u64, keys: &[MetaKey]) -> Result<(), AllocError>
         requires { node < length self.old.world.nodes }
         ensures { OnOk result (KeepsAll self.old node keys.now self.new) }
@@ -48,7 +48,7 @@ impl Stage {
         Ok(())
     }
 
-    /// The node keeps what it holds under a key. Fails only when memory runs out.
+    /// Keeps what the node holds under a key. Fails only when memory runs out.
     fn keep_one(&mut self, node: u64, key: &MetaKey) -> Result<(), AllocError>
         requires { node < length self.old.world.nodes }
         ensures keeps { OnOk result (KeepsAll self.old node (key.now ∷ []) self.new) }
@@ -65,8 +65,7 @@ impl Stage {
         }
     }
 
-    /// Where there are two or more siblings, the node writes over all of them the one that the
-    /// resolver chooses.
+    /// Writes the sibling that the resolver chooses over all siblings, if there are two or more.
     pub(crate) fn resolve(
         &mut self,
         node: u64,
@@ -89,7 +88,7 @@ impl Stage {
         }
     }
 
-    /// The node writes the value over all that it shows.
+    /// Writes the value over all that the node shows.
     fn put_over(
         &mut self,
         node: u64,
@@ -107,8 +106,8 @@ impl Stage {
     }
 }
 
-/// Returns the sibling under a key that the resolver chooses, where there is a resolver, and two
-/// siblings or more.
+/// Returns the sibling under a key that the resolver chooses, if there are a resolver and two or
+/// more siblings.
 fn chosen_under(
     alloc: Global,
     store: &Store,
@@ -124,7 +123,7 @@ fn chosen_under(
     chosen(store, &key, resolver)
 }
 
-/// The keys that a store holds, in order. Fails only when memory runs out.
+/// Returns the keys that a store holds, in order. Fails only when memory runs out.
 pub fn keys_of(alloc: Global, store: &Store) -> Result<Vec<MetaKey>, AllocError>
     ensures { IfOk result (λ keys. keys.items ≡ map (λ row. row.0) store.now) }
 {
@@ -147,7 +146,7 @@ fn add_keys(keys: &mut Vec<MetaKey>, prefix: &FullPrefix, rows: &Rows) -> Result
     Ok(())
 }
 
-/// A copy of the key of these bytes under a full prefix.
+/// Makes a copy of the key of these bytes under a full prefix.
 fn key_under(prefix: &FullPrefix, key: &ByteString) -> Result<MetaKey, AllocError>
     requires { IsName 256 key.now }
     ensures { IfOk result (λ copy. copy ≡ record { prefix = prefix.now; key = key.now }) }
@@ -156,7 +155,7 @@ fn key_under(prefix: &FullPrefix, key: &ByteString) -> Result<MetaKey, AllocErro
     Ok(MetaKey::under(prefix, key))
 }
 
-/// Returns what `chosen_under` does, for a key that is made already.
+/// Returns what `chosen_under` does, for a key that was made before.
 fn chosen(
     store: &Store,
     key: &MetaKey,
@@ -175,7 +174,7 @@ fn chosen(
     }
 }
 
-/// Returns the sibling that the resolver chooses, where there are two or more.
+/// Returns the sibling that the resolver chooses, if there are two or more.
 fn chosen_of(resolver: &Box<dyn Resolver>, siblings: &[Value]) -> Result<Option<Value>, AllocError>
     ensures { IfOk result (λ value. value ≡ chosen (choice resolver.now) siblings.now) }
 {
@@ -186,7 +185,7 @@ fn chosen_of(resolver: &Box<dyn Resolver>, siblings: &[Value]) -> Result<Option<
     Ok(Some(siblings[place].copy()?))
 }
 
-/// The place of the sibling that the resolver chooses.
+/// Returns the place of the sibling that the resolver chooses.
 fn place_chosen(resolver: &Box<dyn Resolver>, siblings: &[Value]) -> usize
     requires { 0 < length siblings.now }
     ensures place { result < length siblings.now }

@@ -116,8 +116,8 @@ abbrev pub Takes : List Word → Option (Bor (List ℕ)) → List Word → Type 
 Takes old None new = (old ≡ []) × (new ≡ [])
 Takes old (Some word) new = old ≡ word.now ∷ new
 
--- the reading gave what stands at the front of the words, and left the others; where it gives
--- nothing, nothing is said of what is left
+-- the reading gave what stands at the front of the words, and left the others; if it gives nothing,
+-- nothing is said of what is left
 abbrev pub ReadsWords : {A : Type 0} → WordReader A → List Word → Option A → List Word → Type 0
 ReadsWords reads old None new = reads old ≡ None
 ReadsWords reads old (Some x) new = reads old ≡ Some (x, new)

@@ -1,8 +1,10 @@
 -- The commands of a scenario, and the table of their words: a row for each.
 use Rattle.std.specs.Prelude.{ℕ, nat_le, Bool, ◌&&◌, if◌then◌else◌, List, [], ◌∷◌, length, Option, Some, None, codes, bytes_eq}
-use Rattle.meta_types.specs.Name.{Prefix, Key}
+use Rattle.meta_types.specs.Name.{Prefix, Key, most_prefix_len, most_key_len}
 use Rattle.meta_types.specs.declared.fault.TypeFault.{TypeFault}
 use Rattle.meta_types.specs.declared.fault.TypeFault.TheVariants.{BadName, ValueTooLong}
+use Rattle.meta_types.specs.Value.{most_body_len}
+use Rattle.meta_types.specs.Node.{most_nodes}
 use Rattle.scenario_text.specs.Word.{Word, number_of, full_prefix_of, key_of, value_of, junk_of, choice_of, below, within}
 use Rattle.scenario_text.specs.Reading.{WordReader, just, one, number_or_none, labelled, labelled_or_zero, exactly, ◌and◌}
 
@@ -58,7 +60,7 @@ junk = one junk_of
 
 -- 1 to 16
 abbrev pub node_count : WordReader ℕ
-node_count = one (λ word. within 1 16 (number_of word))
+node_count = one (λ word. within 1 most_nodes (number_of word))
 
 -- `stamp S`, or nothing for stamp 0
 abbrev pub stamp : WordReader ℕ
@@ -72,7 +74,7 @@ read = labelled (codes "read")
 abbrev pub random : WordReader ℕ
 random = labelled_or_zero (codes "word")
 
--- the place of `lww` or `largest`, where it is below the number of resolvers
+-- the place of `lww` or `largest`, if it is below the number of resolvers
 abbrev pub resolver : ℕ → WordReader ℕ
 resolver resolvers =
     one (λ word. below resolvers (choice_of (codes "lww") (codes "largest") word))
@@ -111,7 +113,7 @@ abbrev pub reads_behind : Word → List (Word × WordReader Command) → WordRea
 reads_behind name [] = λ words. None
 reads_behind name (row ∷ rows) = if bytes_eq name row.0 then row.1 else reads_behind name rows
 
--- the command that words are, if they are one, where this number of resolvers is at hand
+-- the command that words are, if they are one, with this number of resolvers at hand
 abbrev pub command_of : ℕ → List Word → Option Command
 command_of resolvers [] = None
 command_of resolvers (name ∷ words) = exactly (reads_behind name (rows resolvers)) words
@@ -123,10 +125,10 @@ abbrev is_part : ℕ → List ℕ → Bool
 is_part most bytes = nat_le 1 (length bytes) && nat_le (length bytes) most
 
 abbrev pub is_prefix : Prefix → Bool
-is_prefix p = is_part 64 p.prefix && is_part 64 p.sub
+is_prefix p = is_part most_prefix_len p.prefix && is_part most_prefix_len p.sub
 
 abbrev pub is_key : Key → Bool
-is_key k = is_prefix k.prefix && is_part 256 k.key
+is_key k = is_prefix k.prefix && is_part most_key_len k.key
 
 abbrev fault_of_prefix : Prefix → Option TypeFault
 fault_of_prefix p = if is_prefix p then None else Some BadName
@@ -136,10 +138,10 @@ fault_of_key k = if is_key k then None else Some BadName
 
 abbrev pub fault_of_write : Key → List ℕ → Option TypeFault
 fault_of_write k v =
-    if is_key k then (if nat_le (length v) 1024 then None else Some ValueTooLong) else Some BadName
+    if is_key k then (if nat_le (length v) most_body_len then None else Some ValueTooLong) else Some BadName
 
--- what no world takes: the length of a part of a name is out of range, or a value is too long; of
--- all refusals these come first
+-- what no world takes: the length of a part of a name is out of range, or a value is too long;
+-- these come before all other refusals
 abbrev pub fault_in : Command → Option TypeFault
 fault_in (Put n k v s r) = fault_of_write k v
 fault_in (Del n k s r) = fault_of_key k

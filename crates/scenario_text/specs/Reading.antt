@@ -1,6 +1,5 @@
 -- Words that are read one after the other. A reading takes words from the front and gives what they
--- stand for, with the words that are left; it gives nothing where they don't stand for what it
--- wants.
+-- stand for, with the words that are left. It gives nothing if they don't stand for what it wants.
 use Rattle.std.specs.Prelude.{ℕ, if◌then◌else◌, List, [], ◌∷◌, Option, Some, None, bytes_eq}
 use Rattle.scenario_text.specs.Word.{Word, number_of}
 
@@ -17,12 +16,12 @@ abbrev pub given : {A : Type 0} → List Word → Option A → Option (A × List
 given left None = None
 given left (Some x) = Some (x, left)
 
--- one word, that stands for something by the rule
+-- one word that stands for something by the rule
 abbrev pub one : {A : Type 0} → (Word → Option A) → WordReader A
 one rule [] = None
 one rule (word ∷ words) = given words (rule word)
 
--- a number where the first word is one, and otherwise none, for which no word is read
+-- a number if the first word is one; otherwise none, for which no word is read
 abbrev pub number_or_none : WordReader (Option ℕ)
 number_or_none [] = Some (None, [])
 number_or_none (word ∷ words) = elim (number_of word) [
@@ -35,14 +34,14 @@ abbrev pub some_of : Option (ℕ × List Word) → Option (Option ℕ × List Wo
 some_of None = None
 some_of (Some read) = Some (Some read.0, read.1)
 
--- a number after this label, where the label stands, as `stamp 5`; otherwise none, for which no
+-- a number after this label, as `stamp 5`, if the label stands there; otherwise none, for which no
 -- word is read
 abbrev pub labelled : Word → WordReader (Option ℕ)
 labelled label [] = Some (None, [])
 labelled label (word ∷ words) =
     if bytes_eq word label then some_of (one number_of words) else Some (None, word ∷ words)
 
--- a number after a label, where none counts as 0
+-- a number after a label; none counts as 0
 abbrev pub or_zero : Option (Option ℕ × List Word) → Option (ℕ × List Word)
 or_zero None = None
 or_zero (Some (None, words)) = Some (0, words)
@@ -72,6 +71,6 @@ whole_of None = None
 whole_of (Some (x, [])) = Some x
 whole_of (Some (x, word ∷ words)) = None
 
--- what the words stand for where none is left over
+-- what the words stand for, if none is left over
 abbrev pub exactly : {A : Type 0} → WordReader A → List Word → Option A
 exactly reads words = whole_of (reads words)

@@ -24,7 +24,7 @@ line_of_words resolvers [] = Skipped
 line_of_words resolvers (first ∷ words) =
     if starts_comment first then Skipped else asked_of (command_of resolvers (first ∷ words))
 
--- what a line is, where this number of resolvers is at hand
+-- what a line is, with this number of resolvers at hand
 abbrev pub line_of : ℕ → List ℕ → Line
 line_of resolvers line = line_of_words resolvers (words_of line)
 
@@ -32,8 +32,8 @@ abbrev is_nodes : Command → Bool
 is_nodes (Nodes count) = true
 is_nodes command = false
 
--- whether a line breaks a rule: `nodes` stands first and only there; `begun` says whether it stood
--- already
+-- whether a line breaks a rule: `nodes` stands first and only there; `begun` says whether it has
+-- stood before
 abbrev pub breaks : Bool → Line → Bool
 breaks begun Skipped = false
 breaks begun (Asks command) = if begun then is_nodes command else not (is_nodes command)
@@ -44,7 +44,7 @@ begins Skipped = false
 begins (Asks command) = true
 begins Bad = false
 
--- the number of the first line that breaks a rule, where the first of these lines has this number
+-- the number of the first line that breaks a rule; the first of these lines has this number
 abbrev pub first_bad_from : ℕ → Bool → ℕ → List (List ℕ) → Option ℕ
 first_bad_from resolvers begun number [] = None
 first_bad_from resolvers begun number (line ∷ lines) =
@@ -70,7 +70,7 @@ commands_of_lines resolvers (line ∷ lines) =
 abbrev pub commands_of : ℕ → List ℕ → List Command
 commands_of resolvers text = commands_of_lines resolvers (lines_of text)
 
--- how many nodes there are, and what they and who drives them are to do
+-- how many nodes there are, and the commands to them and to who drives them
 pub record Scenario : Type 0 where
   pub nodes : ℕ
   pub commands : List Command

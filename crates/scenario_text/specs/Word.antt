@@ -12,7 +12,7 @@ Word = List ℕ
 
 -- ---- parts
 
--- the parts between separators: one more than there are separators, of which some may be empty
+-- the parts between separators: one more than there are separators, and some may be empty
 unfoldable pub parts_of : ℕ → List ℕ → List (List ℕ)
 parts_of separator [] = [] ∷ []
 parts_of separator (b ∷ bytes) =

@@ -27,7 +27,7 @@ fn are_digits(text: &[u8]) -> bool
 impl<'a> BytesWord<'a> {
     ghost use Rattle.scenario_text.specs.Coded.{bytes_word};
 
-    /// The bytes of a value: plain, or `hex:` and digits.
+    /// Reads the bytes of a value: plain ones, or `hex:` and digits.
     pub(crate) fn of_value(word: &'a [u8]) -> Option<Self>
         ensures { option_map bytes_word result ≡ value_of word.now }
     {
@@ -45,7 +45,7 @@ impl<'a> BytesWord<'a> {
         }
     }
 
-    /// The bytes of junk: digits, two at least.
+    /// Reads the bytes of junk: at least two digits.
     pub(crate) fn of_junk(word: &'a [u8]) -> Option<Self>
         ensures { option_map bytes_word result ≡ junk_of word.now }
     {
@@ -58,7 +58,6 @@ impl<'a> BytesWord<'a> {
         })
     }
 
-    /// How many bytes there are.
     pub fn len(&self) -> usize
         ensures { result ≡ length (bytes_word self.now) }
     {
@@ -69,14 +68,14 @@ impl<'a> BytesWord<'a> {
         }
     }
 
-    /// Whether the bytes are few enough for a value.
+    /// Returns whether the bytes are few enough for a value.
     pub(crate) fn is_value(&self) -> bool
         ensures { IsTrue result ↔ (length (bytes_word self.now) ≤ 1024) }
     {
         self.len() <= MAX_BODY_LEN
     }
 
-    /// The bytes. Fails only when memory runs out.
+    /// Returns the bytes. Fails only when memory runs out.
     pub fn to_bytes(&self, alloc: Global) -> Result<ByteString, AllocError>
         ensures { IfOk result (λ bytes. bytes ≡ bytes_word self.now) }
     {

@@ -47,14 +47,14 @@ pub enum Command<'a> {
         node: u64,
         key: KeyWord<'a>,
     },
-    /// Where there are two or more siblings, the node writes over them the one that the resolver at
-    /// this place chooses.
+    /// The node writes the sibling that the resolver at this place chooses over all siblings, if
+    /// there are two or more.
     Resolve {
         node: u64,
         key: KeyWord<'a>,
         by: usize,
     },
-    /// The frame is handed to the node; where none is named, to the frame's addressee.
+    /// The frame is handed to the node, or, if none is named, to the frame's addressee.
     Deliver {
         frame: u64,
         node: Option<u64>,
@@ -126,8 +126,8 @@ pub enum Command<'a> {
 }
 
 impl<'a> Command<'a> {
-    /// Returns why no world takes the command: 1 `BadName` where a part of a name is too long, then
-    /// 2 `ValueTooLong`.
+    /// Returns why no world takes the command: 1 `BadName` if a part of a name is too long, then 2
+    /// `ValueTooLong`.
     pub fn fault(&self) -> Option<TypeFault>
         ensures { result ≡ fault_in (command_word self.now) }
     {

@@ -11,14 +11,14 @@ pub struct BadLine {
 }
 
 impl BadLine {
-    /// The number of the fault, as programs print it.
+    /// Returns the number of the fault, as programs print it.
     pub fn code(self) -> u16
         ensures { result ≡ 70 }
     {
         70
     }
 
-    /// The name of the fault, as programs print it.
+    /// Returns the name of the fault, as programs print it.
     pub fn name(&self) -> &'static str
         ensures { result.now ≡ codes "BadLine" }
     {

@@ -1,5 +1,5 @@
-//! The language of scenarios: texts of commands to the nodes of a world. A text is read whole;
-//! where lines break a rule, the number of the first one is all that is returned.
+//! The language of scenarios: texts of commands to the nodes of a world. A text is read whole. If
+//! lines break a rule, only the number of the first one is returned.
 //!
 //! ```
 //! let text = b"nodes 2\nput 0 a/b/k x\n";
@@ -10,7 +10,8 @@
 //! ```
 //!
 //! Read `command`, `verb` and `table` (which words are which command), `number`, `name`, `bytes`
-//! and `words` (what words stand for) with `split`, `line`, then `script` (a text) with `fault`.
+//! and `words` (what words stand for) with `split`, `line`, then `script` (a text) with `fault` and
+//! `laws`.
 #![tactic(auto)]
 
 pub mod bytes;

@@ -22,7 +22,7 @@ pub(crate) enum Line<'a> {
 }
 
 impl<'a> Line<'a> {
-    /// Returns what the line is, where `resolvers` resolvers are at hand.
+    /// Returns what the line is, with `resolvers` resolvers at hand.
     pub(crate) fn of(line: &'a [u8], resolvers: usize) -> Self
         ensures { line_word result ≡ line_of resolvers line.now }
     {
@@ -37,7 +37,7 @@ impl<'a> Line<'a> {
     }
 }
 
-/// The lines of a text that were not read yet. A line feed at the end starts no further line.
+/// The lines of a text that are still to be read. A line feed at the end starts no further line.
 #[derive(Drop)]
 pub struct Lines<'a> {
     left: &'a [u8],
@@ -53,21 +53,20 @@ impl<'a> Model for Lines<'a> {
 }
 
 impl<'a> Lines<'a> {
-    /// The lines of a text.
     pub fn of(text: &'a [u8]) -> Self
         ensures { result ≡ lines_of text.now }
     {
         Lines { left: text }
     }
 
-    /// The same lines, to be read once more.
+    /// Returns the same lines, to be read once more.
     pub(crate) fn again(&self) -> Self
         ensures { result ≡ self.now }
     {
         Lines { left: self.left }
     }
 
-    /// The next line, without its line feed.
+    /// Returns the next line, without its line feed.
     pub fn next(&mut self) -> Option<&'a [u8]>
         ensures { TakesNextLine self.old result self.new }
     {
@@ -80,7 +79,7 @@ impl<'a> Lines<'a> {
     }
 }
 
-/// Returns the first line of bytes, which aren't empty, and what follows its line feed.
+/// Splits bytes, which aren't empty, into the first line and what follows its line feed.
 fn split_line(bytes: &[u8]) -> (&[u8], &[u8])
     requires { 0 < length bytes.now }
     ensures { lines_of bytes.now ≡ result.0.now ∷ lines_of result.1.now }

@@ -1,5 +1,5 @@
 //! Names as they stand in a line: parts of letters, digits, `.`, `_` and `-`, joined by `/`. A part
-//! may be too long for a name: that is refused when the command is run.
+//! may be too long for a name; that is refused when the command is run.
 
 ghost use Rattle.std.specs.Prelude.{◌≡◌, IfOk, IsTrue, ◌↔◌};
 ghost use Rattle.std.specs.Option.{option_map};
@@ -62,14 +62,14 @@ pub(crate) fn key_word(word: &[u8]) -> Option<KeyWord<'_>>
 }
 
 impl<'a> PrefixWord<'a> {
-    /// Whether no part is too long. None is empty.
+    /// Returns whether no part is too long. None is empty.
     pub(crate) fn is_name(&self) -> bool
         ensures { IsTrue result ↔ IsFullPrefix (prefix_word self.now) }
     {
         is_part(self.prefix, MAX_PREFIX_LEN) && is_part(self.sub, MAX_PREFIX_LEN)
     }
 
-    /// The full prefix. Fails only when memory runs out.
+    /// Makes the full prefix. Fails only when memory runs out.
     pub fn to_prefix(&self, alloc: Global) -> Result<FullPrefix, AllocError>
         requires { IsFullPrefix (prefix_word self.now) }
         ensures { IfOk result (λ prefix. prefix ≡ prefix_word self.now) }
@@ -81,14 +81,14 @@ impl<'a> PrefixWord<'a> {
 }
 
 impl<'a> KeyWord<'a> {
-    /// Whether no part is too long. None is empty.
+    /// Returns whether no part is too long. None is empty.
     pub(crate) fn is_name(&self) -> bool
         ensures { IsTrue result ↔ IsKey (key_word self.now) }
     {
         self.prefix.is_name() && is_part(self.key, MAX_KEY_LEN)
     }
 
-    /// The key. Fails only when memory runs out.
+    /// Makes the key. Fails only when memory runs out.
     pub fn to_key(&self, alloc: Global) -> Result<MetaKey, AllocError>
         requires { IsKey (key_word self.now) }
         ensures { IfOk result (λ key. key ≡ key_word self.now) }

@@ -7,7 +7,7 @@ ghost use Rattle.scenario_text.specs.Word.{number_of};
 /// is too great.
 const MAX_DIGITS: usize = 20;
 
-/// The number that a word is, if it is one.
+/// Returns the number that a word is, if it is one.
 pub(crate) fn number(word: &[u8]) -> Option<u64>
     ensures { result ≡ number_of word.now }
 {

@@ -32,7 +32,7 @@ impl<'a> Model for Script<'a> {
 }
 
 impl<'a> Script<'a> {
-    /// How many nodes there are: 1 to 16.
+    /// Returns how many nodes there are: 1 to 16.
     pub fn nodes(&self) -> u64
         ensures value { result ≡ self.now.nodes }
         ensures range { (1 ≤ result) × (result ≤ 16) }
@@ -40,7 +40,7 @@ impl<'a> Script<'a> {
         self.nodes
     }
 
-    /// Returns the next command, read from its line. Bad lines were refused before, by `parse`.
+    /// Returns the next command, read from its line. `parse` has refused bad lines.
     pub fn next(&mut self) -> Option<Command<'a>>
         ensures commands { TakesCommand self.old.commands result self.new.commands }
         ensures nodes { self.new.nodes ≡ self.old.nodes }
@@ -54,7 +54,7 @@ impl<'a> Script<'a> {
     }
 }
 
-/// Reads a text as a scenario, where `resolvers` resolvers are at hand. Returns `None` for a text
+/// Reads a text as a scenario, with `resolvers` resolvers at hand. Returns `None` for a text
 /// without a command. Refused only with 70 `BadLine`, of the first line that breaks a rule. It
 /// takes no memory.
 pub fn parse(text: &[u8], resolvers: usize) -> Result<Option<Script<'_>>, BadLine>

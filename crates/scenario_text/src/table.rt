@@ -11,7 +11,7 @@ use crate::command::Command;
 use crate::verb::{Verb, verb_of};
 use crate::words::Words;
 
-/// Reads the command that words are, if they are one, where `resolvers` resolvers are at hand.
+/// Reads the command that words are, if they are one, with `resolvers` resolvers at hand.
 pub(crate) fn read_command<'a>(words: &mut Words<'a>, resolvers: usize) -> Option<Command<'a>>
     ensures { option_map command_word result ≡ command_of resolvers words.old }
 {

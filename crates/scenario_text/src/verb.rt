@@ -58,7 +58,6 @@ pub const VERBS: [Verb; 24] = [
     Verb::Settle,
 ];
 
-/// The word of a verb.
 pub fn word_of(verb: Verb) -> &'static [u8]
     ensures { result.now ≡ verb_word verb }
 {

@@ -13,7 +13,7 @@ use crate::number::number;
 use crate::split::split_once;
 use std::marker::Model;
 
-/// The words of a line that were not read yet.
+/// The words of a line that are still to be read.
 #[derive(Drop)]
 pub struct Words<'a> {
     left: &'a [u8],
@@ -28,7 +28,7 @@ impl<'a> Model for Words<'a> {
     ghost view = { λ w. words_of w.left.now };
 }
 
-/// The bytes without the spaces in front of them.
+/// Returns the bytes without the spaces in front of them.
 fn without_spaces(bytes: &[u8]) -> &[u8]
     ensures words { words_of result.now ≡ words_of bytes.now }
     ensures front { BeginsNoSpace result.now }
@@ -55,7 +55,6 @@ fn split_word(line: &[u8]) -> Option<(&[u8], &[u8])>
 }
 
 impl<'a> Words<'a> {
-    /// The words of a line.
     pub fn of(line: &'a [u8]) -> Self
         ensures { result ≡ words_of line.now }
     {
@@ -70,7 +69,6 @@ impl<'a> Words<'a> {
         Some(word)
     }
 
-    /// The next word.
     pub fn next(&mut self) -> Option<&'a [u8]>
         ensures { Takes self.old result self.new }
     {
@@ -79,15 +77,15 @@ impl<'a> Words<'a> {
         Some(word)
     }
 
-    /// Whether no word is left.
+    /// Returns whether no word is left.
     pub(crate) fn are_over(&self) -> bool
         ensures { IsTrue result ↔ (self.now ≡ []) }
     {
         self.peek().is_none()
     }
 
-    /// Reads a number. Of this and of what follows: returns nothing if the next word isn't that, or
-    /// there is none; nothing is said then of the words that are left.
+    /// Reads a number. This and the following functions return nothing if the next word isn't what
+    /// they read, or if there is none; then nothing is said of the words that are left.
     pub fn number(&mut self) -> Option<u64>
         ensures { ReadsWords forms.a_number self.old result self.new }
     {
@@ -115,7 +113,7 @@ impl<'a> Words<'a> {
         BytesWord::of_value(self.next()?)
     }
 
-    /// Reads hexadecimal digits, two at least.
+    /// Reads hexadecimal digits, at least two.
     pub fn junk(&mut self) -> Option<BytesWord<'a>>
         ensures { ReadsWords forms.junk self.old (option_map bytes_word result) self.new }
     {
@@ -134,7 +132,7 @@ impl<'a> Words<'a> {
         }
     }
 
-    /// Reads the next word, a resolver's name, and returns its place, if that is below `resolvers`.
+    /// Reads the next word, a resolver's name, and returns its place if that is below `resolvers`.
     pub fn resolver(&mut self, resolvers: usize) -> Option<usize>
         ensures { ReadsWords (forms.resolver resolvers) self.old result self.new }
     {
@@ -146,7 +144,7 @@ impl<'a> Words<'a> {
         if place < resolvers { Some(place) } else { None }
     }
 
-    /// Reads the number that the next word is. Where it is no number, returns none and reads no
+    /// Reads the number that the next word is. If it is no number, returns `None` and reads no
     /// word.
     pub fn number_or_none(&mut self) -> Option<u64>
         ensures { ReadsWords number_or_none self.old (Some result) self.new }
@@ -156,7 +154,7 @@ impl<'a> Words<'a> {
         Some(found)
     }
 
-    /// Reads the number after this label, where the next word is the label. Where it isn't, returns
+    /// Reads the number after this label, if the next word is the label. If it isn't, returns
     /// `Some(None)` and reads no word.
     pub(crate) fn labelled(&mut self, label: &[u8]) -> Option<Option<u64>>
         ensures { ReadsWords (labelled label.now) self.old result self.new }
@@ -169,28 +167,28 @@ impl<'a> Words<'a> {
         Some(Some(self.number()?))
     }
 
-    /// Reads as `labelled` does, and returns 0 where the label isn't there.
+    /// Reads as `labelled` does, and returns 0 if the label isn't there.
     pub(crate) fn labelled_or_zero(&mut self, label: &[u8]) -> Option<u64>
         ensures { ReadsWords (labelled_or_zero label.now) self.old result self.new }
     {
         Some(self.labelled(label)?.unwrap_or(0))
     }
 
-    /// `stamp S`, or nothing for stamp 0.
+    /// Reads `stamp S`, or nothing for stamp 0.
     pub fn stamp(&mut self) -> Option<u64>
         ensures { ReadsWords forms.stamp self.old result self.new }
     {
         self.labelled_or_zero(b"stamp")
     }
 
-    /// `read R`, or nothing.
+    /// Reads `read R`, or nothing.
     pub fn read(&mut self) -> Option<Option<u64>>
         ensures { ReadsWords forms.read self.old result self.new }
     {
         self.labelled(b"read")
     }
 
-    /// `word W`, or nothing for word 0.
+    /// Reads `word W`, or nothing for word 0.
     pub fn random(&mut self) -> Option<u64>
         ensures { ReadsWords forms.random self.old result self.new }
     {

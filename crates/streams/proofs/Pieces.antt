@@ -102,7 +102,7 @@ moves_all piece start end left old new none e = record {
   answer = (refl, slice-none piece end end (omega arith));
 }
 
--- a line feed is found exactly where the bytes are not of one line
+-- a line feed is found exactly if the bytes are not of one line
 pub found_line : (xs : List ℕ) (place : Option ℕ) → IsFirstByte (is_byte 10) xs place → (is_some place ≡ true) ↔ (IsOneLine xs → ⊥)
 found_line xs None none = (
   λ no. cc no,

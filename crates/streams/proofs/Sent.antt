@@ -36,7 +36,7 @@ sent_more old now new bytes rest n s more = record {
   appended = Appends-then old now new s.front (take n rest) s.appended more;
 }
 
--- `n` more bytes, where what is left is cut as a slice is
+-- `n` more bytes, if what is left is cut as a slice is
 pub sent_on : (old now new : Option (List ℕ)) (bytes rest : List ℕ) (n : ℕ) → Sent old now bytes rest → Appends now new (take n rest) → Sent old new bytes (take (length rest - n) (drop n rest))
 sent_on old now new bytes rest n s more = rw (take_all (length rest - n) (drop n rest) (omega (arith, length-drop n rest))) (sent_more old now new bytes rest n s more)
 

@@ -21,7 +21,7 @@ fault_name Write = codes "Write"
 fault_name BrokenPipe = codes "BrokenPipe"
 fault_name Memory = codes "Memory"
 
--- Whether a call of a writer has returned an error of this kind.
+-- whether a call of a writer has returned an error of this kind
 abbrev pub Failed : Type 1
 Failed = ErrorKind → Type 0
 
@@ -31,11 +31,11 @@ fault_of_kind kinds.BrokenPipe = BrokenPipe
 fault_of_kind kinds.OutOfMemory = Memory
 fault_of_kind kind = Write
 
--- the writer has failed in no way in which it had not failed before
+-- the writer has failed in no new way
 abbrev pub FailsNoMore : Failed → Failed → Type 0
 FailsNoMore old new = (kind : ErrorKind) → new kind → old kind
 
--- the writer has failed in no way in which it had not failed before, but by an error of this kind
+-- the writer has failed in no new way, except by an error of this kind
 abbrev pub FailsOnly : Failed → Failed → ErrorKind → Type 0
 FailsOnly old new kind = (other : ErrorKind) → new other → old other ⊎ (other ≡ kind)
 
@@ -46,9 +46,9 @@ pub record IsWriterFault (old new : Failed) (fault : StreamFault) : Type 0 where
   pub only : FailsOnly old new kind
   pub fault_is : fault ≡ fault_of_kind kind
 
--- each fault has its cause: the reader failed, more than the limit was read, or the writer returned
--- an error. `Memory` comes only where nothing else has failed anew: `memory` says this of the
--- reading, and the writer has not failed anew, or was itself out of memory.
+-- Each fault has its cause: the reader failed, more than the limit was read, or the writer returned
+-- an error. `Memory` comes only if nothing else has newly failed: `memory` says this of the
+-- reading, and the writer has failed in no new way, or was itself out of memory.
 abbrev pub HasCause : (read_failed too_long memory : Type 0) (old new : Failed)
     → StreamFault → Type 0
 HasCause read_failed too_long memory old new Read = read_failed
@@ -58,12 +58,11 @@ HasCause read_failed too_long memory old new BrokenPipe = IsWriterFault old new 
 HasCause read_failed too_long memory old new Memory =
     memory × (FailsNoMore old new ⊎ IsWriterFault old new Memory)
 
--- a fault of writing, where nothing is read: the writer failed, or memory ran out
+-- a fault of writing, if nothing is read: the writer failed, or memory ran out
 abbrev pub IsWriteFault : (old new : Failed) → StreamFault → Type 0
 IsWriteFault old new fault = HasCause ⊥ ⊥ (Unit {0}) old new fault
 
--- a fault of reading, where nothing is written: the reader failed, or gave too much, or memory ran
--- out
+-- a fault of reading, if nothing is written: the reader failed, or gave too much, or memory ran out
 abbrev pub IsReadFault : (read_failed too_long memory : Type 0) → StreamFault → Type 0
 IsReadFault read_failed too_long memory fault =
     HasCause read_failed too_long memory (λ kind. ⊥) (λ kind. ⊥) fault

@@ -8,7 +8,7 @@ use Rattle.streams.specs.Fault.{IsReadFault}
 abbrev pub input_limit : ℕ
 input_limit = 67108864
 
--- what was read and belongs to no line yet, and how many bytes may still be read
+-- what was read and belongs to no line so far, and how many more bytes may be read
 pub record Pending : Type 0 where
   pub bytes : List ℕ
   pub left : ℕ
@@ -43,8 +43,8 @@ pub record TakesLine (old new : Pending) (reader_old reader_new : Option (List �
       (old.bytes ++ reads.bytes ≡ line ++ 10 ∷ new.bytes)
       ((old.bytes ++ reads.bytes ≡ line) × (new.bytes ≡ []) × IsAtEnd reader_new)
 
--- a fault of reading: what was read until then, and the fault's cause. Memory ran out only where
--- `memory` holds and what was read is within what may still be read.
+-- A fault of reading: what was read before it, and its cause. Memory ran out only if `memory` holds
+-- and what was read is within what may be read.
 pub record StopsReading (read_failed memory : Type 0) (old : Pending)
     (reader_old reader_new : Option (List ℕ)) (fault : StreamFault) : Type 0 where
   pub bytes : List ℕ

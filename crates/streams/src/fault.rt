@@ -22,7 +22,7 @@ pub enum StreamFault {
 }
 
 impl StreamFault {
-    /// The number of the fault, as programs print it.
+    /// Returns the number of the fault, as programs print it.
     pub fn code(self) -> Option<u16>
         ensures { result ≡ code_of self }
     {
@@ -34,7 +34,7 @@ impl StreamFault {
         }
     }
 
-    /// The name of the fault, as programs print it.
+    /// Returns the name of the fault, as programs print it.
     pub fn name(&self) -> &'static str
         ensures { result.now ≡ fault_name self.now }
     {

@@ -4,7 +4,7 @@ ghost use Rattle.std.specs.Prelude.{◌≡◌, ◌↔◌, IsTrue};
 
 use crate::fault::StreamFault;
 
-/// Faults are equal exactly where they are the same.
+/// Two faults compare equal exactly if they are the same.
 pub fn equal_faults_are_the_same(one: StreamFault, other: StreamFault) -> bool
     ensures { IsTrue result ↔ (one ≡ other) }
 {

@@ -15,7 +15,7 @@ pub const MAX_INPUT_LEN: usize = 67_108_864;
 /// The most bytes of one read.
 const PIECE_LEN: usize = 65_536;
 
-/// The bytes of an input that were read and belong to no line yet.
+/// The bytes of an input that were read and belong to no line so far.
 #[derive(Drop)]
 pub struct LineBuffer {
     piece: Vec<u8>,
@@ -37,7 +37,7 @@ impl Model for LineBuffer {
 }
 
 impl LineBuffer {
-    /// Makes the buffer of an input from which nothing was read yet. It takes memory for one read,
+    /// Makes the buffer of an input from which nothing was read. It takes memory for one read,
     /// 65,536 bytes.
     pub fn new(alloc: Global) -> Result<Self, AllocError>
         ensures { IfOk result (λ buffer. buffer ≡ record { bytes = []; left = input_limit }) }
@@ -58,8 +58,8 @@ impl LineBuffer {
         memchr(b'\n', &self.piece[self.start..self.end]).is_some()
     }
 
-    /// Reads a piece where nothing is pending. Returns whether something is pending then; otherwise
-    /// the reader is at its end.
+    /// Reads a piece if nothing is pending. Returns whether something is pending afterwards; if
+    /// not, the reader is at its end.
     fn fill<R: Source>(&mut self, reader: &mut R) -> Result<bool, StreamFault>
         ensures ok { IfOk result (λ more. Fills self.old self.new (R.at reader.old).remaining
             (R.at reader.new).remaining more) }
@@ -108,7 +108,7 @@ impl LineBuffer {
     /// Puts the next line into `line`, without its line feed, and returns whether a line feed ended
     /// it. Otherwise the input is at its end, and `line` has what stands after the last line feed,
     /// which may be nothing. After a fault, 7 `Read`, 8 `InputTooLong` or 99 `Memory`, the buffer
-    /// is not to be used any more. It takes memory for the line.
+    /// must not be used again. It takes memory for the line.
     pub fn next_line<R: Source>(
         &mut self,
         reader: &mut R,

@@ -19,7 +19,7 @@ pub trait Sink: Write {
     // `WriteZero`.
     ghost at: { Self → SinkAt };
 
-    /// One write.
+    /// Writes once.
     fn write_some(&mut self, bytes: &[u8]) -> io::Result<usize>
         ensures bound { WritesAtMost result bytes.now }
         ensures bytes { WriteAppends (at self.old).contents
@@ -33,7 +33,7 @@ pub trait Sink: Write {
         ensures sound { IfOk result (λ n. 0 < n → FailsNoMore (at self.old).failed
             (at self.new).failed) };
 
-    /// Passes on what is held back.
+    /// Passes on what the writer holds back.
     fn pass_on(&mut self) -> io::Result<()>
         ensures bytes { Keeps (at self.old).contents (at self.new).contents }
         ensures cause { IfErr result (λ e. (at self.new).failed (error_kind e)) }
@@ -101,8 +101,8 @@ pub fn write_fault(kind: ErrorKind) -> StreamFault
 }
 
 /// Writes all the bytes. Refused with `BrokenPipe`, 99 `Memory` or `Write`, by the kind of the
-/// writer's first error, an interruption too, and with `Write` where it takes nothing; a front of
-/// the bytes was written then.
+/// writer's first error, even an interruption, and with `Write` if it takes nothing; then a front
+/// of the bytes was written.
 pub fn write_whole<W: Sink>(writer: &mut W, bytes: &[u8]) -> Result<(), StreamFault>
     ensures ok { OnOk result
         (Appends (W.at writer.old).contents (W.at writer.new).contents bytes.now) }
@@ -123,7 +123,7 @@ pub fn write_whole<W: Sink>(writer: &mut W, bytes: &[u8]) -> Result<(), StreamFa
     Ok(())
 }
 
-/// Passes on what the writer holds back. Refused as `write_whole` is; nothing was written then.
+/// Passes on what the writer holds back. Refused as `write_whole` is; then nothing was written.
 pub fn flush<W: Sink>(writer: &mut W) -> Result<(), StreamFault>
     ensures bytes { Keeps (W.at writer.old).contents (W.at writer.new).contents }
     ensures cause { IfErr result (λ fault. IsWriterFault (W.at writer.old).failed

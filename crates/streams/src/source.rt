@@ -13,7 +13,7 @@ pub trait Source: Read {
     // The reader at a moment.
     ghost at: { Self → SourceAt };
 
-    /// One read.
+    /// Reads once.
     fn read_some(&mut self, piece: &mut [u8]) -> io::Result<usize>
         ensures bound { ReadsAtMost result piece.new }
         ensures bytes { ReadConsumes (at self.old).remaining (at self.new).remaining result
@@ -30,8 +30,8 @@ impl Source for &[u8] {
     }
 }
 
-/// A reader or a writer of which nothing is known, as a file, a pipe or a terminal: any call of it
-/// may fail.
+/// A reader or a writer of which nothing is known, such as a file, a pipe or a terminal: any call
+/// of it may fail.
 #[derive(Drop)]
 pub struct MayFail<T>(pub T);
 

@@ -36,7 +36,7 @@ is_full w = nat_eq (length w.changes) w.capacity
 abbrev pub without_oldest : Watching → Watching
 without_oldest w = record w { changes = drop 1 w.changes; missed = min (w.missed + 1) (2 ^ 64 - 1) }
 
--- where there is no room, the oldest change leaves
+-- if there is no room, the oldest change leaves
 abbrev pub with_room : Watching → Watching
 with_room w = if is_full w then without_oldest w else w
 

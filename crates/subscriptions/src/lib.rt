@@ -1,7 +1,7 @@
 //! The last changes under a full prefix, for those who want to hear of them: [`Watch`].
 //!
-//! A watch holds at most as many changes as it has room for. Where one more comes the oldest
-//! leaves, and the watch counts that it was missed.
+//! A watch holds at most as many changes as it has room for. If one more comes, the oldest leaves,
+//! and the watch counts it as missed.
 //!
 //! ```
 //! let mut watch = Watch::new(alloc, prefix, 100)?;

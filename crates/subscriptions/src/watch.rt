@@ -44,7 +44,7 @@ impl Watch {
     /// Returns a watch of what changes under the prefix, with room for `capacity` changes. It takes
     /// the memory for their places; each change brings its own.
     ///
-    /// Refused with 28 `BadWatch` where the capacity is 0 or more than 1,024, and only there, and
+    /// Refused with 28 `BadWatch` if the capacity is 0 or more than 1,024, and only then, and
     /// otherwise only with 99 `Memory`.
     pub fn new(alloc: Global, prefix: FullPrefix, capacity: usize) -> Result<Self, WatchFault>
         ensures value { IfOk result (λ watch. watch ≡ empty prefix capacity) }
@@ -73,7 +73,7 @@ impl Watch {
         self.prefix == *key.prefix()
     }
 
-    /// Takes a change in, unless it is of another prefix. Where there is no room the oldest leaves
+    /// Takes a change in, unless it is of another prefix. If there is no room, the oldest leaves
     /// and counts as missed. It never fails, and takes no memory.
     pub fn note(&mut self, change: Change)
         ensures { self.new ≡ with_change change self.old }
@@ -84,7 +84,6 @@ impl Watch {
         }
     }
 
-    /// Makes room for one change.
     fn make_room(&mut self)
         ensures oldest { self.new ≡ with_room self.old }
         ensures room { HasRoom self.new }
@@ -95,8 +94,8 @@ impl Watch {
         }
     }
 
-    /// How many changes left since the last `take` without having been taken. The count stays at
-    /// its greatest, 18,446,744,073,709,551,615.
+    /// Returns how many changes have left since the last `take` without being taken. The count
+    /// stays at its greatest, 18,446,744,073,709,551,615.
     pub fn missed(&self) -> u64
         ensures { result ≡ self.now.missed }
     {
@@ -130,7 +129,7 @@ impl Watch {
     }
 }
 
-/// Adds a change at the end, where there is room.
+/// Adds a change, for which there is room, at the end.
 fn push(changes: &mut HeapCircularBuffer<Change>, change: Change)
     requires { length changes.old.items < changes.old.capacity }
     ensures { changes.new ≡ buffer (changes.old.items ++ change ∷ []) changes.old.capacity }
@@ -162,7 +161,7 @@ fn copy_changes(
     Ok(copy)
 }
 
-/// Adds copies at the end, where there is room.
+/// Adds copies, for which there is room, at the end.
 fn push_copies(
     copies: &mut HeapCircularBuffer<Change>,
     changes: &[Change],

@@ -1,7 +1,7 @@
 //! Why journals are no run of the world, in words.
 
 use crate::parts::plan;
-use cluster::{ClusterRun, NoGate, run_cluster};
+use cluster::{ClusterRun, NoHook, run_cluster};
 use node_journal::Receipt;
 use run_explain::explain_fault;
 use run_record::RecordFault;
@@ -9,12 +9,12 @@ use std::alloc::Global;
 use std::sync::Wait;
 use std::thread::Threads;
 
-/// Two turns of one node.
+/// Makes two turns of one node.
 fn run<R: Threads + Wait + Sync>(rt: &R, alloc: Global) -> Option<ClusterRun> {
-    run_cluster(rt, alloc, plan(1, 2, 0), &NoGate).ok()
+    run_cluster(rt, alloc, plan(1, 2, 0), &NoHook).ok()
 }
 
-/// The words for receipts without a journal; `None` if memory ran out.
+/// Returns the words for receipts without a journal; `None` if memory ran out.
 fn words(alloc: Global, receipts: &[Receipt]) -> Option<Vec<u8>> {
     explain_fault(alloc, &[], receipts, &RecordFault::StrangeReceipt).ok()
 }

@@ -1,8 +1,8 @@
 //! The nodes on files in a folder of its own.
 
-use cluster::{ClusterPlan, NoGate};
+use cluster::{ClusterPlan, NoHook};
 use devices::OpenFault;
-use plumctl_file::report_path;
+use plumctl_file::{Purpose, report_path};
 use plumctl_live::{new_files, run_live_on, tell_unmade};
 use std::fs;
 use std::process::Abort;
@@ -11,7 +11,7 @@ use std::thread::Threads;
 
 const FOLDER: &str = "files_of_a_run";
 
-/// The exit status of a run on files in a new folder, or of what couldn't be made.
+/// Returns the exit status of a run on files in a new folder, or of what couldn't be made.
 fn status<R: Threads + Wait + Sync>(files: &HostRuntime, rt: &R, folder: &str) -> u8 {
     let mut writer = Vec::new(files.alloc());
     let mut errors = Vec::new(files.alloc());
@@ -23,21 +23,21 @@ fn status<R: Threads + Wait + Sync>(files: &HostRuntime, rt: &R, folder: &str) -
     match new_files(files, folder, plan.nodes) {
         Ok(devices) => {
             let alloc = files.alloc();
-            let live = run_live_on(rt, alloc, plan, devices, &NoGate, &mut writer, &mut errors);
+            let live = run_live_on(rt, alloc, plan, devices, &NoHook, &mut writer, &mut errors);
             let status = live.status;
             // Dropped by a call: no case of the proof then takes it apart.
             drop(live);
             status
         }
-        Err(fault) => tell_unmade(files.alloc(), &mut errors, folder, fault),
+        Err(fault) => tell_unmade(&mut errors, folder, fault),
     }
 }
 
-/// What `plumctl file` prints of the file of a node.
+/// Returns what `plumctl file` prints of the file of a node.
 fn front(files: &HostRuntime, path: &str) -> Vec<u8> {
     let mut printed = Vec::new(files.alloc());
     let mut told = Vec::new(files.alloc());
-    let _ = report_path(files, path, &mut printed, &mut told);
+    let _ = report_path(files, path, Purpose::Report, &mut printed, &mut told);
     printed
 }
 
@@ -53,10 +53,10 @@ fn nodes_run_on_new_files(rt: HostRuntime) {
     let _ = fs::remove_dir_all(&rt, FOLDER);
 }
 
-/// What is printed of a fault.
+/// Returns what is printed of a fault.
 fn told(rt: &HostRuntime, fault: OpenFault) -> Vec<u8> {
     let mut errors = Vec::new(rt.alloc());
-    let _ = tell_unmade(rt.alloc(), &mut errors, "a\nfolder", fault);
+    let _ = tell_unmade(&mut errors, "a\nfolder", fault);
     errors
 }
 

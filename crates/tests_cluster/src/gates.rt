@@ -1,7 +1,7 @@
 //! Workers run side by side: one waits in a gate until another has made all its turns.
 
 use crate::parts::{Came, failing, plan, told};
-use cluster::{Gate, Limits, run_cluster, run_cluster_on};
+use cluster::{Limits, TurnHook, run_cluster, run_cluster_on};
 use meta_types::NodeId;
 use std::alloc::Global;
 use std::sync::Wait;
@@ -44,7 +44,7 @@ impl Holds {
     }
 }
 
-impl Gate for Holds {
+impl TurnHook for Holds {
     fn before(&self, node: NodeId, turn: u64) {
         if (node.number(), turn) == self.held {
             self.wait();
@@ -58,8 +58,8 @@ impl Gate for Holds {
     }
 }
 
-/// What comes of a run of two nodes and eight turns in which a turn is held; and whether that turn
-/// was made once the other was, and not at the end of its wait.
+/// Returns what comes of a run of two nodes and eight turns in which a turn is held; and whether
+/// that turn was made once the other was, and not at the end of its wait.
 fn run_held<R: Threads + Wait + Sync>(
     rt: &R,
     alloc: Global,
@@ -72,7 +72,7 @@ fn run_held<R: Threads + Wait + Sync>(
     (told(alloc, run), has_come)
 }
 
-/// All calls of two nodes and eight turns, with no frame lost.
+/// Returns all calls of two nodes and eight turns, with no frame lost.
 fn seventeen() -> Result<Came, u16> {
     Ok(Came {
         calls: 17,
@@ -84,8 +84,8 @@ fn seventeen() -> Result<Came, u16> {
     })
 }
 
-// Where only the second assertion fails, the wait ended by itself: the other worker was too slow
-// for it, or didn't run meanwhile.
+// If only the second assertion fails, the wait ended by itself: the other worker was too slow for
+// it, or didn't run meanwhile.
 #[test]
 fn node_1_makes_all_turns_while_node_0_waits(rt: HostRuntime) {
     let (run, has_come) = run_held(&rt, rt.alloc(), (0, 1), (1, 8));

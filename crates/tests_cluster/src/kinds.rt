@@ -7,7 +7,7 @@ use std::alloc::Global;
 use std::process::Abort;
 use world_core::{Accepted, Answer, Event, FrameNumbers};
 
-/// An accepted event. Its answer doesn't matter: no text says it.
+/// Returns an accepted event. Its answer doesn't matter: no text says it.
 fn accepted(event: Event) -> Accepted {
     Accepted {
         event,
@@ -25,7 +25,7 @@ fn prefix(rt: &impl Abort, alloc: Global) -> FullPrefix {
     FullPrefix::new(prefix, sub).ok().expect(rt, "a prefix")
 }
 
-/// The key a/b with this own part.
+/// Returns the key a/b with this own part.
 fn key(rt: &impl Abort, alloc: Global, own: &[u8]) -> MetaKey {
     let own = own.to_vec(alloc).expect(rt, "memory");
     MetaKey::new(prefix(rt, alloc), own)
@@ -38,7 +38,7 @@ fn value(rt: &impl Abort, alloc: Global, stamp: u64, body: &[u8]) -> Value {
     Value::new(stamp, Some(body)).ok().expect(rt, "a value")
 }
 
-/// The event of this number that has a key.
+/// Returns the event of this number that has a key.
 fn event_under(rt: &impl Abort, alloc: Global, number: u64) -> Event {
     let key = key(rt, alloc, b"k");
     match number {
@@ -69,7 +69,6 @@ fn event_under(rt: &impl Abort, alloc: Global, number: u64) -> Event {
     }
 }
 
-/// The event of this number.
 fn event(rt: &impl Abort, alloc: Global, number: u64) -> Event {
     match number {
         5 => Event::Deliver {
@@ -149,7 +148,7 @@ fn each_kind_of_event_has_its_command(rt: HostRuntime) {
     assert!(&rt; is_told(rt.alloc(), b"each kind", 2, events.as_slice(), Some(TEXT)));
 }
 
-/// An event for which there is no text.
+/// Returns an event for which there is no text.
 fn untold(rt: &impl Abort, alloc: Global, number: u64) -> Event {
     match number {
         0 => Event::Keep {

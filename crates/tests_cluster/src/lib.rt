@@ -4,7 +4,7 @@
 //! more with its tests. No crate uses this one.
 #![tactic(auto)]
 
-// What is asserted doesn't depend on which thread comes first, but where a gate holds one of them.
+// What is asserted doesn't depend on which thread comes first, unless a gate holds one of them.
 
 #[cfg(test)]
 mod explained;

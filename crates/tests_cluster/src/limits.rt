@@ -1,7 +1,7 @@
 //! What is refused at once, and runs with the least limits.
 
 use crate::parts::{Came, failing, plan, told};
-use cluster::{ClusterFault, ClusterPlan, ClusterRun, Limits, NoGate, run_cluster, run_cluster_on};
+use cluster::{ClusterFault, ClusterPlan, ClusterRun, Limits, NoHook, run_cluster, run_cluster_on};
 use node_file::FileFault;
 use node_lock::LockFault;
 use std::alloc::Global;
@@ -9,7 +9,7 @@ use std::process::Abort;
 use std::sync::Wait;
 use std::thread::Threads;
 
-/// Returns the number by which a run of `nodes` nodes with these limits is refused, 0 where it
+/// Returns the number with which a run of `nodes` nodes with these limits is refused, 0 if it
 /// isn't. There is a device for each number of `passed`, which fails after that number of calls.
 fn code<R: Threads + Wait + Abort + Sync>(
     rt: &R,
@@ -22,10 +22,10 @@ fn code<R: Threads + Wait + Abort + Sync>(
     let limits = Limits { inbox, journal };
     let devices = failing(rt, alloc, b"", passed);
     let plan = plan(nodes, 1, 0);
-    code_of(run_cluster_on(rt, alloc, plan, limits, devices, &NoGate))
+    code_of(run_cluster_on(rt, alloc, plan, limits, devices, &NoHook))
 }
 
-/// Returns the number by which a run is refused, 0 where it isn't.
+/// Returns the number with which a run is refused, 0 if it isn't.
 fn code_of(run: Result<ClusterRun, ClusterFault>) -> u16 {
     let code = match &run {
         Ok(_run) => 0,
@@ -57,11 +57,11 @@ fn refusals_come_in_their_order(rt: HostRuntime) {
     assert!(rt; code(&rt, alloc, 2, (1_024, 1_048_576), &[MOST, MOST]) == 0);
 }
 
-/// Returns the number by which a run of one node on a device with these bytes is refused, or 0.
+/// Returns the number with which a run of one node on a device with these bytes is refused, or 0.
 fn code_on<R: Threads + Wait + Abort + Sync>(rt: &R, alloc: Global, bytes: &[u8]) -> u16 {
     let devices = failing(rt, alloc, bytes, &[MOST]);
     let (plan, limits) = (plan(1, 1, 0), Limits::largest());
-    code_of(run_cluster_on(rt, alloc, plan, limits, devices, &NoGate))
+    code_of(run_cluster_on(rt, alloc, plan, limits, devices, &NoHook))
 }
 
 /// Bytes that are no file, the file of another node, and a file of the first version.
@@ -77,12 +77,12 @@ fn what_a_device_holds_may_be_refused(rt: HostRuntime) {
 #[test]
 fn no_cluster_has_seventeen_nodes(rt: HostRuntime) {
     for nodes in [0, 17, MOST] {
-        let run = run_cluster(&rt, rt.alloc(), plan(nodes, 1, 0), &NoGate);
+        let run = run_cluster(&rt, rt.alloc(), plan(nodes, 1, 0), &NoHook);
         assert!(rt; told(rt.alloc(), run) == Err(44));
     }
 }
 
-/// With journals of one entry, each call of a node but the first cuts its journal. All calls are
+/// With journals of one entry, each call of a node except the first cuts its journal. All calls are
 /// accepted, and the last of each node stands in its journal.
 fn run_least<R: Threads + Wait + Abort + Sync>(
     rt: &R,
@@ -92,7 +92,7 @@ fn run_least<R: Threads + Wait + Abort + Sync>(
 ) -> Result<Came, u16> {
     let devices = failing(rt, alloc, b"", &[MOST; 4]);
     let limits = Limits { inbox: 1, journal };
-    let run = run_cluster_on(rt, alloc, plan, limits, devices, &NoGate);
+    let run = run_cluster_on(rt, alloc, plan, limits, devices, &NoHook);
     // How many frames are lost depends on which thread comes first.
     told(alloc, run).map(|came| Came { lost: 0, ..came })
 }

@@ -4,7 +4,7 @@ ghost use Rattle.std.specs.Prelude.{All, IfSome};
 ghost use Rattle.devices.specs.Device.{IsDurable};
 
 use crate::parts::{Came, add, plan, told};
-use cluster::{ClusterFault, ClusterPlan, ClusterRun, Limits, NoGate, run_cluster_on};
+use cluster::{ClusterFault, ClusterPlan, ClusterRun, Limits, NoHook, run_cluster_on};
 use devices::{Device, FileDevice};
 use dvvset::{descends, join};
 use meta_store::Store;
@@ -20,7 +20,7 @@ const FOLDER: &str = "files_of_a_cluster";
 
 const NODES: u64 = 3;
 
-/// The files of the nodes, opened, or made where there are none.
+/// Opens the files of the nodes, or makes them if there are none.
 fn devices(files: &HostRuntime, rt: &impl Abort) -> Vec<FileDevice>
     ensures { All (λ d. IsDurable (⟦<FileDevice as Device>⟧.content d)
         (⟦<FileDevice as Device>⟧.may_leave d)) result.items }
@@ -29,13 +29,12 @@ fn devices(files: &HostRuntime, rt: &impl Abort) -> Vec<FileDevice>
     let mut devices = Vec::new(alloc);
     for node in 0..NODES {
         let path = format!(in alloc; "{FOLDER}/node-{node}").expect(rt, "memory");
-        let device = FileDevice::open_or_create(files, alloc, path.as_str());
+        let device = FileDevice::open_or_create(files, alloc, path.as_str(), b"");
         add(rt, &mut devices, device.ok().expect(rt, "a device"));
     }
     devices
 }
 
-/// A run on these files.
 fn run_on<R: Threads + Wait + Sync>(
     rt: &R,
     alloc: Global,
@@ -45,10 +44,10 @@ fn run_on<R: Threads + Wait + Sync>(
     requires { All (λ d. IsDurable (⟦<FileDevice as Device>⟧.content d)
         (⟦<FileDevice as Device>⟧.may_leave d)) devices.items }
 {
-    run_cluster_on(rt, alloc, plan, Limits::largest(), devices, &NoGate)
+    run_cluster_on(rt, alloc, plan, Limits::largest(), devices, &NoHook)
 }
 
-/// A life of the cluster.
+/// Lets the cluster live a life.
 fn live<R: Threads + Wait + Abort + Sync>(files: &HostRuntime, rt: &R, turns: u64) -> ClusterRun {
     let plan = plan(NODES, turns, 6);
     let devices = devices(files, rt);
@@ -117,19 +116,19 @@ const REFUSED: &str = "files_of_a_refused_cluster";
 
 const REFUSED_FILE: &str = "files_of_a_refused_cluster/node-0";
 
-/// The file of one node, opened or made; `None` where memory was refused.
+/// Opens or makes the file of one node; `None` if memory was refused.
 fn one_device(files: &HostRuntime) -> Option<Vec<FileDevice>>
     ensures { IfSome result (λ devices. All (λ d. IsDurable (⟦<FileDevice as Device>⟧.content d)
         (⟦<FileDevice as Device>⟧.may_leave d)) devices.items) }
 {
     let alloc = files.alloc();
     let mut devices = Vec::with_capacity(alloc, 1).ok()?;
-    let device = FileDevice::open_or_create(files, alloc, REFUSED_FILE).ok()?;
+    let device = FileDevice::open_or_create(files, alloc, REFUSED_FILE, b"").ok()?;
     devices.push(device).ok()?;
     Some(devices)
 }
 
-/// Five turns of one node on its file, or the number of the refusal.
+/// Makes five turns of one node on its file. Refused with the number of the refusal.
 fn turns_of_one<R: Threads + Wait + Sync>(files: &HostRuntime, rt: &R) -> Result<ClusterRun, u16> {
     let Some(devices) = one_device(files) else {
         return Err(99);
@@ -140,7 +139,7 @@ fn turns_of_one<R: Threads + Wait + Sync>(files: &HostRuntime, rt: &R) -> Result
     }
 }
 
-/// Runs `turns_of_one`, and once more where memory or a thread was refused.
+/// Runs `turns_of_one`, and once more if memory or a thread was refused.
 fn turns_again<R: Threads + Wait + Abort + Sync>(files: &HostRuntime, rt: &R) -> ClusterRun {
     let run = turns_of_one(files, rt);
     let was_refused = matches!(&run, Err(56 | 99));

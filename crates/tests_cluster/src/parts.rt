@@ -11,7 +11,7 @@ use run_record::assemble;
 use std::alloc::Global;
 use std::process::Abort;
 
-/// A plan of `nodes` nodes, each with `turns` turns.
+/// Returns a plan of `nodes` nodes, each with `turns` turns.
 pub(crate) fn plan(nodes: u64, turns: u64, seed: u64) -> ClusterPlan {
     ClusterPlan { nodes, turns, seed }
 }
@@ -25,7 +25,7 @@ pub(crate) fn add<D: Device + Drop>(rt: &impl Abort, devices: &mut Vec<D>, devic
     devices.push(device).ok().expect(rt, "memory");
 }
 
-/// A device in memory that holds these bytes.
+/// Returns a device in memory that holds these bytes.
 fn device(rt: &impl Abort, alloc: Global, bytes: &[u8]) -> MemoryDevice
     ensures { IsDurable (⟦<MemoryDevice as Device>⟧.content result)
         (⟦<MemoryDevice as Device>⟧.may_leave result) }
@@ -34,8 +34,8 @@ fn device(rt: &impl Abort, alloc: Global, bytes: &[u8]) -> MemoryDevice
     MemoryDevice::new(alloc, content).expect(rt, "memory")
 }
 
-/// A device for each number of `passed`: it holds these bytes, and fails after that number of
-/// calls.
+/// Returns a device for each number of `passed`: it holds these bytes, and fails after that number
+/// of calls.
 pub(crate) fn failing(
     rt: &impl Abort,
     alloc: Global,
@@ -69,8 +69,8 @@ pub(crate) struct Came {
     pub receipts: usize,
     /// How many of the receipts have their entry in a journal.
     pub kept: usize,
-    /// The number by which the journals with all receipts aren't assembled, 0 where they are, 1
-    /// where they aren't whole.
+    /// The number of the fault with which the journals with all receipts aren't assembled: 0 if
+    /// they are, 1 if they aren't whole.
     pub code: u16,
 }
 
@@ -95,8 +95,8 @@ fn came_of(alloc: Global, run: &ClusterRun) -> Came {
     }
 }
 
-/// Returns the number by which a run isn't assembled: 0 where it is, 1 where its journals aren't
-/// whole.
+/// Returns the number of the fault with which a run isn't assembled: 0 if it is, 1 if its journals
+/// aren't whole.
 fn code_of_assembly(alloc: Global, run: &ClusterRun) -> u16 {
     if !are_whole(run.closed.as_slice()) {
         return 1;
@@ -111,8 +111,8 @@ fn code_of_assembly(alloc: Global, run: &ClusterRun) -> u16 {
     code
 }
 
-/// Returns `code_of_assembly`, asked once more where memory was refused: journals and receipts are
-/// as they were.
+/// Returns `code_of_assembly`, asked once more if memory was refused: journals and receipts are as
+/// they were.
 fn code_in_the_end(alloc: Global, run: &ClusterRun) -> u16 {
     match code_of_assembly(alloc, run) {
         99 => code_of_assembly(alloc, run),

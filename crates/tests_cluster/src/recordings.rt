@@ -3,7 +3,7 @@
 ghost use Rattle.std.specs.Prelude.{IfOk};
 ghost use Rattle.run_record.specs.Record.{IsOfARun};
 
-use cluster::{ClusterPlan, NoGate};
+use cluster::{ClusterPlan, NoHook};
 use devices::{FailsAfter, MemoryDevice};
 use meta_store::Store;
 use meta_types::{FullPrefix, MetaKey, NodeId};
@@ -19,7 +19,7 @@ use std::sync::Wait;
 use std::thread::Threads;
 use world_core::World;
 
-/// A run in memory.
+/// Makes a run in memory.
 fn live<R: Threads + Wait + Sync>(
     rt: &R,
     alloc: Global,
@@ -29,10 +29,10 @@ fn live<R: Threads + Wait + Sync>(
 {
     let mut writer = Vec::new(alloc);
     let mut errors = Vec::new(alloc);
-    run_live(rt, alloc, plan, &NoGate, &mut writer, &mut errors).judged
+    run_live(rt, alloc, plan, &NoHook, &mut writer, &mut errors).judged
 }
 
-/// What running the recording of a run prints.
+/// Returns what running the recording of a run prints.
 fn output(rt: &impl Abort, alloc: Global, plan: ClusterPlan, world: &World) -> Vec<u8>
     requires { IsOfARun plan.nodes world.now }
 {
@@ -182,7 +182,7 @@ fn recordings_are_written(rt: HostRuntime) {
     assert!(&rt; is_written(&rt, rt.alloc(), 2, 0, b""));
 }
 
-/// The key a/b/k.
+/// Returns the key a/b/k.
 fn key(rt: &impl Abort, alloc: Global) -> MetaKey {
     let prefix = b"a".to_vec(alloc).expect(rt, "memory");
     let sub = b"b".to_vec(alloc).expect(rt, "memory");
@@ -191,8 +191,8 @@ fn key(rt: &impl Abort, alloc: Global) -> MetaKey {
     MetaKey::new(prefix, own).ok().expect(rt, "a key")
 }
 
-/// What is left of a node that held nothing and kept one key: an entry that sent nothing, and no
-/// object.
+/// Returns what is left of a node that held nothing and kept one key: an entry that sent nothing,
+/// and no object.
 fn kept(rt: &impl Abort, alloc: Global) -> Closed {
     let base = NodeState::new(alloc, NodeId::new(0).unwrap(), 1).expect(rt, "memory");
     let entry = Entry {
@@ -207,7 +207,7 @@ fn kept(rt: &impl Abort, alloc: Global) -> Closed {
     Closed::from_parts(base, journal, Store::new(alloc))
 }
 
-/// The world of that node alone.
+/// Returns the world of that node alone.
 fn world_of_kept(rt: &impl Abort, alloc: Global) -> World
     ensures { IsOfARun 1 result }
 {

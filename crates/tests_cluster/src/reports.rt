@@ -23,7 +23,7 @@ key a/b/k ctx 0.1:1 values x
 root 4368d585cc1af0cf1167149ae68c0ee7ed5714817d2a67e966816308178e4dff
 ";
 
-/// A device in memory that holds the file.
+/// Returns a device in memory that holds the file.
 fn device(rt: &impl Abort, alloc: Global) -> MemoryDevice
     ensures { IsDurable
         (⟦<MemoryDevice as Device>⟧.content result) (⟦<MemoryDevice as Device>⟧.may_leave result) }

@@ -4,7 +4,7 @@ ghost use Rattle.std.specs.Prelude.{All};
 ghost use Rattle.devices.specs.Device.{IsDurable};
 
 use crate::parts::{add, plan};
-use cluster::{ClusterFault, ClusterPlan, Limits, NoGate, run_cluster_on};
+use cluster::{ClusterFault, ClusterPlan, Limits, NoHook, run_cluster_on};
 use devices::{Device, MemoryDevice};
 use node_file::FileFault;
 use plumctl_live::{judge, run_live, tell_run};
@@ -24,7 +24,7 @@ fn is_run<R: Threads + Wait + Sync>(
 ) -> bool {
     let mut writer = Vec::new(alloc);
     let mut errors = Vec::new(alloc);
-    let live = run_live(rt, alloc, plan, &NoGate, &mut writer, &mut errors);
+    let live = run_live(rt, alloc, plan, &NoHook, &mut writer, &mut errors);
     let ended = live.status;
     drop(live);
     ended == status && writer.as_slice() == printed && errors.is_empty()
@@ -61,7 +61,7 @@ fn a_writer_that_fails_is_told(rt: HostRuntime) {
     let mut room = [0u8; 10];
     let mut errors = Vec::new(alloc);
     let mut writer = MayFail(room.as_mut_slice());
-    let live = run_live(&rt, alloc, plan(1, 1, 0), &NoGate, &mut writer, &mut errors);
+    let live = run_live(&rt, alloc, plan(1, 1, 0), &NoHook, &mut writer, &mut errors);
     let (status, is_judged) = (live.status, live.judged.is_ok());
     drop(live);
     let line = b"error: the output could not be written\n";
@@ -92,7 +92,7 @@ fn faults_are_told(rt: HostRuntime) {
     );
 }
 
-/// A new device in memory, alone in a list.
+/// Returns a new device in memory, alone in a list.
 fn new_device(rt: &impl Abort, alloc: Global) -> Vec<MemoryDevice>
     ensures { All (λ d. IsDurable (⟦<MemoryDevice as Device>⟧.content d)
         (⟦<MemoryDevice as Device>⟧.may_leave d)) result.items }
@@ -103,7 +103,8 @@ fn new_device(rt: &impl Abort, alloc: Global) -> Vec<MemoryDevice>
     devices
 }
 
-/// The name of the refusal of a run of one node whose journal has room for `journal` entries.
+/// Returns the name of the refusal of a run of one node whose journal has room for `journal`
+/// entries.
 fn refusal<R: Threads + Wait + Abort + Sync>(
     rt: &R,
     alloc: Global,
@@ -111,7 +112,7 @@ fn refusal<R: Threads + Wait + Abort + Sync>(
 ) -> &'static str {
     let limits = Limits { inbox: 1, journal };
     let devices = new_device(rt, alloc);
-    let run = run_cluster_on(rt, alloc, plan(1, 4, 1), limits, devices, &NoGate);
+    let run = run_cluster_on(rt, alloc, plan(1, 4, 1), limits, devices, &NoHook);
     let run = run.ok().expect(rt, "a run");
     let judged = judge(alloc, &run);
     drop(run);

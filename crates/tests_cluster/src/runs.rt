@@ -1,16 +1,16 @@
 //! Runs on devices in memory that don't fail, with the greatest limits.
 
 use crate::parts::{Came, are_in_order, plan, told};
-use cluster::{ClusterPlan, NoGate, run_cluster};
+use cluster::{ClusterPlan, NoHook, run_cluster};
 use std::alloc::Global;
 use std::sync::Wait;
 use std::thread::Threads;
 
 fn run<R: Threads + Wait + Sync>(rt: &R, alloc: Global, plan: ClusterPlan) -> Result<Came, u16> {
-    told(alloc, run_cluster(rt, alloc, plan, &NoGate))
+    told(alloc, run_cluster(rt, alloc, plan, &NoHook))
 }
 
-/// What comes of a run that has `calls` calls and loses no frame.
+/// Returns what comes of a run that has `calls` calls and loses no frame.
 fn whole(closed: usize, calls: u64) -> Result<Came, u16> {
     Ok(Came {
         calls,
@@ -49,11 +49,11 @@ fn sixteen_nodes_make_no_turn_but_join(rt: HostRuntime) {
 
 #[test]
 fn receipts_come_by_nodes_and_places(rt: HostRuntime) {
-    let run = run_cluster(&rt, rt.alloc(), plan(3, 20, 1), &NoGate);
+    let run = run_cluster(&rt, rt.alloc(), plan(3, 20, 1), &NoHook);
     assert!(rt; run.is_ok_and(|run| are_in_order(run.receipts.as_slice())));
 }
 
-/// What comes of a run, which is made once more where memory was refused, or with it a thread.
+/// Returns what comes of a run, which is made once more if memory was refused, or with it a thread.
 fn run_again<R: Threads + Wait + Sync>(
     rt: &R,
     alloc: Global,

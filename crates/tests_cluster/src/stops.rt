@@ -1,7 +1,7 @@
 //! Devices that fail, before the workers start and while they work.
 
 use crate::parts::{Came, failing, plan, told};
-use cluster::{ClusterRun, Limits, NoGate, run_cluster_on};
+use cluster::{ClusterRun, Limits, NoHook, run_cluster_on};
 use std::alloc::Global;
 use std::process::Abort;
 use std::sync::Wait;
@@ -21,7 +21,7 @@ fn stopped<R: Threads + Wait + Abort + Sync>(
 ) -> (Vec<u16>, Result<Came, u16>) {
     let devices = failing(rt, alloc, b"", passed);
     let plan = plan(passed.len() as u64, turns, 4);
-    let run = run_cluster_on(rt, alloc, plan, Limits::largest(), devices, &NoGate);
+    let run = run_cluster_on(rt, alloc, plan, Limits::largest(), devices, &NoHook);
     let numbers = numbers(rt, alloc, run.as_ref().ok());
     (numbers, told(alloc, run))
 }

@@ -1,6 +1,6 @@
 //! Runs of threads, made again by one.
 
-use cluster::{ClusterPlan, ClusterRun, NoGate, run_cluster};
+use cluster::{ClusterPlan, ClusterRun, NoHook, run_cluster};
 use hash_tree::plain_root;
 use node_journal::are_whole;
 use node_lock::Closed;
@@ -13,7 +13,7 @@ use std::process::Abort;
 use std::sync::Wait;
 use std::thread::Threads;
 
-/// The lines that `root` prints of these nodes, of the tables that they ended with.
+/// Returns the lines that `root` prints of these nodes, of the tables that they ended with.
 fn roots(rt: &impl Abort, alloc: Global, closed: &[Closed]) -> Vec<u8> {
     let mut text = Vec::new(alloc);
     for node in closed {
@@ -25,7 +25,7 @@ fn roots(rt: &impl Abort, alloc: Global, closed: &[Closed]) -> Vec<u8> {
     text
 }
 
-/// What running the text of a run prints. The journals of the run are whole.
+/// Returns what running the text of a run prints. The journals of the run are whole.
 fn output(rt: &impl Abort, alloc: Global, nodes: u64, run: &ClusterRun) -> Vec<u8> {
     if !are_whole(run.closed.as_slice()) {
         panic!(rt; "whole journals");
@@ -43,7 +43,7 @@ fn output(rt: &impl Abort, alloc: Global, nodes: u64, run: &ClusterRun) -> Vec<u
 
 /// Returns whether a run that is made again ends with the tables that its threads had.
 fn is_replayed<R: Threads + Wait + Abort + Sync>(rt: &R, alloc: Global, plan: ClusterPlan) -> bool {
-    let run = run_cluster(rt, alloc, plan, &NoGate)
+    let run = run_cluster(rt, alloc, plan, &NoHook)
         .ok()
         .expect(rt, "a run");
     let output = output(rt, alloc, plan.nodes, &run);

@@ -3,7 +3,7 @@
 use meta_frame::{Frame, FrameFault, HEADER_LEN, Message, decode, encode, is_lawful, read_header};
 use std::alloc::Global;
 
-/// Where the first frame of these bytes ends, or nothing where more bytes have to come.
+/// Returns where the first frame of these bytes ends, or nothing if more bytes have to come.
 fn end_of_first(bytes: &[u8]) -> Result<Option<usize>, FrameFault> {
     match read_header(bytes) {
         Ok(header) => {
@@ -15,7 +15,7 @@ fn end_of_first(bytes: &[u8]) -> Result<Option<usize>, FrameFault> {
     }
 }
 
-/// The PRUNE, as this node's frame number 1, that goes back to the sender of a frame.
+/// Returns the PRUNE, as this node's frame number 1, that goes back to the sender of a frame.
 fn prune_of(frame: &Frame) -> Frame {
     Frame {
         from: frame.to,
@@ -25,7 +25,7 @@ fn prune_of(frame: &Frame) -> Frame {
     }
 }
 
-/// The bytes of a frame that is lawful, or nothing.
+/// Returns the bytes of a frame that is lawful, or nothing.
 fn bytes_of(alloc: Global, frame: &Frame) -> Result<Option<Vec<u8>>, FrameFault> {
     if !is_lawful(frame) {
         return Ok(None);
@@ -33,7 +33,7 @@ fn bytes_of(alloc: Global, frame: &Frame) -> Result<Option<Vec<u8>>, FrameFault>
     Ok(Some(encode(alloc, frame)?))
 }
 
-/// The bytes that answer the bytes of one frame.
+/// Returns the bytes that answer the bytes of one frame.
 fn answer(alloc: Global, bytes: &[u8]) -> Result<Option<Vec<u8>>, FrameFault> {
     let frame = decode(alloc, bytes)?;
     let prune = prune_of(&frame);

@@ -13,8 +13,8 @@ fn is_spelled_by(alloc: Global, frame: Frame, bytes: &[u8]) -> bool {
     is_spelled
 }
 
-/// Returns the number of the refusal of the bytes; 0 where they are read as a frame that is spelled
-/// by just them, and 1 where they are read as another frame.
+/// Returns the number of the refusal of the bytes; 0 if they are read as a frame that is spelled by
+/// just them, and 1 if they are read as another frame.
 fn answer(alloc: Global, bytes: &[u8]) -> u16 {
     match decode(alloc, bytes) {
         Ok(frame) => if is_spelled_by(alloc, frame, bytes) {

@@ -1,4 +1,4 @@
-//! Frames in a list, which share their ends where these are alike.
+//! Frames in a list, which share their ends if the ends are alike.
 
 use frame_list::Frames;
 use meta_types::ByteString;
@@ -19,7 +19,7 @@ static FRAMES: [(&str, usize); 9] = [
     ("short", 20),
 ];
 
-/// The frame of an item of `FRAMES`.
+/// Returns the frame of an item of `FRAMES`.
 fn made(alloc: Global, told: (&str, usize)) -> Result<ByteString, AllocError> {
     let mut bytes = told.0.as_bytes().to_vec(alloc)?;
     for _ in 0..told.1 {
@@ -28,7 +28,7 @@ fn made(alloc: Global, told: (&str, usize)) -> Result<ByteString, AllocError> {
     Ok(ByteString::new(bytes))
 }
 
-/// The frame at this place of the list, read once more where memory is refused.
+/// Returns the frame at this place of the list, read once more if memory is refused.
 fn bytes(rt: &impl Abort, frames: &Frames, place: usize) -> Vec<u8> {
     assert!(rt; place < frames.len());
     match frames.bytes(place) {
@@ -37,7 +37,7 @@ fn bytes(rt: &impl Abort, frames: &Frames, place: usize) -> Vec<u8> {
     }
 }
 
-/// All frames; each is made once more where memory is refused.
+/// Returns all frames. Each is made once more if memory is refused.
 fn all(rt: &impl Abort, alloc: Global) -> Vec<ByteString> {
     let mut frames = Vec::with_capacity(alloc, 0).expect(rt, "no memory is taken");
     for told in FRAMES {

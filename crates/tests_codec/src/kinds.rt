@@ -101,7 +101,7 @@ pub(crate) static BODIES: [(u8, &[u8]); 25] = [
     (20, b""),
 ];
 
-/// Calls `is_body_kept`, and once more where it failed, as it does where memory is refused.
+/// Calls `is_body_kept`, and once more if it failed, as it does when memory is refused.
 fn is_kept_again(alloc: Global, kind: u8, body: &[u8]) -> bool {
     is_body_kept(alloc, kind, body) || is_body_kept(alloc, kind, body)
 }

@@ -142,7 +142,7 @@ const KEYS: Rows = (
     ],
 );
 
-// The front of an object of one entry with 16,210 values, and all but the last of them.
+// The front of an object of one entry with 16,210 values, and all of them except the last.
 const LONG: Rows = (1, &[Piece::Bytes(1, b"\0\x01\0\x00xxxxxxxxxxxx\x3f\x52")]);
 
 const VALUES: Rows = (

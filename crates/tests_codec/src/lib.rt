@@ -1,8 +1,8 @@
-//! The tests of frames: of `meta_frame` and of `frame_fields`, over their public calls, apart from
-//! them, since a crate is proved once more with its tests. They show what no contract says: that
-//! each call that takes memory succeeds where there is enough, and once more where it was refused.
-//! The stored run of the program `plumctl` shows what is refused and what is printed. No crate uses
-//! this one.
+//! The tests of frames: of `frame_fields`, `frame_readers`, `meta_frame` and `frame_list`, over
+//! their public calls, apart from them, since a crate is proved once more with its tests. They show
+//! what no contract says: that each call that takes memory succeeds if there is enough, and when it
+//! is made again after memory was refused. The stored run of the program `plumctl` shows what is
+//! refused and what is printed. No crate uses this one.
 #![tactic(auto)]
 
 // What a function of a test costs to prove grows with each place at which it may end while it owns

@@ -25,7 +25,7 @@ PMNODE02\0\0\x01\0\0\0\x05\0\0\0\0\x01\x15\xf2\xf1\xa43\x9f_*1;\x95\x01\\\xad\x8
 a\0\x01b\0\x01k\0\x01\0\0\0\0\0\x01\0\0\0\0\0\0\0\x02\0\x01\x01\0\0\0\0\0\0\0\0\0\x01y\
 \xcb\x1b\xccvc3)\x05|4\x0afLz\x95\xa2\xe4\xf0B?\x11\xbdqN\xbf \x06=k\xbdf\x1f\0";
 
-/// The file of 207 bytes, written anew: 130 bytes.
+/// The file of 207 bytes, rewritten: 130 bytes.
 pub(crate) static TWO_ANEW: &[u8] = b"\
 PMNODE02\0\0\x01\0\0\0\x05\0\0\0\0\x01\x15\xf2\xf1\xa43\x9f_*1;\x95\x01\\\xad\x81$\xd0T\
 \xa1q\xac/1\xcfR\x9d\xda|\xfbj8\xb4\x01\0\0\0(\x01\0\x01a\0\x01b\0\x01k\0\x01\0\0\0\0\0\
@@ -56,7 +56,7 @@ pub(crate) static SPENT: &[u8] = b"\
 PMNODE02\0\0\x01\0\0\0\x05\0\xff\xff\xff\xffDG\x85=7\xcd\xdb\xb1\xa4:\x04\x17\xef\xa5^\
 \xd6\x92\x9e\xfb\xd2j\x95N\xb6\xb9N\xf1!nVO\xa1\0";
 
-/// The file of 83 bytes, written anew: 88 bytes.
+/// The file of 83 bytes, rewritten: 88 bytes.
 pub(crate) static OLD_ANEW: &[u8] = b"\
 PMNODE02\0\0\x01\0\0\0(\x01\0\x01a\0\x01b\0\x01k\0\x01\0\0\0\0\0\0\0\0\0\0\0\0\0\x01\0\
 \x01\x01\0\0\0\0\0\0\0\0\0\x01x;;\xaa#\xfb:]`\xe4\xd6\x08G\x0e\xbd\xeb\x1dm\xeeM\xaa,\

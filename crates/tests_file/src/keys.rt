@@ -22,7 +22,7 @@ fn add_record(rt: &impl Abort, alloc: Global, file: &mut Vec<u8>, number: u16) {
     file.extend_from_slice(&digest).expect(rt, "memory");
 }
 
-/// A file with records of `count` keys, and no gate after them.
+/// Returns a file with records of `count` keys, and no gate after them.
 fn with_keys(rt: &impl Abort, alloc: Global, count: u16) -> Vec<u8> {
     let mut file = b"PMNODE02\0\0".to_vec(alloc).expect(rt, "memory");
     for number in 0..count {
@@ -31,7 +31,7 @@ fn with_keys(rt: &impl Abort, alloc: Global, count: u16) -> Vec<u8> {
     file
 }
 
-/// What opening the file returns with these bytes after its records.
+/// Returns what opening the file returns with these bytes after its records.
 fn found_with(
     rt: &impl Abort,
     alloc: Global,

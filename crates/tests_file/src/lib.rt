@@ -3,7 +3,7 @@
 #![tactic(auto)]
 
 // What is proved of a function grows with the places at which it may end while it owns something.
-// So where memory runs out a test ends on the spot, by `expect`, which drops nothing, and rows are
+// So if memory runs out a test ends on the spot, by `expect`, which drops nothing, and rows are
 // statics, of which a proof knows no more than their type.
 
 #[cfg(test)]

@@ -43,7 +43,7 @@ fn a_file_that_is_cut_short_is_damaged_at_a_gate(rt: HostRuntime) {
     }
 }
 
-/// What opening the file of one record should return with this byte at that place.
+/// Returns what opening the file of one record should return with this byte at that place.
 fn wanted_with(at: usize, byte: u8) -> Result<(u32, usize), (u16, usize)> {
     match (at, byte) {
         // The magic of version 1, in which the first payload is no key.

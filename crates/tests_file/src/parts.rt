@@ -17,7 +17,7 @@ pub(crate) fn node(rt: &impl Abort, number: u16) -> NodeId {
     NodeId::new(number).expect(rt, "a node")
 }
 
-/// The key a/b/k.
+/// Returns the key a/b/k.
 fn key(rt: &impl Abort, alloc: Global) -> MetaKey {
     let a = b"a".to_vec(alloc).expect(rt, "memory");
     let b = b"b".to_vec(alloc).expect(rt, "memory");
@@ -25,7 +25,7 @@ fn key(rt: &impl Abort, alloc: Global) -> MetaKey {
     MetaKey::new(prefix, b"k".to_vec(alloc).expect(rt, "memory")).expect(rt, "a key")
 }
 
-/// The object of node 0 in its first life, whose event of this number shows the letter.
+/// Returns the object of node 0 in its first life, whose event of this number shows the letter.
 pub(crate) fn object(rt: &impl Abort, alloc: Global, count: u64, letter: u8) -> Entries {
     let mut body = Vec::new(alloc);
     body.push(letter).expect(rt, "memory");
@@ -38,7 +38,7 @@ pub(crate) fn object(rt: &impl Abort, alloc: Global, count: u64, letter: u8) -> 
     Entries::from_parts(entries).expect(rt, "an object")
 }
 
-/// A device in memory that holds these bytes.
+/// Returns a device in memory that holds these bytes.
 pub(crate) fn device(alloc: Global, bytes: &[u8]) -> Result<MemoryDevice, AllocError>
     ensures { IfOk result (λ d. IsDurable
         (⟦<MemoryDevice as Device>⟧.content d) (⟦<MemoryDevice as Device>⟧.may_leave d)) }
@@ -47,7 +47,7 @@ pub(crate) fn device(alloc: Global, bytes: &[u8]) -> Result<MemoryDevice, AllocE
 }
 
 /// Writes the object to the file and then to its table, as whoever holds both does. Returns the
-/// number of the refusal, 0 for none, and 1 where the object or the key has no place in a store.
+/// number of the refusal, 0 for none, and 1 if the object or the key has no place in a store.
 pub(crate) fn write<D: Device>(
     rt: &impl Abort,
     alloc: Global,
@@ -75,7 +75,7 @@ pub(crate) fn write<D: Device>(
     }
 }
 
-/// The number of a refusal, and the offset that it names, 0 for none.
+/// Returns the number of a refusal, and the offset that it names, 0 for none.
 pub(crate) fn told(fault: &FileFault) -> (u16, usize) {
     match fault {
         FileFault::Damaged { at } => (fault.code(), *at),
@@ -83,8 +83,8 @@ pub(crate) fn told(fault: &FileFault) -> (u16, usize) {
     }
 }
 
-/// What opening these bytes returns: the last life and the number of keys, or the number of the
-/// refusal and its offset.
+/// Returns what opening these bytes returns: the last life and the number of keys, or the number of
+/// the refusal and its offset.
 pub(crate) fn found_in(alloc: Global, bytes: &[u8]) -> Result<(u32, usize), (u16, usize)> {
     let Ok(device) = device(alloc, bytes) else {
         return Err((99, 0));

@@ -4,30 +4,36 @@ ghost use Rattle.devices.specs.Device.{IsDurable};
 
 use crate::files::{ONE, SERVED};
 use crate::parts::{node, object, write};
-use devices::{Device, FileDevice, OpenFault};
+use devices::{Device, FileDevice, NewName, OpenFault};
 use node_file::{FileFault, create, serve};
 use std::alloc::Global;
 use std::fs;
+use std::os::unix::fs::MetadataExt;
 use std::process::Abort;
 
-/// Why the path isn't opened.
+/// Returns why the path isn't opened.
 fn refusal(rt: &HostRuntime, path: &str) -> Option<OpenFault> {
     FileDevice::open(rt, rt.alloc(), path).err()
 }
 
-/// Why it isn't opened to be read.
+/// Returns why the path isn't opened to be read.
 fn reading_refusal(rt: &HostRuntime, path: &str) -> Option<OpenFault> {
     FileDevice::open_to_read(rt, rt.alloc(), path).err()
 }
 
-/// Why no file is found or made there.
-fn finding_refusal(rt: &HostRuntime, path: &str) -> Option<OpenFault> {
-    FileDevice::open_or_create(rt, rt.alloc(), path).err()
+/// Returns why the path isn't opened to be copied.
+fn copying_refusal(rt: &HostRuntime, path: &str) -> Option<OpenFault> {
+    FileDevice::open_to_copy(rt, rt.alloc(), path).err()
 }
 
-/// Why no file is made there.
+/// Returns why no file is found or made there.
+fn finding_refusal(rt: &HostRuntime, path: &str) -> Option<OpenFault> {
+    FileDevice::open_or_create(rt, rt.alloc(), path, b"").err()
+}
+
+/// Returns why no file is made there.
 fn making_refusal(rt: &HostRuntime, path: &str) -> Option<OpenFault> {
-    FileDevice::create_new(rt, rt.alloc(), path).err()
+    FileDevice::create(rt, rt.alloc(), path, b"").err()
 }
 
 #[test]
@@ -43,20 +49,91 @@ fn what_is_no_file_is_not_opened(rt: HostRuntime) {
 }
 
 #[test]
-fn a_path_is_held_by_one_that_writes_or_by_readers(rt: HostRuntime) {
+fn a_path_is_held_by_one_and_read_by_all(rt: HostRuntime) {
     let path = "a_held_file";
     let _ = fs::remove_file(&rt, path);
-    let writer = FileDevice::open_or_create(&rt, rt.alloc(), path);
+    let writer = FileDevice::open_or_create(&rt, rt.alloc(), path, b"");
     assert!(rt; writer.is_ok());
     assert!(rt; refusal(&rt, path) == Some(OpenFault::InUse));
-    assert!(rt; reading_refusal(&rt, path) == Some(OpenFault::InUse));
+    assert!(rt; copying_refusal(&rt, path) == Some(OpenFault::InUse));
     assert!(rt; making_refusal(&rt, path) == Some(OpenFault::Exists));
+    assert!(rt; reading_refusal(&rt, path).is_none());
     drop(writer);
+    let copied = FileDevice::open_to_copy(&rt, rt.alloc(), path);
+    assert!(rt; copied.is_ok() && refusal(&rt, path) == Some(OpenFault::InUse));
+    drop(copied);
     let reader = FileDevice::open_to_read(&rt, rt.alloc(), path);
-    assert!(rt; reader.is_ok() && reading_refusal(&rt, path).is_none());
-    assert!(rt; refusal(&rt, path) == Some(OpenFault::InUse));
-    drop(reader);
-    assert!(rt; refusal(&rt, path).is_none());
+    assert!(rt; reader.is_ok() && refusal(&rt, path).is_none());
+    let _ = fs::remove_file(&rt, path);
+}
+
+/// Returns the number that the disk has of the file at the path, and who may do what with it.
+fn place_of(rt: &HostRuntime, path: &str) -> Option<(u64, u32)> {
+    let found = fs::metadata(rt, path).ok()?;
+    Some((found.ino(), found.mode() & 0o777))
+}
+
+#[test]
+fn a_file_is_made_beside_its_path(rt: HostRuntime) {
+    let (path, beside) = ("a_new_file", "a_new_file.new");
+    let _ = fs::remove_file(&rt, path);
+    // What a process left that ended while it made the file.
+    let _ = fs::write(&rt, beside, b"left");
+    let made = NewName::at(&rt, rt.alloc(), path);
+    assert!(rt; made.is_ok() && place_of(&rt, path).is_none());
+    assert!(rt; making_refusal(&rt, path) == Some(OpenFault::InUse));
+    drop(made);
+    assert!(rt; holds(&rt, beside, b""));
+    let device = FileDevice::create(&rt, rt.alloc(), path, ONE);
+    assert!(rt; device.is_ok() && holds(&rt, path, ONE));
+    assert!(rt; place_of(&rt, beside).is_none());
+    assert!(rt; place_of(&rt, path).map(|(_, mode)| mode) == Some(0o600));
+    assert!(rt; making_refusal(&rt, path) == Some(OpenFault::Exists));
+    assert!(rt; place_of(&rt, beside).is_none());
+    let _ = fs::remove_file(&rt, path);
+}
+
+#[test]
+fn a_file_that_is_opened_is_written_to_the_disk_anew(rt: HostRuntime) {
+    let (path, other) = ("a_file_to_renew", "its_other_name");
+    let _ = fs::remove_file(&rt, path);
+    let _ = fs::remove_file(&rt, other);
+    let _ = fs::write(&rt, path, ONE);
+    let before = place_of(&rt, path);
+    // A process that ended between the two names of a file it made left both.
+    let _ = fs::hard_link(&rt, path, "a_file_to_renew.new");
+    let opened = FileDevice::open(&rt, rt.alloc(), path);
+    assert!(rt; opened.is_ok() && holds(&rt, path, ONE));
+    let now = place_of(&rt, path);
+    assert!(rt; before.map(|file| file.1) == now.map(|file| file.1));
+    assert!(rt; before.is_some() && before != now);
+    drop(opened);
+    let _ = fs::hard_link(&rt, path, other);
+    assert!(rt; refusal(&rt, path) == Some(OpenFault::Linked));
+    let _ = fs::remove_file(&rt, path);
+    let _ = fs::remove_file(&rt, other);
+}
+
+/// Puts other bytes in the place of a file that is held. Returns whether it was done.
+fn is_replaced(rt: &HostRuntime, path: &str, held: &FileDevice) -> bool {
+    match NewName::over(rt, rt.alloc(), path, held) {
+        Ok((mut device, name)) => match device.write_at(0, ONE) {
+            Ok(()) => name.put(rt, device).is_ok(),
+            Err(_) => false,
+        },
+        Err(_) => false,
+    }
+}
+
+#[test]
+fn a_file_that_is_held_is_replaced_once(rt: HostRuntime) {
+    let path = "a_file_to_replace";
+    let _ = fs::remove_file(&rt, path);
+    let held = FileDevice::create(&rt, rt.alloc(), path, SERVED);
+    let held = held.ok().expect(&rt, "a device");
+    assert!(rt; is_replaced(&rt, path, &held) && holds(&rt, path, ONE));
+    // Another file is there by now.
+    assert!(rt; !is_replaced(&rt, path, &held));
     let _ = fs::remove_file(&rt, path);
 }
 
@@ -85,7 +162,7 @@ fn holds(rt: &HostRuntime, path: &str, bytes: &[u8]) -> bool {
 fn what_is_written_is_in_the_file(rt: HostRuntime) {
     let path = "a_file_of_a_node";
     let _ = fs::remove_file(&rt, path);
-    let device = FileDevice::create_new(&rt, rt.alloc(), path)
+    let device = FileDevice::create(&rt, rt.alloc(), path, b"")
         .ok()
         .expect(&rt, "a device");
     let file = create(device, node(&rt, 0)).ok().expect(&rt, "a file");
@@ -112,7 +189,7 @@ fn what_is_written_is_in_the_file(rt: HostRuntime) {
 fn a_sealed_device_reads_nothing_and_ends(rt: HostRuntime) {
     let path = "a_sealed_file";
     let _ = fs::remove_file(&rt, path);
-    let opened = FileDevice::open_or_create(&rt, rt.alloc(), path);
+    let opened = FileDevice::open_or_create(&rt, rt.alloc(), path, b"");
     let mut device = opened.ok().expect(&rt, "a device");
     assert!(rt; device.write_at(0, SERVED).is_ok() && device.cut(11).is_ok());
     assert!(rt; device.held() == Some(&SERVED[..11]) && device.len() == 11);
@@ -120,7 +197,7 @@ fn a_sealed_device_reads_nothing_and_ends(rt: HostRuntime) {
     assert!(rt; device.held().is_none());
     let mut byte = [0];
     assert!(rt; device.read_at(0, &mut byte).is_err() && device.failures() == 1);
-    // After a failure nothing is asked of the file any more.
+    // After a failure nothing more is asked of the file.
     assert!(rt; device.sync().is_err() && device.failures() == 2);
     drop(device);
     assert!(rt; holds(&rt, path, &SERVED[..11]));
@@ -151,7 +228,7 @@ fn is_opened_to_read(rt: &HostRuntime, path: &str) -> Option<bool> {
 
 /// Makes a file at the path.
 fn is_made(rt: &HostRuntime, path: &str) -> Option<bool> {
-    is_held(FileDevice::create_new(rt, rt.alloc(), path), b"")
+    is_held(FileDevice::create(rt, rt.alloc(), path, ONE), ONE)
 }
 
 // Each passes whichever single allocation is refused: what was refused memory is done again.

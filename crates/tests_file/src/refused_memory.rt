@@ -1,5 +1,5 @@
-//! Node files where memory is refused: a call that was refused memory returns 99, and the file is
-//! as it was or has the record.
+//! Node files when memory is refused: a call that was refused memory returns 99, and the file is as
+//! it was or has the record.
 
 use crate::files::{EMPTY, ONE, SERVED, TWO, TWO_ANEW};
 use crate::parts::{device, found_in};
@@ -16,8 +16,8 @@ fn is_one_of(alloc: Global, bytes: &[u8], states: [(u32, usize); 2]) -> bool {
     found == Ok(states[0]) || found == Ok(states[1])
 }
 
-/// Returns whether serving the empty file leaves the served one; `None` where memory is refused and
-/// it leaves one of these two.
+/// Returns whether serving the empty file leaves the served one; `None` if memory is refused and it
+/// leaves one of these two.
 fn is_served(alloc: Global) -> Option<bool> {
     match serve(alloc, device(alloc, EMPTY).ok()?, None) {
         Ok((file, _, life)) => Some(life == 1 && file.device().content() == SERVED),
@@ -32,7 +32,7 @@ fn is_served(alloc: Global) -> Option<bool> {
     }
 }
 
-/// The key and the object of the file of one record.
+/// Returns the key and the object of the file of one record.
 fn key_and_object(alloc: Global) -> Option<(MetaKey, Entries)> {
     let (_, table, _) = open_node(alloc, device(alloc, ONE).ok()?, None).ok()?;
     let (prefix, rows) = table.iter().next()?;
@@ -42,8 +42,8 @@ fn key_and_object(alloc: Global) -> Option<(MetaKey, Entries)> {
     Some((key, object.copy().ok()?))
 }
 
-/// Returns whether an append that ended so left the file of one record; `None` where memory was
-/// refused and it left the served file, or one of the two where it stopped the file.
+/// Returns whether an append that ended so left the file of one record; `None` if memory was
+/// refused and it left the served file, or one of the two if it stopped the file.
 fn left(
     alloc: Global,
     file: &NodeFile<MemoryDevice>,
@@ -88,7 +88,7 @@ fn is_appended(alloc: Global) -> Option<bool> {
     left
 }
 
-/// Returns whether a file with two records is written anew.
+/// Returns whether a file with two records is rewritten.
 fn is_written_anew(alloc: Global) -> Option<bool> {
     let (file, table, life) = match open_node(alloc, device(alloc, TWO).ok()?, None) {
         Ok(opened) => opened,

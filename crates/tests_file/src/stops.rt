@@ -23,7 +23,7 @@ struct Ended {
     device: FailsAfter<MemoryDevice>,
 }
 
-/// Writes x, and again where that failed.
+/// Writes x, and again if that failed.
 fn write_twice(
     rt: &impl Abort,
     alloc: Global,
@@ -47,7 +47,7 @@ fn write_twice(
     }
 }
 
-/// What came of all three on a device that passes `passed` calls.
+/// Returns what came of all three on a device that passes `passed` calls.
 fn after(rt: &impl Abort, alloc: Global, passed: u64) -> Ended {
     let device = FailsAfter::new(device(alloc, b"").expect(rt, "memory"), passed);
     let failed = |done, fault: FileFault, device| Ended {
@@ -72,7 +72,7 @@ struct LastWrite {
     written: Vec<u8>,
 }
 
-/// Writes the bytes over what is there, and past the end.
+/// Writes the bytes over the content, and past its end.
 fn write_over(rt: &impl Abort, alloc: Global, content: &mut Vec<u8>, at: usize, bytes: &[u8]) {
     let old = content.to_vec(alloc).expect(rt, "memory");
     content.truncate(at);
@@ -82,7 +82,7 @@ fn write_over(rt: &impl Abort, alloc: Global, content: &mut Vec<u8>, at: usize, 
     }
 }
 
-/// What the device held before its last call.
+/// Returns what the device held before its last call.
 fn content_before(rt: &impl Abort, alloc: Global, device: &MemoryDevice) -> Vec<u8> {
     let mut content = device.first().to_vec(alloc).expect(rt, "memory");
     let (_, calls) = device.calls().split_last().expect(rt, "a call");
@@ -96,7 +96,7 @@ fn content_before(rt: &impl Abort, alloc: Global, device: &MemoryDevice) -> Vec<
     content
 }
 
-/// The last call of the device, where it is a write.
+/// Returns the last call of the device, if it is a write.
 fn last_write_of(rt: &impl Abort, alloc: Global, device: &MemoryDevice) -> Option<LastWrite> {
     match device.calls().last() {
         Some(Call::Wrote(at, bytes)) => Some(LastWrite {
@@ -135,7 +135,7 @@ static WAYS: &[Way] = &[
     (Left::Junk, Left::Cut, Left::Cut),
 ];
 
-/// The byte that was left at this place of a write, if any.
+/// Returns the byte that was left at this place of a write, if any.
 fn byte_left(write: &LastWrite, place: usize, left: Left) -> Option<u8> {
     let old = write.before.get(write.at.wrapping_add(place)).copied();
     match left {
@@ -146,7 +146,8 @@ fn byte_left(write: &LastWrite, place: usize, left: Left) -> Option<u8> {
     }
 }
 
-/// What a crash left of a write whose first sectors, and the one after them, were left in this way.
+/// Returns what a crash left of a write whose first sectors, and the one after them, were left in
+/// this way.
 fn image(
     rt: &impl Abort,
     alloc: Global,
@@ -207,8 +208,8 @@ fn the_call_that_fails_is_told_and_stops_the_file(rt: HostRuntime) {
     assert!(rt; ended.done == 3 && ended.codes == (0, 0));
 }
 
-/// Writes the file of two records anew to a device that passes `passed` calls. Returns the number
-/// of the refusal, 0 for none, and what the device holds then.
+/// Rewrites the file of two records to a device that passes `passed` calls. Returns the number of
+/// the refusal, 0 for none, and what the device then holds.
 fn anew_after(rt: &impl Abort, alloc: Global, passed: u64) -> (u16, MemoryDevice) {
     let source = device(alloc, TWO).expect(rt, "memory");
     let (file, table, life) = open_node(alloc, source, None).ok().expect(rt, "a file");

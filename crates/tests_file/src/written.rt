@@ -11,13 +11,13 @@ use node_file::{NodeFile, create, open_node, serve};
 use std::alloc::Global;
 use std::process::Abort;
 
-/// A file of node 0 that was made.
+/// Returns a file of node 0 that was made.
 fn made(rt: &impl Abort, alloc: Global) -> NodeFile<MemoryDevice> {
     let device = device(alloc, b"what was there before").expect(rt, "memory");
     create(device, node(rt, 0)).ok().expect(rt, "a file")
 }
 
-/// The file in its next life, with its table and the number of that life.
+/// Returns the file in its next life, with its table and the number of that life.
 fn served(rt: &impl Abort, alloc: Global, bytes: &[u8]) -> (NodeFile<MemoryDevice>, Store, u32)
     ensures served { result.0.is_served ≡ true }
     ensures same { (file_state (⟦<MemoryDevice as Device>⟧.content result.0.device)).contents.table
@@ -28,7 +28,7 @@ fn served(rt: &impl Abort, alloc: Global, bytes: &[u8]) -> (NodeFile<MemoryDevic
     served.ok().expect(rt, "a life")
 }
 
-/// The file of these bytes with its own table, written anew.
+/// Rewrites the file of these bytes with its own table.
 fn anew(rt: &impl Abort, alloc: Global, bytes: &[u8]) -> MemoryDevice {
     let source = device(alloc, bytes).expect(rt, "memory");
     let (file, table, life) = open_node(alloc, source, None).ok().expect(rt, "a file");

@@ -6,23 +6,20 @@ use meta_types::{FullPrefix, MetaKey, NodeId, TypeFault, Value};
 use node_file::create;
 use std::alloc::{AllocError, Global};
 
-/// The node of this number.
 pub(crate) fn node(number: u16) -> Result<NodeId, HostFault> {
     Ok(NodeId::new(number)?)
 }
 
-/// The key of this name.
 pub(crate) fn key(alloc: Global, name: &[u8]) -> Result<MetaKey, TypeFault> {
     let prefix = FullPrefix::new(b"app".to_vec(alloc)?, b"flags".to_vec(alloc)?)?;
     MetaKey::new(prefix, name.to_vec(alloc)?)
 }
 
-/// The value of this text.
 pub(crate) fn value(alloc: Global, text: &[u8]) -> Result<Value, TypeFault> {
     Value::new(0, Some(text.to_vec(alloc)?))
 }
 
-/// The bytes of an empty file of node 3.
+/// Returns the bytes of an empty file of node 3.
 pub(crate) fn empty_file(alloc: Global) -> Result<Vec<u8>, AllocError> {
     let device = MemoryDevice::new(alloc, Vec::new(alloc))?;
     let Ok(node) = NodeId::new(3) else {

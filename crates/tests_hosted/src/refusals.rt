@@ -6,7 +6,7 @@ use meta_types::NodeId;
 use node_events::NodeEvent;
 use std::alloc::{AllocError, Global};
 
-/// The number of a call's refusal, or 0.
+/// Returns the number of a call's refusal, or 0.
 fn number(done: Result<(), HostFault>) -> u16 {
     match done {
         Ok(()) => 0,
@@ -14,8 +14,9 @@ fn number(done: Result<(), HostFault>) -> u16 {
     }
 }
 
-/// The refusals of a node whose host hasn't stored the record of its life: of a step, and whether
-/// it hands out a reply or a frame; then, after he failed to store it, of a step and of storing.
+/// Returns the refusals of a node whose host hasn't stored the record of its life: of a step, and
+/// whether it hands out a reply or a frame; then, after he failed to store it, of a step and of
+/// storing.
 fn refused_by(served: &mut HostedNode) -> [u16; 5] {
     let pending = number(served.act(NodeEvent::Tick { word: 0 }));
     let handed = u16::from(served.reply().is_some() || served.frame().is_some());
@@ -53,8 +54,8 @@ fn a_step_waits_for_its_record(rt: HostRuntime) {
     assert!(rt; refusals_of_a_new_file(rt.alloc()) == Ok([37, 0, 0, 34, 34]));
 }
 
-/// The refusals of a node in which nothing was read: of storing where there is nothing to store, of
-/// a context that isn't there, and of keeping one.
+/// Returns the refusals of a node in which nothing was read: of storing when there is nothing to
+/// store, of a context that isn't there, and of keeping one.
 fn refused_unread(node: &mut HostedNode) -> [u16; 3] {
     let nothing = number(node.stored(true));
     let absent = match node.context(1) {

@@ -1,4 +1,4 @@
-//! A hosted node where memory is refused.
+//! A hosted node when memory is refused.
 
 use crate::hosts::{empty_file, key, store};
 use crate::runs::put;
@@ -23,7 +23,8 @@ fn is_kept(node: &mut HostedNode) -> Result<bool, HostFault> {
     Ok(number == 1 && shown == 1)
 }
 
-/// A node writes and reads, and its host stores all that he is asked to: what `is_kept` returns.
+/// Lets a node write and read, and its host store all that he is asked to. Returns what `is_kept`
+/// does.
 fn write_and_read(
     alloc: Global,
     file: &mut Vec<u8>,
@@ -37,7 +38,7 @@ fn write_and_read(
     is_kept(node)
 }
 
-/// A life of a node that is served from this file: what `is_kept` returns.
+/// Lets a node that is served from this file live. Returns what `is_kept` does.
 fn live(alloc: Global, file: &mut Vec<u8>) -> Result<bool, HostFault> {
     match HostedNode::serve(alloc, file.as_slice(), NodeId::new(3).ok()) {
         Ok(mut node) => {
@@ -50,7 +51,7 @@ fn live(alloc: Global, file: &mut Vec<u8>) -> Result<bool, HostFault> {
     }
 }
 
-/// What `live` returns of a new file, or `None` where memory ran out.
+/// Returns what `live` returns of a new file, or `None` if memory ran out.
 fn lived(alloc: Global) -> Option<bool> {
     let mut file = empty_file(alloc).ok()?;
     let lived = live(alloc, &mut file);

@@ -6,7 +6,7 @@ use meta_types::NodeId;
 use node_events::NodeEvent;
 use std::alloc::Global;
 
-/// How many values a node shows under the key `name`.
+/// Returns how many values a node shows under the key `name`.
 fn shown(alloc: Global, node: &HostedNode, name: &[u8]) -> Result<usize, HostFault> {
     let key = key(alloc, name)?;
     let (values, _vector) = node.state().store().get(&key)?;
@@ -39,7 +39,8 @@ fn carry(alloc: Global, from: &mut HostedNode, to: &mut HostedNode) -> Result<u6
     Ok(carried)
 }
 
-/// A write reaches another node: how many values that shows, and how many frames there were.
+/// Lets a write reach another node. Returns how many values that node shows, and how many frames
+/// there were.
 fn spread_between(
     alloc: Global,
     zero: &mut HostedNode,
@@ -72,12 +73,12 @@ fn a_write_reaches_another_node(rt: HostRuntime) {
     assert!(rt; spread(rt.alloc()) == Ok((1, 2)));
 }
 
-/// The life of a node, and how many values it shows under `colour`.
+/// Returns the life of a node, and how many values it shows under `colour`.
 fn seen(alloc: Global, node: &HostedNode) -> Result<(u32, usize), HostFault> {
     Ok((node.state().incarnation(), shown(alloc, node, b"colour")?))
 }
 
-/// What a node shows that is served from this file.
+/// Returns what a node that is served from this file shows.
 fn serve_again(alloc: Global, file: &[u8]) -> Result<(u32, usize), HostFault> {
     match HostedNode::serve(alloc, file, NodeId::new(3).ok()) {
         Ok(node) => {
@@ -89,7 +90,7 @@ fn serve_again(alloc: Global, file: &[u8]) -> Result<(u32, usize), HostFault> {
     }
 }
 
-/// A node writes, and its host stores all that he is asked to.
+/// Lets a node write, and its host store all that he is asked to.
 fn write_and_store(
     alloc: Global,
     file: &mut Vec<u8>,
@@ -100,7 +101,7 @@ fn write_and_store(
     store(file, node)
 }
 
-/// The first life of a node, in this file.
+/// Lets a node live its first life, in this file.
 fn live_once(alloc: Global, file: &mut Vec<u8>) -> Result<(), HostFault> {
     match HostedNode::serve(alloc, file.as_slice(), NodeId::new(3).ok()) {
         Ok(mut first) => {
@@ -112,7 +113,7 @@ fn live_once(alloc: Global, file: &mut Vec<u8>) -> Result<(), HostFault> {
     }
 }
 
-/// Two lives of a node: what it shows in the second.
+/// Lets a node live two lives. Returns what it shows in the second.
 fn live_twice(alloc: Global, file: &mut Vec<u8>) -> Result<(u32, usize), HostFault> {
     live_once(alloc, file)?;
     serve_again(alloc, file.as_slice())
@@ -130,8 +131,9 @@ fn what_was_stored_is_there_in_the_next_life(rt: HostRuntime) {
     assert!(rt; survive(rt.alloc()) == Ok((2, 1)));
 }
 
-/// A write that has read what a read showed replaces it; one that has read nothing doesn't: how
-/// many values there are after each, and the number of the context.
+/// Makes a write that has read what a read showed, which replaces it, and one that has read
+/// nothing, which doesn't. Returns how many values there are after each, and the number of the
+/// context.
 fn write_on(alloc: Global, node: &mut HostedNode) -> Result<(usize, usize, u64), HostFault> {
     put(alloc, node, b"colour", b"red")?;
     let key = key(alloc, b"colour")?;

@@ -18,7 +18,6 @@ fn node_id(rt: &impl Abort, number: u16) -> NodeId {
 /// The calls that are tried, in their order.
 pub(crate) const CALLS: usize = 12;
 
-/// Makes the call of this number.
 pub(crate) fn call<J: Naming, R: Wait + Abort>(
     rt: &R,
     alloc: Global,
@@ -39,7 +38,7 @@ pub(crate) fn call<J: Naming, R: Wait + Abort>(
     }
 }
 
-/// The calls under a key.
+/// Makes the call of this number, under a key.
 fn of_a_key<J: Naming, R: Wait + Abort>(
     rt: &R,
     alloc: Global,

@@ -29,7 +29,7 @@ fn a_node_is_closed_once_all_its_seats_are_back(rt: HostRuntime) {
     assert!(rt; counted == (0, 0));
 }
 
-/// The number of the refusal with this capacity; 0 where the node is started.
+/// Returns the number of the refusal with this capacity; 0 if the node is started.
 fn refusal<R: Wait + Abort>(rt: &R, alloc: Global, capacity: (usize, usize, usize)) -> u16 {
     let (writers, readers, journal) = capacity;
     let capacity = Capacity {

@@ -90,7 +90,7 @@ pub(crate) fn shown<J: Naming>(
     }
 }
 
-/// A copy of these bytes. It is asked for once more where memory was refused.
+/// Returns a copy of these bytes. It is asked for once more if memory was refused.
 pub(crate) fn bytes(rt: &impl Abort, alloc: Global, bytes: &[u8]) -> Vec<u8> {
     match bytes.to_vec(alloc) {
         Ok(copy) => copy,
@@ -98,24 +98,24 @@ pub(crate) fn bytes(rt: &impl Abort, alloc: Global, bytes: &[u8]) -> Vec<u8> {
     }
 }
 
-/// The full prefix a/b.
+/// Returns the full prefix a/b.
 pub(crate) fn prefix(rt: &impl Abort, alloc: Global) -> FullPrefix {
     let a = bytes(rt, alloc, b"a");
     FullPrefix::new(a, bytes(rt, alloc, b"b")).expect(rt, "a prefix")
 }
 
-/// The key a/b/k and a digit.
+/// Returns the key a/b/k and a digit.
 pub(crate) fn key(rt: &impl Abort, alloc: Global, digit: u8) -> MetaKey {
     let prefix = prefix(rt, alloc);
     MetaKey::new(prefix, bytes(rt, alloc, &[b'k', digit])).expect(rt, "a key")
 }
 
-/// A value of one letter.
+/// Returns a value of one letter.
 pub(crate) fn value(rt: &impl Abort, alloc: Global, letter: u8) -> Value {
     Value::new(0, Some(bytes(rt, alloc, &[letter]))).expect(rt, "a value")
 }
 
-/// A device in memory with an empty file of node 0, synced.
+/// Returns a device in memory with an empty file of node 0, synced.
 pub(crate) fn open_first(rt: &impl Abort, alloc: Global) -> MemoryDevice
     ensures { IsDurable (⟦<MemoryDevice as Device>⟧.content result)
         (⟦<MemoryDevice as Device>⟧.may_leave result) }
@@ -127,7 +127,7 @@ pub(crate) fn open_first(rt: &impl Abort, alloc: Global) -> MemoryDevice
     }
 }
 
-/// The file that the device holds, in its node's next life.
+/// Returns the file that the device holds, in its node's next life.
 pub(crate) fn next_life<D: Device + Drop>(
     rt: &impl Abort,
     alloc: Global,
@@ -142,7 +142,7 @@ pub(crate) fn next_life<D: Device + Drop>(
     }
 }
 
-/// A new file of node 0 in memory, in its first life, with its table; `None` where memory was
+/// Returns a new file of node 0 in memory, in its first life, with its table; `None` if memory was
 /// refused.
 fn first_life(alloc: Global) -> Option<(NodeFile<MemoryDevice>, Store)>
     ensures { IfSome result (λ r. IsFileOf (⟦<MemoryDevice as Device>⟧.content)
@@ -154,7 +154,7 @@ fn first_life(alloc: Global) -> Option<(NodeFile<MemoryDevice>, Store)>
     Some((file, table))
 }
 
-/// What a trial leaves on a new node with these seats.
+/// Returns what a trial leaves on a new node with these seats.
 pub(crate) fn tried<T: Trial, R: Wait + Abort>(rt: &R, alloc: Global, capacity: Capacity) -> Left {
     start::<T, R>(rt, alloc, capacity).ok().expect(rt, "a node")
 }
@@ -171,7 +171,7 @@ pub(crate) fn counted<T: Trial, R: Wait + Abort>(
     counted
 }
 
-/// What a trial leaves, or the number of the refusal where the node isn't started.
+/// Returns what a trial leaves, or the number of the refusal if the node isn't started.
 pub(crate) fn start<T: Trial, R: Wait + Abort>(
     rt: &R,
     alloc: Global,
@@ -204,7 +204,7 @@ fn begun<J: Naming, T: Trial, R: Wait + Abort>(
     Ok(leave::<J, T, R>(rt, alloc, started))
 }
 
-/// Starts the node of this file. Returns the number of the refusal where it isn't started.
+/// Starts the node of this file. Returns the number of the refusal if it isn't started.
 pub(crate) fn started<'a, D: Device + Drop, J: Naming, R: Wait + Abort>(
     rt: &'a R,
     alloc: Global,
@@ -263,7 +263,7 @@ fn are_stopped<J: Naming>(rt: &impl Abort, alloc: Global, readers: &mut [ReadSea
     are_stopped
 }
 
-/// Why the node isn't closed, and what comes back.
+/// Returns why the node isn't closed, and what comes back.
 fn not_closed<'r, J: Naming, R: Wait + Abort>(
     rt: &R,
     node: Node<MemoryDevice, J, &'r R>,

@@ -1,6 +1,6 @@
 //! A node of whose calls one is refused memory: that call returns 99 and leaves all as it was, so
-//! that it is accepted when it is made once more; or the node is stopped, where its device was amid
-//! a write.
+//! that it is accepted when it is made once more; or the node is stopped, if its device was in the
+//! midst of a write.
 
 use crate::calls::{CALLS, call};
 use crate::parts::{Left, Trial, key, start};
@@ -12,7 +12,8 @@ use std::alloc::Global;
 use std::process::Abort;
 use std::sync::Wait;
 
-/// A list with room for a receipt of each call. It is asked for once more where memory was refused.
+/// Returns a list with room for a receipt of each call. It is asked for once more if memory was
+/// refused.
 fn room(rt: &impl Abort, alloc: Global) -> Vec<Receipt> {
     match Vec::with_capacity(alloc, CALLS) {
         Ok(list) => list,
@@ -20,7 +21,7 @@ fn room(rt: &impl Abort, alloc: Global) -> Vec<Receipt> {
     }
 }
 
-/// Makes the call of this number, and once more where it was refused memory.
+/// Makes the call of this number, and once more if it was refused memory.
 fn call_again<J: Naming, R: Wait + Abort>(
     rt: &R,
     alloc: Global,
@@ -34,7 +35,7 @@ fn call_again<J: Naming, R: Wait + Abort>(
     }
 }
 
-/// Returns how many values a reader is shown. It looks once more where it was refused memory.
+/// Returns how many values a reader is shown. It looks once more if it was refused memory.
 fn shown<J: Naming>(rt: &impl Abort, alloc: Global, reader: &mut ReadSeat<J>) -> Option<usize> {
     let key = key(rt, alloc, b'1');
     let shown = reader.peek(&key).or(reader.peek(&key));
@@ -78,7 +79,7 @@ impl Trial for Again {
     }
 }
 
-/// What the calls leave on a new node, which is started once more where memory was refused.
+/// Returns what the calls leave on a new node, which is started once more if memory was refused.
 fn left<R: Wait + Abort>(rt: &R, alloc: Global) -> Left {
     match start::<Again, R>(rt, alloc, Capacity::new(1, 1)) {
         Err(99) => start::<Again, R>(rt, alloc, Capacity::new(1, 1))
@@ -108,7 +109,7 @@ fn agree(one: &Left, other: &Left) -> bool {
 
 // Passes whichever single allocation is refused. Of two nodes that get the same calls, one is
 // refused no memory. The other has the same entries, with the same replies and frames, or a front
-// of them where it was stopped; and a receipt of each.
+// of them if it was stopped; and a receipt of each.
 #[test]
 fn calls_are_made_again_under_refused_memory(rt: HostRuntime) {
     let one = left(&rt, rt.alloc());

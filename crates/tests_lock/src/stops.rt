@@ -23,7 +23,7 @@ struct Came {
     device: MemoryDevice,
 }
 
-/// The number of the refusal, 0 for none.
+/// Returns the number of the refusal, 0 for none.
 fn code<T: Drop>(answer: Result<T, LockFault>) -> u16 {
     match answer {
         Ok(_) => 0,
@@ -87,7 +87,7 @@ fn begun<J: Naming, R: Wait + Abort>(
     write(rt, alloc, started.ok().expect(rt, "a node"))
 }
 
-/// What comes of three writes on a device that passes `passed` of their calls.
+/// Returns what comes of three writes on a device that passes `passed` of their calls.
 fn after<R: Wait + Abort>(rt: &R, alloc: Global, passed: u64) -> Came {
     let device = FailsAfter::new(open_first(rt, alloc), passed.saturating_add(4));
     let (file, table) = next_life(rt, alloc, device);
@@ -112,7 +112,8 @@ fn written(rt: &impl Abort, alloc: Global, device: MemoryDevice) -> u64 {
     }
 }
 
-/// What the write at `place` returns, where `accepted` writes are accepted before the device fails.
+/// Returns what the write at `place` returns if `accepted` writes are accepted before the device
+/// fails.
 fn wanted(place: u64, accepted: u64) -> Result<u64, u16> {
     if place < accepted {
         return Ok(place);

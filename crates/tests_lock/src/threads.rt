@@ -49,7 +49,7 @@ fn look<J: Naming, R: Wait + Abort>(rt: &R, alloc: Global, reader: ReadSeat<J>) 
     reader
 }
 
-/// Two threads write. Returns the places of all receipts.
+/// Lets two threads write. Returns the places of all receipts.
 fn write_both<J: Naming + Send + Sync, R: Threads + Wait + Abort + Sync>(
     rt: &R,
     alloc: Global,
@@ -69,8 +69,8 @@ fn write_both<J: Naming + Send + Sync, R: Threads + Wait + Abort + Sync>(
     places
 }
 
-/// One thread writes while another looks. Returns how many values the reader is shown at last, once
-/// it learnt of one more write.
+/// Lets one thread write while another looks. Returns how many values the reader is shown at last,
+/// once it learnt of one more write.
 fn write_and_look<J: Naming + Send + Sync, R: Threads + Wait + Abort + Sync>(
     rt: &R,
     alloc: Global,
@@ -125,7 +125,7 @@ fn used<J: Naming + Send + Sync, R: Threads + Wait + Abort + Sync>(
     }
 }
 
-/// The node that the file begins, with seats for two writers and a reader.
+/// Returns the node that the file begins, with seats for two writers and a reader.
 fn begun<J: Naming + Send + Sync, R: Threads + Wait + Abort + Sync>(
     rt: &R,
     alloc: Global,
@@ -167,7 +167,7 @@ fn is_as_wanted(came: &Came) -> bool {
     are_all_places(&came.places) && came.seen == Ok(3 * EACH + 1) && came.entries == 301
 }
 
-/// What came of it on a new node.
+/// Returns what came of it on a new node.
 fn shared<R: Threads + Wait + Abort + Sync>(rt: &R, alloc: Global) -> Came {
     let (file, table) = next_life(rt, alloc, open_first(rt, alloc));
     let tokens = (Blank::new(9), Beginning::new());

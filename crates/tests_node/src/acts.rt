@@ -1,6 +1,6 @@
 //! What a node is asked, by numbers and letters.
 //!
-//! What takes memory here is asked for once more where it is refused, so that tests under refused
+//! What takes memory here is asked for once more if it is refused, so that tests under refused
 //! memory get their events whichever single allocation is refused.
 
 use crate::frames::{FRONT_OF_LARGEST, FRONT_OF_LONG_VALUE};
@@ -43,13 +43,13 @@ pub enum Act {
     Ticks,
 }
 
-/// The key of these letters under p/s.
+/// Returns the key of these letters under p/s.
 pub fn key_of(rt: &impl Abort, alloc: Global, letters: &[u8]) -> MetaKey {
     key(rt, alloc, b"p", b"s", letters)
 }
 
-/// The GOSSIP with the largest object: 18 bytes before its values, 1,013 values of 1,035 bytes, and
-/// one of 103.
+/// Returns the GOSSIP with the largest object: 18 bytes before its values, 1,013 values of 1,035
+/// bytes, and one of 103.
 fn largest(rt: &impl Abort, alloc: Global) -> Vec<u8> {
     let mut text = bytes(rt, alloc, FRONT_OF_LARGEST);
     for _ in 0..1_013 {
@@ -60,7 +60,7 @@ fn largest(rt: &impl Abort, alloc: Global) -> Vec<u8> {
     text
 }
 
-/// A write of x over the key of these letters.
+/// Returns a write of x over the key of these letters.
 pub fn put_over(rt: &impl Abort, alloc: Global, letters: &[u8], body: u8) -> NodeEvent {
     NodeEvent::PutOver {
         key: key_of(rt, alloc, letters),
@@ -68,7 +68,6 @@ pub fn put_over(rt: &impl Abort, alloc: Global, letters: &[u8], body: u8) -> Nod
     }
 }
 
-/// The event of an act.
 pub fn event(rt: &impl Abort, alloc: Global, act: Act) -> NodeEvent {
     match act {
         Act::Read(letter) => NodeEvent::Read {
@@ -99,7 +98,7 @@ pub fn event(rt: &impl Abort, alloc: Global, act: Act) -> NodeEvent {
     }
 }
 
-/// `event` for an act that is made of numbers alone; a tick stands for any other.
+/// Returns what `event` does for an act of numbers alone; a tick stands for any other.
 fn small_event(rt: &impl Abort, act: Act) -> NodeEvent {
     match act {
         Act::Join(contact) => NodeEvent::Join {

@@ -25,8 +25,8 @@ fn follow(alloc: Global, cast: &mut Cast, outs: &[ViewOut]) -> Result<(), AllocE
     cast.change_peers(changes.as_slice())
 }
 
-/// Makes a step of the views, which the broadcast follows. Where memory runs out both are as
-/// before. Each `Send` of what is returned is to be sent.
+/// Makes a step of the views, which the broadcast follows. If memory runs out both are as before.
+/// Each `Send` of what is returned is to be sent.
 fn happen(
     alloc: Global,
     views: &mut Views,
@@ -40,8 +40,8 @@ fn happen(
     Ok(outs)
 }
 
-/// Takes a message of the broadcast but GOSSIP. `known` says whether the node's vector of the key
-/// descends that of the message.
+/// Takes a message of the broadcast other than GOSSIP. `known` says whether the node's vector of
+/// the key descends that of the message.
 fn take(
     alloc: Global,
     cast: &mut Cast,
@@ -89,7 +89,7 @@ fn is_tick_told(rt: &impl Abort, cast: &mut Cast) -> bool {
     is_announced(outs.as_slice())
 }
 
-/// Node 1 prunes the link.
+/// Lets node 1 prune the link.
 fn prune(rt: &impl Abort, alloc: Global, cast: &mut Cast) -> usize {
     let message = Message::Prune;
     let outs = take(alloc, cast, node(rt, 1), &message, false).expect(rt, "memory");
@@ -165,8 +165,8 @@ fn deliver_all(
     refused
 }
 
-/// The node of this number makes a step, and what it sends is delivered. Returns whether all of
-/// that was taken and nothing was answered.
+/// Makes a step of the node of this number, and delivers what it sends. Returns whether all of that
+/// was taken and nothing was answered.
 fn act(
     rt: &impl Abort,
     alloc: Global,
@@ -181,7 +181,7 @@ fn act(
     refused == 0 && answers.is_empty()
 }
 
-/// Node 0 and node 1, each in its first life, who hold nothing and know nobody.
+/// Makes node 0 and node 1, each in its first life. They hold nothing and know nobody.
 fn two_nodes(rt: &impl Abort, alloc: Global) -> Vec<NodeState> {
     let mut nodes = Vec::with_capacity(alloc, 2).expect(rt, "memory");
     for number in 0..2_u16 {
@@ -215,8 +215,8 @@ fn are(values: &[Value], value: &Value) -> bool {
     matches!(values, [only] if only == value)
 }
 
-/// Node 1 joins through node 0. Then each writes over what it shows. Returns whether the other node
-/// shows that then.
+/// Lets node 1 join through node 0. Then each writes over what it shows. Returns whether the other
+/// node then shows that.
 fn is_carried(rt: &impl Abort, alloc: Global, nodes: &mut [NodeState]) -> bool {
     let (contact, word) = (node(rt, 0), 0);
     let joined = act(rt, alloc, nodes, 1, NodeEvent::Join { contact, word });

@@ -1,6 +1,6 @@
 //! An event of each kind.
 //!
-//! What takes memory here is asked for once more where it is refused, so that tests under refused
+//! What takes memory here is asked for once more if it is refused, so that tests under refused
 //! memory get their events whichever single allocation is refused.
 
 use crate::parts::{bytes, key, prefix, value};
@@ -15,7 +15,7 @@ pub const COUNT: usize = 17;
 /// Of each event the number of its refusal, or 0: there is no node 2, and two bytes are no frame.
 pub static CODES: [u16; COUNT] = [0, 44, 0, 0, 0, 0, 0, 0, 0, 0, 0, 0, 0, 0, 0, 0, 10];
 
-/// The key app/flags/colour.
+/// Returns the key app/flags/colour.
 pub fn colour(rt: &impl Abort, alloc: Global) -> MetaKey {
     key(rt, alloc, b"app", b"flags", b"colour")
 }
@@ -81,7 +81,7 @@ pub fn event(rt: &impl Abort, alloc: Global, place: usize) -> Event {
     }
 }
 
-/// `event` for an event that is made of numbers alone.
+/// Returns what `event` does for an event of numbers alone.
 fn small_event(place: usize) -> Event {
     match place {
         0 => join(),
@@ -100,7 +100,7 @@ fn small_event(place: usize) -> Event {
     }
 }
 
-/// All events, in their order.
+/// Returns all events, in their order.
 pub fn events(rt: &impl Abort, alloc: Global) -> Vec<Event> {
     let mut events = match Vec::with_capacity(alloc, COUNT) {
         Ok(events) => events,
@@ -112,7 +112,7 @@ pub fn events(rt: &impl Abort, alloc: Global) -> Vec<Event> {
     events
 }
 
-/// A world of two nodes.
+/// Returns a world of two nodes.
 pub fn new_world(rt: &impl Abort, alloc: Global) -> World {
     match World::new(alloc, 2) {
         Ok(world) => world,
@@ -120,7 +120,7 @@ pub fn new_world(rt: &impl Abort, alloc: Global) -> World {
     }
 }
 
-/// The number of a refusal, or 0.
+/// Returns the number of a refusal, or 0.
 pub fn code(outcome: &Result<Answer, WorldFault>) -> u16 {
     match outcome {
         Ok(_) => 0,

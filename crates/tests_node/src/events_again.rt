@@ -7,7 +7,7 @@ use std::alloc::Global;
 use std::process::Abort;
 use world_core::{Answer, Event, World, WorldFault};
 
-/// Applies an event, and once more where memory was refused. Returns the number of what it gives.
+/// Applies an event, and once more if memory was refused. Returns the number of what it gives.
 fn code_in_the_end(rt: &impl Abort, alloc: Global, world: &mut World, place: usize) -> u16 {
     match apply(world, event(rt, alloc, place)) {
         99 => apply(world, event(rt, alloc, place)),
@@ -33,8 +33,8 @@ fn each_kind_of_event_happens_again_under_refused_memory(rt: HostRuntime) {
     assert!(rt; each_happens);
 }
 
-/// What comes of the events. They are run once more where there was no memory for the outcomes:
-/// then no event was applied, and the world is as it was.
+/// Returns what comes of the events. They are run once more if there was no memory for the
+/// outcomes: then no event was applied, and the world is as it was.
 fn outcomes(
     rt: &impl Abort,
     alloc: Global,

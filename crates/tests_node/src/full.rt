@@ -7,7 +7,7 @@ use std::alloc::Global;
 use std::process::Abort;
 use world_core::{Event, World};
 
-/// Node 0 writes under the key app/flags/#, where # is a number in two bytes.
+/// Writes at node 0 under the key app/flags/#, where # is a number in two bytes.
 fn write(rt: &impl Abort, alloc: Global, world: &mut World, number: u16) -> u16 {
     let key = key(rt, alloc, b"app", b"flags", &number.to_be_bytes());
     let value = Value::new(0, None).expect(rt, "a value");

@@ -1,4 +1,4 @@
-//! What images show, also where their values stand in a log that went on, or could not.
+//! What images show, even if their values stand in a log that went on, or could not.
 
 ghost use Rattle.std.specs.Prelude.{IfSome};
 ghost use Rattle.meta_store.specs.Table.{IsHeld};
@@ -12,8 +12,8 @@ use std::alloc::Global;
 use std::mem::replace;
 use std::process::Abort;
 
-/// A write of `body` by the node, which has read what is there where `has_read`, or else nothing;
-/// to a new store where `anew`.
+/// A write of `body` by the node. It has read what is there if `has_read` is set, and otherwise
+/// nothing; it is made to a new store if `anew` is set.
 struct Write {
     anew: bool,
     node: u16,
@@ -74,7 +74,7 @@ static WRITES: [Write; 8] = [
     },
 ];
 
-/// Makes the write, once more where memory is refused.
+/// Makes the write, once more if memory is refused.
 fn make(rt: &impl Abort, alloc: Global, store: &mut Store, write: &Write) {
     if write.anew {
         drop(replace(store, Store::new(alloc)));
@@ -99,7 +99,7 @@ fn try_make(rt: &impl Abort, alloc: Global, store: &mut Store, write: &Write) ->
     written
 }
 
-/// What an image changes: the key and its object.
+/// Returns what an image changes: the key and its object.
 fn change(rt: &impl Abort, alloc: Global, store: &Store) -> Option<(MetaKey, Entries)>
     ensures { IfSome result (λ change. IsHeld change.1) }
 {
@@ -113,7 +113,7 @@ fn change(rt: &impl Abort, alloc: Global, store: &Store) -> Option<(MetaKey, Ent
     }
 }
 
-/// A copy of the object under the key. It is made once more where memory is refused.
+/// Returns a copy of the object under the key. It is made once more if memory is refused.
 fn object(store: &Store, key: &MetaKey) -> Option<Entries>
     ensures { IfSome result IsHeld }
 {
@@ -121,7 +121,7 @@ fn object(store: &Store, key: &MetaKey) -> Option<Entries>
     object.copy().or(object.copy()).ok()
 }
 
-/// Adds an image of what is in the store, once more where memory is refused.
+/// Adds an image of what is in the store, once more if memory is refused.
 fn add(rt: &impl Abort, alloc: Global, images: &mut Images, store: &Store) {
     let base = images.len();
     let change = change(rt, alloc, store);
@@ -133,7 +133,7 @@ fn add(rt: &impl Abort, alloc: Global, images: &mut Images, store: &Store) {
     drop(change);
 }
 
-/// Returns whether the image at the place shows what is in the store. It is read once more where
+/// Returns whether the image at the place shows what is in the store. It is read once more if
 /// memory is refused.
 fn shows(rt: &impl Abort, images: &Images, at: usize, store: &Store) -> bool {
     assert!(rt; at < images.len());

@@ -12,7 +12,7 @@ use world_core::{Event, World};
 /// left; and the one that a blind write left after a restart from the first of these.
 static VALUES: [usize; 4] = [0, 1, 2, 2];
 
-/// What happens at node 0.
+/// Returns an event of node 0.
 fn happening(rt: &impl Abort, alloc: Global, place: usize) -> Event {
     match place {
         2 => Event::Restart { node: 0, image: 1 },
@@ -20,7 +20,7 @@ fn happening(rt: &impl Abort, alloc: Global, place: usize) -> Event {
     }
 }
 
-/// Makes it happen, once more where memory is refused.
+/// Makes it happen, once more if memory is refused.
 fn happens(rt: &impl Abort, alloc: Global, world: &mut World, place: usize) -> bool {
     match apply(world, happening(rt, alloc, place)) {
         99 => apply(world, happening(rt, alloc, place)) == 0,
@@ -28,7 +28,7 @@ fn happens(rt: &impl Abort, alloc: Global, world: &mut World, place: usize) -> b
     }
 }
 
-/// What the image of node 0 has under the key, read once more where memory is refused.
+/// Returns what the image of node 0 has under the key, read once more if memory is refused.
 fn read(rt: &impl Abort, world: &World, number: usize, key: &MetaKey) -> Option<Entries> {
     let images = world.images(0).expect(rt, "node 0");
     assert!(rt; number <= images.len());

@@ -4,8 +4,8 @@
 #![tactic(auto)]
 
 // What is proved of a function grows with the places at which it may end while it owns something.
-// So where memory runs out a test ends on the spot, by `expect`, which drops nothing; and a node
-// ends by a call of `drop`, which is proved once for each type in it, while a node that goes out of
+// So if memory runs out a test ends on the spot, by `expect`, which drops nothing; and a node ends
+// by a call of `drop`, which is proved once for each type in it, while a node that goes out of
 // scope costs more than all else here.
 
 #[cfg(test)]

@@ -8,7 +8,7 @@ use node_core::NodeState;
 use std::alloc::Global;
 use std::process::Abort;
 
-/// A node that holds a write is asked by reference, counts its step, and gives its store.
+/// Makes a step on a borrowed event, asserts that the node counts it, and returns the node's store.
 fn written(rt: &impl Abort, alloc: Global) -> Store {
     let mut node = new_node(rt, alloc);
     let was_opening = node.is_opening();

@@ -1,4 +1,4 @@
-//! Steps of the views and calls of the broadcast where one allocation is refused.
+//! Steps of the views and calls of the broadcast when one allocation is refused.
 
 use crate::parts::{key, node, vector};
 use dvvset::Vector;
@@ -14,7 +14,7 @@ fn join(views: &mut Views, from: NodeId) -> Result<usize, AllocError> {
     Ok(views.step(ViewEvent::Taken { from, message }, 0)?.len())
 }
 
-/// Returns how much a join gives out. The join is made once more where memory was refused.
+/// Returns how much a join gives out. The join is made once more if memory was refused.
 fn joined(rt: &impl Abort, views: &mut Views, from: NodeId) -> usize {
     match join(views, from) {
         Ok(count) => count,
@@ -39,7 +39,7 @@ fn steps_are_made_again_under_refused_memory(rt: HostRuntime) {
     assert!(rt; two_join);
 }
 
-/// The broadcast of a node with one peer, which is lazy.
+/// Gives the broadcast one peer, which becomes lazy.
 fn become_lazy(rt: &impl Abort, cast: &mut Cast, peer: NodeId) {
     if cast.up(peer).is_err() {
         cast.up(peer).expect(rt, "memory once more");
@@ -60,7 +60,7 @@ fn tick(cast: &mut Cast) -> Result<usize, AllocError> {
     Ok(cast.on_tick()?.len())
 }
 
-/// Returns how much a tick gives out. The tick is made once more where memory was refused.
+/// Returns how much a tick gives out. The tick is made once more if memory was refused.
 fn ticked(rt: &impl Abort, cast: &mut Cast) -> usize {
     match tick(cast) {
         Ok(count) => count,

@@ -10,7 +10,7 @@ use std::alloc::Global;
 use std::mem::replace;
 use std::process::Abort;
 
-/// Node 0 in its first life, which holds nothing and knows nobody.
+/// Makes node 0 in its first life, which holds nothing and knows nobody.
 pub fn new_node(rt: &impl Abort, alloc: Global) -> NodeState {
     match NodeState::new(alloc, node(rt, 0), 1) {
         Ok(node) => node,
@@ -45,7 +45,7 @@ fn tick_on(rt: &impl Abort, alloc: Global, node: &mut NodeState) {
     }
 }
 
-/// The repair of a key by the last write.
+/// Repairs a key by the last write.
 fn repaired(
     rt: &impl Abort,
     alloc: Global,
@@ -64,7 +64,7 @@ fn repaired(
     outcome
 }
 
-/// What a node gives for an act.
+/// Returns what a node gives for an act.
 pub fn asked(
     rt: &impl Abort,
     alloc: Global,
@@ -77,7 +77,7 @@ pub fn asked(
     }
 }
 
-/// The number of the refusal, or 0.
+/// Returns the number of the refusal, or 0.
 fn code(outcome: &Result<Stepped, StepFault>) -> u16 {
     match outcome {
         Ok(_) => 0,
@@ -85,7 +85,7 @@ fn code(outcome: &Result<Stepped, StepFault>) -> u16 {
     }
 }
 
-/// The frame that was sent, or nothing. There is one at most.
+/// Returns the frame that was sent, or nothing. There is one at most.
 fn sent<'a>(rt: &impl Abort, outcome: &'a Result<Stepped, StepFault>) -> &'a [u8] {
     let Ok(stepped) = outcome else {
         return b"";
@@ -100,9 +100,9 @@ fn sent<'a>(rt: &impl Abort, outcome: &'a Result<Stepped, StepFault>) -> &'a [u8
 /// The number of a refusal for lack of memory.
 const MEMORY: u16 = 99;
 
-/// Asks the node, and asserts that it gives what the row says, or is refused memory where it may
-/// be. Returns whether it was refused memory. A frame that begins as the row says is the frame of
-/// the row, since its header has its length; a row may end before the digest at a frame's end.
+/// Asks the node, and asserts that it gives what the row says, or is refused memory if it may be.
+/// Returns whether it was refused memory. A frame that begins as the row says is the frame of the
+/// row, since its header has its length; a row may end before the digest at a frame's end.
 fn is_refused_memory(
     rt: &impl Abort,
     alloc: Global,
@@ -123,7 +123,7 @@ fn is_refused_memory(
     is_refused
 }
 
-/// Calls `is_refused_memory`, and once more where the node was refused memory.
+/// Calls `is_refused_memory`, and once more if the node was refused memory.
 fn follow(rt: &impl Abort, alloc: Global, node: &mut NodeState, given: &Given, may_refuse: bool) {
     if is_refused_memory(rt, alloc, node, given, may_refuse) {
         is_refused_memory(rt, alloc, node, given, false);

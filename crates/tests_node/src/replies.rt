@@ -10,7 +10,7 @@ use node_events::{Reply, StepFault};
 use std::alloc::Global;
 use std::process::Abort;
 
-/// The step in which a read was made, or 0.
+/// Returns the step in which a read was made, or 0.
 fn step_of(outcome: &Result<Stepped, StepFault>) -> u64 {
     match outcome {
         Ok(
@@ -30,7 +30,7 @@ fn read(rt: &impl Abort, alloc: Global, node: &mut NodeState) -> u64 {
     step
 }
 
-/// What a vector counts, three digits for each writer: its node, its life and its writes.
+/// Returns what a vector counts, three digits for each writer: its node, its life and its writes.
 fn digits(vector: &Vector) -> u64 {
     let mut digits: u64 = 0;
     for counter in vector.counters() {
@@ -46,7 +46,7 @@ fn digits(vector: &Vector) -> u64 {
     digits
 }
 
-/// What the vectors of the two changes in a reply count.
+/// Returns what the vectors of the two changes in a reply count.
 fn counted(outcome: &Result<Stepped, StepFault>) -> (u64, u64) {
     let Ok(stepped) = outcome else {
         return (0, 0);

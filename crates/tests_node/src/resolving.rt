@@ -31,7 +31,7 @@ static LARGEST: [Row; 5] = [
 
 static GREATEST_WRITERS: [Row; 1] = [(&[("x", 9), ("~", 1), ("y", 2)], 2)];
 
-/// The place that the resolver chooses, called as by a caller that was handed the resolver.
+/// Returns the place that the resolver chooses, called as by a caller that was handed the resolver.
 fn place(
     rt: &impl Abort,
     alloc: Global,

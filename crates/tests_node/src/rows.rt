@@ -85,7 +85,7 @@ pub static COMING: [Given; 48] = [
     (Act::Copy, 0, NONE),
     (Act::Changes(1), 0, NONE),
     (Act::Take(XROOT), 0, XPREFIXES_1),
-    // A neighbour comes anew, and goes.
+    // A neighbour comes again, and goes.
     (Act::New, 0, NONE),
     (Act::Take(JOIN), 0, NONE),
     (Act::Take(HELLO_OF_LIFE_2), 0, NONE),

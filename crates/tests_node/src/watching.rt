@@ -5,14 +5,15 @@ use std::alloc::Global;
 use std::process::Abort;
 use subscriptions::{Change, Watch};
 
-/// The first write of node 0 under a key of a.
+/// Returns the first write of node 0 under a key of a.
 fn change(rt: &impl Abort, alloc: Global, sub: &str, own: &str) -> Change {
     let key = key(rt, alloc, b"a", sub.as_bytes(), own.as_bytes());
     let vector = vector(rt, alloc);
     Change { key, vector }
 }
 
-/// A watch of a/b with room for two, to which these changes came, each by its sub-prefix and key.
+/// Returns a watch of a/b with room for two, to which these changes came, each by its sub-prefix
+/// and key.
 fn watch(rt: &impl Abort, alloc: Global, changes: &[(&str, &str)]) -> Watch {
     let mut watch = match Watch::new(alloc, prefix(rt, alloc, b"a", b"b"), 2) {
         Ok(watch) => watch,
@@ -24,7 +25,7 @@ fn watch(rt: &impl Abort, alloc: Global, changes: &[(&str, &str)]) -> Watch {
     watch
 }
 
-/// What a watch hands out: the keys of its changes, one after the other.
+/// Returns what a watch hands out: the keys of its changes, one after the other.
 fn handed_out(rt: &impl Abort, alloc: Global, watch: &mut Watch) -> Vec<u8> {
     let mut keys = Vec::new(alloc);
     let changes = watch.take().expect(rt, "memory");
@@ -35,7 +36,8 @@ fn handed_out(rt: &impl Abort, alloc: Global, watch: &mut Watch) -> Vec<u8> {
     keys
 }
 
-/// The watch has missed `missed` changes, and hands out changes of these keys, in this order.
+/// Asserts that the watch has missed `missed` changes, and hands out changes of these keys, in this
+/// order.
 fn hands_out(rt: &impl Abort, alloc: Global, watch: &mut Watch, missed: u64, keys: &[u8]) {
     assert_eq!(rt; watch.missed(), missed);
     assert_eq!(rt; handed_out(rt, alloc, watch).as_slice(), keys);

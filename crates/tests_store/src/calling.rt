@@ -11,8 +11,8 @@ use meta_types::{Actor, MetaKey, Value};
 use std::alloc::{AllocError, Global};
 use std::process::Abort;
 
-/// A write over all that the store shows under the key: the step of this number in the life of the
-/// writer.
+/// Makes a write over all that the store shows under the key: the step of this number in the life
+/// of the writer.
 fn write_over(
     store: &mut Store,
     writer: Actor,
@@ -35,7 +35,8 @@ fn take_from(store: &mut Store, other: &Store, key: &MetaKey) -> Result<Merged, 
     }
 }
 
-/// Node 0 writes r in its store and node 1 b in its own. Then node 0 takes in what node 1 holds.
+/// Writes r by node 0 in its store and b by node 1 in its own. Then node 0 takes in what node 1
+/// holds.
 fn meet(rt: &impl Abort, alloc: Global, here: &mut Store, there: &mut Store, key: &MetaKey) {
     let red = value(rt, alloc, b'r', 1);
     write_over(here, actor(rt, 0, 1), 1, key, red).expect(rt, "a write");
@@ -44,8 +45,8 @@ fn meet(rt: &impl Abort, alloc: Global, here: &mut Store, there: &mut Store, key
     take_from(here, there, key).expect(rt, "a merge");
 }
 
-/// Node 0 writes g over both. Then node 1 takes that in, twice. Returns whether only the first time
-/// brings what it didn't know.
+/// Writes g by node 0 over both. Then node 1 takes that in, twice. Returns whether only the first
+/// time brings what it didn't know.
 fn settle(
     rt: &impl Abort,
     alloc: Global,
@@ -118,14 +119,14 @@ fn take_round(
     Ok(answers)
 }
 
-/// The one item as a list.
+/// Returns the one item as a list.
 fn only<T: Drop>(alloc: Global, item: T) -> Result<Vec<T>, AllocError> {
     let mut items = Vec::with_capacity(alloc, 1)?;
     items.push(item)?;
     Ok(items)
 }
 
-/// A whole exchange, which `here` begins. Returns what is left to be sent after eight rounds.
+/// Runs a whole exchange, which `here` begins. Returns what is left to be sent after eight rounds.
 fn exchange(alloc: Global, here: &mut Held, there: &mut Held) -> Result<Vec<Message>, StoreFault> {
     let mut round = only(alloc, start(here))?;
     for _ in 0..4 {
@@ -135,7 +136,7 @@ fn exchange(alloc: Global, here: &mut Held, there: &mut Held) -> Result<Vec<Mess
     Ok(round)
 }
 
-/// A side on which the node, in its first life, wrote the letter under these keys.
+/// Makes a side on which the node, in its first life, wrote the letter under these keys.
 fn side(rt: &impl Abort, alloc: Global, node: u16, keys: &[Letters], letter: u8) -> Held {
     let mut store = Store::new(alloc);
     for letters in keys {

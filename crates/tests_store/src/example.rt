@@ -5,7 +5,7 @@ use dvvset::{Entries, Vector, join, sync, update};
 use std::alloc::Global;
 use std::process::Abort;
 
-/// Two writes that know nothing of each other, merged.
+/// Returns two writes that know nothing of each other, merged.
 fn both(rt: &impl Abort, alloc: Global) -> Entries {
     let (blind, absent) = (Vector::empty(alloc), Entries::empty(alloc));
     let red = value(rt, alloc, b'r', 1);
@@ -15,7 +15,7 @@ fn both(rt: &impl Abort, alloc: Global) -> Entries {
     sync(alloc, &here, &there).expect(rt, "memory")
 }
 
-/// A write over all that an object shows.
+/// Returns a write over all that an object shows.
 fn after(rt: &impl Abort, alloc: Global, both: &Entries) -> Entries {
     let read = join(alloc, both).expect(rt, "memory");
     let green = value(rt, alloc, b'g', 1);

@@ -14,13 +14,13 @@ use std::process::Abort;
 /// The numbers of some keys: the first of them, and the one after the last.
 type Numbers = (u16, u16);
 
-/// The key of the two bytes of a number, under one of five full prefixes, n/a to n/e.
+/// Returns the key of the two bytes of a number, under one of five full prefixes, n/a to n/e.
 fn numbered(rt: &impl Abort, alloc: Global, number: u16) -> MetaKey {
     let sub = b'a'.saturating_add((number % 5) as u8);
     key(rt, alloc, b"n", &[sub], &number.to_be_bytes())
 }
 
-/// The store with its tree.
+/// Returns the store with its tree.
 fn built(rt: &impl Abort, alloc: Global, store: Store) -> Held {
     match Held::from_store(alloc, store) {
         Ok(held) => held,
@@ -28,7 +28,7 @@ fn built(rt: &impl Abort, alloc: Global, store: Store) -> Held {
     }
 }
 
-/// A side on which the node, in its first life, wrote x under these keys.
+/// Returns a side on which the node, in its first life, wrote x under these keys.
 fn filled(rt: &impl Abort, alloc: Global, node: u16, numbers: Numbers) -> Held {
     let mut store = Store::new(alloc);
     for number in numbers.0..numbers.1 {
@@ -38,14 +38,14 @@ fn filled(rt: &impl Abort, alloc: Global, node: u16, numbers: Numbers) -> Held {
     built(rt, alloc, store)
 }
 
-/// Runs an exchange, once more where memory was refused. Returns whether it ends as is wanted.
+/// Runs an exchange, once more if memory was refused. Returns whether it ends as is wanted.
 fn ends(alloc: Global, here: &mut Held, there: &mut Held, wanted: &Result<(), StoreFault>) -> bool {
     reconcile(alloc, here, there) == *wanted || reconcile(alloc, here, there) == *wanted
 }
 
 /// Returns whether an exchange ends as is wanted, of sides whose keys node 0 wrote here and node 1
-/// there; whether the sides then have one root exactly where it isn't refused; and whether they
-/// hold `lens` keys.
+/// there; whether the sides then have one root exactly if it isn't refused; and whether they hold
+/// `lens` keys.
 fn is_exchanged(
     rt: &impl Abort,
     alloc: Global,
@@ -87,7 +87,7 @@ fn an_exchange_succeeds_again_under_refused_memory(rt: HostRuntime) {
     assert!(rt; is_exchanged(&rt, rt.alloc(), numbers, &DONE, (2, 2)));
 }
 
-/// The actor writes a letter under key 0, over what is shown there.
+/// Writes a letter by the actor under key 0, over what is shown there.
 fn overwrite(rt: &impl Abort, alloc: Global, store: &mut Store, actor: Actor, letter: u8) {
     let key = numbered(rt, alloc, 0);
     let context = store
@@ -98,8 +98,8 @@ fn overwrite(rt: &impl Abort, alloc: Global, store: &mut Store, actor: Actor, le
     written.expect(rt, "a write");
 }
 
-/// A side on which the node, in its first life, wrote these letters under key 0, one value each,
-/// having read what was shown.
+/// Returns a side on which the node, in its first life, wrote these letters under key 0, one value
+/// each, having read what was shown.
 fn overwritten(rt: &impl Abort, alloc: Global, node: u16, letters: &[u8]) -> Held {
     let mut store = Store::new(alloc);
     for letter in letters {
@@ -143,7 +143,6 @@ fn one<T: Drop>(rt: &impl Abort, alloc: Global, item: T) -> Vec<T> {
     items
 }
 
-/// The answers to a message.
 fn answers(rt: &impl Abort, alloc: Global, side: &Held, message: Option<&Message>) -> Vec<Message> {
     let message = message.expect(rt, "a message");
     answer(alloc, side, message).expect(rt, "memory")
@@ -157,7 +156,7 @@ fn count(rt: &impl Abort, alloc: Global, message: Option<&Message>) -> usize {
     answers.len()
 }
 
-/// The leaves with which `there` answers, in an exchange that `here` began.
+/// Returns the leaves with which `there` answers, in an exchange that `here` began.
 fn leaves(rt: &impl Abort, alloc: Global, here: &Held, there: &Held) -> Vec<Message> {
     let root = one(rt, alloc, start(here));
     let prefixes = answers(rt, alloc, there, root.first());

@@ -5,7 +5,7 @@ use meta_types::MetaKey;
 use std::alloc::Global;
 use std::process::Abort;
 
-/// The bytes of a number, after `letters` letters.
+/// Returns the bytes of a number, after `letters` letters.
 fn name(rt: &impl Abort, alloc: Global, letters: usize, number: u16) -> Vec<u8> {
     let mut bytes = vec![in alloc; b'n'; letters].expect(rt, "memory");
     bytes
@@ -14,15 +14,15 @@ fn name(rt: &impl Abort, alloc: Global, letters: usize, number: u16) -> Vec<u8> 
     bytes
 }
 
-/// A key of the longest names. The keys of the numbers up to 8,000 stand under one full prefix, and
-/// each other key under its own.
+/// Returns a key of the longest names. The keys of the numbers up to 8,000 stand under one full
+/// prefix, and each other key under its own.
 fn numbered(rt: &impl Abort, alloc: Global, number: u16) -> MetaKey {
     let prefix = name(rt, alloc, 62, number.saturating_sub(8_000));
     let own = name(rt, alloc, 254, number);
     key(rt, alloc, &prefix, &prefix, &own)
 }
 
-/// 8,000 keys under one full prefix, and one under each of 40 more.
+/// Makes a store of 8,000 keys under one full prefix, and one key under each of 40 more.
 fn filled(rt: &impl Abort, alloc: Global) -> Store {
     let mut store = Store::new(alloc);
     for number in 1..8_041 {

@@ -1,6 +1,6 @@
 //! Names, values and objects, by letters and numbers.
 //!
-//! What takes memory is asked for twice here, and in the tests once more where it is refused. So a
+//! What takes memory is asked for twice here, and in the tests once more if it is refused. So a
 //! test passes whichever single allocation is refused, as long as it is given then.
 
 use dvvset::{Entries, Entry};
@@ -12,7 +12,7 @@ use std::process::Abort;
 /// of the values of the newest of them, newest first.
 pub type Part = (u16, u32, u64, &'static [u8]);
 
-/// The first of two results that is no refusal.
+/// Returns the first of two results that is no refusal.
 pub fn either<T: Drop>(
     rt: &impl Abort,
     first: Result<T, AllocError>,
@@ -21,7 +21,7 @@ pub fn either<T: Drop>(
     first.or(second).expect(rt, "memory once more")
 }
 
-/// A list with room for `many` items.
+/// Returns a list with room for `many` items.
 pub fn room<T: Drop>(rt: &impl Abort, alloc: Global, many: usize) -> Vec<T> {
     let first: Result<_, _> = Vec::with_capacity(alloc, many);
     let second: Result<_, _> = Vec::with_capacity(alloc, many);
@@ -32,12 +32,12 @@ pub fn actor(rt: &impl Abort, node: u16, life: u32) -> Actor {
     Actor::new(NodeId::new(node).expect(rt, "a node"), life)
 }
 
-/// A copy of these bytes.
+/// Returns a copy of these bytes.
 pub fn bytes(rt: &impl Abort, alloc: Global, bytes: &[u8]) -> Vec<u8> {
     either(rt, bytes.to_vec(alloc), bytes.to_vec(alloc))
 }
 
-/// The letter, `len` times.
+/// Returns the letter, `len` times.
 fn text(rt: &impl Abort, alloc: Global, letter: u8, len: usize) -> Vec<u8> {
     let first: Result<_, _> = vec![in alloc; letter; len];
     let second: Result<_, _> = vec![in alloc; letter; len];
@@ -49,24 +49,24 @@ pub fn prefix(rt: &impl Abort, alloc: Global, prefix: &[u8], sub: &[u8]) -> Full
     FullPrefix::new(prefix, bytes(rt, alloc, sub)).expect(rt, "a prefix")
 }
 
-/// The key of this name, under the full prefix of these two.
+/// Returns the key of this name, under the full prefix of these two.
 pub fn key(rt: &impl Abort, alloc: Global, first: &[u8], sub: &[u8], own: &[u8]) -> MetaKey {
     let prefix = prefix(rt, alloc, first, sub);
     MetaKey::new(prefix, bytes(rt, alloc, own)).expect(rt, "a key")
 }
 
-/// A key of `len` letters, under a full prefix of the longest names.
+/// Returns a key of `len` letters, under a full prefix of the longest names.
 pub fn long_key(rt: &impl Abort, alloc: Global, letter: u8, len: usize) -> MetaKey {
     let own = text(rt, alloc, letter, len);
     key(rt, alloc, &[b'p'; 64], &[b's'; 64], own.as_slice())
 }
 
-/// A value of `len` letters.
+/// Returns a value of `len` letters.
 pub fn value(rt: &impl Abort, alloc: Global, letter: u8, len: usize) -> Value {
     Value::new(7, Some(text(rt, alloc, letter, len))).expect(rt, "a value")
 }
 
-/// For each letter `many` values of `len` times that letter.
+/// Returns for each letter `many` values of `len` times that letter.
 pub fn values(
     rt: &impl Abort,
     alloc: Global,
@@ -84,7 +84,7 @@ pub fn values(
     values
 }
 
-/// The object of these parts, with `many` values of `len` letters for each letter.
+/// Returns the object of these parts, with `many` values of `len` letters for each letter.
 pub fn object(rt: &impl Abort, alloc: Global, parts: &[Part], many: usize, len: usize) -> Entries {
     let mut entries = room(rt, alloc, 65_536);
     for (node, lives, count, letters) in parts {

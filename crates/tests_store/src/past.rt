@@ -8,7 +8,7 @@ use std::process::Abort;
 /// A node, and the key under which it is asked.
 type At<'a> = (NodeId, &'a MetaKey);
 
-/// A write of a letter, which has read what was seen at the place `seen`, or nothing.
+/// Returns a write of a letter, which has read what was seen at the place `seen`, or nothing.
 fn wrote(
     rt: &impl Abort,
     alloc: Global,
@@ -86,8 +86,8 @@ fn is_told(rt: &impl Abort, alloc: Global, plain: &Plain) -> bool {
         && shows(rt, alloc, plain, (node, &key), b"yz")
 }
 
-/// Returns whether the account of the history has what `is_told` asks for; where memory was
-/// refused, whether the account can then be made.
+/// Returns whether the account of the history has what `is_told` asks for; if memory was refused,
+/// whether the account can then be made.
 fn are_told(rt: &impl Abort, alloc: Global, history: &[Happening]) -> bool {
     assert!(rt; fits(history));
     match Plain::replay(alloc, history) {

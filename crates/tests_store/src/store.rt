@@ -23,7 +23,7 @@ enum Step {
 /// The number of a refusal for lack of memory.
 const MEMORY: u16 = 99;
 
-/// The number of the refusal, or 0.
+/// Returns the number of the refusal, or 0.
 fn number<T: Drop>(answer: Result<T, StoreFault>) -> u16 {
     match answer {
         Ok(_) => 0,
@@ -31,7 +31,7 @@ fn number<T: Drop>(answer: Result<T, StoreFault>) -> u16 {
     }
 }
 
-/// The number of the refusal of a call that only lack of memory refuses, or 0.
+/// Returns the number of the refusal of a call that only lack of memory refuses, or 0.
 fn memory<T: Drop>(answer: Result<T, AllocError>) -> u16 {
     if answer.is_ok() { 0 } else { MEMORY }
 }
@@ -48,7 +48,7 @@ fn take(
     number(store.merge(key, object(rt, alloc, parts, many, len)))
 }
 
-/// The node writes `len` w's, having read `read`.
+/// Writes `len` w's by the node, having read `read`. Returns the number of the refusal, or 0.
 fn put(
     rt: &impl Abort,
     alloc: Global,
@@ -61,7 +61,8 @@ fn put(
     number(store.put(actor(rt, node, 1), key, value, read))
 }
 
-/// The node writes `len` w's over all that a read of the key shows.
+/// Writes `len` w's by the node over all that a read of the key shows. Returns the number of the
+/// refusal, or 0.
 fn put_over(
     rt: &impl Abort,
     alloc: Global,
@@ -102,8 +103,7 @@ fn shows(rt: &impl Abort, alloc: Global, store: &Store, at: &MetaKey, parts: &[P
     u16::from(!is_object(rt, alloc, held, parts))
 }
 
-/// Makes a step. Returns the number of its refusal, or 0; for `Shows` 0 where the object is that
-/// one.
+/// Makes a step. Returns the number of its refusal, or 0; for `Shows` 0 if the object is that one.
 fn act(rt: &impl Abort, alloc: Global, store: &mut Store, at: &MetaKey, step: &Step) -> u16 {
     match step {
         Step::Take(parts, many, len) => take(rt, alloc, store, parts, *many, *len),
@@ -118,7 +118,7 @@ fn act(rt: &impl Abort, alloc: Global, store: &mut Store, at: &MetaKey, step: &S
 /// What a row shows, and its steps, each with the number of its refusal, or 0.
 type Row = (&'static str, &'static [(Step, u16)]);
 
-/// Makes the steps of a row over a new store, each once more where it was refused memory. Returns
+/// Makes the steps of a row over a new store, each once more if it was refused memory. Returns
 /// whether each gives its number.
 fn is_played(rt: &impl Abort, alloc: Global, steps: &[(Step, u16)]) -> bool {
     let (mut store, at) = (Store::new(alloc), long_key(rt, alloc, b'k', 256));

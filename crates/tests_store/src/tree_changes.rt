@@ -5,7 +5,8 @@ use meta_types::MetaKey;
 use std::alloc::Global;
 use std::process::Abort;
 
-/// A letter among the first `sides` of the alphabet, that looks random, the same in each run.
+/// Returns a letter among the first `sides` of the alphabet, that looks random, the same in each
+/// run.
 fn letter(number: u64, sides: u8) -> u8 {
     let state = (number ^ (number >> 5)).wrapping_mul(6_364_136_223_846_793_005);
     let state = (state ^ (state >> 29)).wrapping_mul(1_442_695_040_888_963_407);

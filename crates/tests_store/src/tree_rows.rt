@@ -82,7 +82,7 @@ static LEAVES: [Leaf; 8] = [
     (*b"ac", 255, EMPTY_INNER, EMPTY, b""),
 ];
 
-/// The tree of the five keys.
+/// Returns the tree of the five keys.
 fn five(rt: &impl Abort, alloc: Global) -> Tree {
     tree_of(rt, alloc, &filled(rt, alloc, &FIVE))
 }
@@ -140,7 +140,7 @@ fn has_keys(rt: &impl Abort, alloc: Global, rows: &[KeyDigest], keys: &[u8]) -> 
     rows.len() == keys.len()
 }
 
-/// The digest of the inner node above a leaf.
+/// Returns the digest of the inner node above a leaf.
 fn inner(tree: &Tree, at: &FullPrefix, leaf: u8) -> Digest {
     tree.inner(at)[usize::from(leaf / 16)]
 }

@@ -1,5 +1,5 @@
-//! Stores and their trees. What takes memory here is asked for once more where it is refused, so
-//! that a test under refused memory gets its parts whichever single allocation is refused.
+//! Stores and their trees. What takes memory here is asked for once more if it is refused, so that
+//! a test under refused memory gets its parts whichever single allocation is refused.
 
 ghost use Rattle.std.specs.Prelude.{◌≡◌};
 ghost use Rattle.hash_tree.specs.Tree.{rows_of};
@@ -15,7 +15,6 @@ use std::process::Abort;
 /// A full prefix of two letters, and a key of one.
 pub type Letters = [u8; 3];
 
-/// The key of these letters.
 pub fn key_of(rt: &impl Abort, alloc: Global, letters: Letters) -> MetaKey {
     let [prefix, sub, own] = letters;
     key(rt, alloc, &[prefix], &[sub], &[own])
@@ -48,7 +47,7 @@ pub fn write(
     }
 }
 
-/// A store in which node 0 wrote x under each of the keys.
+/// Returns a store in which node 0 wrote x under each of the keys.
 pub fn filled(rt: &impl Abort, alloc: Global, keys: &[Letters]) -> Store {
     let mut store = Store::new(alloc);
     for letters in keys {
@@ -57,7 +56,7 @@ pub fn filled(rt: &impl Abort, alloc: Global, keys: &[Letters]) -> Store {
     store
 }
 
-/// The tree of all that the store holds.
+/// Returns the tree of all that the store holds.
 pub fn tree_of(rt: &impl Abort, alloc: Global, store: &Store) -> Tree
     ensures { result ≡ rows_of store.now }
 {
@@ -88,7 +87,7 @@ pub fn grow(
     follow(rt, tree, store, key);
 }
 
-/// The root of all that the store holds, computed at once.
+/// Returns the root of all that the store holds, computed at once.
 pub fn plain(rt: &impl Abort, alloc: Global, store: &Store) -> Digest {
     either(rt, plain_root(alloc, store), plain_root(alloc, store))
 }

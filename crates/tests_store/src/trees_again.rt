@@ -15,7 +15,7 @@ fn grow_later(rt: &impl Abort, alloc: Global, store: &mut Store, tree: &mut Tree
     }
 }
 
-// Each call is made once more where memory was refused.
+// Each call is made once more if memory was refused.
 // Holds whichever single allocation is refused. Allocates at most 300 times.
 #[test]
 fn trees_succeed_again_under_refused_memory(rt: HostRuntime) {

@@ -21,7 +21,7 @@ struct Run {
     told: &'static [u8],
 }
 
-static RUNS: [Run; 17] = [
+static RUNS: [Run; 18] = [
     Run {
         text: b"nodes 1\n",
         end: End::Over,
@@ -38,6 +38,16 @@ static RUNS: [Run; 17] = [
         status: 0,
         output: b"ok\nok\nframe 1 JOIN 1 0\n",
         explained: b"  3:  nodes 2\nok\n  4: join 1 0\nok\nframe 1 JOIN 1 0\n  on their way: 1\n",
+        told: b"",
+    },
+    Run {
+        text: b"nodes 1\nput 0 a/b/k x\nrestart 0 0\n",
+        end: End::Over,
+        room: 200,
+        status: 0,
+        output: b"ok\nwrote ctx 0.1:1\nok\n",
+        explained: b"  1: nodes 1\nok\n  2: put 0 a/b/k x\nwrote ctx 0.1:1\n\
+\x20 node 0 shows a/b/k ctx 0.1:1 values x\n  3: restart 0 0\nok\n\x20 node 0 shows a/b/k ctx - values -\n",
         told: b"",
     },
     Run {
@@ -222,7 +232,7 @@ fn each_run_ends_with_its_status_and_tells_its_fault(rt: HostRuntime) {
 #[test]
 fn a_file_that_is_not_there_is_told_with_its_name(rt: HostRuntime) {
     let mut errors = MayFail(Device::new(b"error 7 Read\ncause: /no?where ~: not found\n"));
-    let status = tell_unopened(rt.alloc(), &mut errors, "/no\nwhere ~", ErrorKind::NotFound);
+    let status = tell_unopened(&mut errors, "/no\nwhere ~", ErrorKind::NotFound);
     assert!(rt; (status == 3) & errors.0.is_right & errors.0.wanted.is_empty());
 }
 
@@ -246,7 +256,7 @@ impl Progress for Seen {
     }
 }
 
-/// What is seen of a run.
+/// Returns what is seen of a run.
 fn seen_of(alloc: Global, text: &[u8], explain: bool) -> (u64, u64) {
     let seen = Seen {
         lines: AtomicU64::new(0),

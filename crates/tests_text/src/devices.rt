@@ -25,7 +25,7 @@ pub struct Feed {
 }
 
 impl Feed {
-    /// A reader of a text, in pieces of any length, and at its end then.
+    /// Makes a reader of a text, which gives pieces of any length and is then at its end.
     pub fn new(text: &'static [u8]) -> Feed {
         Feed {
             left: text,
@@ -36,7 +36,7 @@ impl Feed {
         }
     }
 
-    /// How it fails after its text, if it does.
+    /// Returns how it fails after its text, if it does.
     fn fault(&mut self) -> Option<ErrorKind> {
         match self.end {
             End::Over => None,
@@ -91,11 +91,11 @@ impl Read for Lines {
 /// too. A reader of what it took sees only what was flushed.
 #[derive(Clone, Copy)]
 pub struct Device {
-    /// The text that is still to come.
+    /// The rest of the text, which it expects.
     pub wanted: &'static [u8],
     /// Whether only what was wanted came.
     pub is_right: bool,
-    /// How many bytes were still to come at the last flush.
+    /// How many bytes were missing at the last flush.
     pub unseen: usize,
     pub flushes: u32,
     pub room: usize,
@@ -105,7 +105,7 @@ pub struct Device {
 }
 
 impl Device {
-    /// A device that takes all, and expects this text.
+    /// Makes a device that takes all, and expects this text.
     pub fn new(wanted: &'static [u8]) -> Device {
         Device {
             wanted,

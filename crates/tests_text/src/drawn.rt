@@ -1,6 +1,7 @@
 //! A run of `draw`, and what stands in what it writes.
 
-use plumctl_draw::{Part, draw_scenario};
+use plumctl_core::NoProgress;
+use plumctl_draw::{Excerpt, draw_scenario};
 use std::alloc::Global;
 
 /// What a run of `draw` writes and prints at standard error, and its exit status.
@@ -13,7 +14,7 @@ pub(crate) struct Drawn {
 
 /// Draws the commands of a text from line `from` on, with all their frames.
 pub(crate) fn draw(alloc: Global, text: &[u8], from: u64) -> Drawn {
-    let part = Part {
+    let part = Excerpt {
         from,
         to: u64::MAX,
         fold: false,
@@ -22,10 +23,17 @@ pub(crate) fn draw(alloc: Global, text: &[u8], from: u64) -> Drawn {
 }
 
 /// Draws a part of a text.
-pub(crate) fn draw_part(alloc: Global, text: &[u8], part: Part) -> Drawn {
+pub(crate) fn draw_part(alloc: Global, text: &[u8], part: Excerpt) -> Drawn {
     let (mut written, mut told) = (Vec::new(alloc), Vec::new(alloc));
     let mut reader = text;
-    let status = draw_scenario(alloc, &mut reader, &mut written, &mut told, part);
+    let status = draw_scenario(
+        alloc,
+        &mut reader,
+        &mut written,
+        &mut told,
+        part,
+        &NoProgress,
+    );
     Drawn {
         status,
         written,
@@ -33,7 +41,7 @@ pub(crate) fn draw_part(alloc: Global, text: &[u8], part: Part) -> Drawn {
     }
 }
 
-/// How often a text stands in another one.
+/// Returns how many times a text stands in another one.
 pub(crate) fn count(text: &[u8], sought: &[u8]) -> usize {
     let mut found = 0usize;
     for at in 0..text.len() {

@@ -12,7 +12,7 @@ const INPUT: &[u8] = b"50540201 0000 0001 0000000000000001 00000029 0000 000161 
 const TEXT: &[u8] =
     b"GOSSIP from 0 to 1 number 1 round 0 key a/b/k ctx 0.1:1 values hex:2b\nerror 9 BadHex\n";
 
-/// How a run ends, and how many bytes of the output were not written.
+/// Returns how a run ends, and how many bytes of the output were not written.
 fn run(alloc: Global) -> (Result<Ended, StreamFault>, usize) {
     let mut writer = MayFail(Device::new(TEXT));
     let done = frame_lines(alloc, &mut MayFail(Feed::new(INPUT)), &mut writer);

@@ -54,8 +54,8 @@ fn a_last_line_feed_starts_no_line(rt: HostRuntime) {
 }
 
 /// Returns how many bytes are seen outside, and how often they were passed on, when this many bytes
-/// were given one by one and the reader fails then; `None` where others were printed, or the run
-/// ended otherwise.
+/// were given one by one and the reader then fails; `None` if others were printed, or the run ended
+/// otherwise.
 fn seen_after(alloc: Global, given: usize, kind: ErrorKind) -> Option<(usize, u32)> {
     let feed = Feed {
         most: 1,
@@ -121,8 +121,8 @@ fn an_interruption_is_not_tried_again(rt: HostRuntime) {
     assert!(rt; done == Err(StreamFault::Read));
 }
 
-/// How the run ended, and how many bytes of the text a device took until the writer failed, with
-/// room for `room` bytes and at most `most` at a time; `None` where it took others.
+/// Returns how the run ended, and how many bytes of the text a device took until the writer failed,
+/// with room for `room` bytes and at most `most` at a time; `None` if it took others.
 fn taken_until_full(
     alloc: Global,
     room: usize,
@@ -168,7 +168,7 @@ fn a_writer_that_can_not_be_flushed_has_failed(rt: HostRuntime) {
     assert!(rt; taken == Some((Err(StreamFault::Write), 57)));
 }
 
-/// How a run over `left` bytes ends, in long lines that are not all digits.
+/// Returns how a run over `left` bytes ends, in long lines that are not all digits.
 fn run_of_lines(alloc: Global, left: usize) -> Done {
     let mut writer = MayFail(Device::new(b""));
     frame_lines(alloc, &mut MayFail(Lines { left }), &mut writer)
@@ -184,7 +184,7 @@ fn an_input_of_67108865_bytes_is_too_long(rt: HostRuntime) {
     assert!(rt; run_of_lines(rt.alloc(), 67_108_865) == Err(StreamFault::InputTooLong));
 }
 
-/// The exit status of a run to a device, over a text that goes on as `end` says; `None` where
+/// Returns the exit status of a run to a device, over a text that goes on as `end` says; `None` if
 /// something else is printed at standard error.
 fn exit(
     alloc: Global,
@@ -237,8 +237,8 @@ fn a_run_exits_with_its_status_and_tells_its_fault(rt: HostRuntime) {
     }
 }
 
-/// The exit status of a run over `left` bytes; `None` where something else is printed at standard
-/// error.
+/// Returns the exit status of a run over `left` bytes; `None` if something else is printed at
+/// standard error.
 fn exit_after(alloc: Global, left: usize, told: &'static [u8]) -> Option<u8> {
     let mut errors = MayFail(Device::new(told));
     let mut writer = MayFail(Device::new(b""));
@@ -257,7 +257,7 @@ fn a_run_over_too_long_an_input_exits_with_1(rt: HostRuntime) {
     assert!(rt; status == Some(1));
 }
 
-/// The exit status of a fault; `None` where something else is printed at standard error.
+/// Returns the exit status of a fault; `None` if something else is printed at standard error.
 fn status_of(fault: StreamFault, told: &'static [u8]) -> Option<u8> {
     let mut errors = MayFail(Device::new(told));
     let status = tell(&mut errors, fault);

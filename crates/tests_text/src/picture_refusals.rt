@@ -1,10 +1,10 @@
 //! Runs of `draw` that draw nothing, and a part of a long scenario.
 
 use crate::drawn::{count, draw, draw_part};
-use plumctl_draw::Part;
+use plumctl_draw::Excerpt;
 use std::alloc::{AllocError, Global};
 
-/// A scenario of `count` commands.
+/// Returns a scenario of `count` commands.
 fn of_commands(alloc: Global, count: usize) -> Result<Vec<u8>, AllocError> {
     let mut text = b"nodes 1\n".to_vec(alloc)?;
     for _command in 1..count {
@@ -13,8 +13,8 @@ fn of_commands(alloc: Global, count: usize) -> Result<Vec<u8>, AllocError> {
     Ok(text)
 }
 
-/// Whether nothing is written of a text from this line on, the status is 1, and this stands at
-/// standard error.
+/// Returns whether nothing is written of a text from this line on, the status is 1, and this stands
+/// at standard error.
 fn is_refused(alloc: Global, text: &[u8], from: u64, told: &[u8]) -> bool {
     let drawn = draw(alloc, text, from);
     let is = drawn.status == 1
@@ -24,7 +24,7 @@ fn is_refused(alloc: Global, text: &[u8], from: u64, told: &[u8]) -> bool {
     is
 }
 
-/// Whether a picture is written of a text from this line on, and nothing at standard error.
+/// Returns whether a picture is written of a text from this line on, and nothing at standard error.
 fn is_drawn(alloc: Global, text: &[u8], from: u64) -> bool {
     let drawn = draw(alloc, text, from);
     let is = drawn.status == 0
@@ -34,7 +34,7 @@ fn is_drawn(alloc: Global, text: &[u8], from: u64) -> bool {
     is
 }
 
-/// Whether 201 commands are too many, and the last 200 of them aren't.
+/// Returns whether 201 commands are too many, and the last 200 of them aren't.
 fn is_bounded(alloc: Global) -> Result<bool, AllocError> {
     let text = of_commands(alloc, 201)?;
     let all = is_refused(
@@ -48,10 +48,10 @@ fn is_bounded(alloc: Global) -> Result<bool, AllocError> {
     Ok(all && last)
 }
 
-/// Whether nothing is written of these lines of a text, the status is 2, and this is the line at
-/// standard error.
+/// Returns whether nothing is written of these lines of a text, the status is 2, and this is the
+/// line at standard error.
 fn has_nothing(alloc: Global, text: &[u8], (from, to): (u64, u64), told: &[u8]) -> bool {
-    let part = Part {
+    let part = Excerpt {
         from,
         to,
         fold: false,

@@ -1,7 +1,7 @@
 //! What stands in pictures, by what happens in the scenarios.
 
 use crate::drawn::{Drawn, count, draw, draw_part};
-use plumctl_draw::Part;
+use plumctl_draw::Excerpt;
 use std::alloc::{AllocError, Global};
 
 /// A scenario, and how much of each there is in its picture.
@@ -60,7 +60,7 @@ deliver 12\ntick 1\ndeliver 14\ntick 2\ntick 2\ndeliver 15\ndeliver 16\n",
     },
 ];
 
-/// Whether the picture of a story has what it should.
+/// Returns whether the picture of a story has what it should.
 fn is_drawn(alloc: Global, story: &Story) -> bool {
     let drawn = draw(alloc, story.text, 0);
     let picture = drawn.written.as_slice();
@@ -74,7 +74,7 @@ fn is_drawn(alloc: Global, story: &Story) -> bool {
     is
 }
 
-/// Whether markup in a value stays text: the picture ends once.
+/// Returns whether markup in a value stays text: the picture ends once.
 fn ends_once(alloc: Global) -> bool {
     let drawn = draw(alloc, b"nodes 1\nput 0 a/b/k hex:3c2f7376673e\n", 0);
     let picture = drawn.written.as_slice();
@@ -89,15 +89,15 @@ const TWO_SETTLES: &[u8] = b"nodes 3\njoin 1 0\njoin 2 0\nsettle\nput 0 a/b/k re
 
 /// Draws a text with each `settle` as a band.
 fn fold(alloc: Global, text: &[u8]) -> Drawn {
-    let part = Part {
+    let part = Excerpt {
         fold: true,
-        ..Part::all()
+        ..Excerpt::all()
     };
     draw_part(alloc, text, part)
 }
 
-/// Whether each `settle` is one band, with a line for each frame that was sent before, and a box
-/// for the two nodes that show the write alike.
+/// Returns whether each `settle` is one band, with a line for each frame that was sent before, and
+/// a box for the two nodes that show the write alike.
 fn is_folded(alloc: Global) -> bool {
     let drawn = fold(alloc, TWO_SETTLES);
     let picture = drawn.written.as_slice();
@@ -111,7 +111,7 @@ fn is_folded(alloc: Global) -> bool {
     is
 }
 
-/// Whether a literal colour stands before each colour that is a variable.
+/// Returns whether a literal colour stands before each colour that is a variable.
 fn has_literals(alloc: Global) -> bool {
     let drawn = draw(alloc, b"nodes 1\n", 0);
     let picture = drawn.written.as_slice();
@@ -121,7 +121,7 @@ fn has_literals(alloc: Global) -> bool {
     is
 }
 
-/// How often the name of node 0 stands in a picture of so many rows of one line.
+/// Returns how many times the name of node 0 stands in a picture of so many rows of one line.
 fn names(alloc: Global, rows: usize) -> Result<usize, AllocError> {
     let mut text = b"nodes 2\n".to_vec(alloc)?;
     for _row in 1..rows {
@@ -134,7 +134,7 @@ fn names(alloc: Global, rows: usize) -> Result<usize, AllocError> {
     Ok(found)
 }
 
-/// How many stories aren't drawn as they should be.
+/// Returns how many stories aren't drawn as they should be.
 fn wrong(alloc: Global) -> usize {
     let mut wrong = 0usize;
     for story in STORIES.iter() {

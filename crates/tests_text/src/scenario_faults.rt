@@ -13,7 +13,7 @@ fn fault(fault: StreamFault) -> Done {
     Err(ScenarioFault::Stream(fault))
 }
 
-/// A reader fails after `at` bytes of the text.
+/// Asserts that a reader fails after `at` bytes of the text.
 fn assert_not_read(rt: &impl Abort, alloc: Global, at: usize, kind: ErrorKind) {
     let mut reader = Feed::new(TEXT.get(..at).expect(rt, "a front"));
     reader.most = 7;
@@ -30,7 +30,7 @@ fn a_reader_that_fails_at_any_byte(rt: HostRuntime) {
     }
 }
 
-/// A text, what it prints, the kind of error with which the writer fails, or none where it takes no
+/// A text, what it prints, the kind of error with which the writer fails, or none if it takes no
 /// more, and how the run then ends.
 type Row = (&'static [u8], &'static [u8], Option<ErrorKind>, StreamFault);
 
@@ -51,7 +51,7 @@ static ROWS: [Row; 4] = [
     ),
 ];
 
-/// The writer fails once it took `room` bytes.
+/// Asserts that the writer fails once it took `room` bytes.
 fn assert_not_written(rt: &impl Abort, alloc: Global, row: Row, room: usize) {
     let (text, output, kind, wanted) = row;
     let writer = Device {

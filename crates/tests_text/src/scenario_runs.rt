@@ -43,7 +43,7 @@ pub fn run(
     (done, writer.0)
 }
 
-/// How a run ends whose first bad line is this one, 0 for none.
+/// Returns how a run ends whose first bad line is this one, 0 for none.
 fn end(bad: u64) -> Done {
     if bad == 0 {
         Ok(())

@@ -74,7 +74,7 @@ fn take_each<R: Wait>(rt: &R, inbox: &Inbox, pass: TakePass) -> (bool, TakePass)
     unreachable!()
 }
 
-/// Each sender puts in a thread of its own.
+/// Lets each sender put in a thread of its own.
 fn put_all<R: Threads + Wait + Abort + Sync>(
     rt: &R,
     alloc: Global,
@@ -101,7 +101,7 @@ fn new_for_four(rt: &impl Abort, alloc: Global) -> Fresh
     Inbox::new(alloc, 4).ok().expect(rt, "an inbox")
 }
 
-/// An inbox for four senders, with its passes.
+/// Returns an inbox for four senders, with its passes.
 fn for_four(rt: &impl Abort, alloc: Global) -> (Inbox, Vec<PutPass>, TakePass)
     ensures puts { AreOf result.0.line result.1.items }
     ensures takes { result.2.line ≡ result.0.line }
@@ -120,8 +120,8 @@ fn hand_back_all(inbox: &Inbox, passes: Vec<PutPass>, takes: &mut TakePass)
     }
 }
 
-/// Four senders put side by side while one takes. Returns whether all came, in order, and nothing
-/// is left.
+/// Lets four senders put side by side while one takes. Returns whether all came, in order, and
+/// nothing is left.
 fn cross<R: Threads + Wait + Abort + Sync>(rt: &R, alloc: Global) -> bool {
     let (inbox, puts, takes) = for_four(rt, alloc);
     let shared = &inbox;

@@ -2,7 +2,7 @@
 //! its tests. No crate uses this one.
 #![tactic(auto)]
 
-// Where memory runs out a test ends on the spot, by `expect`, which drops nothing.
+// If memory runs out a test ends on the spot, by `expect`, which drops nothing.
 
 #[cfg(test)]
 mod bounds;

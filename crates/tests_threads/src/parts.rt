@@ -8,7 +8,7 @@ use std::alloc::Global;
 use std::process::Abort;
 use std::sync::Wait;
 
-/// An inbox for one sender, with its passes.
+/// Returns an inbox for one sender, with its passes.
 pub(crate) fn with_room_for(
     rt: &impl Abort,
     alloc: Global,
@@ -27,7 +27,7 @@ pub(crate) fn with_room_for(
     (inbox, put, takes)
 }
 
-/// Puts a frame that spells the number. Returns the number of the refusal, 0 for none, and 1 where
+/// Puts a frame that spells the number. Returns the number of the refusal, 0 for none, and 1 if
 /// another frame comes back.
 pub(crate) fn put<R: Wait + Abort>(
     rt: &R,
@@ -50,13 +50,13 @@ pub(crate) fn put<R: Wait + Abort>(
     }
 }
 
-/// The number that a frame spells.
+/// Returns the number that a frame spells.
 pub(crate) fn number(parcel: &Parcel) -> Option<u32> {
     let bytes: [u8; 4] = parcel.frame.as_slice().try_into().ok()?;
     Some(u32::from_le_bytes(bytes))
 }
 
-/// The sender and the number of the next frame.
+/// Returns the sender and the number of the next frame.
 pub(crate) fn take<R: Wait>(rt: &R, inbox: &Inbox, pass: &mut TakePass) -> Option<(u64, u32)>
     requires { pass.old.line ≡ inbox.now.line }
     ensures { pass.new.line ≡ inbox.now.line }

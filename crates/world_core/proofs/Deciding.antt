@@ -23,7 +23,7 @@ use Rattle.world_core.specs.World.{World}
 
 -- ---- one refusal
 
--- such a refusal is one, but for want of memory
+-- such a refusal is one, except for a lack of memory
 abbrev IsOne : (WorldFault → Type 0) → Type 0
 IsOne refuses = (f g : WorldFault) → f ≢ Memory → g ≢ Memory → refuses f → refuses g → f ≡ g
 

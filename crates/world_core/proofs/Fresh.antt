@@ -1,4 +1,4 @@
--- A delivered object is answered fresh exactly where its load isn't known.
+-- A delivered object is answered fresh exactly if its load isn't known.
 use Rattle.std.proofs.Common.{◌≡◌, ℕ, ◌<◌, [], Bool, true, false, not, cond, List, length, Option, Some, None, refl, sym, ap, subst, ◌∙◌}
 use Rattle.std.specs.Prelude.{◌↔◌, IfOk, slice_get}
 use Rattle.std.proofs.Common.{Result, Ok, Err}

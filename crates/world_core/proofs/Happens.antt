@@ -75,7 +75,7 @@ stands : (ns : List Keeping) (contexts : List Reading) (sent : List Frame) (t : 
     → IsState ns contexts sent t → Stepping ns n old step state s → FollowsHistory t.history n (keeping old)
 stands ns contexts sent t n old step state s is st = subst (FollowsHistory t.history n) (sym st.at) (is.nodes n (keeping old) st.low)
 
--- ---- where all that is held stays
+-- ---- if all that is held stays
 
 kept_keeping : (old : ImagedNode) (state : NodeParts) → state.table ≡ old.state.table → state.incarnation ≡ old.state.incarnation
     → keeping (arrived state None old) ≡ keeping old
@@ -94,7 +94,7 @@ state_same ns contexts sent t n old state at table life is =
     ap (slice_set ns n) (kept_keeping old state table life ∙ at) ∙ set-get_or ns n (keeping old) in
     subst (λ (ms : List Keeping). IsState ms contexts sent t) (sym same) is
 
--- the same, where no context is handed out
+-- the same, if no context is handed out
 quiet : (ns : List Keeping) (contexts : List Reading) (sent : List Frame) (t : Told) (n : ℕ) (old : ImagedNode) (state : NodeParts)
     → keeping old ≡ get_or ns n (keeping old) → state.table ≡ old.state.table → state.incarnation ≡ old.state.incarnation → IsState ns contexts sent t
     → IsState (slice_set ns n (keeping (arrived state None old))) (contexts ++ []) sent t

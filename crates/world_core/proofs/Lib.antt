@@ -22,7 +22,7 @@ pub mod Deciding
 pub mod Accepting
 -- a chronicle after one more event
 pub mod Chronicles
--- the history told anew
+-- the history told once more
 pub mod Retelling
 -- what a world lends
 pub mod Shown

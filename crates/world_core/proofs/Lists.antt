@@ -56,7 +56,7 @@ pairwise_append P [] more (b ∷ ys) others all rest = absurd all
 pairwise_append P (a ∷ xs) more [] others all rest = absurd all
 pairwise_append P (a ∷ xs) more (b ∷ ys) others all rest = (all.0, pairwise_append P xs more ys others all.1 rest)
 
--- where the relation determines the left one, one list stands beside the right one
+-- if the relation determines the left one, one list stands beside the right one
 pub pairwise_one : {A B : Type 0} (P : A → B → Type 0) → ((x y : A) (b : B) → P x b → P y b → x ≡ y) → (xs ys : List A) (bs : List B)
     → Pairwise P xs bs → Pairwise P ys bs → xs ≡ ys
 pairwise_one P one [] [] [] all others = refl
@@ -74,7 +74,7 @@ pub slice_get_end : {A : Type 0} (xs : List A) (x : A) → slice_get (xs ++ x �
 slice_get_end [] x = refl
 slice_get_end (y ∷ xs) x = slice_get_end xs x
 
--- what stands in a list stands there too where more follows
+-- what stands in a list stands there too if more follows
 pub slice_get_more : {X : Type 0} (frames more : List X) (at : ℕ) → at < length frames → slice_get (frames ++ more) at ≡ slice_get frames at
 slice_get_more [] more at low = absurd (let no : at < 0 = low in omega (arith, no))
 slice_get_more (frame ∷ frames) more zero low = refl

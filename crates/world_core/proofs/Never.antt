@@ -87,7 +87,7 @@ some_entry true same x y z xs ys zs e = cc
 some_entry false true x y z xs ys zs e = cc
 some_entry false false x y z xs ys zs e = cc
 
--- where nothing is left by a merge, nothing came
+-- if nothing is left by a merge, nothing came
 nothing_came : (xs ys : List Entry) → sync xs ys ≡ [] → ys ≡ []
 nothing_came [] ys e = e
 nothing_came (x ∷ xs) [] e = refl

@@ -1,4 +1,4 @@
--- The history is told anew from what was accepted: one event and one frame after the other.
+-- The history is told once more from what was accepted: one event and one frame after the other.
 use Rattle.std.proofs.Common.{◌≡◌, ℕ, zero, suc, ◌+◌, ◌-◌, ◌<◌, ◌≤◌, List, [], ◌∷◌, ◌++◌, length, take, drop, get_or, Option, None, Some, Result, Ok, Err, refl, sym, ap, subst, ◌∙◌, arith}
 use Rattle.std.specs.Prelude.{slice_get, IfOk, IfSome, OnOk}
 use Rattle.std.proofs.lemmas.List.{get_or-drop, length-drop, take_more}

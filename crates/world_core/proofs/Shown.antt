@@ -156,7 +156,7 @@ carries_load w is number f k o of carries =
     let told = frame_told w is number f of in
     load_of is.told.history is.state.is_history is.told.sendings is.told refl number f k o told.sending told.there told.told carries
 
--- ---- what is lent, where it is a node's
+-- ---- what is lent, if it is a node's
 
 pub images_number : (w : World) → IsWorld w → (n : ℕ) → n < length w.nodes → (images : List Image) → images ≡ (node_at w n).images
     → OfAllTold w (λ t. length images ≡ (past t.history).last n)

@@ -51,7 +51,7 @@ told_later hs more frame (Some place) is =
       carries = is.carries ∙ ap (λ o. Some (is.key, o)) (sym (sent_later hs more place is.key within));
     }
 
--- ---- one happening more, where reads and frames stay
+-- ---- one happening more, if reads and frames stay
 
 pub state_next : (old nodes : List Keeping) (contexts : List Reading) (sent : List Frame) (t : Told) (h : Happening) → IsState old contexts sent t → Fits t.history h
     → ((n : ℕ) (d : Keeping) → n < length nodes → FollowsHistory (t.history ++ h ∷ []) n (get_or nodes n d)) → IsState nodes contexts sent (tell h t)

@@ -3,6 +3,7 @@
 use Rattle.std.specs.Prelude.{◌≡◌, ℕ, ◌<◌, ◌≤◌, List, length, map, get_or, slice_get, Option, Some, None, All}
 use Rattle.meta_types.specs.Actor.{node_of_writer}
 use Rattle.meta_types.specs.Name.{Key}
+use Rattle.meta_types.specs.Node.{most_nodes}
 use Rattle.dvvset.specs.Clock.{join}
 use Rattle.meta_frame.specs.declared.message.Frame.{Frame}
 use Rattle.meta_store.specs.Context.{Reading}
@@ -36,7 +37,7 @@ pub record IsSending (hs : List Happening) (frame : Frame) (place : ℕ) : Type 
   pub sent : slice_get hs place ≡ Some (Sent frame.from key)
   pub carries : carried_object frame.message ≡ Some (key, sent_object hs place key)
 
--- a frame was told as a Sent where it carries an object, and only there
+-- a frame was told as a Sent if it carries an object, and only then
 abbrev pub IsTold : List Happening → Frame → Option ℕ → Type 0
 IsTold hs frame None = carried_object frame.message ≡ None
 IsTold hs frame (Some place) = IsSending hs frame place
@@ -77,7 +78,7 @@ pub record IsWorld (w : World) : Type 0 where
   pub within : All (λ a. IsWithin w a.event) w.accepted
   pub handed : All (λ a. HandsOut w a.answer) w.accepted
   pub some : 1 ≤ length w.nodes
-  pub few : length w.nodes ≤ 16
+  pub few : length w.nodes ≤ most_nodes
 
 -- `IsWorld` as one word, into which proofs do not look by themselves
 unfoldable pub IsWholeWorld : World → Type 0

@@ -66,8 +66,8 @@ pub record CarriesLoad (t : Told) (number from : ℕ) (key : Key) (object : List
   pub sent : slice_get t.history place ≡ Some (Sent from key)
   pub is : IsObjectOf (writes t.history) key (load t.history place key) object
 
--- the reply to an object that was sent at the place: fresh exactly where the node didn't know all
--- that was sent, and stale exactly where it did
+-- the reply to an object that was sent at the place: fresh exactly if the node didn't know all that
+-- was sent, and stale exactly if it did
 pub record TellsFreshness (hs : List Happening) (n place : ℕ) (key : Key) (reply : Reply)
     : Type 0 where
   pub fresh : (reply ≡ TookFresh) ↔ (IsSubset (load hs place key) (known hs n key) → ⊥)

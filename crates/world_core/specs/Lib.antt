@@ -1,5 +1,5 @@
 -- What must be believed of the world, in the order in which to read it: first names, values,
--- clocks, the past, frames, stores, nodes and images, of which the contracts of this crate speak
+-- clocks, the past, frames, stores, nodes and images, which the contracts of this crate speak of
 -- too
 pub use Rattle.meta_types.specs.Name
 pub use Rattle.meta_types.specs.Value
@@ -36,8 +36,8 @@ pub mod Refusal
 pub mod Knowledge
 -- what a world answers, and what it then is
 pub mod Outcome
--- what need not be believed: what a world always keeps to, by the machine of objects (of which
--- `Images` above takes the word `Holding`)
+-- what need not be believed: what a world always keeps to, by the machine of objects (`Images`
+-- above takes the word `Holding` from it)
 pub use Rattle.past_objects.specs.Objects
 pub use Rattle.node_images.specs.Follows
 pub mod Invariant

@@ -2,7 +2,7 @@
 use Rattle.std.specs.Prelude.{ℕ, zero, suc, ◌-◌, List, take, drop, slice_get, Option, None}
 use Rattle.world_core.specs.declared.answer.FrameNumbers.{FrameNumbers}
 
--- what has this number, where the first has number 1
+-- what has this number; the first has number 1
 abbrev pub numbered : {A : Type 0} → List A → ℕ → Option A
 numbered xs zero = None
 numbered xs (suc before) = slice_get xs before

@@ -41,7 +41,7 @@ next_frames w count = record { first = length w.frames + 1; count = count }
 
 -- ---- a step of a node
 
--- the node makes its step, and where it wrote or kept an image stands beside it; what the step sent
+-- the node makes its step, and if it wrote or kept, an image stands beside it; what the step sent
 -- has the next numbers, and the context of its read, if it was one, the next read number
 pub record MakesStep (old : World) (n : ℕ) (step : NodeEvent) (answer : Answer) (new : World)
     : Type 0 where
@@ -107,9 +107,9 @@ pub record AddsDeed (old : World) (event : Event) (answer : Answer) (new : World
 
 -- ---- all of one event, and events one after the other
 
--- one event: its outcome; where it is accepted it is one deed more of its node; a delivery is
--- answered fresh exactly where it brought something; what a merge leaves shows a value, so that 21
--- is never the cause of a refusal; and in what is left each node shows what it knows
+-- one event: its outcome; if it is accepted, it is one more deed of its node; a delivery is
+-- answered fresh exactly if it brought something; what a merge leaves shows a value, so that 21 is
+-- never the cause of a refusal; and in what is left each node shows what it knows
 pub record Passes (old : World) (event : Event) (outcome : Result Answer WorldFault) (new : World)
     : Type 0 where
   pub comes : Outcome old event outcome new
@@ -135,8 +135,8 @@ pub record WorldRunsGoOn : Type 0 where
       → Passes mid event outcome new
       → Outcomes old (events ++ event ∷ []) (outcomes ++ outcome ∷ []) new
 
--- what a world was and the event determine its outcome and the world that is left, but that memory
--- may run out at any time
+-- what a world was and the event determine its outcome and the world that is left, except that
+-- memory may run out at any time
 abbrev pub OneOutcomeForEachEvent : Type 0
 OneOutcomeForEachEvent = (old new other : World) (event : Event)
     (outcome also : Result Answer WorldFault) → Outcome old event outcome new

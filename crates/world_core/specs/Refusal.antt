@@ -43,7 +43,7 @@ abbrev pub HasNoNode : World → Option ℕ → Type 0
 HasNoNode w None = ⊥
 HasNoNode w (Some n) = length w.nodes ≤ n
 
--- the event is of, or names, a node that the world hasn't
+-- the event is of, or names, a node that the world doesn't have
 abbrev pub NamesNoNode : World → Event → Type 0
 NamesNoNode w event = HasNoNode w (Some (node_of_event event)) ⊎ HasNoNode w (other_node_of event)
 
@@ -89,8 +89,8 @@ RefusesDoing s (Begin image) fault = ⊥
 
 -- ---- the first cause that applies
 
--- where the cause applies this is the refusal, and where it doesn't, what the rest says: as
--- `first_that_applies`, for causes that are propositions and not tests
+-- if the cause applies, this is the refusal; if it doesn't, the refusal is what the rest says. It
+-- is `first_that_applies` for causes that are propositions and not tests
 abbrev pub first_cause : Type 0 → WorldFault → (WorldFault → Type 0) → WorldFault → Type 0
 first_cause cause refusal rest fault =
     (cause × (fault ≡ refusal)) ⊎ ((cause → ⊥) × rest fault)

@@ -13,7 +13,7 @@ use Rattle.world_core.specs.Refusal.{IsFrame, RefusesEvent}
 use Rattle.world_core.specs.Numbers.{numbered}
 use Rattle.world_core.specs.World.{World}
 
--- any event but a restart
+-- any event except a restart
 abbrev pub IsOfStep : Event → Type 0
 IsOfStep (Restart n image) = ⊥
 IsOfStep event = Unit {0}

@@ -17,7 +17,7 @@ use Rattle.world_core.specs.Numbers.{frames_at, numbered}
 use Rattle.world_core.specs.Events.{node_of_event}
 
 -- what was told so far: the history; of each read, by its number from 1, the place of its Looked;
--- of each frame, by its number from 1, the place of its Sent, or none where it carries no object
+-- of each frame, by its number from 1, the place of its Sent, or none if it carries no object
 pub record Told : Type 0 where
   pub history : List Happening
   pub looks : List ℕ
@@ -63,7 +63,7 @@ tell_event (Keep n k) t = tell (Kept n k) t
 tell_event (Restart n image) t = tell (Restarted n image) t
 tell_event event t = t
 
--- a frame of the node: a Sent, where it carries an object
+-- a frame of the node: a Sent, if it carries an object
 abbrev pub tell_sending : ℕ → Option (Key × List Entry) → Told → Told
 tell_sending n None t = record t { sendings = t.sendings ++ None ∷ [] }
 tell_sending n (Some object) t = record t {

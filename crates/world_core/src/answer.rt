@@ -6,7 +6,7 @@ use crate::event::Event;
 use node_events::Reply;
 use std::alloc::AllocError;
 
-/// The numbers of the frames that an event sent: `count` of them, from `first` on. Where none was
+/// The numbers of the frames that an event sent: `count` of them, from `first` on. If none was
 /// sent, `first` is the number that the next frame gets.
 #[derive(Clone, Copy, Debug, PartialEq, Eq)]
 pub struct FrameNumbers {

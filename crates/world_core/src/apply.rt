@@ -11,15 +11,17 @@ use std::alloc::{AllocError, Global};
 
 impl World {
     /// Applies an event, which then stands with its answer in `accepted`, or refuses it and changes
-    /// nothing. Of several refusals the first is returned, in this order: 44 `NoSuchNode` (of any
-    /// node that it names), 42 `NoSuchFrame`, 43 `NoSuchRead`, 46 `NoSuchImage`, 35
-    /// `IncarnationSpent`, 45 `LooksLikeFrame`, then those of the node's step: 3 `BadNode`, 10 to
-    /// 16 of junk, 40 `NotAddressed`, 20 and 25 to 27 of the store, 28 `BadWatch`, 29
-    /// `NoSuchWatch`. 99 `Memory` may stand in place of any.
+    /// nothing.
+    ///
+    /// Refused in this order: 44 `NoSuchNode` (of any node that it names), 42 `NoSuchFrame`, 43
+    /// `NoSuchRead`, 46 `NoSuchImage`, 35 `IncarnationSpent`, 45 `LooksLikeFrame`; then as
+    /// `NodeState::step` is, except 21 `BadEntries`: 3 `BadNode`, 10 to 16 of junk, 40
+    /// `NotAddressed`, 20 and 25 to 27 of the store, 28 `BadWatch`, 29 `NoSuchWatch`. 99 `Memory`
+    /// may stand in place of any.
     pub fn apply(&mut self, event: Event) -> Result<Answer, WorldFault>
         ensures { Passes self.old event result self.new }
     {
-        // Read for what its type says, before and after: this is a world.
+        // (for its type)
         let _ = self.nodes.len();
         let outcome = self.act(event);
         let _ = self.nodes.len();
@@ -48,7 +50,7 @@ impl World {
     fn apply_copy(&mut self, event: &Event) -> Result<Answer, WorldFault>
         ensures { Passes self.old event.now result self.new }
     {
-        // Read for what its type says: this is a world.
+        // (for its type)
         let _ = self.nodes.len();
         match event.copy() {
             Ok(event) => self.apply(event),

@@ -29,7 +29,6 @@ pub(crate) struct Chronicle {
 }
 
 impl Chronicle {
-    /// A chronicle of nothing.
     pub(crate) fn new(alloc: Global) -> Self
         ensures accepted { result.accepted.items ≡ [] }
         ensures frames { frames_in result ≡ [] }
@@ -54,7 +53,7 @@ impl Chronicle {
         self.contexts.reserve(1)
     }
 
-    /// How many frames were sent.
+    /// Returns how many frames were sent.
     pub(crate) fn frame_count(&self) -> u64
         ensures value { result ≡ length (frames_in self.now) }
         ensures few { result + 1 < 2 ^ 64 }
@@ -62,8 +61,8 @@ impl Chronicle {
         self.sent.len() as u64 + self.last.len() as u64
     }
 
-    /// The bytes of the frame of that number, if one has it: a copy. Fails only when memory runs
-    /// out.
+    /// Returns a copy of the bytes of the frame of that number, if one has it. Fails only when
+    /// memory runs out.
     pub(crate) fn frame(&self, number: u64) -> Result<Option<ByteString>, AllocError>
         ensures { IfOk result (λ bytes. bytes ≡ numbered (frames_in self.now) number) }
     {
@@ -73,8 +72,8 @@ impl Chronicle {
         Ok(Some(self.bytes(number - 1)?))
     }
 
-    /// The bytes of the frames of these numbers, as many as there are: copies. Fails only when
-    /// memory runs out.
+    /// Returns copies of the bytes of the frames of these numbers, as many as there are. Fails only
+    /// when memory runs out.
     pub(crate) fn frames_at(&self, numbers: FrameNumbers) -> Result<Vec<ByteString>, AllocError>
         ensures { IfOk result
             (λ frames. frames.items ≡ frames_at numbers (frames_in self.now)) }
@@ -88,7 +87,7 @@ impl Chronicle {
         Ok(frames)
     }
 
-    /// The bytes of the frame at the place: a copy.
+    /// Returns a copy of the bytes of the frame at the place.
     fn bytes(&self, place: u64) -> Result<ByteString, AllocError>
         requires { place < length (frames_in self.now) }
         ensures { IfOk result (λ bytes. bytes ≡ get_or (frames_in self.now) place []) }
@@ -198,7 +197,7 @@ impl Chronicle {
     }
 }
 
-/// The answer to a restart.
+/// Returns the answer to a restart.
 fn done(sent: FrameNumbers) -> Answer
     ensures { result ≡ record { reply = Done; read = None; sent = sent } }
 {

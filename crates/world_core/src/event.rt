@@ -96,7 +96,7 @@ pub enum Event {
 }
 
 impl Event {
-    /// The number of the node whose event it is.
+    /// Returns the number of the node whose event it is.
     pub fn node(&self) -> u64
         ensures { result ≡ node_of_event self.now }
     {

@@ -73,7 +73,7 @@ impl Telling {
         Ok(self.history.push(happening)?)
     }
 
-    /// A read, which has the next read number.
+    /// Adds a read, which has the next read number.
     fn look(&mut self, node: NodeId, key: &MetaKey) -> Result<(), AllocError>
         ensures { OnOk result (self.new ≡ tell_look node key.now self.old) }
     {
@@ -82,14 +82,14 @@ impl Telling {
         self.tell(Happening::Looked { node, key })
     }
 
-    /// The place of the `Looked` that a read number names.
+    /// Returns the place of the `Looked` that a read number names.
     fn look_of(&self, read: Option<u64>) -> Option<usize>
         ensures { result ≡ look_of self.now read }
     {
         numbered(self.looks.as_slice(), read?)
     }
 
-    /// What an event tells, before what it sends.
+    /// Adds what an event tells, before what it sends.
     fn event(&mut self, event: &Event) -> Result<(), AllocError>
         requires { node_of_event event.now < 16 }
         ensures { OnOk result (self.new ≡ tell_event event.now self.old) }
@@ -132,7 +132,7 @@ impl Telling {
         })
     }
 
-    /// A read, and a write that has read it.
+    /// Adds a read, and a write that has read it.
     fn put_over(&mut self, node: NodeId, key: &MetaKey, value: &Value) -> Result<(), AllocError>
         ensures { OnOk result (self.new
             ≡ tell (Wrote node key.now value.now (Some (length self.old.history)))
@@ -150,7 +150,7 @@ impl Telling {
         self.tell(Happening::Kept { node, key })
     }
 
-    /// A delivery of the frame of that number, which tells something where it carries an object.
+    /// Adds a delivery of the frame of that number, which tells something if it carries an object.
     fn got(&mut self, node: NodeId, frame: u64) -> Result<(), AllocError>
         ensures { OnOk result
             (self.new ≡ tell_got node (sending_of self.old frame) self.old) }
@@ -161,7 +161,7 @@ impl Telling {
         }
     }
 
-    /// A frame of the node: a `Sent`, where it carries an object.
+    /// Adds a frame of the node: a `Sent`, if it carries an object.
     fn frame(&mut self, node: NodeId, frame: &Frame) -> Result<(), AllocError>
         ensures { OnOk result (self.new
             ≡ tell_sending node (carried_object frame.now.message) self.old) }
@@ -177,7 +177,7 @@ impl Telling {
     }
 }
 
-/// The id of the event's node.
+/// Returns the id of the event's node.
 fn id_of(event: &Event) -> NodeId
     requires { node_of_event event.now < 16 }
     ensures { result ≡ node_of_event event.now }
@@ -185,7 +185,7 @@ fn id_of(event: &Event) -> NodeId
     NodeId::new(event.node() as u16).unwrap()
 }
 
-/// The item of this number, from 1, if there is one.
+/// Returns the item of this number, from 1, if there is one.
 fn numbered<T: Copy>(list: &[T], number: u64) -> Option<T>
     ensures { result ≡ numbered list.now number }
 {
@@ -195,7 +195,7 @@ fn numbered<T: Copy>(list: &[T], number: u64) -> Option<T>
     }
 }
 
-/// Memory ran out: there is no other cause why a frame that was sent can't be read.
+/// Returns that memory ran out: there is no other cause why a frame that was sent can't be read.
 fn out_of_memory(fault: FrameFault) -> AllocError
     requires { fault ≡ OfFrame.Memory }
 {
@@ -204,9 +204,9 @@ fn out_of_memory(fault: FrameFault) -> AllocError
 }
 
 impl World {
-    /// What has happened, as the accepted events tell it: a history. The context of each read is of
-    /// what its node knew then. Fails only when memory runs out; it takes time with the number of
-    /// events and frames.
+    /// Returns what has happened, as the accepted events tell it: a history. The context of each
+    /// read is of what its node knew at that time. Fails only when memory runs out. It takes time
+    /// that grows with the number of events and frames.
     pub fn history(&self, alloc: Global) -> Result<Vec<Happening>, AllocError>
         ensures value { IfOk result (λ happenings. OfAllTold self.now
             (λ t. happenings.items ≡ t.history)) }
@@ -217,12 +217,12 @@ impl World {
             → numbered self.now.contexts read ≡ Some context
             → OfAllTold self.now (λ t. CountsSeen t read context) }
     {
-        // Read for what its type says: this is a world.
+        // (for its type)
         let _ = self.nodes.len();
         self.told(alloc)
     }
 
-    /// What the accepted events tell, one after the other.
+    /// Returns what the accepted events tell, one after the other.
     fn told(&self, alloc: Global) -> Result<Vec<Happening>, AllocError>
         ensures { IfOk result (λ happenings. OfAllTold self.now
             (λ t. happenings.items ≡ t.history)) }
@@ -249,7 +249,7 @@ impl World {
         ensures { OnOk result ((frames : List F) → Pairwise Spells frames self.now.frames
             → told.new ≡ tell_frames node (frames_at numbers frames) told.old) }
     {
-        // Read for what its type says: each frame has a number of 64 bits.
+        // (for its type)
         let _ = self.chronicle.frame_count();
         for offset in 0..numbers.count {
             self.tell_frame(told, alloc, node, numbers.first + offset)?;
@@ -272,12 +272,12 @@ impl World {
     {
         let frame = self.sent_frame(alloc, number)?;
         let outcome = told.frame(node, &frame);
-        // Dropped by a call: no case of the proof then takes it apart.
+        // Dropped by a call, so that no case of the proof takes it apart.
         drop(frame);
         outcome
     }
 
-    /// The frame of that number, which was sent.
+    /// Returns the frame of that number, which was sent.
     fn sent_frame(&self, alloc: Global, number: u64) -> Result<Frame, AllocError>
         requires first { 1 ≤ number }
         requires there { number ≤ length self.now.frames }
@@ -290,9 +290,9 @@ impl World {
         }
     }
 
-    /// The places, in `history`, of the writes that the node knows under the key, rising. Refused
-    /// with 44 `NoSuchNode` and 99 `Memory`. It is found from the history alone, by sets of places,
-    /// and takes memory and time with the square of the history's length.
+    /// Returns the places, in `history`, of the writes that the node knows under the key, rising.
+    /// Refused with 44 `NoSuchNode` and 99 `Memory`. It is found from the history alone, by sets of
+    /// places, and takes memory and time that grow with the square of the history's length.
     pub fn known(&self, alloc: Global, node: u64, key: &MetaKey) -> Result<Vec<usize>, WorldFault>
         ensures places { IfOk result (λ places. OfAllTold self.now
             (λ t. ArePlaces (known t.history node key.now) places.items)) }

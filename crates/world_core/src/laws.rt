@@ -20,8 +20,8 @@ pub fn one_history_is_told()
         → Tells accepted frames t → Tells accepted frames u → t ≡ u }
 {}
 
-/// What a world was and the event determine its outcome and the world that is left, but that memory
-/// may run out at any time.
+/// What a world was and the event determine its outcome and the world that is left, except that
+/// memory may run out at any time.
 pub fn one_outcome_for_each_event()
     ensures { OneOutcomeForEachEvent }
 {}
@@ -45,11 +45,11 @@ pub fn equal_knowledge_shows_equally(world: &World)
         → ((key : Key) → KnowTheSame t m n key)
         → tree_root (rows_of (table_at world.now m)) ≡ tree_root (rows_of (table_at world.now n))) }
 {
-    // Read for what its type says: this is a world.
+    // (for its type)
     let _ = world.nodes.len();
 }
 
-/// Faults are equal exactly where they are the same.
+/// Faults are equal exactly if they are the same.
 pub fn equal_faults_are_the_same(one: &WorldFault, other: &WorldFault) -> bool
     ensures { IsTrue result ↔ (one.now ≡ other.now) }
 {

@@ -12,7 +12,7 @@ use crate::world::World;
 use meta_types::NodeId;
 
 impl World {
-    /// A restart of a node from its image of that number: its next life begins.
+    /// Restarts a node from its image of that number: its next life begins.
     pub(crate) fn restart(&mut self, node: u64, image: u64) -> Result<Answer, WorldFault>
         ensures { Outcome self.old (Restart node image) result self.new }
     {
@@ -23,7 +23,7 @@ impl World {
         Ok(self.chronicle.accept_restart(node, image))
     }
 
-    /// The number, as a `usize`, of the image that a node restarts from. Refused with 46
+    /// Returns the number, as a `usize`, of the image that a node restarts from. Refused with 46
     /// `NoSuchImage`, and with 35 `IncarnationSpent`.
     fn image_number(&self, node: NodeId, image: u64) -> Result<usize, WorldFault>
         requires { node < length self.now.nodes }

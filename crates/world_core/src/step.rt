@@ -22,7 +22,7 @@ use node_events::{NodeEvent, StepFault};
 use std::alloc::Global;
 
 impl World {
-    /// The step that an event is at its node.
+    /// Makes the step that an event is at its node.
     pub(crate) fn step(&mut self, event: Event) -> Result<Answer, WorldFault>
         requires { IsOfStep event }
         ensures { Outcome self.old event result self.new }
@@ -41,8 +41,8 @@ impl World {
         }
     }
 
-    /// The place of the event's node, and the step that it is there. Refused where what it names
-    /// isn't there.
+    /// Returns the place of the event's node, and the step that it is there. Refused if what it
+    /// names isn't there.
     fn step_at(&self, event: &Event) -> Result<(usize, NodeEvent), WorldFault>
         requires { IsOfStep event.now }
         ensures place { IfOk result
@@ -56,7 +56,7 @@ impl World {
         Ok((usize::from(node.number()), step))
     }
 
-    /// The step, with what it names: a copy. Refused where that isn't there.
+    /// Returns the step, with copies of what it names. Refused if that isn't there.
     fn step_of(&self, event: &Event) -> Result<NodeEvent, WorldFault>
         requires of_step { IsOfStep event.now }
         requires node { node_of_event event.now < length self.now.nodes }
@@ -108,7 +108,7 @@ impl World {
         }
     }
 
-    /// A write, with the context of the read of that number, or blind.
+    /// Returns a write, with the context of the read of that number, or a blind one.
     fn write_of(
         &self,
         key: &MetaKey,
@@ -136,7 +136,7 @@ impl World {
         })
     }
 
-    /// The context of the read of that number, if one has it.
+    /// Returns the context of the read of that number, if one has it.
     fn context(&self, read: u64) -> Option<&Context>
         ensures { option_copied result ≡ numbered self.now.contexts read }
     {
@@ -146,7 +146,7 @@ impl World {
         self.chronicle.contexts.get((read - 1) as usize)
     }
 
-    /// The frame of that number, as bytes that come.
+    /// Returns the event by which a node takes the frame of that number.
     fn delivery_of(&self, frame: u64, word: u64) -> Result<NodeEvent, WorldFault>
         ensures step { IfOk result (λ step. (bytes : List ℕ)
             × ((step ≡ Take bytes word) × (numbered self.now.frames frame ≡ Some bytes))) }
@@ -160,7 +160,7 @@ impl World {
     }
 }
 
-/// Refuses an event, which is dropped by a call: no case of a proof then takes it apart.
+/// Refuses an event, which is dropped by a call, so that no case of a proof takes it apart.
 fn refuse(event: Event, fault: WorldFault) -> Result<Answer, WorldFault>
     ensures { result ≡ Err fault }
 {
@@ -168,7 +168,7 @@ fn refuse(event: Event, fault: WorldFault) -> Result<Answer, WorldFault>
     Err(fault)
 }
 
-/// Why junk is refused: it is a frame, or no frame for its first cause.
+/// Returns why junk is refused: it is a frame, or no frame for its first cause.
 fn junk_fault(alloc: Global, bytes: &ByteString) -> WorldFault
     ensures { JunkFails bytes.now result }
 {

@@ -50,8 +50,8 @@ impl Model for World {
 }
 
 impl World {
-    /// A world of `nodes` new nodes. Refused with 44 `NoSuchNode` for none or more than 16, and
-    /// with 99 `Memory`.
+    /// Makes a world of `nodes` new nodes. Refused with 44 `NoSuchNode` for none or more than 16,
+    /// and with 99 `Memory`.
     pub fn new(alloc: Global, nodes: u64) -> Result<Self, WorldFault>
         ensures value { IfOk result (λ world. world ≡ new_world nodes) }
         ensures range { IfOk result (λ world. (1 ≤ nodes) × (nodes ≤ 16)) }
@@ -71,20 +71,20 @@ impl World {
         *self.chronicle.accepted.allocator()
     }
 
-    /// The accepted events with their answers, in their order. A context that was handed out is the
-    /// one of the answer's read number.
+    /// Returns the accepted events with their answers, in their order. A context that was handed
+    /// out is the one of the answer's read number.
     pub fn accepted(&self) -> &[Accepted]
         ensures value { result.now ≡ self.now.accepted }
         ensures contexts { All (λ a. HandsOut self.now a.answer) self.now.accepted }
     {
-        // Read for what its type says: this is a world.
+        // (for its type)
         let _ = self.nodes.len();
         self.chronicle.accepted.as_slice()
     }
 
-    /// The bytes of the frame of that number, if one has it: a copy. The first that was sent has
-    /// number 1. They spell a frame; an object that it carries is of the writes that its sender
-    /// knew when it was sent. Fails only when memory runs out.
+    /// Returns a copy of the bytes of the frame of that number, if one has it. The first frame that
+    /// was sent has number 1. The bytes spell a frame; an object that it carries is of the writes
+    /// that its sender knew when it was sent. Fails only when memory runs out.
     pub fn frame(&self, number: u64) -> Result<Option<ByteString>, AllocError>
         ensures value { IfOk result (λ bytes. bytes ≡ numbered self.now.frames number) }
         ensures spelled { IfOk result
@@ -93,30 +93,31 @@ impl World {
             → IsFrameOf self.now number frame → carried_object frame.message ≡ Some (key, object)
             → OfAllTold self.now (λ t. CarriesLoad t number frame.from key object) }
     {
-        // Read for what its type says: this is a world.
+        // (for its type)
         let _ = self.nodes.len();
         self.chronicle.frame(number)
     }
 
-    /// The bytes of the frames of these numbers, such as an answer has: copies. Numbers that no
-    /// frame has give nothing. Fails only when memory runs out.
+    /// Returns copies of the bytes of the frames of these numbers, such as an answer has. Numbers
+    /// that no frame has give nothing. Fails only when memory runs out.
     pub fn frames_at(&self, numbers: FrameNumbers) -> Result<Vec<ByteString>, AllocError>
         ensures { IfOk result (λ frames. frames.items ≡ frames_at numbers self.now.frames) }
     {
         self.chronicle.frames_at(numbers)
     }
 
-    /// How many frames were sent.
+    /// Returns how many frames were sent.
     pub fn frame_count(&self) -> u64
         ensures { result ≡ length self.now.frames }
     {
         self.chronicle.frame_count()
     }
 
-    /// The images of the node, but for image 0, which is empty; `None` for a node that the world
-    /// doesn't have, and only then. What one has under a key is read by
-    /// `node_images::image::object_in`, and is the object of the writes that this image has by the
-    /// history: what its node knew of the key when it was last written or kept on the way to it.
+    /// Returns the images of the node, except image 0, which is empty; `None` for a node that the
+    /// world doesn't have, and only then. What an image has under a key is read by
+    /// `node_images::image::object_in`. It is the object of the writes that this image has by the
+    /// history: those that its node knew of the key when it was last written or kept on the way to
+    /// the image.
     pub fn images(&self, node: u64) -> Option<&Images>
         ensures node { IsNone result ↔ (length self.now.nodes ≤ node) }
         ensures lends { IfSome result (λ images. images.now ≡ (node_at self.now node).images) }
@@ -133,10 +134,10 @@ impl World {
         }
     }
 
-    /// The node; `None` for one that the world doesn't have, and only then. Under each key it holds
-    /// the object of the writes that it knows, whose values are those of the writes that no other
-    /// of these had read. The accepted events took it there from a new node, life after life. The
-    /// number of its life is that of the history.
+    /// Returns the node; `None` for one that the world doesn't have, and only then. Under each key
+    /// it holds the object of the writes that it knows, whose values are those of the writes that
+    /// no other of these had read. The accepted events took it there from a new node, life after
+    /// life. The number of its life is that of the history.
     pub fn state(&self, node: u64) -> Option<&NodeState>
         ensures node { IsNone result ↔ (length self.now.nodes ≤ node) }
         ensures lends { IfSome result (λ state. state.now ≡ (node_at self.now node).state) }
@@ -156,7 +157,7 @@ impl World {
         }
     }
 
-    /// The node of that number. Refused with 44 `NoSuchNode`.
+    /// Returns the node of that number. Refused with 44 `NoSuchNode`.
     pub(crate) fn node_id(&self, node: u64) -> Result<NodeId, WorldFault>
         ensures value { IfOk result (λ id. (id ≡ node) × (node < length self.now.nodes)) }
         ensures fault { IfErr result (λ fault. (fault ≡ NoSuchNode)
@@ -170,7 +171,7 @@ impl World {
     }
 }
 
-/// `count` new nodes, numbered from 0.
+/// Makes `count` new nodes, numbered from 0.
 fn new_nodes(alloc: Global, count: u16) -> Result<Vec<ImagedNode>, AllocError>
     requires { count ≤ 16 }
     ensures { IfOk result

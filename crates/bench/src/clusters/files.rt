@@ -4,7 +4,7 @@ ghost use Rattle.std.specs.Prelude.{All, IfOk, OnOk};
 ghost use Rattle.devices.specs.Device.{IsDurable};
 
 use crate::samples::{rate, refused};
-use cluster::{ClusterFault, ClusterPlan, ClusterRun, Limits, NoGate, run_cluster_on};
+use cluster::{ClusterFault, ClusterPlan, ClusterRun, Limits, NoHook, run_cluster_on};
 use devices::{Device, FileDevice};
 use std::alloc::Global;
 use std::io;
@@ -25,7 +25,7 @@ fn add(devices: &mut Vec<FileDevice>, device: FileDevice) -> io::Result<()>
     Ok(())
 }
 
-/// The files of the nodes in the folder, opened, or made where nothing is.
+/// Opens the files of the nodes in the folder, or makes them if there are none.
 fn devices(rt: &HostRuntime, folder: &str, nodes: u64) -> io::Result<Vec<FileDevice>>
     ensures { IfOk result (λ devices. All (λ d. IsDurable (⟦<FileDevice as Device>⟧.content d)
         (⟦<FileDevice as Device>⟧.may_leave d)) devices.items) }
@@ -33,7 +33,7 @@ fn devices(rt: &HostRuntime, folder: &str, nodes: u64) -> io::Result<Vec<FileDev
     let mut devices = Vec::new(rt.alloc());
     for node in 0..nodes.min(16) {
         let path = format!(in rt.alloc(); "{folder}/node-{node}")?;
-        match FileDevice::open_or_create(rt, rt.alloc(), path.as_str()) {
+        match FileDevice::open_or_create(rt, rt.alloc(), path.as_str(), b"") {
             Ok(device) => add(&mut devices, device)?,
             Err(fault) => return Err(refused(fault)),
         }
@@ -41,7 +41,6 @@ fn devices(rt: &HostRuntime, folder: &str, nodes: u64) -> io::Result<Vec<FileDev
     Ok(devices)
 }
 
-/// A run on these files.
 fn run_on<R: Threads + Wait + Sync>(
     rt: &R,
     alloc: Global,
@@ -51,7 +50,7 @@ fn run_on<R: Threads + Wait + Sync>(
     requires { All (λ d. IsDurable (⟦<FileDevice as Device>⟧.content d)
         (⟦<FileDevice as Device>⟧.may_leave d)) devices.items }
 {
-    run_cluster_on(rt, alloc, plan, Limits::largest(), devices, &NoGate)
+    run_cluster_on(rt, alloc, plan, Limits::largest(), devices, &NoHook)
 }
 
 pub(crate) fn run<R: Threads + Wait + Sync>(

@@ -1,7 +1,7 @@
 //! Runs on devices in memory, each of which is assembled.
 
 use crate::samples::{rate, refused};
-use cluster::{ClusterPlan, ClusterRun, NoGate, run_cluster};
+use cluster::{ClusterPlan, ClusterRun, NoHook, run_cluster};
 use node_journal::are_whole;
 use run_record::assemble;
 use std::alloc::Global;
@@ -19,8 +19,8 @@ struct Sum {
     nanos: u128,
 }
 
-/// Returns the number by which the journals with all receipts aren't assembled; 0 where they are, 1
-/// where they aren't whole.
+/// Returns the number of the fault with which the journals with all receipts aren't assembled; 0 if
+/// they are, 1 if they aren't whole.
 fn code_of(alloc: Global, run: &ClusterRun) -> u16 {
     if !are_whole(run.closed.as_slice()) {
         return 1;
@@ -42,7 +42,7 @@ fn add<R: Threads + Wait + Sync>(
     sum: &mut Sum,
 ) -> io::Result<()> {
     let start = Instant::now(rt)?;
-    let run = run_cluster(handle, rt.alloc(), plan, &NoGate).map_err(refused)?;
+    let run = run_cluster(handle, rt.alloc(), plan, &NoHook).map_err(refused)?;
     let time = start.elapsed(rt);
     let done = add_run(rt, plan.seed, &run, sum);
     drop(run);
@@ -50,7 +50,7 @@ fn add<R: Threads + Wait + Sync>(
     done
 }
 
-/// Assembles a run and adds it up. Prints a line where it isn't assembled.
+/// Assembles a run and adds it up. Prints a line if it isn't assembled.
 fn add_run(rt: &HostRuntime, seed: u64, run: &ClusterRun, sum: &mut Sum) -> io::Result<()> {
     sum.calls = sum.calls.saturating_add(run.calls);
     sum.lost = sum.lost.saturating_add(run.lost);

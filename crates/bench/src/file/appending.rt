@@ -57,7 +57,7 @@ fn acknowledge(rt: &HostRuntime, number: u64) -> io::Result<()> {
     out.flush()
 }
 
-/// An object whose value has the number as its stamp.
+/// Makes an object whose value has the number as its stamp.
 fn object_of(alloc: Global, at: &MetaKey, number: u64) -> io::Result<Entries> {
     let mut store = Store::new(alloc);
     let done = put_number(alloc, &mut store, at, number);
@@ -75,7 +75,7 @@ fn put_number(alloc: Global, store: &mut Store, at: &MetaKey, number: u64) -> io
     Ok(())
 }
 
-/// A copy of the object that the store holds under the key.
+/// Returns a copy of the object that the store holds under the key.
 fn object_in(store: &Store, at: &MetaKey) -> io::Result<Entries> {
     match store.object(at) {
         Some(object) => Ok(object.copy()?),
@@ -83,7 +83,7 @@ fn object_in(store: &Store, at: &MetaKey) -> io::Result<Entries> {
     }
 }
 
-/// The number in the object of the table, 0 for none.
+/// Returns the number in the object of the table, 0 for none.
 fn number_in(table: &Store, at: &MetaKey) -> u64 {
     match table.object(at) {
         Some(object) => stamp_of(object),
@@ -91,7 +91,7 @@ fn number_in(table: &Store, at: &MetaKey) -> u64 {
     }
 }
 
-/// The stamp of the first value that the object shows, 0 for none.
+/// Returns the stamp of the first value that the object shows, 0 for none.
 fn stamp_of(object: &Entries) -> u64 {
     match object.entries() {
         [entry, ..] => match entry.values() {
@@ -110,7 +110,7 @@ pub(crate) fn tell(rt: &HostRuntime, path: &str) -> io::Result<()> {
     acknowledge(rt, number?)
 }
 
-/// The number in the object of the file at the path.
+/// Returns the number in the object of the file at the path.
 fn number_at(rt: &HostRuntime, path: &str, at: &MetaKey) -> io::Result<u64> {
     let (table, _life) = read(rt, path)?;
     let number = number_in(&table, at);

@@ -4,7 +4,7 @@ use std::fs::File;
 use std::io;
 use std::os::unix::fs::FileExt;
 
-/// Two writes with their syncs: of the bytes after the gate at `gate`, and of the gate.
+/// Makes two writes with their syncs: of the bytes after the gate at `gate`, and of the gate.
 pub(crate) fn append_bare(file: &File, gate: u64, bytes: &[u8]) -> io::Result<()> {
     file.write_all_at(bytes, gate.saturating_add(1))?;
     file.sync_data()?;

@@ -37,7 +37,7 @@ fn measure_all(rt: &HostRuntime, folder: &str, objects: &Store) -> io::Result<()
     measure_opening(rt, folder, objects)
 }
 
-/// A store of `count` keys, each with a value.
+/// Makes a store of `count` keys, each with a value.
 fn filled(alloc: Global, count: u32) -> io::Result<Store> {
     let mut store = Store::new(alloc);
     for number in 0..count {
@@ -53,12 +53,11 @@ fn put_one(alloc: Global, store: &mut Store, number: u32) -> io::Result<()> {
     Ok(())
 }
 
-/// Prints how often in a second the median of the samples is.
+/// Prints how many times in a second something is done that takes the median of the samples.
 fn print_rate(rt: &HostRuntime, name: &str, samples: &mut [u128]) -> io::Result<()> {
     print(rt, name, rate(1, median(samples)), "ops/s")
 }
 
-/// A new file in memory.
 fn new_in_memory(alloc: Global) -> io::Result<Kept<MemoryDevice>> {
     let (file, table) = begin_in_memory(alloc)?;
     Ok(Kept::of(file, table))
@@ -191,7 +190,7 @@ fn append_at(rt: &HostRuntime, path: &str, objects: &Store, bare: &File) -> io::
     done
 }
 
-/// A file with all objects, as appends leave it.
+/// Writes a file with all objects, as appends leave it.
 fn write_file(rt: &HostRuntime, path: &str, objects: &Store) -> io::Result<()> {
     let mut kept = new_in_memory(rt.alloc())?;
     let done = write_kept(rt, path, &mut kept, objects);

@@ -13,8 +13,8 @@ use std::io;
 use std::marker::Model;
 use std::time::Instant;
 
-/// A file in a life of its node, with its table. It is lent to what appends, so that nothing else
-/// owns it where an append fails.
+/// A file in a life of its node, with its table. It is lent to the code that appends, so that
+/// nothing else owns it if an append fails.
 #[derive(Drop)]
 pub(crate) struct Kept<D: Device> {
     file: NodeFile<D>,
@@ -37,7 +37,7 @@ impl<D: Device> Model for Kept<D> {
 }
 
 impl<D: Device + Drop> Kept<D> {
-    /// The file, which goes on, with its table.
+    /// Keeps a file that is in use, with its table.
     pub(crate) fn of(file: NodeFile<D>, table: Store) -> Kept<D>
         requires { IsFileOf D.content file.node file.life table file }
     {
@@ -58,7 +58,7 @@ impl<D: Device + Drop> Kept<D> {
     }
 
     /// Appends the object, and then holds a copy of it in the table. Returns how many nanoseconds
-    /// the append took. Once one failed, each is refused.
+    /// the append took. Once an append failed, each is refused.
     pub(crate) fn append(
         &mut self,
         rt: &HostRuntime,
@@ -80,7 +80,6 @@ impl<D: Device + Drop> Kept<D> {
 }
 
 impl Kept<MemoryDevice> {
-    /// The bytes of the file.
     pub(crate) fn content(&self) -> &[u8] {
         self.file.device().content()
     }

@@ -45,7 +45,7 @@ fn measure<J: Naming, R: Wait + Clock + Print>(
     done
 }
 
-/// The bare node holds nothing yet.
+/// Fills the node, makes a bare one that holds nothing, and measures both.
 fn measure_rows<J: Naming, R: Wait + Clock + Print>(
     rt: &R,
     alloc: Global,
@@ -80,7 +80,7 @@ fn measure_both<J: Naming, R: Wait + Clock + Print>(
     print(rt, "step_put_over", of_one(&mut steps), "ns")
 }
 
-/// The nanoseconds of one of the `CALLS` calls or steps of the median sample.
+/// Returns the nanoseconds of one of the `CALLS` calls or steps of the median sample.
 fn of_one(samples: &mut [u128]) -> u128 {
     median(samples) / u128::from(CALLS)
 }

@@ -18,7 +18,8 @@ use std::time::{Duration, Instant};
 /// For how many milliseconds a writer writes in a sample.
 const SPAN: u64 = 300;
 
-/// For how many milliseconds a paced writer rests after each write, as one that waits for a disk.
+/// For how many milliseconds a paced writer rests after each write, like a writer that waits for a
+/// disk.
 const PAUSE: u64 = 1;
 
 /// How many samples there are; the median counts.
@@ -36,7 +37,7 @@ struct Setting {
     is_paced: bool,
 }
 
-/// What the threads share beside the node.
+/// What the threads share besides the node.
 #[derive(Drop)]
 struct Shared {
     alloc: Global,
@@ -47,8 +48,8 @@ struct Shared {
     begun: AtomicU64,
 }
 
-/// A seat that comes back from its thread, and how often the call was made; `None` where a call was
-/// refused.
+/// A seat that comes back from its thread, and how many times the call was made; `None` if a call
+/// was refused.
 type Done<S> = (S, Option<u64>);
 
 /// Prints how often readers look and a writer writes, in each setting.
@@ -151,7 +152,7 @@ fn sample<J: Naming + Send + Sync, R: Threads + Wait + Clock + Sync>(
     }
 }
 
-/// Takes `count` of the seats, or all where there are fewer.
+/// Takes `count` of the seats, or all if there are fewer.
 fn taken<S: Drop>(alloc: Global, seats: &mut Vec<S>, count: usize) -> Result<Vec<S>, AllocError> {
     let mut taken = Vec::new(alloc);
     for _seat in 0..count {
@@ -162,7 +163,7 @@ fn taken<S: Drop>(alloc: Global, seats: &mut Vec<S>, count: usize) -> Result<Vec
     Ok(taken)
 }
 
-/// Puts the seat back. Returns how often the call was made.
+/// Puts the seat back. Returns how many times the call was made.
 fn back<S: Drop>(seats: &mut Vec<S>, done: Done<S>) -> Option<u64> {
     let (seat, count) = done;
     match seats.push(seat) {
@@ -171,7 +172,7 @@ fn back<S: Drop>(seats: &mut Vec<S>, done: Done<S>) -> Option<u64> {
     }
 }
 
-/// Puts all seats back. Returns how often the call was made in sum.
+/// Puts all seats back. Returns how many times the call was made in sum.
 fn all_back<S: Drop>(seats: &mut Vec<S>, done: Result<Vec<Done<S>>, AllocError>) -> Option<u64> {
     let mut sum = Some(0u64);
     for one in done.ok()? {

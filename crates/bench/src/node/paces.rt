@@ -1,4 +1,4 @@
-//! How often a call is made in a second, and how long an exchange takes.
+//! How many times a call is made in a second, and how long an exchange takes.
 
 use crate::node::sides::{Sent, Sides};
 use crate::node::table::{Table, Work};
@@ -54,7 +54,7 @@ pub(crate) fn median_pace(rt: &HostRuntime, table: &mut Table, work: Work) -> io
 }
 
 impl Pace {
-    /// Returns how often in a second it is done, where each call does it `times` times.
+    /// Returns how many times in a second it is done, if each call does it `times` times.
     fn rate(self, times: u32) -> u128 {
         u128::from(self.calls) * u128::from(times) * 1_000_000_000 / self.nanos.max(1)
     }
@@ -66,7 +66,7 @@ impl Pace {
 }
 
 impl Work {
-    /// The baseline's name for the work.
+    /// Returns the baseline's name for the work.
     fn name(self) -> &'static str {
         match self {
             Work::PutWithTree => "put_over_tree",

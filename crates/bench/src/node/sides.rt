@@ -1,6 +1,6 @@
 //! Two stores that differ, how long their exchange takes and what it sends.
 //!
-//! A list of messages is handed on by value, so that no function holds two where a call may fail.
+//! A list of messages is passed by value, so that no function holds two if a call fails.
 
 use crate::node::table::{filled, put_over};
 use crate::rows::{Rows, actor, node};
@@ -49,7 +49,7 @@ fn write_some(store: &mut Store, side: u16, rows: &Rows, changes: u32) -> io::Re
 }
 
 impl Sides {
-    /// Two stores that differ under `changes` keys.
+    /// Makes two stores that differ under `changes` keys.
     pub(crate) fn differing(alloc: Global, changes: u32) -> io::Result<Self> {
         let rows = Rows::in_turn(alloc, KEYS, 1)?;
         let sides = Sides::of(alloc, &rows, changes);
@@ -73,7 +73,7 @@ impl Sides {
         write_some(&mut self.there, 1, rows, changes)
     }
 
-    /// Copies of both stores, each with its tree.
+    /// Makes copies of both stores, each with its tree.
     fn held(&self) -> io::Result<(Held, Held)> {
         both(held(self.alloc, &self.here), held(self.alloc, &self.there))
     }
@@ -87,7 +87,7 @@ impl Sides {
         nanos
     }
 
-    /// What an exchange of copies sends.
+    /// Returns what an exchange of copies sends.
     pub(crate) fn sent(&self) -> io::Result<Sent> {
         let (mut here, mut there) = self.held()?;
         let sent = exchanged(self.alloc, &mut here, &mut there);
@@ -97,7 +97,7 @@ impl Sides {
     }
 }
 
-/// A copy of the store with its tree.
+/// Makes a copy of the store with its tree.
 fn held(alloc: Global, store: &Store) -> io::Result<Held> {
     Ok(Held::new(alloc, store.copy()?)?)
 }
@@ -109,7 +109,7 @@ fn time_of_exchange(rt: &HostRuntime, here: &mut Held, there: &mut Held) -> io::
 }
 
 impl Sent {
-    /// The sum with one frame more, of `len` bytes.
+    /// Returns the sum with one more frame, of `len` bytes.
     fn and_frame(self, len: u64) -> Self {
         Sent {
             frames: self.frames.saturating_add(1),
@@ -136,7 +136,7 @@ fn exchanged(alloc: Global, here: &mut Held, there: &mut Held) -> io::Result<Sen
     Ok(sent)
 }
 
-/// The messages that begin an exchange.
+/// Returns the messages that begin an exchange.
 fn begun(alloc: Global, held: &Held) -> io::Result<Vec<Message>> {
     let mut messages = Vec::new(alloc);
     messages.push(start(held))?;
@@ -206,7 +206,7 @@ fn merge(held: &mut Held, message: &Message) -> io::Result<()> {
     Ok(())
 }
 
-/// The answers to messages from what is held.
+/// Returns the answers to messages from what is held.
 fn answers(alloc: Global, held: &Held, messages: &[Message]) -> io::Result<Vec<Message>> {
     let mut answers = Vec::new(alloc);
     for message in messages {
@@ -215,7 +215,6 @@ fn answers(alloc: Global, held: &Held, messages: &[Message]) -> io::Result<Vec<M
     Ok(answers)
 }
 
-/// Appends the answers to a message.
 fn add_answers(
     alloc: Global,
     answers: &mut Vec<Message>,
@@ -235,7 +234,7 @@ fn frame_len(alloc: Global, message: &Message) -> io::Result<u64> {
     len
 }
 
-/// The frame number 1 that brings a copy of the message.
+/// Makes the frame number 1 that brings a copy of the message.
 fn framed(from: NodeId, to: NodeId, message: &Message) -> Result<Frame, AllocError> {
     Ok(Frame {
         from,

@@ -1,4 +1,4 @@
-//! How often a step is made in a second.
+//! How many steps are made in a second.
 
 use crate::node::writes::Writes;
 use crate::samples::{median, rate};
@@ -15,7 +15,7 @@ const CALLS: u32 = 2_000;
 /// How many samples there are; the median counts.
 const SAMPLES: usize = 11;
 
-/// `CALLS` writes. What they send is dropped.
+/// Makes `CALLS` writes. What they send is dropped.
 fn write_all(writes: &mut Writes, writer: &mut Subject) -> io::Result<()> {
     for _call in 0..CALLS {
         drop(writes.write(writer)?);
@@ -23,7 +23,7 @@ fn write_all(writes: &mut Writes, writer: &mut Subject) -> io::Result<()> {
     Ok(())
 }
 
-/// The frames of `CALLS` writes.
+/// Returns the frames of `CALLS` writes.
 fn gossips(
     alloc: Global,
     writes: &mut Writes,
@@ -38,7 +38,7 @@ fn gossips(
     Ok(frames)
 }
 
-/// The reader takes the frames. Returns how many brought something new.
+/// Lets the reader take the frames. Returns how many brought something new.
 fn take_all(reader: &mut Subject, frames: Vec<ByteString>) -> io::Result<u32> {
     let mut fresh = 0_u32;
     for frame in frames {
@@ -49,14 +49,14 @@ fn take_all(reader: &mut Subject, frames: Vec<ByteString>) -> io::Result<u32> {
     Ok(fresh)
 }
 
-/// The nanoseconds that `CALLS` writes take.
+/// Returns the nanoseconds that `CALLS` writes take.
 fn time_of_writes(rt: &HostRuntime, writes: &mut Writes, writer: &mut Subject) -> io::Result<u128> {
     let start = Instant::now(rt)?;
     write_all(writes, writer)?;
     Ok(start.elapsed(rt)?.as_nanos())
 }
 
-/// The nanoseconds in which `CALLS` frames are taken. It fails where one brought nothing new.
+/// Returns the nanoseconds in which `CALLS` frames are taken. It fails if one brought nothing new.
 fn time_of_gossips(
     rt: &HostRuntime,
     writes: &mut Writes,
@@ -73,7 +73,7 @@ fn time_of_gossips(
     Ok(nanos)
 }
 
-/// The nanoseconds of `CALLS` writes: the median of the samples.
+/// Returns the nanoseconds of `CALLS` writes: the median of the samples.
 pub(crate) fn median_of_writes(
     rt: &HostRuntime,
     writes: &mut Writes,
@@ -86,7 +86,7 @@ pub(crate) fn median_of_writes(
     Ok(median(&mut samples))
 }
 
-/// The nanoseconds in which `CALLS` fresh GOSSIPs are taken: the median of the samples.
+/// Returns the nanoseconds in which `CALLS` fresh GOSSIPs are taken: the median of the samples.
 pub(crate) fn median_of_gossips(
     rt: &HostRuntime,
     writes: &mut Writes,
@@ -100,7 +100,7 @@ pub(crate) fn median_of_gossips(
     Ok(median(&mut samples))
 }
 
-/// Prints how often in a second a step is made, where `CALLS` steps took `nanos` nanoseconds.
+/// Prints how many steps are made in a second, if `CALLS` steps took `nanos` nanoseconds.
 pub(crate) fn print_rate(rt: &HostRuntime, name: &str, count: u32, nanos: u128) -> io::Result<()> {
     let rate = rate(u64::from(CALLS), nanos);
     println!(rt; "{name}_{count}_keys_1_prefix {rate} ops/s")

@@ -70,7 +70,7 @@ fn follow(tree: &mut Tree, store: &Store, key: &MetaKey) -> io::Result<()> {
 }
 
 impl Table {
-    /// A table with a value under each of `count` keys.
+    /// Makes a table with a value under each of `count` keys.
     pub(crate) fn filled(alloc: Global, count: u32, prefixes: u32) -> io::Result<Self> {
         let actor = actor(0)?;
         let rows = Rows::in_turn(alloc, count, prefixes)?;
@@ -129,7 +129,7 @@ impl Table {
     }
 }
 
-/// A store with the value under each of the keys, and its tree.
+/// Makes a store with the value under each of the keys, and its tree.
 pub(crate) fn filled(alloc: Global, actor: Actor, rows: &Rows) -> io::Result<(Store, Tree)> {
     let mut store = Store::new(alloc);
     let mut tree = Tree::from_store(alloc, &store)?;

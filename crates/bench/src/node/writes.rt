@@ -14,7 +14,7 @@ pub(crate) struct Writes {
 }
 
 impl Writes {
-    /// Writes under `count` keys of one full prefix.
+    /// Makes what a node writes under `count` keys of one full prefix.
     pub(crate) fn new(alloc: Global, count: u32) -> io::Result<Self> {
         let rows = Rows::new(alloc, count)?;
         Ok(Writes {

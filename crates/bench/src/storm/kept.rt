@@ -42,7 +42,7 @@ fn tell_object(rt: &HostRuntime, key: &str, entries: &[Entry]) -> io::Result<()>
     Ok(())
 }
 
-/// The newest value that the entry shows, `-` for none.
+/// Returns the newest value that the entry shows, `-` for none.
 fn newest(entry: &Entry) -> &str {
     match entry.values() {
         [value, ..] => text_of(value.body().unwrap_or(b"tombstone")),

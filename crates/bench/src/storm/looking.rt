@@ -11,8 +11,8 @@ use std::sync::Wait;
 use std::thread;
 use std::time::Duration;
 
-/// For how many microseconds a reader rests after each round of the keys. Where processors are few,
-/// one that never rests is mostly stopped inside a look, for which writes wait.
+/// For how many microseconds a reader rests after each round of the keys. If there are few
+/// processors, a reader that never rests is mostly stopped inside a look, for which writes wait.
 const REST: u64 = 500;
 
 /// What a reader was shown.
@@ -72,7 +72,7 @@ fn look_in_turn<J: Naming, R: Wait + Clock>(
     Ok(())
 }
 
-/// An empty vector for each key: nothing was shown yet.
+/// Makes an empty vector for each key: nothing was shown so far.
 fn no_vectors<J: Naming>(shared: &Shared<J>) -> Result<Vec<Vector>, Trouble> {
     let mut vectors = Vec::new(shared.alloc);
     for _key in shared.keys.iter() {
@@ -81,7 +81,7 @@ fn no_vectors<J: Naming>(shared: &Shared<J>) -> Result<Vec<Vector>, Trouble> {
     Ok(vectors)
 }
 
-/// Learns of the write that was posted last, whose vector counts as shown from now on.
+/// Learns of the write that was posted last. Its vector counts as shown from then on.
 fn learn<J: Naming, R: Wait>(
     rt: &R,
     shared: &Shared<J>,
@@ -107,7 +107,6 @@ fn note(vectors: &mut [Vector], place: usize, told: &Vector) -> Result<(), Alloc
     Ok(())
 }
 
-/// Looks once at each key.
 fn look_at_each<J: Naming>(
     shared: &Shared<J>,
     seat: &mut ReadSeat<J>,
@@ -119,7 +118,7 @@ fn look_at_each<J: Naming>(
     Ok(())
 }
 
-/// Returns the vector that is shown under the key. Fails where it doesn't descend the one before.
+/// Returns the vector that is shown under the key. Fails if it doesn't descend the one before.
 fn look_at<J: Naming>(
     seat: &mut ReadSeat<J>,
     key: &MetaKey,

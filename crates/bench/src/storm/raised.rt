@@ -1,4 +1,4 @@
-//! A node is started, stormed by its threads, and closed.
+//! Starts a node, lets its threads storm it, and closes it.
 
 ghost use Rattle.std.specs.Prelude.{◌≡◌, ◌≤◌};
 ghost use Rattle.node_desk.specs.Starting.{IsFileOf};
@@ -40,7 +40,7 @@ pub(crate) struct Left {
     pub(crate) closed: Closed,
     pub(crate) answers: Vec<Answers>,
     pub(crate) looks: Vec<Looks>,
-    /// How long the threads took, where the clock could be read.
+    /// How long the threads took, if the clock could be read.
     pub(crate) time: Option<Duration>,
 }
 

@@ -27,8 +27,8 @@ fn is_kept(rt: &HostRuntime, path: &str, left: &Left) -> io::Result<bool> {
     Ok(is_kept)
 }
 
-/// Prints the findings at standard output, a line for each. Where one isn't so, its line says so,
-/// and an error is returned at the end.
+/// Prints the findings at standard output, a line for each. If a finding isn't so, its line says
+/// so, and an error is returned at the end.
 fn tell_findings(rt: &HostRuntime, left: &Left, is_equal: bool, is_kept: bool) -> io::Result<()> {
     let findings = [
         (all_wrote(left.answers.as_slice()), "no writer was refused"),

@@ -1,4 +1,4 @@
-//! What the threads of a storm share beside the node.
+//! What the threads of a storm share besides the node.
 
 use crate::storm::span::Span;
 use crate::storm::trouble::Trouble;
@@ -35,11 +35,11 @@ pub(crate) struct Shared<J: Naming> {
     pub(crate) alloc: Global,
     pub(crate) span: Span,
     pub(crate) keys: Vec<MetaKey>,
-    /// The node in its life: who writes, as vectors count it.
+    /// The node in its life: the actor under which vectors count its writes.
     pub(crate) actor: Actor,
     /// How many writers have begun.
     begun: AtomicU64,
-    /// How many writes were printed at standard output; `None` where they aren't printed.
+    /// How many writes were printed at standard output; `None` if they aren't printed.
     told: Option<Mutex<u64>>,
     news: Mutex<Option<News<J>>>,
 }
@@ -63,18 +63,18 @@ impl<J: Naming> Shared<J> {
         }
     }
 
-    /// The number of a writer that begins.
+    /// Returns the number of a writer that begins.
     pub(crate) fn next_writer(&self) -> u64 {
         self.begun.fetch_add(1, Ordering::SeqCst)
     }
 
-    /// Readers learn of this from now on.
+    /// Posts a write, of which readers learn from then on.
     pub(crate) fn post<R: Wait>(&self, rt: &R, news: News<J>) {
         let mut last = self.news.lock(rt);
         drop(last.replace(news));
     }
 
-    /// What was posted last.
+    /// Returns what was posted last.
     pub(crate) fn newest<R: Wait>(&self, rt: &R) -> Result<Option<News<J>>, AllocError> {
         let last = self.news.lock(rt);
         match &*last {
@@ -83,8 +83,8 @@ impl<J: Naming> Shared<J> {
         }
     }
 
-    /// Prints, where writes are printed, that this write was acknowledged as event number `count`
-    /// of its key. The line is whole before another thread's begins.
+    /// If writes are printed, prints that this write was acknowledged as event number `count` of
+    /// its key. No line of another thread stands inside the line.
     pub(crate) fn tell<R: Wait + Print>(
         &self,
         rt: &R,

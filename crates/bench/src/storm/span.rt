@@ -3,7 +3,7 @@
 use std::rt::Clock;
 use std::time::{Duration, Instant};
 
-/// A time that has begun, and how long it is. Where the clock can't be read it is over.
+/// A time that has begun, and how long it is. If the clock can't be read it is over.
 #[derive(Clone, Copy)]
 pub(crate) struct Span {
     begun: Option<Instant>,

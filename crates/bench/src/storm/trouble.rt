@@ -11,7 +11,7 @@ pub(crate) enum Trouble {
     Write(LockFault),
     /// A look was refused.
     Look(PeekFault),
-    /// A look showed less than one before, or than what had been learnt.
+    /// A look showed less than an earlier one, or than what had been learnt.
     WentBack,
     /// There are no keys to be written.
     NoKey,
@@ -24,7 +24,7 @@ pub(crate) enum Trouble {
 }
 
 impl Trouble {
-    /// What it prints as.
+    /// Returns what it prints as.
     fn name(&self) -> &'static str {
         match self {
             Trouble::Write(fault) => fault.name(),

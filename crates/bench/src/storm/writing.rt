@@ -17,7 +17,7 @@ use std::sync::Wait;
 pub(crate) struct Answers {
     /// How many writes were acknowledged.
     pub(crate) writes: u64,
-    /// Their receipts, but for those from before this writer cut the journal.
+    /// Their receipts, except those from before this writer cut the journal.
     pub(crate) receipts: Vec<Receipt>,
     /// How often it cut the journal.
     pub(crate) cuts: u64,
@@ -51,7 +51,7 @@ pub(crate) fn write<J: Naming, R: Wait + Clock + Print>(
     (seat, answers)
 }
 
-/// Makes one more write, and keeps its receipt; or cuts the journal where it is full.
+/// Makes one more write, and keeps its receipt; or cuts the journal if it is full.
 fn go_on<J: Naming, R: Wait + Print>(
     rt: &R,
     node: &Node<FileDevice, J, &R>,
@@ -68,7 +68,7 @@ fn go_on<J: Naming, R: Wait + Print>(
     if !found_no_room(&done) {
         return keep(answers, done?);
     }
-    // Dropped by a call: no case of the proof then takes it apart.
+    // Dropped by a call, so that no case of the proof takes it apart.
     drop(done);
     node.cut(rt, seat)?;
     answers.cuts = answers.cuts.saturating_add(1);
@@ -147,7 +147,7 @@ fn tell<J: Naming, R: Wait + Print>(
     Ok(())
 }
 
-/// The vector that the write returned.
+/// Returns the vector that the write returned.
 fn vector_of<J: Naming>(done: &Acknowledgement<J>) -> Result<Vector, Trouble> {
     match &done.entry().reply {
         Reply::Wrote { vector } => Ok(vector.copy()?),

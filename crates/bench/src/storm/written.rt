@@ -23,14 +23,14 @@ impl Display for Mark {
 }
 
 impl Mark {
-    /// The value of the write, whose body is the mark.
+    /// Makes the value of the write, whose body is the mark.
     pub(crate) fn value(self, alloc: Global) -> io::Result<Value> {
         let body = format!(in alloc; "{self}")?;
         Value::new(self.number, Some(body.into_bytes())).map_err(refused)
     }
 
-    /// The place of the key that is written, of `keys` keys: each writer goes round them all,
-    /// beginning at its own number.
+    /// Returns the place of the key that is written, of `keys` keys: each writer goes round all
+    /// keys, beginning at its own number.
     pub(crate) fn place(self, keys: usize) -> usize {
         let turn = self.number.saturating_add(self.writer);
         (turn % (keys as u64).max(1)) as usize
@@ -43,7 +43,7 @@ impl Mark {
     }
 }
 
-/// `count` keys: `key-0`, `key-1` and so on, under `storm` and `n`.
+/// Makes `count` keys: `key-0`, `key-1` and so on, under `storm` and `n`.
 pub(crate) fn keys(alloc: Global, count: u32) -> io::Result<Vec<MetaKey>> {
     let mut keys = Vec::new(alloc);
     for number in 0..count {
@@ -56,7 +56,7 @@ fn key(alloc: Global, number: u32) -> io::Result<MetaKey> {
     key_of(alloc, "storm", "n", format!(in alloc; "key-{number}")?)
 }
 
-/// The bytes of a key or of a value, as they are printed.
+/// Returns the bytes of a key or of a value, as they are printed.
 pub(crate) fn text_of(bytes: &[u8]) -> &str {
     std::str::from_utf8(bytes).unwrap_or("bytes")
 }

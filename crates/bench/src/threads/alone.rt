@@ -14,7 +14,7 @@ use std::time::Instant;
 /// busy machine.
 pub(crate) const FRAMES: u32 = 10_000;
 
-/// An inbox for one sender, with its passes.
+/// Makes an inbox for one sender, with its passes.
 fn for_one(alloc: Global) -> io::Result<(Inbox, PutPass, TakePass)>
     ensures { IfOk result (λ r. (r.1.line ≡ r.0.line) × (r.2.line ≡ r.0.line)) }
 {
@@ -66,7 +66,8 @@ fn hand_round<R: Wait>(
     }
 }
 
-/// The nanoseconds of a sample, whose frames are made anew or are always the same one.
+/// Returns the nanoseconds of a sample. Its frames are new ones if `anew` is set, and otherwise
+/// always the same one.
 pub(crate) fn nanos<R: Wait>(rt: &HostRuntime, handle: &R, anew: bool) -> io::Result<u128> {
     let (inbox, mut put, mut take) = for_one(rt.alloc())?;
     let nanos = nanos_through(rt, handle, &inbox, &mut put, &mut take, anew);

@@ -36,8 +36,8 @@ fn put_at_last<R: Wait>(handle: &R, inbox: &Inbox, pass: &mut PutPass, frame: By
     }
 }
 
-/// Puts frames of 100 bytes, or empty ones where memory is refused: a frame that never came would
-/// be waited for.
+/// Puts frames of 100 bytes, or empty ones if memory is refused, since the taker would wait for a
+/// frame that never came.
 fn put_each<R: Wait>(handle: &R, alloc: Global, inbox: &Inbox, pass: PutPass)
     requires { pass.line ≡ inbox.now.line }
 {
@@ -69,7 +69,7 @@ fn take_each<R: Wait>(handle: &R, inbox: &Inbox, pass: TakePass) -> usize
     0
 }
 
-/// Lets each sender put in a thread of its own. Returns false where memory is refused.
+/// Lets each sender put in a thread of its own. Returns false if memory is refused.
 fn put_all<R: Threads + Wait + Sync>(
     handle: &R,
     alloc: Global,
@@ -88,14 +88,14 @@ fn put_all<R: Threads + Wait + Sync>(
     done.is_ok()
 }
 
-/// A new inbox for four senders.
+/// Makes a new inbox for four senders.
 fn new_for_four(alloc: Global) -> io::Result<Fresh>
     ensures { IfOk result (IsFresh 4 1024) }
 {
     Inbox::new(alloc, 4).map_err(refused)
 }
 
-/// The parts of an inbox for four senders.
+/// Takes an inbox for four senders apart.
 fn parts(fresh: Fresh) -> (Inbox, Vec<PutPass>, TakePass)
     requires { IsFresh 4 1024 fresh }
     ensures puts { AreOf result.0.line result.1.items }
@@ -105,7 +105,7 @@ fn parts(fresh: Fresh) -> (Inbox, Vec<PutPass>, TakePass)
     (inbox, puts, takes)
 }
 
-/// Four senders put side by side while one takes. Returns how many bytes came, 0 where memory is
+/// Lets four senders put side by side while one takes. Returns how many bytes came, 0 if memory is
 /// refused.
 fn cross<R: Threads + Wait + Sync>(
     handle: &R,
@@ -129,7 +129,7 @@ fn cross<R: Threads + Wait + Sync>(
     if all { bytes } else { 0 }
 }
 
-/// The nanoseconds of a sample, with the start and the end of its threads.
+/// Returns the nanoseconds of a sample, with the start and the end of its threads.
 pub(crate) fn nanos<R: Threads + Wait + Sync>(rt: &HostRuntime, handle: &R) -> io::Result<u128> {
     let alloc = rt.alloc();
     let (inbox, puts, takes) = parts(new_for_four(alloc)?);

@@ -1,4 +1,4 @@
-//! The measured work, how often it is done, and printing it.
+//! The measured work, how many times it is done, and printing it.
 
 use crate::samples::{median, print, rate};
 use crate::threads::{alone, crowd};
@@ -24,7 +24,7 @@ pub(crate) enum Work {
 
 pub(crate) const WORKS: [Work; 3] = [Work::OneThread, Work::OneThreadBare, Work::FourToOne];
 
-/// A frame of 100 bytes.
+/// Makes a frame of 100 bytes.
 pub(crate) fn frame(alloc: Global) -> Result<ByteString, AllocError> {
     Ok(ByteString::new(vec![in alloc; 7u8; 100]?))
 }

@@ -33,13 +33,13 @@ pub enum Kind {
     Take(usize),
     /// Its write has read nothing.
     Unread,
-    /// Before it stands an entry in which this peer went down, which gave nothing.
+    /// An entry in which this peer went down stands before it, and gave nothing.
     Down(usize),
     /// Not of the journal, but of the table: its first object is left out.
     Untable,
 }
 
-/// A copy of a journal, with a change.
+/// Returns a copy of a journal, with a change.
 pub fn changed(
     alloc: Global,
     journal: &[Entry],
@@ -67,7 +67,7 @@ fn add_changed(
     }
 }
 
-/// Makes the change. Nothing is done where there is no such entry.
+/// Makes the change. Does nothing if there is no such entry.
 fn make(alloc: Global, entries: &mut Vec<Entry>, change: Change) -> Result<(), AllocError> {
     let at = change.place;
     if at >= entries.len() {
@@ -126,15 +126,15 @@ fn alter(alloc: Global, entry: &mut Entry, kind: Kind) -> Result<(), AllocError>
     }
 }
 
-/// Puts frames with another first one, or with none, in place of these.
+/// Changes a bit of the first frame, or leaves the first frame out.
 fn send(alloc: Global, outbox: &mut Outbox, byte: Option<usize>) -> Result<(), AllocError> {
     let other = with_first(alloc, outbox, byte)?;
     drop(replace(outbox, other));
     Ok(())
 }
 
-/// The entry of a peer that is down, which gave nothing. A number that is no node's stands for node
-/// 0.
+/// Makes the entry of a peer that is down, which gave nothing. A number that is no node's stands
+/// for node 0.
 fn peer_down(alloc: Global, peer: usize) -> Entry {
     let number = u16::try_from(peer).unwrap_or(0);
     let peer = match NodeId::new(number) {
@@ -148,7 +148,7 @@ fn peer_down(alloc: Global, peer: usize) -> Entry {
     }
 }
 
-/// A reply that isn't this one.
+/// Returns a reply that isn't this one.
 fn other_reply(reply: &Reply) -> Reply {
     match reply {
         Reply::Done => Reply::Took,
@@ -156,7 +156,7 @@ fn other_reply(reply: &Reply) -> Reply {
     }
 }
 
-/// A copy of the frame with one bit of the byte at the place changed.
+/// Returns a copy of the frame with one bit of the byte at the place changed.
 fn flipped(frame: &ByteString, byte: usize) -> Result<ByteString, AllocError> {
     let mut bytes = frame.copy()?.into_vec()?;
     if byte < bytes.len() {
@@ -165,7 +165,7 @@ fn flipped(frame: &ByteString, byte: usize) -> Result<ByteString, AllocError> {
     Ok(ByteString::new(bytes))
 }
 
-/// The frames with a bit of the first one changed, or without the first one.
+/// Returns the frames with a bit of the first one changed, or without the first one.
 fn with_first(alloc: Global, outbox: &Outbox, byte: Option<usize>) -> Result<Outbox, AllocError> {
     let mut frames = Vec::new(alloc);
     let done = add_frames(&mut frames, outbox.as_slice(), byte);

@@ -10,7 +10,6 @@ use run_record::RecordFault;
 use std::alloc::{AllocError, Global};
 use world_core::World;
 
-/// The node of this number.
 fn node_of(closed: &[Closed], number: usize) -> Option<&Closed> {
     closed
         .iter()
@@ -32,7 +31,7 @@ fn has_read(entry: &Entry, context: &Context) -> bool {
     }
 }
 
-/// Returns whether the entry gives what the event needs; nothing does where it needs nothing.
+/// Returns whether the entry gives what the event needs; false if it needs nothing.
 fn gives(entry: &Entry, event: &NodeEvent) -> bool {
     match event {
         NodeEvent::Take { frame, .. } => has_sent(entry, frame),
@@ -86,7 +85,7 @@ fn makes(state: &mut NodeState, journal: &[Entry]) -> bool {
 fn ran_as_told(alloc: Global, one: &Closed) -> Result<bool, AllocError> {
     let mut state = NodeState::new(alloc, one.node(), 1)?;
     let is_so = makes(&mut state, one.journal()) && state.store() == one.table();
-    // Dropped on its one way out, where the proof has one case for it.
+    // Dropped on the one way out, so that the proof has one case for it.
     drop(state);
     Ok(is_so)
 }

@@ -1,5 +1,5 @@
-//! Nodes that are driven by the commands of a scenario, without a world: what each of them accepts
-//! goes to its journal.
+//! Nodes that the commands of a scenario drive, without a world. What a node accepts goes to its
+//! journal.
 
 ghost use Rattle.std.specs.Prelude.{◌≡◌, ◌<◌, None, length};
 ghost use Rattle.meta_types.specs.Name.{IsKey};
@@ -28,18 +28,16 @@ pub struct Nodes {
     contexts: Vec<Context>,
 }
 
-/// The node of this number.
 fn node_id(number: u64) -> Option<NodeId> {
     NodeId::new(u16::try_from(number).ok()?).ok()
 }
 
-/// The item with this number in a list, where the first has number 1.
+/// Returns the item with this number in a list whose first item has number 1.
 fn numbered<T>(list: &[T], number: u64) -> Option<&T> {
     list.get(usize::try_from(number.checked_sub(1)?).ok()?)
 }
 
 impl Nodes {
-    /// No nodes.
     fn none(alloc: Global) -> Self {
         Nodes {
             alloc,
@@ -76,7 +74,7 @@ impl Nodes {
         Ok(())
     }
 
-    /// The nodes after the commands of a scenario; none where it is no scenario.
+    /// Returns the nodes after the commands of a scenario; none if it is no scenario.
     pub fn driven(alloc: Global, text: &str) -> Result<Option<Self>, AllocError> {
         let Ok(Some(script)) = parse(text.as_bytes(), 0) else {
             return Ok(None);
@@ -112,8 +110,8 @@ impl Nodes {
         }
     }
 
-    /// What the step of the node at this place gives; none where it refuses the event, or there is
-    /// no such node.
+    /// Returns what the step of the node at this place gives; none if it refuses the event, or if
+    /// there is no such node.
     fn given(&mut self, at: usize, event: &NodeEvent) -> Option<Stepped> {
         self.states.get_mut(at)?.step_on(event).ok()
     }
@@ -142,7 +140,7 @@ impl Nodes {
         Ok(())
     }
 
-    /// The step that a command makes, and the number of its node.
+    /// Returns the step that a command makes, and the number of its node.
     fn event_of(&self, command: &Command<'_>) -> Result<Option<(u64, NodeEvent)>, AllocError>
         requires { fault_in (command_word command.now) ≡ None }
     {
@@ -191,8 +189,8 @@ impl Nodes {
         Ok(Value::new(stamp, body).ok())
     }
 
-    /// What a write has read: nothing, or a copy of the context of the read of this number. None
-    /// where no read has that number.
+    /// Returns what a write has read: nothing, or a copy of the context of the read of this number.
+    /// Returns none if no read has that number.
     fn read_by(&self, read: Option<u64>) -> Result<Option<Option<Context>>, AllocError> {
         let Some(read) = read else {
             return Ok(Some(None));
@@ -231,7 +229,7 @@ impl Nodes {
         Ok(over_of(node, key, value))
     }
 
-    /// The event by which the frame of this number comes to the node, or to its addressee.
+    /// Returns the event by which the frame of this number comes to the node, or to its addressee.
     fn take(
         &self,
         number: u64,
@@ -250,7 +248,7 @@ impl Nodes {
         Ok(Some((node, NodeEvent::Take { frame, word })))
     }
 
-    /// A receipt of `node` and `place` with the entry that stands at `at` of the node `of`.
+    /// Makes a receipt of `node` and `place` with the entry that stands at `at` of the node `of`.
     pub fn receipt(
         &self,
         node: usize,
@@ -269,13 +267,13 @@ impl Nodes {
             place: place as u64,
             entry: entry.copy()?,
         };
-        // A copy, as who keeps a receipt makes one.
+        // A copy, as a caller who keeps a receipt makes one.
         let copy = receipt.copy();
         drop(receipt);
         Ok(Some(copy?))
     }
 
-    /// The nodes, closed, with these changes, at most one for each node.
+    /// Returns the nodes, closed, with these changes, at most one for each node.
     pub fn closed(&self, changes: &[(usize, Change)]) -> Result<Vec<Closed>, AllocError> {
         let mut closed = Vec::new(self.alloc);
         let done = self.close_all(changes, &mut closed);
@@ -298,7 +296,7 @@ impl Nodes {
         Ok(())
     }
 
-    /// The node, closed, with this change.
+    /// Returns the node, closed, with this change.
     fn close(&self, number: usize, change: Option<Change>) -> Result<Closed, AllocError>
         requires { number < length self.now.states.items }
     {
@@ -312,7 +310,7 @@ impl Nodes {
         Ok(Closed::from_parts(base, journal, table))
     }
 
-    /// A copy of the journal of the node at this place, with this change.
+    /// Returns a copy of the journal of the node at this place, with this change.
     fn journal_of(&self, at: usize, change: Option<Change>) -> Result<Vec<Entry>, AllocError> {
         match self.journals.get(at) {
             Some(journal) => changed(self.alloc, journal.as_slice(), change),
@@ -321,7 +319,7 @@ impl Nodes {
     }
 }
 
-/// Both items, where both are there. Its type parameters hide what is dropped where one isn't.
+/// Returns both items, if both are there. Its type parameters hide what is dropped if one isn't.
 fn paired<A: Drop, B: Drop>(first: Option<A>, second: Option<B>) -> Option<(A, B)> {
     match (first, second) {
         (Some(first), Some(second)) => Some((first, second)),
@@ -329,7 +327,7 @@ fn paired<A: Drop, B: Drop>(first: Option<A>, second: Option<B>) -> Option<(A, B
     }
 }
 
-/// The entry of an event and what its step gave.
+/// Makes the entry of an event and what its step gave.
 fn entry_of(event: NodeEvent, given: Stepped) -> Entry {
     let Stepped { reply, outbox } = given;
     Entry {
@@ -339,7 +337,7 @@ fn entry_of(event: NodeEvent, given: Stepped) -> Entry {
     }
 }
 
-/// The write of these parts, where all are there.
+/// Makes the write of these parts, if all are there.
 fn write_of(
     node: u64,
     key: MetaKey,
@@ -357,13 +355,13 @@ fn write_of(
     ))
 }
 
-/// The write of these parts over what is held, where there is a value.
+/// Makes the write of these parts over what is held, if there is a value.
 fn over_of(node: u64, key: MetaKey, value: Option<Value>) -> Option<(u64, NodeEvent)> {
     let (key, value) = paired(Some(key), value)?;
     Some((node, NodeEvent::PutOver { key, value }))
 }
 
-/// A copy of a table, without its first object where the change asks for that.
+/// Returns a copy of a table, without its first object if the change asks for that.
 fn table_of(store: &Store, change: Option<Change>) -> Result<Store, AllocError> {
     let mut table = store.copy()?;
     let done = if change.is_some_and(|change| change.kind == Kind::Untable) {
@@ -385,7 +383,7 @@ fn forget_first(table: &mut Store, store: &Store) -> Result<(), AllocError> {
     Ok(())
 }
 
-/// The step that a command makes, where it is made of numbers alone.
+/// Returns the step that a command makes, if the command has numbers alone.
 fn event_of_numbers(command: &Command<'_>) -> Option<(u64, NodeEvent)> {
     Some(match *command {
         Command::Tick { node, word } => (node, NodeEvent::Tick { word }),

@@ -5,7 +5,7 @@ use Rattle.cluster_parts.specs.Plan.{refusal_of_run}
 use Rattle.cluster.specs.Run.{CanRun, IsRunOf, RefusesGathering, RefusesRun}
 use Rattle.cluster_parts.specs.Serving.{life_of_file, lives_from}
 use Rattle.cluster_parts.specs.Worked.{AreOutcomesOf}
-use Rattle.cluster_parts.specs.declared.serving.Served.{Served}
+use Rattle.cluster_parts.specs.declared.serving.ServedFile.{ServedFile}
 use Rattle.cluster_parts.proofs.Made.{each_has_passes}
 use Rattle.cluster.proofs.Gathered.{all_jobs, ends_run, err_more, inboxes_within, lives_count, lives_of, ok_more, on_ok, refuses_gathering, refuses_working, run_of}
 use Rattle.cluster.proofs.run.run_cluster_on.Goals as goal
@@ -18,7 +18,7 @@ connect-requires-clause-nodes g c =
     let devices = c.args.devices.items in
     let content = g.D.Device.content in
     let number : length served ≡ length devices =
-    sym (length-map served (λ (s : Served g.row.D.Denot). life_of_file s.file s.table))
+    sym (length-map served (λ (s : ServedFile g.row.D.Denot). life_of_file s.file s.table))
     ∙ (ap length c.in_ok-served.ensures.lives ∙ (lives_count 0 (map content devices) ∙ length-map devices content)) in
     let same : c.len-2.result ≡ vec_len c.args.devices =
     (c.len-2.ensures ∙ c.in_ok-served.served.ok.0) ∙ (number ∙ sym c.args.devices.ok.0) in

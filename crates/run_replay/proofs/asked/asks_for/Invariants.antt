@@ -3,7 +3,7 @@ use Rattle.scenario_text.specs.Commands.{Command}
 use Rattle.run_replay.specs.Replay.{AskFor}
 use Rattle.run_replay.proofs.asked.asks_for.Given as goal
 
--- whatever the events that are left ask for behind here, all of them ask for from the start
+-- if the commands from here ask for the events that are left, all of them ask for all events
 abbrev pub invariant-loop-one : goal.invariant-loop-one
 invariant-loop-one l = record {
   nodes : l.script.nodes ≡ l.fn.script.nodes;

@@ -4,7 +4,7 @@ use Rattle.scenario_text.specs.Commands.{Root}
 use Rattle.run_replay.specs.Replay.{roots_of}
 use Rattle.run_replay.proofs.asked.asks_for_roots.Given as goal
 
--- where the roots that are left are asked for from here, all of them are from the start
+-- if the roots that are left are asked for from here, all of them are from the start
 abbrev pub invariant-loop-node : goal.invariant-loop-node
 invariant-loop-node l = record {
   nodes : l.node-end ≡ l.fn.script.nodes;

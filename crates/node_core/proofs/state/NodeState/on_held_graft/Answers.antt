@@ -10,7 +10,7 @@ use Rattle.node_core.proofs.Casting.{after_graft, graft_sent, held_if_stale, tol
 use Rattle.node_core.proofs.Making.{own_frames}
 use Rattle.node_core.proofs.state.NodeState.on_held_graft.Goals as goal
 
--- where nothing is held, which can't be
+-- if nothing is held, which can't be
 pub returns-in_default : goal.returns-in_default
 returns-in_default c =
     let key = c.args.key.now in

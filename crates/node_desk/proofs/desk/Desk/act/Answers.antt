@@ -15,16 +15,16 @@ use Rattle.devices.specs.Device.{LeavesOnly}
 use Rattle.node_desk.proofs.Kept.{began_on, call_refused, goes_on, kept_within, leaves_of, not_full, one_more, still_of_life, stored_within, told}
 use Rattle.node_desk.proofs.desk.Desk.act.Goals as goal
 
-pub settle-done-requires-clause-within : goal.settle-done-requires-clause-within
-settle-done-requires-clause-within g c =
+pub store_and_show-done-requires-clause-within : goal.store_and_show-done-requires-clause-within
+store_and_show-done-requires-clause-within g c =
     let s = c.self.inside in
     let r = c.in_ok-ready.ensures.ready in
     let w = (c.self.invariant.9 c.if-self.false).within in
     subst (λ (t : Table). IsStoredOf t (file_state (g.D.Device.content s.file.device)).contents.table) (sym c.store.ensures)
     (kept_within s.state.table c.prepare.new.spare.table _ r.known.keeps w)
 
-pub settle-done-requires-clause-grows : goal.settle-done-requires-clause-grows
-settle-done-requires-clause-grows g c =
+pub store_and_show-done-requires-clause-grows : goal.store_and_show-done-requires-clause-grows
+store_and_show-done-requires-clause-grows g c =
     let s = c.self.inside in
     let r = c.in_ok-ready.ensures.ready in
     let e = c.in_ok-ready.ready.entry in
@@ -43,7 +43,7 @@ invariant_of-self-in-Err g c =
       i.5,
       i.6,
       c.prepare.ensures.even,
-      c.settle-done.ensures.whose.served ∙ i.8,
+      c.store_and_show-done.ensures.whose.served ∙ i.8,
       (λ going. let still = c.in-Err.ensures.still going in record {
         file = still.0;
         publisher = still.1 ∙ w.publisher;
@@ -57,9 +57,9 @@ returns-in-Err-clause-refused g c =
     let e = c.in_ok-ready.ready.entry in
     let change = c.in_ok-ready.ready.change in
     let s = c.self.inside in
-    let refused = subst (λ (t : Table). RefusesKeeping s.file.gate (record_after e.event t) change (g.D.Device.failed s.file.device) (g.D.Device.failed c.settle-done.new.file.device) c.settle-done.new.is_stopped c.in-Err.fault) c.store.ensures c.in-Err.ensures.refused in
+    let refused = subst (λ (t : Table). RefusesKeeping s.file.gate (record_after e.event t) change (g.D.Device.failed s.file.device) (g.D.Device.failed c.store_and_show-done.new.file.device) c.store_and_show-done.new.is_stopped c.in-Err.fault) c.store.ensures c.in-Err.ensures.refused in
     let step = subst (λ (v : DeskView g.row.D.Denot). IsNodeStep v.state e.event c.prepare.new.spare (stepped_of e)) c.self.view_is r.known.step in
-    let kept = subst (λ (v : DeskView g.row.D.Denot). RefusesKeeping v.file.gate (record_after e.event c.prepare.new.spare.table) change (g.D.Device.failed v.file.device) (g.D.Device.failed c.settle-done.new.file.device) c.settle-done.new.is_stopped c.in-Err.fault) c.self.view_is refused in
+    let kept = subst (λ (v : DeskView g.row.D.Denot). RefusesKeeping v.file.gate (record_after e.event c.prepare.new.spare.table) change (g.D.Device.failed v.file.device) (g.D.Device.failed c.store_and_show-done.new.file.device) c.store_and_show-done.new.is_stopped c.in-Err.fault) c.self.view_is refused in
     let room = subst (λ (v : DeskView g.row.D.Denot). IsFull v → ⊥) c.self.view_is (not_full s.limit (length s.journal.items) s.state.steps c.in_ok-ready.ensures.few) in
     call_refused g.D.Device.failed c.args.self.now _ c.args.event c.prepare.new.spare e change c.in-Err.fault r.is_event step room r.change kept
 
@@ -69,8 +69,8 @@ returns-in-Err-clause-any_moment g c = λ _.
     let r = c.in_ok-ready.ensures.ready in
     let e = c.in_ok-ready.ready.entry in
     let d = g.D.Device in
-    let left = subst (λ (t : Table). LeavesOnly d.moment d.left_since s.file.device c.settle-done.new.file.device (LeavesRecord (d.content s.file.device) (record_after e.event t))) c.store.ensures c.settle-done.ensures.any_moment in
-    rw (← c.self.view_is) (leaves_of d.content d.moment d.left_since s.file.device c.settle-done.new.file.device s.state c.prepare.new.spare c.args.event e r.is_event r.known.step left)
+    let left = subst (λ (t : Table). LeavesOnly d.moment d.left_since s.file.device c.store_and_show-done.new.file.device (LeavesRecord (d.content s.file.device) (record_after e.event t))) c.store.ensures c.store_and_show-done.ensures.any_moment in
+    rw (← c.self.view_is) (leaves_of d.content d.moment d.left_since s.file.device c.store_and_show-done.new.file.device s.state c.prepare.new.spare c.args.event e r.is_event r.known.step left)
 
 pub of-requires : goal.of-requires
 of-requires g c =
@@ -79,7 +79,7 @@ of-requires g c =
     let e = c.in_ok-ready.ready.entry in
     let change = listed c.in_ok-ready.ready.change in
     let n = g.J.Naming in
-    let copy = c.into_entries-entry.ensures.1 ∙ (c.settle-done.ensures.entries.1 ∙ r.copy) in
+    let copy = c.into_entries-entry.ensures.1 ∙ (c.store_and_show-done.ensures.entries.1 ∙ r.copy) in
     let list = c.again.ensures ∙ (c.revision.ensures ∙ c.in_default.ensures.list) in
     subst (λ (l : List Published). TellsOfEntry (writer_number n.node n.incarnation) c.into_entries-entry.result.1 l) (sym list)
     (told n.node n.incarnation s.state c.prepare.new.spare e c.into_entries-entry.result.1 s.publisher.list change c.self.invariant.2 r.known r.change copy)
@@ -95,8 +95,8 @@ invariant_of-self-2 g c =
     let n = g.J.Naming in
     let go = goes_on s.base s.state new n.opening s.journal.items s.publisher.list (listed c.in_ok-ready.ready.change) e i.0 i.6 r.known r.change in
     let steps = one_more s.state new (length e.outbox) r.known.counts c.in_ok-ready.ensures.few.1 in
-    let stored = subst (λ (t : Table). HasStored g.D.Device.content g.D.Device.may_leave (record_after e.event t) s.file c.settle-done.new.file) c.store.ensures c.in_default.ensures.stored in
-    rw (c.swap.ensures.x_after, c.push_reserved.ensures.items, c.into_entries-entry.ensures.0, c.settle-done.ensures.entries.0, c.prepare.ensures.same, c.in_default.ensures.list) (
+    let stored = subst (λ (t : Table). HasStored g.D.Device.content g.D.Device.may_leave (record_after e.event t) s.file c.store_and_show-done.new.file) c.store.ensures c.in_default.ensures.stored in
+    rw (c.swap.ensures.x_after, c.push_reserved.ensures.items, c.into_entries-entry.ensures.0, c.store_and_show-done.ensures.entries.0, c.prepare.ensures.same, c.in_default.ensures.list) (
       go.journaled,
       i.1,
       still_of_life n.node n.incarnation s.state new (length e.outbox) i.2 r.known.counts,
@@ -105,11 +105,11 @@ invariant_of-self-2 g c =
       i.5,
       go.table,
       (λ even. c.catch_up-self-inside.ensures even ∙ c.swap.ensures.x_after),
-      c.settle-done.ensures.whose.served ∙ i.8,
+      c.store_and_show-done.ensures.whose.served ∙ i.8,
       (λ _. record {
         file = c.in_default.ensures.going.0;
         publisher = c.in_default.ensures.going.1 w.publisher;
-        within = stored_within e.event s.state.table new.table (file_state (g.D.Device.content s.file.device)) (file_state (g.D.Device.content c.settle-done.new.file.device)) r.known.keeps w.within stored.tells;
+        within = stored_within e.event s.state.table new.table (file_state (g.D.Device.content s.file.device)) (file_state (g.D.Device.content c.store_and_show-done.new.file.device)) r.known.keeps w.within stored.tells;
       }),
     )
 
@@ -119,8 +119,8 @@ returns-clause-any_moment g c = λ _.
     let r = c.in_ok-ready.ensures.ready in
     let e = c.in_ok-ready.ready.entry in
     let d = g.D.Device in
-    let left = subst (λ (t : Table). LeavesOnly d.moment d.left_since s.file.device c.settle-done.new.file.device (LeavesRecord (d.content s.file.device) (record_after e.event t))) c.store.ensures c.settle-done.ensures.any_moment in
-    rw (← c.self.view_is) (leaves_of d.content d.moment d.left_since s.file.device c.settle-done.new.file.device s.state c.prepare.new.spare c.args.event e r.is_event r.known.step left)
+    let left = subst (λ (t : Table). LeavesOnly d.moment d.left_since s.file.device c.store_and_show-done.new.file.device (LeavesRecord (d.content s.file.device) (record_after e.event t))) c.store.ensures c.store_and_show-done.ensures.any_moment in
+    rw (← c.self.view_is) (leaves_of d.content d.moment d.left_since s.file.device c.store_and_show-done.new.file.device s.state c.prepare.new.spare c.args.event e r.is_event r.known.step left)
 
 pub returns-then-self-clause-began : goal.returns-then-self-clause-began
 returns-then-self-clause-began g c =

@@ -8,7 +8,7 @@ use Rattle.node_parts.specs.Overlay.{Overlay, out_of, overlay_after_call, overla
 use Rattle.node_parts.proofs.Naming.{same_frames}
 use Rattle.node_parts.proofs.overlay.Overlay.on_tick.Goals as goal
 
--- where a shuffle is due
+-- if a shuffle is due
 due_after : (ticks word : ℕ) (o : Overlay) → ticks % 10 ≡ 0
     → overlay_after_view ShuffleDue word (overlay_after_call Tick o) ≡ overlay_after_tick ticks word o
 due_after ticks word o due =
@@ -21,7 +21,7 @@ due_sent ticks word o due =
     let sent = whole_messages (out_of Tick o) in
     sym (ap (λ is. cond is (sent ++ sent_by_view ShuffleDue word o) sent) (eq-eqb (ticks % 10) 0 due))
 
--- where none is
+-- if none is due
 not_due_after : (ticks word : ℕ) (o : Overlay) → ticks % 10 ≢ 0
     → overlay_after_call Tick o ≡ overlay_after_tick ticks word o
 not_due_after ticks word o not_due =

@@ -2,18 +2,18 @@ use meta_types::NodeId;
 
 /// What is called around each turn of a node, in the thread of its worker. A test waits in it, to
 /// see that workers run side by side; a wait must have an end of its own.
-pub trait Gate {
-    /// The turn of the node is about to be made.
+pub trait TurnHook {
+    /// Is called before the turn of the node is made.
     fn before(&self, node: NodeId, turn: u64);
 
-    /// The turn was made. A turn that stopped its node counts too.
+    /// Is called after the turn was made. A turn that stopped its node counts too.
     fn after(&self, node: NodeId, turn: u64);
 }
 
-/// Turns go on without waiting.
-pub struct NoGate;
+/// A hook that does nothing.
+pub struct NoHook;
 
-impl Gate for NoGate {
+impl TurnHook for NoHook {
     fn before(&self, _node: NodeId, _turn: u64) {}
 
     fn after(&self, _node: NodeId, _turn: u64) {}

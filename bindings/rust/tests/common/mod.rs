@@ -1,0 +1,63 @@
+//! What the tests of files share.
+
+#![allow(dead_code)]
+
+use std::fs;
+use std::path::PathBuf;
+use zomtagi::{Key, Node, Value};
+
+/// A folder of a test's own, which is removed in the end.
+pub struct Folder(PathBuf);
+
+impl Folder {
+    pub fn new(name: &str) -> Folder {
+        let folder = std::env::temp_dir().join(format!("zomtagi-{name}-{}", std::process::id()));
+        let _ = fs::remove_dir_all(&folder); // (of a process of the same number that was killed)
+        fs::create_dir(&folder).unwrap();
+        Folder(folder)
+    }
+
+    /// The path of a file in it.
+    pub fn at(&self, name: &str) -> PathBuf {
+        self.0.join(name)
+    }
+
+    /// The names of the files in it.
+    pub fn names(&self) -> Vec<String> {
+        let mut names: Vec<String> =
+            fs::read_dir(&self.0).unwrap().map(|entry| entry.unwrap().file_name().into_string().unwrap()).collect();
+        names.sort();
+        names
+    }
+}
+
+impl Drop for Folder {
+    fn drop(&mut self) {
+        let _ = fs::remove_dir_all(&self.0);
+    }
+}
+
+/// The key of a number.
+pub fn key(number: usize) -> Key {
+    Key::new("app", "flags", format!("key {number}"))
+}
+
+/// Writes under the keys of these numbers.
+pub fn write(node: &mut Node, numbers: std::ops::Range<usize>) {
+    for number in numbers {
+        node.write_over(&key(number), &Value::text(format!("value {number}"))).unwrap();
+    }
+}
+
+/// The numbers of the keys under which the node shows what `write` writes.
+pub fn held(node: &mut Node) -> Vec<usize> {
+    (0..64).filter(|number| node.read(&key(*number)).unwrap().values == [Value::text(format!("value {number}"))]).collect()
+}
+
+/// The kind of the error with which a call of files failed, if one did.
+pub fn kind(result: Result<Node, zomtagi::Error>) -> Option<std::io::ErrorKind> {
+    match result {
+        Err(zomtagi::Error::Io(error)) => Some(error.kind()),
+        _ => None,
+    }
+}
