@@ -7,3 +7,5 @@ pub mod CallLog
 pub mod Noted
 -- it keeps the laws of a device
 pub mod Laws
+-- a device over a file: which of its calls failed first, and that none follows
+pub mod File

@@ -7,12 +7,14 @@
 //! device.sync()?; // now it leaves `red`
 //! ```
 //!
-//! Read `device`, then `memory`, `file` with `raw`, `opening` and `naming`, and `failing`.
+//! Read `device`, then `memory`, `file` with `raw` and `failures`, `opening` and `naming`, and
+//! `failing`.
 #![tactic(auto)]
 
 mod call_record;
 mod device;
 mod failing;
+mod failures;
 mod file;
 mod memory;
 mod naming;
@@ -22,6 +24,7 @@ mod raw;
 
 pub use device::{Device, DeviceFault};
 pub use failing::{FailsAfter, FailsOnce};
+pub use failures::FailedCall;
 pub use file::FileDevice;
 pub use memory::{Call, MemoryDevice};
 pub use naming::NewName;

@@ -1,7 +1,8 @@
 //! A new file that has its name only once it is whole.
 
-ghost use Rattle.std.specs.Prelude.{◌≡◌, [], IfOk, OnOk};
+ghost use Rattle.std.specs.Prelude.{◌≡◌, [], IfOk, IsNone, OnOk};
 ghost use Rattle.devices.specs.Device.{IsDurable};
+ghost use Rattle.devices.specs.File.{first_failed};
 
 use crate::device::Device;
 use crate::file::FileDevice;
@@ -45,6 +46,7 @@ impl NewName {
         ensures empty { IfOk result (λ r. ⟦<FileDevice as Device>⟧.content r.0 ≡ []) }
         ensures durable { IfOk result (λ r. IsDurable
             (⟦<FileDevice as Device>⟧.content r.0) (⟦<FileDevice as Device>⟧.may_leave r.0)) }
+        ensures usable { IfOk result (λ r. IsNone (first_failed r.0)) }
     {
         if is_there(rt, path)? {
             return Err(OpenFault::Exists);
@@ -72,6 +74,7 @@ impl NewName {
         ensures empty { IfOk result (λ r. ⟦<FileDevice as Device>⟧.content r.0 ≡ []) }
         ensures durable { IfOk result (λ r. IsDurable
             (⟦<FileDevice as Device>⟧.content r.0) (⟦<FileDevice as Device>⟧.may_leave r.0)) }
+        ensures usable { IfOk result (λ r. IsNone (first_failed r.0)) }
     {
         let path = fs::canonicalize(rt, path)?;
         let path = format!(in alloc; "{}", path.as_str())?;
@@ -88,6 +91,7 @@ impl NewName {
         ensures empty { IfOk result (λ r. ⟦<FileDevice as Device>⟧.content r.0 ≡ []) }
         ensures durable { IfOk result (λ r. IsDurable
             (⟦<FileDevice as Device>⟧.content r.0) (⟦<FileDevice as Device>⟧.may_leave r.0)) }
+        ensures usable { IfOk result (λ r. IsNone (first_failed r.0)) }
     {
         if !is_at(rt, held, path.as_str())? {
             return Err(OpenFault::InUse);
@@ -120,6 +124,7 @@ impl NewName {
             ≡ ⟦<FileDevice as Device>⟧.content device) }
         ensures durable { IfOk result (λ d. IsDurable
             (⟦<FileDevice as Device>⟧.content d) (⟦<FileDevice as Device>⟧.may_leave d)) }
+        ensures usable { IfOk result (λ d. IsNone (first_failed d)) }
     {
         let mut device = device;
         match self.put_synced(rt, &mut device) {
@@ -136,6 +141,7 @@ impl NewName {
             ≡ ⟦<FileDevice as Device>⟧.content device.old }
         ensures durable { OnOk result (IsDurable (⟦<FileDevice as Device>⟧.content device.old)
             (⟦<FileDevice as Device>⟧.may_leave device.new)) }
+        ensures usable { OnOk result (IsNone (first_failed device.new)) }
     {
         if device.sync().is_err() {
             return Err(OpenFault::Failed);

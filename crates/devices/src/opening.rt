@@ -1,7 +1,8 @@
 //! Opening a path as a device.
 
-ghost use Rattle.std.specs.Prelude.{◌≡◌, ◌≤◌, [], IfOk, length};
+ghost use Rattle.std.specs.Prelude.{◌≡◌, ◌≤◌, [], IfOk, IsNone, length};
 ghost use Rattle.devices.specs.Device.{IsDurable};
+ghost use Rattle.devices.specs.File.{first_failed};
 
 use crate::device::{Device, DeviceFault};
 use crate::file::FileDevice;
@@ -57,8 +58,9 @@ impl FileDevice {
         alloc: Global,
         path: &str,
     ) -> Result<FileDevice, OpenFault>
-        ensures { IfOk result (λ d. IsDurable
+        ensures durable { IfOk result (λ d. IsDurable
             (⟦<FileDevice as Device>⟧.content d) (⟦<FileDevice as Device>⟧.may_leave d)) }
+        ensures usable { IfOk result (λ d. IsNone (first_failed d)) }
     {
         refuse_other_kinds(rt, path)?;
         let file = OpenOptions::new().read(true).open(rt, path)?;
@@ -73,8 +75,9 @@ impl FileDevice {
         alloc: Global,
         path: &str,
     ) -> Result<FileDevice, OpenFault>
-        ensures { IfOk result (λ d. IsDurable
+        ensures durable { IfOk result (λ d. IsDurable
             (⟦<FileDevice as Device>⟧.content d) (⟦<FileDevice as Device>⟧.may_leave d)) }
+        ensures usable { IfOk result (λ d. IsNone (first_failed d)) }
     {
         refuse_other_kinds(rt, path)?;
         let file = OpenOptions::new().read(true).open(rt, path)?;
@@ -91,8 +94,9 @@ impl FileDevice {
     /// may lack bytes that the operating system still holds. Refused with `Missing`, `NotAFile`,
     /// `InUse`, `Linked`, `Failed` or `Memory`.
     pub fn open(rt: &HostRuntime, alloc: Global, path: &str) -> Result<FileDevice, OpenFault>
-        ensures { IfOk result (λ d. IsDurable
+        ensures durable { IfOk result (λ d. IsDurable
             (⟦<FileDevice as Device>⟧.content d) (⟦<FileDevice as Device>⟧.may_leave d)) }
+        ensures usable { IfOk result (λ d. IsNone (first_failed d)) }
     {
         refuse_other_kinds(rt, path)?;
         let path = fs::canonicalize(rt, path)?;
@@ -120,6 +124,7 @@ impl FileDevice {
         ensures content { IfOk result (λ d. ⟦<FileDevice as Device>⟧.content d ≡ bytes.now) }
         ensures durable { IfOk result (λ d. IsDurable
             (⟦<FileDevice as Device>⟧.content d) (⟦<FileDevice as Device>⟧.may_leave d)) }
+        ensures usable { IfOk result (λ d. IsNone (first_failed d)) }
     {
         let (device, name) = NewName::at(rt, alloc, path)?;
         filled(rt, device, name, bytes)
@@ -134,8 +139,9 @@ impl FileDevice {
         path: &str,
         bytes: &[u8],
     ) -> Result<FileDevice, OpenFault>
-        ensures { IfOk result (λ d. IsDurable
+        ensures durable { IfOk result (λ d. IsDurable
             (⟦<FileDevice as Device>⟧.content d) (⟦<FileDevice as Device>⟧.may_leave d)) }
+        ensures usable { IfOk result (λ d. IsNone (first_failed d)) }
     {
         match FileDevice::open(rt, alloc, path) {
             Err(OpenFault::Missing) => FileDevice::create(rt, alloc, path, bytes),
@@ -155,6 +161,7 @@ fn filled(
     ensures content { IfOk result (λ d. ⟦<FileDevice as Device>⟧.content d ≡ bytes.now) }
     ensures durable { IfOk result (λ d. IsDurable
         (⟦<FileDevice as Device>⟧.content d) (⟦<FileDevice as Device>⟧.may_leave d)) }
+    ensures usable { IfOk result (λ d. IsNone (first_failed d)) }
 {
     let mut device = device;
     match device.write_at(0, bytes) {

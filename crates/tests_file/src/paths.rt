@@ -4,7 +4,7 @@ ghost use Rattle.devices.specs.Device.{IsDurable};
 
 use crate::files::{ONE, SERVED};
 use crate::parts::{node, object, write};
-use devices::{Device, FileDevice, NewName, OpenFault};
+use devices::{Device, DeviceFault, FailedCall, FileDevice, NewName, OpenFault};
 use node_file::{FileFault, create, serve};
 use std::alloc::Global;
 use std::fs;
@@ -199,8 +199,26 @@ fn a_sealed_device_reads_nothing_and_ends(rt: HostRuntime) {
     assert!(rt; device.read_at(0, &mut byte).is_err() && device.failures() == 1);
     // After a failure nothing more is asked of the file.
     assert!(rt; device.sync().is_err() && device.failures() == 2);
+    assert!(rt; device.failed_call() == Some(FailedCall::Read));
     drop(device);
     assert!(rt; holds(&rt, path, &SERVED[..11]));
+    let _ = fs::remove_file(&rt, path);
+}
+
+#[test]
+fn the_call_that_failed_first_is_told(rt: HostRuntime) {
+    let path = "a_file_to_read";
+    let _ = fs::write(&rt, path, ONE);
+    let opened = FileDevice::open_to_read(&rt, rt.alloc(), path);
+    let mut device = opened.ok().expect(&rt, "a device");
+    assert!(rt; device.sync().is_ok() && device.failed_call().is_none());
+    assert!(rt; device.write_at(0, b"x") == Err(DeviceFault::Failed));
+    assert!(rt; device.failed_call() == Some(FailedCall::Write));
+    assert!(rt; device.sync() == Err(DeviceFault::Failed));
+    assert!(rt; device.cut(0) == Err(DeviceFault::Failed));
+    assert!(rt; device.write_at(0, b"") == Err(DeviceFault::Failed));
+    assert!(rt; device.read_at(0, &mut [0]) == Err(DeviceFault::Failed));
+    assert!(rt; device.failed_call() == Some(FailedCall::Write) && device.failures() == 5);
     let _ = fs::remove_file(&rt, path);
 }
 
