@@ -24,9 +24,9 @@ enum Place {
     Taken,
 }
 
-/// The name that a new file is to have. Until the file is put there, it has this name with `.new`
-/// behind it, and is locked. If the process ends before, the next one that makes a file for the
-/// name removes what is left.
+/// The name that a new file is to have. Until the file is put there, it has this name with
+/// `.zomtagi-new` behind it, and is locked. If the process ends before, or can't lock the file or
+/// look at it, the next one that makes a file for the name removes what is left.
 #[derive(Drop)]
 pub struct NewName {
     path: String,
@@ -52,7 +52,7 @@ impl NewName {
             return Err(OpenFault::Exists);
         }
         let path = format!(in alloc; "{path}")?;
-        let beside = format!(in alloc; "{path}.new")?;
+        let beside = format!(in alloc; "{path}.zomtagi-new")?;
         let file = new_file(rt, beside.as_str())?;
         let place = Place::Free;
         let name = NewName {
@@ -96,7 +96,7 @@ impl NewName {
         if !is_at(rt, held, path.as_str())? {
             return Err(OpenFault::InUse);
         }
-        let beside = format!(in alloc; "{path}.new")?;
+        let beside = format!(in alloc; "{path}.zomtagi-new")?;
         if is_at(rt, held, beside.as_str())? {
             // Whoever made the file ended when it had put the name, and before it removed this one.
             fs::remove_file(rt, beside.as_str())?;

@@ -114,7 +114,7 @@ impl FileDevice {
     /// Makes a file that holds these bytes, for this device alone, at a path where nothing is, not
     /// even a link. It has its name only once all the bytes are on the disk. Only its owner may
     /// read it. Refused with `Exists`, `Missing` of its folder, `InUse` if another process makes
-    /// one there, `Failed` or `Memory`; then it leaves nothing.
+    /// one there, `Failed` or `Memory`; then nothing is at the path.
     pub fn create(
         rt: &HostRuntime,
         alloc: Global,

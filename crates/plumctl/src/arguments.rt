@@ -157,8 +157,8 @@ begin as a node file does.
 
 A clean copy has one record for each key. With --compact it takes the place of the file, and with
 --rewrite it is a new file, OUT. No node may have the file meanwhile. A copy has its name only once
-all of it is on the disk; until then it is beside it, with .new behind the name. A file of version 1
-becomes one of version 2.
+all of it is on the disk; until then it is beside it, with .zomtagi-new behind the name. A file of
+version 1 becomes one of version 2.
 
 Exit status: 0 done, 1 the file is damaged or has too many keys, 2 wrong arguments, 3 reading or
 writing failed, 4 memory ran out.";

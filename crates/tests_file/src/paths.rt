@@ -75,7 +75,7 @@ fn place_of(rt: &HostRuntime, path: &str) -> Option<(u64, u32)> {
 
 #[test]
 fn a_file_is_made_beside_its_path(rt: HostRuntime) {
-    let (path, beside) = ("a_new_file", "a_new_file.new");
+    let (path, beside) = ("a_new_file", "a_new_file.zomtagi-new");
     let _ = fs::remove_file(&rt, path);
     // What a process left that ended while it made the file.
     let _ = fs::write(&rt, beside, b"left");
@@ -101,7 +101,7 @@ fn a_file_that_is_opened_is_written_to_the_disk_anew(rt: HostRuntime) {
     let _ = fs::write(&rt, path, ONE);
     let before = place_of(&rt, path);
     // A process that ended between the two names of a file it made left both.
-    let _ = fs::hard_link(&rt, path, "a_file_to_renew.new");
+    let _ = fs::hard_link(&rt, path, "a_file_to_renew.zomtagi-new");
     let opened = FileDevice::open(&rt, rt.alloc(), path);
     assert!(rt; opened.is_ok() && holds(&rt, path, ONE));
     let now = place_of(&rt, path);
