@@ -71,6 +71,8 @@ ssize_t pread(int file, void *bytes, size_t len, off_t at) {
 
 ssize_t write(int file, const void *bytes, size_t len) {
     REAL(ssize_t, "write", int, const void *, size_t);
+    // A build without proofs begins with such a line, which is no call of the program.
+    if (file == 2 && memmem(bytes, len, ": UNPROVED: ", 12)) return len;
     MOVE(file == 2 ? told : "write", len);
     return real(file, bytes, len);
 }
@@ -101,8 +103,11 @@ PLAIN(fsync, (int file), (file))
 PLAIN(fdatasync, (int file), (file))
 PLAIN(ftruncate, (int file, off_t len), (file, len))
 PLAIN(flock, (int file, int how), (file, how))
+PLAIN(fchmod, (int file, mode_t mode), (file, mode))
 PLAIN(mkdir, (const char *path, mode_t mode), (path, mode))
 PLAIN(unlink, (const char *path), (path))
+PLAIN(link, (const char *path, const char *to), (path, to))
+PLAIN(linkat, (int at, const char *path, int to_at, const char *to, int flags), (at, path, to_at, to, flags))
 PLAIN(rename, (const char *path, const char *to), (path, to))
 PLAIN(statx, (int file, const char *restrict path, int flags, unsigned mask, struct statx *restrict found),
       (file, path, flags, mask, found))
