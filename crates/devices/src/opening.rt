@@ -62,10 +62,7 @@ impl FileDevice {
             (⟦<FileDevice as Device>⟧.content d) (⟦<FileDevice as Device>⟧.may_leave d)) }
         ensures usable { IfOk result (λ d. IsNone (first_failed d)) }
     {
-        refuse_other_kinds(rt, path)?;
-        let file = OpenOptions::new().read(true).open(rt, path)?;
-        let bytes = read_whole(alloc, &file)?;
-        Ok(FileDevice::new(file, bytes))
+        FileDevice::open_front(rt, alloc, path, false, usize::MAX)
     }
 
     /// Opens the file at the path to be read, and holds it, so that no node begins a life in it
@@ -79,13 +76,33 @@ impl FileDevice {
             (⟦<FileDevice as Device>⟧.content d) (⟦<FileDevice as Device>⟧.may_leave d)) }
         ensures usable { IfOk result (λ d. IsNone (first_failed d)) }
     {
+        FileDevice::open_front(rt, alloc, path, true, usize::MAX)
+    }
+
+    /// Opens the file at the path as `open_to_copy` does if `is_held`, and otherwise as
+    /// `open_to_read`; but reads at most its first `len` bytes, and takes memory for no more. The
+    /// device is then one of these bytes alone.
+    pub fn open_front(
+        rt: &HostRuntime,
+        alloc: Global,
+        path: &str,
+        is_held: bool,
+        len: usize,
+    ) -> Result<FileDevice, OpenFault>
+        ensures durable { IfOk result (λ d. IsDurable
+            (⟦<FileDevice as Device>⟧.content d) (⟦<FileDevice as Device>⟧.may_leave d)) }
+        ensures within { IfOk result (λ d. length (⟦<FileDevice as Device>⟧.content d) ≤ len) }
+        ensures usable { IfOk result (λ d. IsNone (first_failed d)) }
+    {
         refuse_other_kinds(rt, path)?;
         let file = OpenOptions::new().read(true).open(rt, path)?;
-        lock(&file)?;
-        if !is_at(rt, &file, path)? {
-            return Err(OpenFault::InUse);
+        if is_held {
+            lock(&file)?;
+            if !is_at(rt, &file, path)? {
+                return Err(OpenFault::InUse);
+            }
         }
-        let bytes = read_whole(alloc, &file)?;
+        let bytes = read_first(alloc, &file, len)?;
         Ok(FileDevice::new(file, bytes))
     }
 
@@ -106,7 +123,7 @@ impl FileDevice {
             .write(true)
             .open(rt, path.as_str())?;
         lock(&old)?;
-        let bytes = read_whole(alloc, &old)?;
+        let bytes = read_first(alloc, &old, usize::MAX)?;
         let (device, name) = NewName::over_locked(rt, alloc, path, &old)?;
         filled(rt, device, name, bytes.as_slice())
     }
@@ -199,13 +216,15 @@ fn refuse_other_kinds(rt: &HostRuntime, path: &str) -> Result<(), OpenFault> {
     }
 }
 
-/// Reads all of an open file.
-fn read_whole(alloc: Global, file: &File) -> Result<Vec<u8>, OpenFault> {
+/// Reads the first bytes of an open file, at most so many.
+fn read_first(alloc: Global, file: &File, most: usize) -> Result<Vec<u8>, OpenFault>
+    ensures { IfOk result (λ bytes. length bytes.items ≤ most) }
+{
     // The path may have come to name something else since it was looked at.
     if !file.metadata()?.is_file() {
         return Err(OpenFault::NotAFile);
     }
-    let len = file.metadata()?.len() as usize;
+    let len = most.min(file.metadata()?.len() as usize);
     let Ok(mut bytes) = vec![in alloc; 0u8; len] else {
         return Err(OpenFault::Memory);
     };
