@@ -79,6 +79,13 @@ impl MemoryDevice {
     {
         self.content.as_slice()
     }
+
+    /// Returns what a read gives, and takes no memory.
+    pub fn into_content(self) -> Vec<u8>
+        ensures { result.items ≡ content_after self.first self.calls }
+    {
+        self.content
+    }
 }
 
 impl Device for MemoryDevice {
