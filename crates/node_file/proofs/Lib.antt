@@ -2,6 +2,7 @@ mod Limits
 mod Folding
 mod Parting
 mod Torn
+mod Ending
 pub mod Made
 pub mod Appending
 mod Writing

@@ -15,7 +15,7 @@ use Rattle.node_file.proofs.Folding.{closed, opens}
 
 -- ---- tests that did not fail
 
-guard_some : {A : Type 0} (b : Bool) (r : Option A) (y : A) → cond b None r ≡ Some y → (b ≡ false) × (r ≡ Some y)
+pub guard_some : {A : Type 0} (b : Bool) (r : Option A) (y : A) → cond b None r ≡ Some y → (b ≡ false) × (r ≡ Some y)
 guard_some true r y e = absurd cc
 guard_some false r y e = (refl, e)
 
@@ -52,18 +52,18 @@ sized_some n (Some q) record_ m e = ap (λ (x : Record × ℕ). x.1) (sym (some_
 
 -- ---- a record
 
-record WholeRecord (version : ℕ) (bytes : List ℕ) (record_ : Record) (n : ℕ) : Type 0 where
-  long : 4 ≤ length bytes
-  fits : from_be_bytes w32 (take 4 bytes) ≤ 16777216
-  whole : 36 + from_be_bytes w32 (take 4 bytes) ≤ length bytes
-  size : n ≡ 36 + from_be_bytes w32 (take 4 bytes)
-  is : whole_record version (from_be_bytes w32 (take 4 bytes)) (take (36 + from_be_bytes w32 (take 4 bytes)) bytes) ≡ Some (record_, n)
+pub record WholeRecord (version : ℕ) (bytes : List ℕ) (record_ : Record) (n : ℕ) : Type 0 where
+  pub long : 4 ≤ length bytes
+  pub fits : from_be_bytes w32 (take 4 bytes) ≤ 16777216
+  pub whole : 36 + from_be_bytes w32 (take 4 bytes) ≤ length bytes
+  pub size : n ≡ 36 + from_be_bytes w32 (take 4 bytes)
+  pub is : whole_record version (from_be_bytes w32 (take 4 bytes)) (take (36 + from_be_bytes w32 (take 4 bytes)) bytes) ≡ Some (record_, n)
 
 size_of : (version m : ℕ) (whole : List ℕ) (record_ : Record) (n : ℕ) → whole_record version m whole ≡ Some (record_, n) → n ≡ 36 + m
 unfolding whole_record
 size_of version m whole record_ n e = sized_some (36 + m) _ record_ n (test_some _ _ (record_, n) e)
 
-held : (version : ℕ) (bytes : List ℕ) (record_ : Record) (n : ℕ) → record_in version bytes ≡ Some (record_, n) → WholeRecord version bytes record_ n
+pub held : (version : ℕ) (bytes : List ℕ) (record_ : Record) (n : ℕ) → record_in version bytes ≡ Some (record_, n) → WholeRecord version bytes record_ n
 unfolding record_in record_of_length
 held version bytes record_ n e =
     let a = guard_some _ _ (record_, n) e in
@@ -175,7 +175,7 @@ pub record IsLaidOut (s : FileState) (end : ℕ) (f : List ℕ) : Type 0 where
   pub few : length s.contents.table ≤ 8192
   pub goes : (y : ℕ) (x : List ℕ) → opened None (front ++ y ∷ x) ≡ ended (end + (length x + 1)) (s.version, s.node) (fold_records may_follow with_record s.version s.contents 0 (y ∷ x))
 
-for_ok : (total : ℕ) (rest : List ℕ) (head : Result (ℕ × ℕ) FileFault) (o : FileState × ℕ) → for_node None total rest head ≡ Ok o → (h : ℕ × ℕ) × (head ≡ Ok h) × (ended total h (contents_from h.0 no_contents 0 rest) ≡ Ok o)
+pub for_ok : (total : ℕ) (rest : List ℕ) (head : Result (ℕ × ℕ) FileFault) (o : FileState × ℕ) → for_node None total rest head ≡ Ok o → (h : ℕ × ℕ) × (head ≡ Ok h) × (ended total h (contents_from h.0 no_contents 0 rest) ≡ Ok o)
 for_ok total rest (Err fault) o e = absurd cc
 for_ok total rest (Ok h) o e = (h, refl, e)
 
@@ -185,15 +185,15 @@ opened_ok o = Ok o
 opened_is : (x y : FileState × ℕ) → opened_ok x ≡ opened_ok y → x ≡ y
 opened_is x y e = cc
 
-record Located (total : ℕ) (head : ℕ × ℕ) (read : Result (Contents × ℕ) ℕ) (s : FileState) (end : ℕ) : Type 0 where
-  left : ℕ
-  is : read ≡ Ok (s.contents, left)
-  version : s.version ≡ head.0
-  node : s.node ≡ head.1
-  few : length s.contents.table ≤ 8192
-  end_is : end ≡ total - left
+pub record Located (total : ℕ) (head : ℕ × ℕ) (read : Result (Contents × ℕ) ℕ) (s : FileState) (end : ℕ) : Type 0 where
+  pub left : ℕ
+  pub is : read ≡ Ok (s.contents, left)
+  pub version : s.version ≡ head.0
+  pub node : s.node ≡ head.1
+  pub few : length s.contents.table ≤ 8192
+  pub end_is : end ≡ total - left
 
-located_ok : (total : ℕ) (head : ℕ × ℕ) (read : Result (Contents × ℕ) ℕ) (s : FileState) (end : ℕ) → ended total head read ≡ Ok (s, end) → Located total head read s end
+pub located_ok : (total : ℕ) (head : ℕ × ℕ) (read : Result (Contents × ℕ) ℕ) (s : FileState) (end : ℕ) → ended total head read ≡ Ok (s, end) → Located total head read s end
 located_ok total head (Err left) s end e = absurd cc
 located_ok total head (Ok r) s end e =
     let o : FileState × ℕ = (record { version = head.0; node = head.1; contents = r.0 }, total - r.1) in
@@ -209,11 +209,11 @@ located_ok total head (Ok r) s end e =
       end_is = ap (λ (x : FileState × ℕ). x.1) (sym is);
     }
 
-unfolded : (bytes : List ℕ) → 11 ≤ length bytes → opened None bytes ≡ for_node None (length bytes) (drop 10 bytes) (front_in (take 10 bytes))
+pub unfolded : (bytes : List ℕ) → 11 ≤ length bytes → opened None bytes ≡ for_node None (length bytes) (drop 10 bytes) (front_in (take 10 bytes))
 unfolding opened
 unfolded bytes le = rw (not_below (length bytes) 11 le) refl
 
-long_enough : (bytes : List ℕ) (o : FileState × ℕ) → opened None bytes ≡ Ok o → 11 ≤ length bytes
+pub long_enough : (bytes : List ℕ) (o : FileState × ℕ) → opened None bytes ≡ Ok o → 11 ≤ length bytes
 unfolding opened
 long_enough bytes o e = at_least (length bytes) 11 (guard_ok _ _ _ o e).0
 
@@ -233,7 +233,7 @@ refused_front front rest long e =
     ∙ of_fault (length (front ++ rest), drop 10 (front ++ rest)) (length front, drop 10 front) (front_in (take 10 front)) e
     ∙ sym (unfolded front long)
 
-walked : (version : ℕ) (c : Contents) (skip : ℕ) (b : List ℕ) → contents_from version c skip b ≡ fold_records may_follow with_record version c skip b
+pub walked : (version : ℕ) (c : Contents) (skip : ℕ) (b : List ℕ) → contents_from version c skip b ≡ fold_records may_follow with_record version c skip b
 unfolding contents_from
 walked version c skip b = refl
 

@@ -17,6 +17,8 @@ pub mod Fold
 pub mod File
 -- all that its records say, one after the other
 pub mod Lives
+-- gates that were changed on the disk
+pub mod Gates
 -- refusals: their numbers and names, and which applies first
 pub mod Fault
 pub mod Refusal

@@ -64,7 +64,7 @@ impl Found {
 
 /// Returns the version and the node of a file's first ten bytes.
 #[tactic(auto, unfolding(crate::specs::File::front_in))]
-fn read_front(bytes: &[u8]) -> Result<(u8, NodeId), FileFault>
+pub(crate) fn read_front(bytes: &[u8]) -> Result<(u8, NodeId), FileFault>
     requires { length bytes.now ≡ 10 }
     ensures { result ≡ front_in bytes.now }
 {

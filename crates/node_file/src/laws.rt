@@ -1,13 +1,16 @@
 //! Laws of node files. The contract of a function is the law; its body does nothing.
 
-ghost use Rattle.std.specs.Prelude.{◌≡◌, ◌↔◌, ◌+◌, ◌<◌, ◌++◌, List, [], ℕ, None, Some, Ok, length, take, drop};
+ghost use Rattle.std.specs.Prelude.{◌≡◌, ◌↔◌, ◌+◌, ◌<◌, ◌≤◌, ◌++◌, List, [], ℕ, None, Some, Ok, length, take, drop};
 ghost use Rattle.frame_readers.proofs.Readers.{IsBytes};
 ghost use Rattle.node_file.specs.File.{empty_file, file_state, new_state, opened, FileState};
+ghost use Rattle.node_file.specs.Gates.{changed_gate, end_of_records};
 ghost use Rattle.node_file.specs.Hosted.{CanTake, TakesRecord};
 ghost use Rattle.node_file.specs.Lives.{IsTold};
 ghost use Rattle.node_file.specs.Record.{IsRecord, payload, record_bytes, record_in, record_of, Says};
 ghost use Rattle.node_file.specs.Refusal.{refusal_of_serve};
 ghost use Rattle.node_file.specs.declared.record.Record.{Record};
+
+use crate::gates::MAX_LOOKED_AT;
 
 /// A payload of version 2 is read as a record exactly if it is the payload of that record. So no
 /// payload says two things, and each record that may be written is read again.
@@ -29,6 +32,26 @@ pub fn nothing_counts_behind_the_closed_gate()
     ensures { (bytes behind : List ℕ) (s : FileState) (gate : ℕ)
         → opened None bytes ≡ Ok (s, gate)
         → opened None (take (gate + 1) bytes ++ behind) ≡ Ok (s, gate) }
+{}
+
+/// The records of a file end at its closed gate.
+pub fn a_file_ends_at_its_closed_gate()
+    ensures { (bytes : List ℕ) (s : FileState) (gate : ℕ)
+        → opened None bytes ≡ Ok (s, gate) → end_of_records bytes ≡ Some gate }
+{}
+
+/// What stands behind the gate that ends the records, and behind the length after it, counts for
+/// nothing, also if the file is refused: opening it returns the same without those bytes.
+pub fn nothing_counts_behind_the_records()
+    ensures { (front rest : List ℕ) (gate : ℕ) → end_of_records front ≡ Some gate
+        → opened None (front ++ rest) ≡ opened None front }
+{}
+
+/// Whether the gate that ends the records shows that it was changed is seen in the first bytes from
+/// it on, [`MAX_LOOKED_AT`](crate::MAX_LOOKED_AT) of them.
+pub fn a_changed_gate_is_seen_close_behind_it()
+    ensures { (front rest : List ℕ) (gate : ℕ) → end_of_records front ≡ Some gate
+        → gate + MAX_LOOKED_AT ≤ length front → changed_gate (front ++ rest) ≡ changed_gate front }
 {}
 
 /// A record that was written is read again from the front of its bytes, whatever follows them.

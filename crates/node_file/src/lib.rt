@@ -15,6 +15,7 @@
 mod contents;
 mod fault;
 mod found;
+mod gates;
 mod hosted;
 pub mod laws;
 mod node_file;
@@ -26,6 +27,7 @@ mod rewriting;
 
 pub use fault::FileFault;
 pub use found::{MAX_FILE_LEN, MIN_FILE_LEN, is_refused_by_front};
+pub use gates::{MAX_LOOKED_AT, changed_gate, changed_gate_of, end_of_records};
 pub use hosted::{Served, serve_bytes, spell_append};
 pub use node_file::NodeFile;
 pub use opening::{create, empty_file, open_node, serve};

@@ -12,7 +12,7 @@ use sha2::{Digest, Sha256};
 use std::alloc::Global;
 
 /// How many bytes stand around a payload after its gate: its length and its digest.
-const LENGTH_AND_DIGEST: usize = 36;
+pub(crate) const LENGTH_AND_DIGEST: usize = 36;
 
 /// Reads the life that a payload says after its kind.
 fn read_life(bytes: &[u8]) -> Result<Record, FieldFault>

@@ -9,6 +9,8 @@
 #[cfg(test)]
 mod files;
 #[cfg(test)]
+mod gates;
+#[cfg(test)]
 mod keys;
 #[cfg(test)]
 mod opened;
