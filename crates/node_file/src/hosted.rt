@@ -1,8 +1,8 @@
 //! A node's file for a host who keeps its bytes by other means than a `Device`: what he writes.
 
-ghost use Rattle.std.specs.Prelude.{◌≡◌, ◌⊎◌, ◌+◌, ◌≤◌, length, None, Some, Ok, Err, false, true, IfOk, IfErr, OnOk};
+ghost use Rattle.std.specs.Prelude.{◌≡◌, ◌⊎◌, ◌+◌, ◌≤◌, ℕ, length, None, Some, Ok, Err, false, true, IfOk, IfErr, OnOk};
 ghost use Rattle.frame_fields.specs.Field.{has_value};
-ghost use Rattle.node_file.specs.File.{file_state, gated, opened};
+ghost use Rattle.node_file.specs.File.{StandsFor, file_state, gated, new_state, opened};
 ghost use Rattle.node_file.specs.Hosted.{CanTake};
 ghost use Rattle.node_file.specs.Record.{IsRecord};
 ghost use Rattle.node_file.specs.Refusal.{most_file, refusal_of_append, refusal_of_serve};
@@ -14,6 +14,8 @@ use crate::found::Found;
 use crate::node_file::refusal_of;
 use crate::opening::stands_for;
 use crate::record::{NewRecord, spell_record};
+use crate::rewriting::write_file;
+use devices::MemoryDevice;
 use dvvset::Entries;
 use meta_store::Store;
 use meta_types::{MetaKey, NodeId};
@@ -69,6 +71,28 @@ pub fn serve_bytes(alloc: Global, bytes: &[u8], asked: Option<NodeId>) -> Result
         gate,
         record,
     })
+}
+
+/// Returns the bytes of a clean copy of a file: of the same node, last life and table, with one
+/// record for each key, as [`NodeFile::rewrite`](crate::NodeFile::rewrite) writes them.
+///
+/// Refused as [`open_node`](crate::open_node) is, except with 30 `Device`. It takes memory for the
+/// table, and for the copy three times.
+pub fn clean_copy(alloc: Global, bytes: &[u8], asked: Option<NodeId>) -> Result<Vec<u8>, FileFault>
+    ensures opens { OnOk result ((gate : ℕ)
+        × (opened asked bytes.now ≡ Ok (file_state bytes.now, gate))) }
+    ensures stands { IfOk result (λ copy. let s = file_state bytes.now in
+        StandsFor (new_state s.node s.contents.life s.contents.table) copy.items) }
+    ensures refused { IfErr result (λ fault. (fault ≡ FileFault.Memory)
+        ⊎ (opened asked bytes.now ≡ Err fault)) }
+{
+    let Found { node, contents, .. } = stands_for(alloc, bytes, asked)?;
+    let (life, table) = contents.into_parts();
+    let mut target = MemoryDevice::new(alloc, Vec::new(alloc))?;
+    match write_file(alloc, node, &table, life, &mut target) {
+        Ok(()) => Ok(target.into_content()),
+        Err(fault) => Err(fault),
+    }
 }
 
 /// Returns the record that a host appends, as [`serve_bytes`] says, so that this is the object

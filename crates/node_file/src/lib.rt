@@ -28,7 +28,7 @@ mod rewriting;
 pub use fault::FileFault;
 pub use found::{MAX_FILE_LEN, MIN_FILE_LEN, is_refused_by_front};
 pub use gates::{MAX_LOOKED_AT, changed_gate, changed_gate_of, end_of_records};
-pub use hosted::{Served, serve_bytes, spell_append};
+pub use hosted::{Served, clean_copy, serve_bytes, spell_append};
 pub use node_file::NodeFile;
 pub use opening::{create, empty_file, open_node, serve};
 pub use record::Record;

@@ -46,22 +46,39 @@ impl<D: Device> NodeFile<D> {
             IsOfDevice fault (E.failed target.old) (E.failed target.new)) }
         ensures still { OnOk result (E.failed target.new ≡ E.failed target.old) }
     {
-        let node = self.node();
         // What it holds isn't needed any more.
         target.seal();
-        write_front(target, node)?;
-        let gate = match write_life(alloc, target, node, life) {
-            Ok(gate) => gate,
-            Err(fault) => return Err(fault),
-        };
-        match write_table(alloc, target, gate, table) {
-            Ok(()) => {}
-            Err(fault) => return Err(fault),
-        }
-        match target.sync() {
-            Ok(()) => Ok(()),
-            Err(fault) => Err(FileFault::from(fault)),
-        }
+        write_file(alloc, self.node(), table, life, target)
+    }
+}
+
+/// Makes the target a file of the node, as `NodeFile::rewrite` does.
+pub(crate) fn write_file<E: Device>(
+    alloc: Global,
+    node: NodeId,
+    table: &Store,
+    life: u32,
+    target: &mut E,
+) -> Result<(), FileFault>
+    ensures stands { OnOk result
+        (StandsFor (new_state node life table.now) (E.content target.new)) }
+    ensures durable { OnOk result (IsDurable (E.content target.new) (E.may_leave target.new)) }
+    ensures refused { IfErr result (λ fault.
+        IsOfDevice fault (E.failed target.old) (E.failed target.new)) }
+    ensures still { OnOk result (E.failed target.new ≡ E.failed target.old) }
+{
+    write_front(target, node)?;
+    let gate = match write_life(alloc, target, node, life) {
+        Ok(gate) => gate,
+        Err(fault) => return Err(fault),
+    };
+    match write_table(alloc, target, gate, table) {
+        Ok(()) => {}
+        Err(fault) => return Err(fault),
+    }
+    match target.sync() {
+        Ok(()) => Ok(()),
+        Err(fault) => Err(FileFault::from(fault)),
     }
 }
 

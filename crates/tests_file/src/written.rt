@@ -3,11 +3,13 @@
 ghost use Rattle.std.specs.Prelude.{◌≡◌, true};
 ghost use Rattle.node_file.specs.File.{file_state};
 
-use crate::files::{EMPTY, LAST, OLD, OLD_ANEW, ONE, SERVED, SPENT, TWO, TWO_ANEW};
+use crate::files::{
+    EMPTY, LAST, LIVES, LIVES_ANEW, OLD, OLD_ANEW, ONE, SERVED, SPENT, TWO, TWO_ANEW,
+};
 use crate::parts::{device, node, object, write};
 use devices::{Device, MemoryDevice};
 use meta_store::Store;
-use node_file::{NodeFile, create, open_node, serve};
+use node_file::{NodeFile, clean_copy, create, open_node, serve};
 use std::alloc::Global;
 use std::process::Abort;
 
@@ -61,9 +63,51 @@ fn a_file_is_made_served_and_appended_to(rt: HostRuntime) {
 fn a_file_is_written_anew(rt: HostRuntime) {
     let alloc = rt.alloc();
     assert!(rt; anew(&rt, alloc, TWO).content() == TWO_ANEW);
+    assert!(rt; anew(&rt, alloc, LIVES).content() == LIVES_ANEW);
     assert!(rt; anew(&rt, alloc, ONE).content() == ONE);
     assert!(rt; anew(&rt, alloc, OLD).content() == OLD_ANEW);
     assert!(rt; anew(&rt, alloc, EMPTY).content() == EMPTY);
+}
+
+/// Returns the bytes of a clean copy, or the number of the refusal.
+fn copied(
+    rt: &impl Abort,
+    alloc: Global,
+    bytes: &[u8],
+    asked: Option<u16>,
+) -> Result<Vec<u8>, u16> {
+    let asked = match asked {
+        Some(number) => Some(node(rt, number)),
+        None => None,
+    };
+    match clean_copy(alloc, bytes, asked) {
+        Ok(copy) => Ok(copy),
+        Err(fault) => Err(fault.code()),
+    }
+}
+
+#[test]
+fn a_clean_copy_has_a_record_for_each_key(rt: HostRuntime) {
+    for (bytes, copy) in [
+        (LIVES, LIVES_ANEW),
+        (TWO, TWO_ANEW),
+        (ONE, ONE),
+        (OLD, OLD_ANEW),
+        (EMPTY, EMPTY),
+    ] {
+        let made = copied(&rt, rt.alloc(), bytes, None)
+            .ok()
+            .expect(&rt, "a copy");
+        assert!(rt; made.as_slice() == copy);
+    }
+}
+
+#[test]
+fn a_clean_copy_is_refused_as_opening_is(rt: HostRuntime) {
+    assert!(rt; copied(&rt, rt.alloc(), TWO, Some(0)).is_ok());
+    assert!(rt; copied(&rt, rt.alloc(), TWO, Some(1)).err() == Some(32));
+    assert!(rt; copied(&rt, rt.alloc(), &TWO[..206], None).err() == Some(31));
+    assert!(rt; copied(&rt, rt.alloc(), &EMPTY[..10], None).err() == Some(31));
 }
 
 #[test]
