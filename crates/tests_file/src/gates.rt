@@ -58,7 +58,7 @@ fn a_changed_gate_is_shown_by_what_is_left_behind_it(rt: HostRuntime) {
         assert!(rt; found(&both, *third) == Some(*first));
         assert!(rt; found(&both, third.saturating_sub(1)).is_none());
         // One, and an open gate.
-        assert!(rt; found(&[(*first, 0)], second + 1) == Some(*first));
+        assert!(rt; found(&[(*first, 0)], second.saturating_add(1)) == Some(*first));
         assert!(rt; found(&[(*first, 0)], *second).is_none());
         // One, before a gate that isn't as it is written.
         assert!(rt; found(&[(*first, 2)], *second) == Some(*first));

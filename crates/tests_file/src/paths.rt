@@ -217,7 +217,7 @@ fn the_call_that_failed_first_is_told(rt: HostRuntime) {
     assert!(rt; device.sync() == Err(DeviceFault::Failed));
     assert!(rt; device.cut(0) == Err(DeviceFault::Failed));
     assert!(rt; device.write_at(0, b"") == Err(DeviceFault::Failed));
-    assert!(rt; device.read_at(0, &mut [0]) == Err(DeviceFault::Failed));
+    assert!(rt; device.read_at(0, &mut []) == Err(DeviceFault::Failed));
     assert!(rt; device.failed_call() == Some(FailedCall::Write) && device.failures() == 5);
     let _ = fs::remove_file(&rt, path);
 }

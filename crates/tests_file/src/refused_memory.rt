@@ -43,7 +43,7 @@ fn key_and_object(alloc: Global) -> Option<(MetaKey, Entries)> {
 }
 
 /// Returns whether an append that ended so left the file of one record; `None` if memory was
-/// refused and it left the served file, or one of the two if it stopped the file.
+/// refused and it left the served file, or stopped the file once it had written something.
 fn left(
     alloc: Global,
     file: &NodeFile<MemoryDevice>,
@@ -53,12 +53,12 @@ fn left(
     match ended {
         Ok(()) => Some(content == ONE),
         Err(FileFault::Memory) => {
-            let is_one = file.is_stopped() && is_one_of(alloc, content, [(1, 0), (1, 1)]);
-            if content == SERVED || is_one {
-                None
+            let is_left = if file.is_stopped() {
+                content != SERVED && is_one_of(alloc, content, [(1, 0), (1, 1)])
             } else {
-                Some(false)
-            }
+                content == SERVED
+            };
+            if is_left { None } else { Some(false) }
         }
         Err(_) => Some(false),
     }
