@@ -108,7 +108,7 @@ void zomtagi_free(zomtagi_slot *slot);
 /*
  * Copies out the 11 bytes of the file of a node that had no life, and their number. Write and sync
  * them, and sync the folder, before you serve the node from them.
- * Refused with 3 BadNode, 81 ShortBuffer, 99 Memory.
+ * Refused with 3 BadNode, 81 ShortBuffer.
  */
 uint16_t zomtagi_empty_file(uint16_t node, uint8_t *buffer, size_t buffer_len, size_t *len);
 

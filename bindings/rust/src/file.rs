@@ -1,5 +1,5 @@
 use crate::error::{Error, DAMAGED, MEMORY};
-use crate::node::{Node, Store};
+use crate::node::{answered, Node, Store};
 use crate::raw::zomtagi_empty_file;
 use std::ffi::OsString;
 use std::fs::{self, File, OpenOptions, Permissions};
@@ -260,12 +260,10 @@ fn keep_rights(old: &File, copy: &File) -> io::Result<()> {
 }
 
 /// The bytes of a file of a node that had no life yet.
-fn empty_file(node: u16) -> Result<Vec<u8>, Error> {
-    let (mut buffer, mut len) = (vec![0; 64], 0);
-    match unsafe { zomtagi_empty_file(node, buffer.as_mut_ptr(), buffer.len(), &mut len) } {
-        0 => Ok(buffer[..len].to_vec()),
-        number => Err(Error::Refused(number)),
-    }
+fn empty_file(node: u16) -> Result<[u8; FRONT + 1], Error> {
+    let (mut bytes, mut len) = ([0; FRONT + 1], 0);
+    answered(unsafe { zomtagi_empty_file(node, bytes.as_mut_ptr(), bytes.len(), &mut len) })?;
+    Ok(bytes)
 }
 
 /// The bytes of a file up to its closed gate, and this too: those behind it count for nothing, and may be a hole. If the file is

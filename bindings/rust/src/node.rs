@@ -33,7 +33,7 @@ macro_rules! of_key {
 }
 
 /// The answer of an export.
-fn answered(number: u16) -> Result<(), Error> {
+pub(crate) fn answered(number: u16) -> Result<(), Error> {
     if number == 0 {
         Ok(())
     } else {

@@ -11,10 +11,9 @@ ghost use Rattle.node_export.specs.Exports.{Hands, HandsNothing};
 
 use crate::handing::copy_out;
 use crate::numbers::{BAD_LIFE, OK};
-use devices::MemoryDevice;
 use hosted_node::HostedNode;
 use meta_types::{NodeId, TypeFault};
-use node_file::create;
+use node_file::empty_file;
 use node_handle::Slot;
 use std::alloc::Global;
 
@@ -89,28 +88,16 @@ pub extern "C" fn zomtagi_free(alloc: Global, slot: &mut Slot)
 }
 
 /// Hands out the bytes of the file of a node that had no life. The program writes and syncs them
-/// before it serves the node. Refused with 3 `BadNode`, 99 `Memory` and 81 `ShortBuffer`.
+/// before it serves the node. Refused with 3 `BadNode` and 81 `ShortBuffer`. It takes no memory.
 #[unsafe(no_mangle)]
-pub extern "C" fn zomtagi_empty_file(
-    alloc: Global,
-    node: u16,
-    buffer: &mut [u8],
-    len: &mut usize,
-) -> u16
+pub extern "C" fn zomtagi_empty_file(node: u16, buffer: &mut [u8], len: &mut usize) -> u16
     ensures bad_node { (node < 16 → ⊥)
         → HandsNothing 3 buffer.old buffer.new len.old len.new result }
     ensures hands { node < 16
-        → Hands (Some (empty_file node)) buffer.old buffer.new len.old len.new result
-        ⊎ HandsNothing 99 buffer.old buffer.new len.old len.new result }
+        → Hands (Some (empty_file node)) buffer.old buffer.new len.old len.new result }
 {
-    let Ok(node) = NodeId::new(node) else {
-        return TypeFault::BadNode.code();
-    };
-    let Ok(device) = MemoryDevice::new(alloc, Vec::new(alloc)) else {
-        return TypeFault::Memory.code();
-    };
-    match create(device, node) {
-        Ok(file) => copy_out(Some(file.device().content()), buffer, len),
-        Err((_device, fault)) => fault.code(),
+    match NodeId::new(node) {
+        Ok(node) => copy_out(Some(&empty_file(node)), buffer, len),
+        Err(_) => TypeFault::BadNode.code(),
     }
 }
