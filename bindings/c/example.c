@@ -139,15 +139,31 @@ static void serve_new(struct member *member, uint16_t node)
     store(member);
 }
 
+/* Reads a file into the buffer, and returns its length. */
+static size_t read_file(int file)
+{
+    off_t end = lseek(file, 0, SEEK_END);
+    must("the file has no length", end > 0);
+    make_room((size_t)end);
+    must("the file was not read", pread(file, buffer, size, 0) == end);
+    return (size_t)end;
+}
+
 /* Serves a node from its file again, in its next life. */
 static void serve_again(struct member *member, uint16_t node)
 {
-    off_t end = lseek(member->file, 0, SEEK_END);
-    must("the file has no length", end > 0);
-    make_room((size_t)end);
-    must("the file was not read", pread(member->file, buffer, size, 0) == end);
-    accepted("zomtagi_serve", zomtagi_serve(&member->slot, buffer, size, node));
+    size_t end = read_file(member->file);
+    accepted("zomtagi_serve", zomtagi_serve(&member->slot, buffer, end, node));
     store(member);
+}
+
+/* Prints where the file would be damaged if this byte of it were another one. */
+static void print_damage(struct member *member, uint16_t node, size_t place)
+{
+    size_t end = read_file(member->file), at = 0;
+    buffer[place] ^= 1;
+    uint16_t number = zomtagi_check_file(buffer, end, node, &at);
+    printf("with another byte %zu: %d at %zu\n", place, number, at);
 }
 
 static uint64_t number_at(const uint8_t *bytes)
@@ -225,6 +241,7 @@ int main(void)
     must("a slot without a node answers 80", number == ZOMTAGI_NO_NODE);
     serve_again(&members[1], 1);
     print_read(&members[1]);
+    print_damage(&members[1], 1, 60);
 
     zomtagi_free(one);
     zomtagi_free(zero);

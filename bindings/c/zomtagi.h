@@ -56,7 +56,7 @@ enum {
     ZOMTAGI_BAD_VERSION = 12,
     ZOMTAGI_BAD_KIND = 13,
     ZOMTAGI_TOO_LONG = 14,
-    ZOMTAGI_BAD_BODY = 15,
+    ZOMTAGI_BAD_BODY = 15,        /* zomtagi_check_frame says where */
     ZOMTAGI_LEFT_OVER = 16,
     ZOMTAGI_COUNTER_SPENT = 20,   /* this life of the node can't count another write of the key */
     ZOMTAGI_BAD_ENTRIES = 21,     /* the frame's object can't have arisen beside the one held */
@@ -65,7 +65,7 @@ enum {
     ZOMTAGI_OBJECT_TOO_LARGE = 27,
     ZOMTAGI_BAD_WATCH = 28,       /* a capacity out of range, or a seventeenth watch in a life */
     ZOMTAGI_NO_SUCH_WATCH = 29,
-    ZOMTAGI_DAMAGED = 31,         /* the bytes are no node file, or it is damaged */
+    ZOMTAGI_DAMAGED = 31, /* no node file, or a damaged one: zomtagi_check_file says where */
     ZOMTAGI_OTHER_NODE = 32,      /* the file is of another node */
     ZOMTAGI_FILE_FULL = 33,       /* the file would have more than 2^40 bytes */
     ZOMTAGI_STOPPED = 34,
@@ -316,6 +316,28 @@ uint16_t zomtagi_root(zomtagi_slot *slot, uint8_t *buffer, size_t buffer_len, si
  */
 uint16_t zomtagi_about(zomtagi_slot *slot, uint16_t *number, uint32_t *life,
                        uint8_t *is_stopped);
+
+/* ---- what bytes are refused with ----
+ *
+ * Each needs no slot, and returns 0 if the bytes are right. It changes nothing, and writes *at only
+ * as its comment says.
+ */
+
+/*
+ * Says what zomtagi_serve would refuse of these bytes, for the node of this number. With 31 Damaged
+ * *at is the offset from which on they aren't what a file has there: what to do goes by it
+ * (docs/FILES.md).
+ * Refused as zomtagi_serve is.
+ */
+uint16_t zomtagi_check_file(const uint8_t *bytes, size_t bytes_len, uint16_t node, size_t *at);
+
+/*
+ * Says why no node would take these bytes for a frame. With 15 BadBody *at is the offset of the
+ * first field that is at fault, or of what is left after the last one.
+ * Refused with 10 Short, 11 BadMagic, 12 BadVersion, 13 BadKind, 14 TooLong, 10 Short, 16 LeftOver,
+ * 15 BadBody; 99 Memory.
+ */
+uint16_t zomtagi_check_frame(const uint8_t *frame, size_t frame_len, size_t *at);
 
 #ifdef __cplusplus
 }

@@ -199,7 +199,7 @@ impl Driver {
             Ok((_taken, frames)) => self.send(frames),
             Err(error) if error.ends_node() => return Err(error),
             // (the bytes are no frame, and where the next one begins isn't known)
-            Err(zomtagi::Error::Refused(10..=16)) => drop(from.shutdown(Shutdown::Both)),
+            Err(error) if matches!(error.number(), Some(10..=16)) => drop(from.shutdown(Shutdown::Both)),
             // (a frame is refused without harm, whatever it says)
             Err(_) => {}
         }

@@ -1,12 +1,16 @@
 use std::fmt;
 use std::io;
 
-/// Why a call was refused. Only `Refused` has a number.
+/// Why a call was refused. Only `Refused`, `Damaged` and `BadBody` have a number.
 #[derive(Debug)]
 #[non_exhaustive]
 pub enum Error {
-    /// A refusal of the node, by its number; [`Error::name`] has its name.
+    /// A refusal of the node, by its number; [`Error::name`] has its name. It is neither 31 nor 15.
     Refused(u16),
+    /// 31: from this offset on the bytes aren't what a file has there. All records before it are whole.
+    Damaged { at: u64 },
+    /// 15: the field of the frame that begins at this offset is cut or breaks its rule, or is one too many.
+    BadBody { at: u64 },
     /// A call of the file failed that was no sync; or the store failed, which stops the node.
     Io(io::Error),
     /// A sync failed, so that what the disk holds isn't known. In a call of a node it stops the node.
@@ -18,6 +22,7 @@ pub enum Error {
 }
 
 /// The numbers of refusals that the package deals with.
+pub(crate) const BAD_BODY: u16 = 15;
 pub(crate) const DAMAGED: u16 = 31;
 pub(crate) const FILE_FULL: u16 = 33;
 pub(crate) const STOPPED: u16 = 34;
@@ -41,6 +46,8 @@ impl Error {
     pub fn number(&self) -> Option<u16> {
         match self {
             Error::Refused(number) => Some(*number),
+            Error::Damaged { .. } => Some(DAMAGED),
+            Error::BadBody { .. } => Some(BAD_BODY),
             _ => None,
         }
     }
@@ -55,6 +62,8 @@ impl Error {
     pub fn name(&self) -> &'static str {
         match self {
             Error::Refused(number) => NAMES.iter().find(|known| known.0 == *number).map_or("Unknown", |known| known.1),
+            Error::Damaged { .. } => "Damaged",
+            Error::BadBody { .. } => "BadBody",
             Error::Io(_) => "Io",
             Error::Sync(_) => "Sync",
             Error::GateChanged { .. } => "GateChanged",
@@ -67,6 +76,8 @@ impl fmt::Display for Error {
     fn fmt(&self, out: &mut fmt::Formatter<'_>) -> fmt::Result {
         match self {
             Error::Refused(number) => write!(out, "{number} {}", self.name()),
+            Error::Damaged { at } => write!(out, "{DAMAGED} {} at {at}", self.name()),
+            Error::BadBody { at } => write!(out, "{BAD_BODY} {} at {at}", self.name()),
             Error::Io(error) => write!(out, "the store failed: {error}"),
             Error::Sync(error) => write!(out, "a sync failed: {error}"),
             Error::GateChanged { at } => write!(out, "the gate at {at} was changed"),

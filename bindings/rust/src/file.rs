@@ -1,4 +1,4 @@
-use crate::error::{Error, DAMAGED, MEMORY};
+use crate::error::{Error, MEMORY};
 use crate::node::{answered, Node, Store};
 use crate::raw::zomtagi_empty_file;
 use std::ffi::OsString;
@@ -309,7 +309,7 @@ fn whole_record(reader: &mut impl Read, front: &[u8], node: u16) -> Result<Optio
     }
     let gate = alone.last_mut().map(|gate| replace(gate, CLOSED));
     match Node::of_bytes(node, &alone) {
-        Err(Error::Refused(DAMAGED)) => Ok(None),
+        Err(Error::Damaged { .. }) => Ok(None),
         Err(error @ Error::Refused(MEMORY)) => Err(error),
         _ => Ok(gate),
     }

@@ -1,4 +1,4 @@
-use crate::error::{Error, NOTHING, SHORT_BUFFER, STOPPED};
+use crate::error::{Error, BAD_BODY, DAMAGED, NOTHING, SHORT_BUFFER, STOPPED};
 use crate::raw::*;
 use crate::types::{Changes, Context, Frame, Key, Read, Taken, Value};
 use std::mem::{forget, take};
@@ -41,6 +41,24 @@ pub(crate) fn answered(number: u16) -> Result<(), Error> {
     }
 }
 
+/// The refusal of the bytes of a file that is damaged.
+fn damage(node: u16, bytes: &[u8]) -> Error {
+    let mut at = 0;
+    match unsafe { zomtagi_check_file(bytes.as_ptr(), bytes.len(), node, &mut at) } {
+        DAMAGED => Error::Damaged { at: at as u64 },
+        number => Error::Refused(number),
+    }
+}
+
+/// The refusal of the bytes of a frame whose body is at fault.
+fn bad_body(frame: &[u8]) -> Error {
+    let mut at = 0;
+    match unsafe { zomtagi_check_frame(frame.as_ptr(), frame.len(), &mut at) } {
+        BAD_BODY => Error::BadBody { at: at as u64 },
+        number => Error::Refused(number),
+    }
+}
+
 impl Node {
     /// A node without a file, in the life of this number, from 1. See to it that it never had a life of this number or a
     /// greater one.
@@ -59,8 +77,10 @@ impl Node {
     /// A node that is served from these bytes, once the record of its life is stored.
     pub(crate) fn of_bytes(node: u16, bytes: &[u8]) -> Result<Node, Error> {
         let mut made = Node::empty();
-        answered(unsafe { zomtagi_serve(&mut made.slot, bytes.as_ptr(), bytes.len(), node) })?;
-        Ok(made)
+        match unsafe { zomtagi_serve(&mut made.slot, bytes.as_ptr(), bytes.len(), node) } {
+            DAMAGED => Err(damage(node, bytes)),
+            number => answered(number).map(|()| made),
+        }
     }
 
     /// Stores the record of its life.
@@ -112,7 +132,10 @@ impl Node {
 
     /// Takes a frame that came. The word is a random number.
     pub fn take(&mut self, frame: &[u8], word: u64) -> Result<(Taken, Vec<Frame>), Error> {
-        let reply = self.step(|slot| unsafe { zomtagi_take(slot, frame.as_ptr(), frame.len(), word) })?;
+        let reply = match self.step(|slot| unsafe { zomtagi_take(slot, frame.as_ptr(), frame.len(), word) }) {
+            Err(Error::Refused(BAD_BODY)) => return Err(bad_body(frame)),
+            reply => reply?,
+        };
         let taken = match reply[0] {
             4 => Taken::Fresh,
             5 => Taken::Stale,

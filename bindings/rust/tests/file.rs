@@ -59,7 +59,7 @@ fn a_file_that_is_there_is_not_made_again() {
     // (also if it is empty: what was in it is lost)
     fs::write(&path, "").unwrap();
     assert_eq!(kind(FileStore::create(&path, 3)), Some(AlreadyExists));
-    assert_eq!(FileStore::open_or_create(&path, 3).err().unwrap().to_string(), "31 Damaged");
+    assert_eq!(FileStore::open_or_create(&path, 3).err().unwrap().to_string(), "31 Damaged at 0");
     assert_eq!(fs::read(&path).unwrap(), b"");
 }
 
@@ -190,6 +190,38 @@ fn gates(bytes: &[u8]) -> Vec<usize> {
 }
 
 #[test]
+fn a_changed_byte_is_told_by_the_gate_before_its_record() {
+    let folder = Folder::new("offsets");
+    let path = folder.at("node");
+    three_lives(&path);
+    let bytes = fs::read(&path).unwrap();
+    let refused = |bytes: &[u8]| {
+        fs::write(&path, bytes).unwrap();
+        let error = FileStore::open(&path, 3).err().unwrap();
+        assert_eq!((error.number(), error.name(), fs::read(&path).unwrap()), (Some(31), "Damaged", bytes.to_vec()));
+        match error {
+            Error::Damaged { at } => at as usize,
+            other => panic!("{other}"),
+        }
+    };
+    for pair in gates(&bytes).windows(2) {
+        let (gate, next) = (pair[0], pair[1]);
+        for at in gate + 1..next {
+            let mut changed = bytes.clone();
+            changed[at] ^= 1;
+            assert_eq!((at, refused(&changed)), (at, gate));
+            assert_eq!((at, refused(&bytes[..at])), (at, gate));
+        }
+    }
+    // The magic; a node above 15; fewer bytes than a front and a gate.
+    assert_eq!(refused(&[b"pmnode02", &bytes[8..]].concat()), 0);
+    assert_eq!(refused(&[&bytes[..8], &[0, 16], &bytes[10..]].concat()), 8);
+    for len in 0..11 {
+        assert_eq!(refused(&bytes[..len]), len);
+    }
+}
+
+#[test]
 fn a_changed_gate_is_found() {
     let folder = Folder::new("gates");
     let path = folder.at("node");
@@ -208,7 +240,7 @@ fn a_changed_gate_is_found() {
                 // Nothing stands behind it.
                 assert_eq!(held(&mut result.unwrap()), [0, 1, 2]);
             } else if number == last {
-                assert_eq!(result.err().unwrap().to_string(), "31 Damaged");
+                assert_eq!(result.err().unwrap().to_string(), format!("31 Damaged at {at}"));
             } else if number == before && bit == 0 {
                 // Just this a crash leaves before the gate is opened.
                 assert_eq!(held(&mut result.unwrap()), [0, 1]);

@@ -33,7 +33,8 @@ fn a_hole_takes_no_memory() {
     }
     // Behind an open gate, where zeros are a record of no bytes.
     for behind in ["\x01", "\x01\x7f\x7f\x7f\x7f"] {
-        let bytes = [&bytes[..bytes.len() - 1], behind.as_bytes()].concat();
-        assert_eq!(with_hole(&bytes).err().unwrap().to_string(), "31 Damaged");
+        let gate = bytes.len() - 1;
+        let bytes = [&bytes[..gate], behind.as_bytes()].concat();
+        assert_eq!(with_hole(&bytes).err().unwrap().to_string(), format!("31 Damaged at {gate}"));
     }
 }

@@ -42,6 +42,31 @@ fn refusals_have_numbers_and_names() {
 }
 
 #[test]
+fn a_frame_at_fault_is_told_with_the_offset_of_its_field() {
+    let hello = Node::new(0, 5).unwrap().hello(1).unwrap().remove(0).bytes().to_vec();
+    let mut node = Node::new(1, 1).unwrap();
+    let mut refused = |place: usize, bytes: &[u8]| {
+        let mut changed = hello.clone();
+        changed.truncate(place);
+        changed.extend(bytes);
+        changed.extend(hello.iter().skip(changed.len()));
+        node.take(&changed, 7).unwrap_err()
+    };
+    // The sender is none; the addressee is the sender; a life 0; a byte behind the life, which the header counts.
+    let told = [(4, &[0, 16][..]), (6, &[0, 0]), (20, &[0, 0, 0, 0]), (16, &[0, 0, 0, 5, 0, 0, 0, 5, 0])];
+    for ((place, bytes), wanted) in told.into_iter().zip([4, 6, 20, 24]) {
+        let error = refused(place, bytes);
+        assert_eq!((error.number(), error.name(), error.ends_node()), (Some(15), "BadBody", false));
+        assert_eq!(error.to_string(), format!("15 BadBody at {wanted}"));
+        assert!(matches!(error, Error::BadBody { at } if at == wanted));
+    }
+    // Other refusals have none: another version, one byte more than the header counts.
+    assert_eq!(refused(2, &[3]).to_string(), "12 BadVersion");
+    assert_eq!(refused(24, &[0]).to_string(), "16 LeftOver");
+    assert_eq!(node.take(&hello, 7).unwrap().0, Taken::Taken);
+}
+
+#[test]
 fn a_watch_hears_of_changes_and_a_list_has_the_keys() {
     let mut node = Node::new(0, 1).unwrap();
     let watch = node.watch(b"app", b"flags", 8).unwrap();
@@ -79,7 +104,7 @@ fn what_was_stored_is_there_in_the_next_life() {
     drop(node);
     assert_eq!(FileStore::open_or_create(&path, 4).err().unwrap().to_string(), "32 OtherNode");
     std::fs::write(&path, "").unwrap(); // (what was in it is lost, so it is no new file)
-    assert_eq!(FileStore::open_or_create(&path, 3).err().unwrap().to_string(), "31 Damaged");
+    assert_eq!(FileStore::open_or_create(&path, 3).err().unwrap().to_string(), "31 Damaged at 0");
     std::fs::remove_file(&path).unwrap();
 }
 

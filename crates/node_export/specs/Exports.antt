@@ -1,5 +1,5 @@
--- What the exports return, and what they hand out, by the node in the slot, if there is one. The
--- rule is our own.
+-- What the exports return, and what they hand out, by the node in the slot, if there is one, or of
+-- bytes alone. The rule is our own.
 use Rattle.std.specs.Prelude.{◌≡◌, ◌≢◌, ◌⊎◌, ◌<◌, ℕ, List, ◌++◌, length, drop, Bool, true, false, nat_lt, Option, Some, None, Result, Ok, Err}
 use Rattle.std.specs.Option.{option_map}
 use Rattle.meta_types.specs.Name.{IsFullPrefix, IsKey, Key, Prefix}
@@ -7,6 +7,14 @@ use Rattle.meta_types.specs.Value.{IsBody, ValueParts}
 use Rattle.meta_types.specs.declared.fault.TypeFault.TheVariants.{BadName, ValueTooLong}
 use Rattle.node_events.specs.declared.event.NodeEvent.{NodeEvent}
 use Rattle.node_events.specs.declared.event.NodeEvent.TheVariants.{PutOver, Write}
+use Rattle.meta_frame.specs.Fault as frames
+use Rattle.meta_frame.specs.Frame.{RefusesBytes, Spells}
+use Rattle.meta_frame.specs.declared.fault.FrameFault.{FrameFault}
+use Rattle.meta_frame.specs.declared.fault.FrameFault.TheVariants.{BadBody}
+use Rattle.meta_frame.specs.declared.message.Frame.{Frame}
+use Rattle.node_file.specs.Fault as files
+use Rattle.node_file.specs.declared.fault.FileFault.{FileFault}
+use Rattle.node_file.specs.declared.fault.FileFault.TheVariants.{Damaged}
 use Rattle.hosted_node.specs.Fault.{code_of}
 use Rattle.hosted_node.specs.Hosting.{Acts, ForgetsContext, HostedParts, IsLooked, KeepsContext, RefusesActing, after_sending, context_at, handed_reply}
 use Rattle.hosted_node.specs.declared.fault.HostFault.{HostFault}
@@ -181,3 +189,31 @@ KeepsAs number old new answer =
 
 abbrev pub Forgets : ℕ → HostedParts → HostedParts → ℕ → Type 0
 Forgets number old new answer = (answer ≡ 0) × ForgetsContext number old new
+
+-- ---- what bytes are refused with
+
+-- The offset that a refusal of a file tells: that of the damage. Others tell none, and what should
+-- hold it stays as it was.
+abbrev pub damage_told : FileFault → ℕ → ℕ
+damage_told (Damaged at) before = at
+damage_told fault before = before
+
+-- the number of why a node can't be served from the bytes, and the offset of the damage, or 0 if it
+-- can
+abbrev pub TellsOfFile : Option FileFault → ℕ → ℕ → ℕ → Type 0
+TellsOfFile None before at answer = (answer ≡ 0) × (at ≡ before)
+TellsOfFile (Some fault) before at answer =
+    (answer ≡ files.code_of fault) × (at ≡ damage_told fault before)
+
+-- the offset that a refusal of a frame tells: that of the field at fault. Others tell none.
+abbrev pub field_told : FrameFault → ℕ → ℕ
+field_told (BadBody at) before = at
+field_told fault before = before
+
+-- the number of why the bytes are no frame, and the offset of the field at fault; or 0 if they are
+-- one
+abbrev pub TellsOfFrame : List ℕ → ℕ → ℕ → ℕ → Type 0
+TellsOfFrame bytes before at answer =
+    (((frame : Frame) × Spells frame bytes) × (answer ≡ 0) × (at ≡ before))
+    ⊎ ((fault : FrameFault) × RefusesBytes bytes fault × (answer ≡ frames.code_of fault)
+    × (at ≡ field_told fault before))

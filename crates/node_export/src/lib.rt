@@ -1,6 +1,6 @@
 //! A node as a static library, for programs in Rust and C that bring a transport, a clock and a
-//! disk of their own. Each export takes a slot that the program keeps, and returns 0 or the number
-//! of a refusal. `bindings/c/zomtagi.h` describes them, and `docs/EMBEDDING.md` says how they are
+//! disk of their own. An export takes a slot that the program keeps, and returns 0 or the number of
+//! a refusal. `bindings/c/zomtagi.h` describes them, and `docs/EMBEDDING.md` says how they are
 //! used.
 //!
 //! ```
@@ -10,10 +10,11 @@
 //! zomtagi_tick(&slot, random());
 //! ```
 //!
-//! Read `making`, `steps`, `writing`, `handing`, `contexts` and `reading`; `numbers` has what they
-//! return, and `reply` how a reply is spelled.
+//! Read `making`, `steps`, `writing`, `handing`, `contexts`, `reading` and `checking`; `numbers`
+//! has what they return, and `reply` how a reply is spelled.
 #![tactic(auto)]
 
+mod checking;
 mod contexts;
 mod handing;
 mod making;
