@@ -235,7 +235,9 @@ uint16_t zomtagi_changes(zomtagi_slot *slot, uint64_t number);
  * Hands out the record that you have to store, and in *gate the offset of the closed gate of your
  * file. Write all its bytes except the first at *gate + 1, sync, write the first at *gate, sync;
  * then call zomtagi_stored.
- * Make these calls once for a record. If one fails, repeat none, and call zomtagi_stored with 0.
+ * If the first write fails, as on a full disk, you may make it again, with all these bytes, as
+ * often as it takes: the node waits. If another call fails, repeat none, and call zomtagi_stored
+ * with 0.
  * Refused with 80 NoNode, 38 Nothing, 81 ShortBuffer: *gate is then as it was.
  */
 uint16_t zomtagi_record(zomtagi_slot *slot, size_t *gate, uint8_t *buffer, size_t buffer_len,

@@ -7,8 +7,10 @@ use std::sync::{Arc, Mutex};
 /// What executes what a node asks to be stored. After `Ok` all of it is durable.
 pub trait Store {
     /// Writes all bytes of the record but the first at the offset after the gate, syncs, writes the first over the gate, and
-    /// syncs. If this fails at any point, or panics, the node is stopped, and is served from the file again. What the disk holds
-    /// isn't known after a sync that failed, which is an [`Error::Sync`]: then the bytes are written into a new file first.
+    /// syncs. If the first write fails, as on a full disk, a store may make it again, whole, before it goes on; `FileStore`
+    /// repeats nothing. If this returns an error, or panics, the node is stopped, and is served from the file again. What the
+    /// disk holds isn't known after a sync that failed, which is an [`Error::Sync`]: then the bytes are written into a new file
+    /// first.
     fn append(&mut self, gate: u64, record: &[u8]) -> Result<(), Error>;
 }
 

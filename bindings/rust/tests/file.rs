@@ -3,10 +3,10 @@
 mod common;
 
 use common::{held, key, kind, write, Folder};
-use std::fs::{self, Permissions};
+use std::fs::{self, File, OpenOptions, Permissions};
 use std::io::ErrorKind::{AlreadyExists, InvalidInput, NotFound, WouldBlock};
-use std::os::unix::fs::{chown, symlink, MetadataExt, PermissionsExt};
-use std::path::Path;
+use std::os::unix::fs::{chown, symlink, FileExt, MetadataExt, PermissionsExt};
+use std::path::{Path, PathBuf};
 use std::sync::Barrier;
 use std::thread;
 use zomtagi::{Error, FileStore, Node, Store, Value};
@@ -187,6 +187,48 @@ fn gates(bytes: &[u8]) -> Vec<usize> {
         gates.push(at + 37 + len as usize);
     }
     gates
+}
+
+/// A store whose first write of each record fails three times, and leaves other bytes in its range. It makes that write again.
+struct Again {
+    file: File,
+    path: PathBuf,
+}
+
+impl Store for Again {
+    fn append(&mut self, gate: u64, record: &[u8]) -> Result<(), Error> {
+        let (first, rest) = record.split_at(1);
+        let before = served(&self.path);
+        for len in [rest.len(), rest.len() / 2, 1] {
+            let other: Vec<u8> = rest[..len].iter().map(|byte| !byte).collect();
+            self.file.write_all_at(&other, gate + 1)?;
+            assert_eq!(served(&self.path), before);
+        }
+        self.file.write_all_at(rest, gate + 1)?;
+        assert_eq!(served(&self.path), before);
+        Ok(self.file.write_all_at(first, gate)?)
+    }
+}
+
+/// The life and the keys of a node that is served from the file as it is now.
+fn served(path: &Path) -> (u32, Vec<usize>) {
+    let mut node = Node::serve(3, &fs::read(path).unwrap(), Nowhere).unwrap();
+    (node.life().unwrap(), held(&mut node))
+}
+
+#[test]
+fn a_first_write_that_failed_may_be_made_again() {
+    let folder = Folder::new("again");
+    let path = folder.at("node");
+    drop(FileStore::create(&path, 3).unwrap());
+    let file = OpenOptions::new().write(true).open(&path).unwrap();
+    let store = Again { file, path: path.clone() };
+    let mut node = Node::serve(3, &fs::read(&path).unwrap(), store).unwrap();
+    assert_eq!(served(&path), (3, vec![]));
+    for number in 0..3 {
+        write(&mut node, number..number + 1);
+        assert_eq!(served(&path), (3, (0..=number).collect()));
+    }
 }
 
 #[test]

@@ -39,6 +39,7 @@ use Rattle.hosted_node.specs.declared.fault.HostFault.{HostFault}
 use Rattle.hosted_node.specs.declared.fault.HostFault.TheVariants.{Step, FileFull, Stopped, Pending, Memory}
 use Rattle.hosted_node.specs.Hosting.{Acts, HostedParts, KeepsAllButContexts, MayStep, RefusesActing, Serves, StopsAfter, Stores, after_sending, after_storing, gate_after, next_frame, sent_by, spelled_for}
 use Rattle.hosted_node.specs.HostFile.{HasObjectOf, HasRecordOf, IsFileOf, IsKnownTo, IsNextRecord, IsRecordOf, IsStoredIn, IsUpToDate, calls_to_store, host_calls, written_key}
+use Rattle.hosted_node.proofs.Histories.{leave_without, left_without, read_without}
 use Rattle.hosted_node.proofs.Knowing.{put_known}
 
 -- ---- a node that is served
@@ -264,15 +265,18 @@ pub calls_are : (gate : Option ℕ) (to_store : Option (List ℕ)) (g : ℕ) (sa
 calls_are gate to_store g said gate_is stored_is =
     ap (λ o. calls_to_store o to_store) gate_is ∙ ap (calls_to_store (Some g)) stored_is
 
-pub stored : (file : List ℕ) (old new : HostedParts) → Stores true old (Ok tt) new → IsFileOf file old
-    → IsStoredIn file old new
-stored file old new stores is =
+pub stored : (failures : ℕ) (file : List ℕ) (old new : HostedParts) → Stores true old (Ok tt) new → IsFileOf file old
+    → IsStoredIn failures file old new
+stored failures file old new stores is =
     let bytes = stores.1.0 in
     let there : old.to_store ≡ Some bytes = stores.1.1 in
     let next : IsNextRecord (file_state file) old.state bytes = subst (IsUpToDate (file_state file) old.state) there is.next in
     let said : Record = next.said in
     let spelled : old.to_store ≡ Some (gated said) = there ∙ ap Some next.spelled in
-    let calls : host_calls old ≡ append_calls is.gate said = calls_are old.gate old.to_store is.gate said is.its_gate spelled in
+    let calls : calls_to_store old.gate old.to_store ≡ append_calls is.gate said =
+    calls_are old.gate old.to_store is.gate said is.its_gate spelled in
+    let read : content_after file (host_calls failures old) ≡ content_after file (append_calls is.gate said) =
+    read_without failures old.gate old.to_store file ∙ ap (content_after file) calls in
     let takes = takes_record file is.gate said is.opens next.can_take in
     let has : (c : List ℕ) → opened None c ≡ Ok (state_with (file_state file) said, is.gate + record_size said) → IsFileOf c new =
     λ c opens. subst (IsFileOf c) (sym stores.1.2) (with_record_is file old bytes c is next opens) in
@@ -280,10 +284,13 @@ stored file old new stores is =
     λ c same. has c (ap (opened None) same ∙ takes.opens) in record {
       said = said;
       spelled = spelled;
-      tells = ap (λ made. file_state (content_after file made)) calls ∙ ap state_or_none takes.opens;
-      after = ends (content_after file (host_calls old)) (ap (content_after file) calls);
-      durable = λ c left. ends c (subst (λ calls. CrashLeaves file calls c) calls left);
-      any_moment = λ c left. takes.any_moment c (subst (λ calls. CrashLeftSince file calls 0 c) calls left);
+      tells = ap file_state read ∙ ap state_or_none takes.opens;
+      after = ends (content_after file (host_calls failures old)) read;
+      durable =
+          λ c left. ends c (subst (λ calls. CrashLeaves file calls c) calls (leave_without failures old.gate old.to_store file c left));
+      any_moment =
+          λ c left. takes.any_moment c
+          (subst (λ calls. CrashLeftSince file calls 0 c) calls (left_without failures old.gate old.to_store file c left));
     }
 
 -- ---- a write that was stored
@@ -301,25 +308,26 @@ to_store_after old event new key gate acts its_key its_gate =
     acts.to_store ∙ ap (λ gate. spelled_for gate (record_after event new.state.table)) its_gate
     ∙ ap (λ k. spelled_for (Some gate) (record_under k new.state.table)) its_key
 
-pub stored_there : (file c : List ℕ) (n : HostedParts) (key : Key) (is : IsFileOf file n) (has : HasRecordOf key n)
-    → CrashLeaves file (host_calls n) c → find key_cmp key (file_state c).contents.table ≡ Some has.object
-stored_there file c n key is has left =
+pub stored_there : (failures : ℕ) (file c : List ℕ) (n : HostedParts) (key : Key) (is : IsFileOf file n) (has : HasRecordOf key n)
+    → CrashLeaves file (host_calls failures n) c → find key_cmp key (file_state c).contents.table ≡ Some has.object
+stored_there failures file c n key is has left =
     let o : List Entry = has.object in
     let can = can_take_held (file_state file) n.state.table key o has.held is.version is.known in
     let takes = takes_record file is.gate (Object key o) is.opens can in
-    let calls : host_calls n ≡ append_calls is.gate (Object key o) =
+    let calls : calls_to_store n.gate n.to_store ≡ append_calls is.gate (Object key o) =
     calls_are n.gate n.to_store is.gate (Object key o) is.its_gate has.to_store in
-    let ended : c ≡ content_after file (append_calls is.gate (Object key o)) = subst (λ calls. CrashLeaves file calls c) calls left in
+    let ended : c ≡ content_after file (append_calls is.gate (Object key o)) =
+    subst (λ calls. CrashLeaves file calls c) calls (leave_without failures n.gate n.to_store file c left) in
     let stands : file_state c ≡ state_with (file_state file) (Object key o) =
     stands_so c (state_with (file_state file) (Object key o)) (is.gate + record_size (Object key o)) (ap (opened None) ended ∙ takes.opens) in
     ap (λ (s : FileState). find key_cmp key s.contents.table) stands ∙ found_here key o (file_state file).contents.table
 
-pub written : (file c : List ℕ) (old new : HostedParts) (key : Key) → IsFileOf file old → HasRecordOf key old
-    → Stores true old (Ok tt) new → CrashLeaves file (host_calls old) c → HasObjectOf key new c
-written file c old new key is has stores left = record {
+pub written : (failures : ℕ) (file c : List ℕ) (old new : HostedParts) (key : Key) → IsFileOf file old → HasRecordOf key old
+    → Stores true old (Ok tt) new → CrashLeaves file (host_calls failures old) c → HasObjectOf key new c
+written failures file c old new key is has stores left = record {
   object = has.object;
   held = ap (λ (n : HostedParts). find key_cmp key n.state.table) stores.1.2 ∙ has.held;
-  stored = stored_there file c old key is has left;
+  stored = stored_there failures file c old key is has left;
 }
 
 -- the object that a write left is held, and to be stored

@@ -1,7 +1,9 @@
--- Histories of a device: one that was cut short by a failure, and one that goes on after a sync.
-use Rattle.std.proofs.Common.{◌≡◌, ◌≤◌, ℕ, ◌+◌, List, [], ◌∷◌, ◌++◌, length, take, drop, Option, Some, None, inl, inr, refl, sym, ap, subst, ◌∙◌, arith}
+-- Histories of a device: one that was cut short by a failure, one that goes on after a sync, and one that begins with writes that
+-- failed.
+use Rattle.std.proofs.Common.{◌≡◌, ◌≤◌, ◌⊎◌, ℕ, zero, suc, ◌+◌, List, [], ◌∷◌, ◌++◌, length, take, drop, Option, Some, None, inl, inr, refl, sym, ap, subst, ◌∙◌, arith}
 use Rattle.devices.specs.Calls.{CrashLeaves, CrashLeftSince, DeviceCall, content_after, cut_to, failed_to_cut, failed_to_write, synced, wrote}
-use Rattle.hosted_node.specs.HostFile.{calls_to_store}
+use Rattle.devices.specs.Device.{Torn}
+use Rattle.hosted_node.specs.HostFile.{calls_to_store, failed_writes}
 use Rattle.hosted_node.specs.Lasting.{FailsMidway, as_failed}
 
 -- ---- cut short
@@ -89,12 +91,105 @@ since_joined first c [] calls safe left = (omega arith, safe c (left_at_the_end 
 since_joined first c (call ∷ later) calls safe (inl (from, left)) = inl (at_first (length later), leaves_joined first c (call ∷ later) calls safe left)
 since_joined first c (call ∷ later) calls safe (inr before) = inr (since_joined first c later calls safe before)
 
-stored_is_synced : (first : List ℕ) (gate : Option ℕ) (bytes : Option (List ℕ)) → IsSynced first (calls_to_store gate bytes)
-stored_is_synced first (Some gate) (Some bytes) c left = left
-stored_is_synced first (Some gate) None c left = left
-stored_is_synced first None bytes c left = left
+stored_is_synced : (failures : ℕ) (first : List ℕ) (gate : Option ℕ) (bytes : Option (List ℕ))
+    → IsSynced first (calls_to_store gate bytes ++ failed_writes failures gate bytes)
+stored_is_synced failures first (Some gate) (Some bytes) c left = left
+stored_is_synced zero first (Some gate) None c left = left
+stored_is_synced (suc failures) first (Some gate) None c left = left
+stored_is_synced zero first None bytes c left = left
+stored_is_synced (suc failures) first None bytes c left = left
 
-pub goes_on : (first c : List ℕ) (gate : Option ℕ) (bytes : Option (List ℕ)) (later : List DeviceCall)
-    → CrashLeftSince first (later ++ calls_to_store gate bytes) (length (calls_to_store gate bytes)) c
-    → CrashLeftSince (content_after first (calls_to_store gate bytes)) later 0 c
-goes_on first c gate bytes later left = since_joined first c later (calls_to_store gate bytes) (stored_is_synced first gate bytes) left
+pub goes_on : (failures : ℕ) (first c : List ℕ) (gate : Option ℕ) (bytes : Option (List ℕ)) (later : List DeviceCall)
+    → CrashLeftSince first (later ++ (calls_to_store gate bytes ++ failed_writes failures gate bytes))
+    (length (calls_to_store gate bytes ++ failed_writes failures gate bytes)) c
+    → CrashLeftSince (content_after first (calls_to_store gate bytes ++ failed_writes failures gate bytes)) later 0 c
+goes_on failures first c gate bytes later left =
+    since_joined first c later (calls_to_store gate bytes ++ failed_writes failures gate bytes) (stored_is_synced failures first gate bytes) left
+
+-- ---- beginning with writes that failed
+
+-- what is torn twice in a range is torn in it
+torn_again : (at n : ℕ) (old torn new : List ℕ) → Torn at n old torn → Torn at n torn new → Torn at n old new
+torn_again at n old torn new one two =
+    let longer = one.no_shorter in
+    let still = two.no_shorter in
+    let within = one.no_longer in
+    let at_last = two.no_longer in record {
+      before = two.before ∙ one.before;
+      after = two.after ∙ one.after;
+      no_shorter = omega (arith, longer, still);
+      no_longer = grind (arith, longer, still, within, at_last);
+    }
+
+module _ (first : List ℕ) (gate : ℕ) (bytes : List ℕ) where
+  abbrev failed : ℕ → List DeviceCall
+  failed failures = failed_writes failures (Some gate) (Some bytes)
+
+  abbrev IsTorn : List ℕ → List ℕ → Type 0
+  IsTorn = Torn (gate + 1) (length (drop 1 bytes))
+
+  failed_read : (failures : ℕ) → content_after first (failed failures) ≡ first
+  failed_read zero = refl
+  failed_read (suc failures) = failed_read failures
+
+  same_or_torn : (c d : List ℕ) → (c ≡ first) ⊎ IsTorn first c → IsTorn c d → IsTorn first d
+  same_or_torn c d (inl same) torn = subst (λ (l : List ℕ). IsTorn l d) same torn
+  same_or_torn c d (inr once) torn = torn_again (gate + 1) (length (drop 1 bytes)) first c d once torn
+
+  failed_leave : (failures : ℕ) (c : List ℕ) → CrashLeaves first (failed failures) c → (c ≡ first) ⊎ IsTorn first c
+  failed_leave zero c is = inl is
+  failed_leave (suc failures) c (inl is) = inl (is ∙ failed_read failures)
+  failed_leave (suc failures) c (inr (d, old, torn)) = inr (same_or_torn d c (failed_leave failures d old) torn)
+
+  failed_since : (failures : ℕ) (c : List ℕ) → CrashLeftSince first (failed failures) 0 c → (c ≡ first) ⊎ IsTorn first c
+  failed_since zero c (from, is) = inl is
+  failed_since (suc failures) c (inl (from, is)) = failed_leave (suc failures) c is
+  failed_since (suc failures) c (inr before) = failed_since failures c before
+
+  abbrev written : List DeviceCall
+  written = wrote (gate + 1) (drop 1 bytes) ∷ []
+
+  abbrev opened : List DeviceCall
+  opened = wrote gate (take 1 bytes) ∷ synced ∷ written
+
+  -- what a crash leaves of them, a crash in the first write leaves too
+  as_first : (c : List ℕ) → (c ≡ first) ⊎ IsTorn first c → CrashLeftSince first (synced ∷ opened) 0 c
+  as_first c (inl same) = inr (inr (inr (inr (omega arith, same))))
+  as_first c (inr torn) = inr (inr (inr (inl (omega arith, inr (first, refl, torn)))))
+
+  read_same : (failures : ℕ) (calls : List DeviceCall) → content_after first (calls ++ failed failures) ≡ content_after first calls
+  read_same failures calls = content_joined first calls (failed failures) ∙ ap (λ (l : List ℕ). content_after l calls) (failed_read failures)
+
+  left_same : (failures : ℕ) (c : List ℕ) → CrashLeftSince first ((synced ∷ opened) ++ failed failures) 0 c
+      → CrashLeftSince first (synced ∷ opened) 0 c
+  left_same failures c (inl (late, is)) = inl (omega arith, is ∙ read_same failures opened)
+  left_same failures c (inr (inl (late, inl is))) = inr (inl (omega arith, inl (is ∙ read_same failures opened)))
+  left_same failures c (inr (inl (late, inr (d, is, torn)))) = inr (inl (omega arith, inr (d, is ∙ read_same failures written, torn)))
+  left_same failures c (inr (inr (inl (late, is)))) = inr (inr (inl (omega arith, is ∙ read_same failures written)))
+  left_same failures c (inr (inr (inr (inl (late, inl is))))) = inr (inr (inr (inl (omega arith, inl (is ∙ read_same failures written)))))
+  left_same failures c (inr (inr (inr (inl (late, inr (d, old, torn)))))) = as_first c (inr (same_or_torn d c (failed_leave failures d old) torn))
+  left_same failures c (inr (inr (inr (inr before)))) = as_first c (failed_since failures c before)
+
+-- the host's calls leave no more, and are read as the same, if the first one failed before
+pub left_without : (failures : ℕ) (gate : Option ℕ) (bytes : Option (List ℕ)) (first c : List ℕ)
+    → CrashLeftSince first (calls_to_store gate bytes ++ failed_writes failures gate bytes) 0 c
+    → CrashLeftSince first (calls_to_store gate bytes) 0 c
+left_without failures (Some gate) (Some bytes) first c left = left_same first gate bytes failures c left
+left_without zero (Some gate) None first c left = left
+left_without (suc failures) (Some gate) None first c left = left
+left_without zero None bytes first c left = left
+left_without (suc failures) None bytes first c left = left
+
+pub read_without : (failures : ℕ) (gate : Option ℕ) (bytes : Option (List ℕ)) (first : List ℕ)
+    → content_after first (calls_to_store gate bytes ++ failed_writes failures gate bytes) ≡ content_after first (calls_to_store gate bytes)
+read_without failures (Some gate) (Some bytes) first = read_same first gate bytes failures (calls_to_store (Some gate) (Some bytes))
+read_without zero (Some gate) None first = refl
+read_without (suc failures) (Some gate) None first = refl
+read_without zero None bytes first = refl
+read_without (suc failures) None bytes first = refl
+
+pub leave_without : (failures : ℕ) (gate : Option ℕ) (bytes : Option (List ℕ)) (first c : List ℕ)
+    → CrashLeaves first (calls_to_store gate bytes ++ failed_writes failures gate bytes) c → CrashLeaves first (calls_to_store gate bytes) c
+leave_without failures gate bytes first c left =
+    subst (CrashLeaves first (calls_to_store gate bytes)) (sym (stored_is_synced failures first gate bytes c left ∙ read_without failures gate bytes first))
+    (read_left first (calls_to_store gate bytes))

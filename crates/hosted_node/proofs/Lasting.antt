@@ -28,7 +28,7 @@ use Rattle.hosted_node.specs.Hosting.{HostedParts, MayStep, RefusesActing, hande
 use Rattle.hosted_node.specs.HostFile.{HasRecordOf, IsFileOf, IsKnownTo, IsNextRecord, IsRecordOf, IsUpToDate, calls_to_store, host_calls, written_key}
 use Rattle.hosted_node.specs.Lasting.{FailsMidway, Follow, GoesOn, Happens, HappensOrRestarts, HasAllOf, IsAcknowledged, IsLeft, Knows, Later, Moment, OpensWithOrWithout, Restarts, Stepped, Refused, Sent, Contexts, Stored, GaveUp}
 use Rattle.hosted_node.proofs.Filing.{calls_are, kept, when_stopped, nothing_to_store, recorded, refused, sending, served, stepped, stored, stored_there, with_contexts}
-use Rattle.hosted_node.proofs.Histories.{failed_midway, read_left, read_left_since}
+use Rattle.hosted_node.proofs.Histories.{failed_midway, left_without, read_left, read_left_since}
 use Rattle.hosted_node.proofs.Knowing.{put_grows, put_keeps, put_known}
 
 -- ---- one file after another
@@ -95,10 +95,12 @@ left_of file c n is (Some bytes) there left =
           (subst (λ (them : List DeviceCall). CrashLeftSince file them 0 c) calls left);
     }
 
-by_host : (file c : List ℕ) (n : HostedParts) → IsLeft file n c → CrashLeftSince file (host_calls n) 0 c
+by_host : (file c : List ℕ) (n : HostedParts) → IsLeft file n c → CrashLeftSince file (calls_to_store n.gate n.to_store) 0 c
 by_host file c n is =
-    ⊎_elim (λ (all : is.made ≡ host_calls n). subst (λ (them : List DeviceCall). CrashLeftSince file them 0 c) all is.left)
-    (λ (fails : FailsMidway (host_calls n) is.made). failed_midway file c (host_calls n) is.made fails is.left) is.by_host
+    let calls = host_calls is.failures n in
+    left_without is.failures n.gate n.to_store file c
+    (⊎_elim (λ (all : is.made ≡ calls). subst (λ (them : List DeviceCall). CrashLeftSince file them 0 c) all is.left)
+    (λ (fails : FailsMidway calls is.made). failed_midway file c calls is.made fails is.left) is.by_host)
 
 pub left_opens : (file c : List ℕ) (n : HostedParts) → IsFileOf file n → IsLeft file n c → OpensWithOrWithout file n c
 left_opens file c n is left =
@@ -124,7 +126,7 @@ crashed file c n is (Some bytes) there left =
     ((takes_record file is.gate next.said is.opens next.can_take).any_moment c
     (subst (λ (them : List DeviceCall). CrashLeftSince file them 0 c) calls left))
 
-crash : (file c : List ℕ) (n : HostedParts) → IsFileOf file n → CrashLeftSince file (host_calls n) 0 c
+crash : (file c : List ℕ) (n : HostedParts) → IsFileOf file n → CrashLeftSince file (calls_to_store n.gate n.to_store) 0 c
     → HasAllOf (file_state file) (file_state c)
 crash file c n is left =
     crashed file c n is n.to_store refl
@@ -151,11 +153,13 @@ goes_on_once old new is (Refused event fault typed why same) =
 goes_on_once old new is (Sent sent same) =
     same_goes_on old new is same (subst (IsFileOf old.file) (sym sent) (sending old.file old.node is))
 goes_on_once old new is (Contexts rest same) = same_goes_on old new is same (with_contexts old.file old.node new.node rest is)
-goes_on_once old new is (Stored stores ends) =
-    let calls = host_calls old.node in
-    let now = stored old.file old.node new.node stores is in record {
+goes_on_once old new is (Stored failures stores ends) =
+    let calls = host_calls failures old.node in
+    let now = stored failures old.file old.node new.node stores is in record {
       its_file = subst (λ (f : List ℕ). IsFileOf f new.node) (sym ends) now.after;
-      has_all = crash old.file new.file old.node is (read_left_since old.file calls new.file ends);
+      has_all =
+          crash old.file new.file old.node is
+          (left_without failures old.node.gate old.node.to_store old.file new.file (read_left_since old.file calls new.file ends));
     }
 goes_on_once old new is (GaveUp stores same) =
     same_goes_on old new is same (subst (IsFileOf old.file) (sym stores.1.2) (when_stopped old.file old.node is))
@@ -262,13 +266,13 @@ waits_once key o old new is waits (Sent sent same) =
     inl (subst (Waits key o) (sym sent) (waits_sent key o old.node (next_frame old.node) waits))
 waits_once key o old new is waits (Contexts rest same) =
     inl (subst (Waits key o) (sym rest) (record { held = waits.held; to_store = waits.to_store }))
-waits_once key o old new is waits (Stored stores ends) =
-    let calls = host_calls old.node in
+waits_once key o old new is waits (Stored failures stores ends) =
+    let calls = host_calls failures old.node in
     let has : HasRecordOf key old.node = record { object = o; held = waits.held; to_store = waits.to_store } in
     let after = content_after old.file calls in
-    let its_file = (stored old.file old.node new.node stores is).after in
+    let its_file = (stored failures old.file old.node new.node stores is).after in
     let there : find key_cmp key (file_state after).contents.table ≡ Some o =
-    stored_there old.file after old.node key is has (read_left old.file calls) in
+    stored_there failures old.file after old.node key is has (read_left old.file calls) in
     inr (subst (λ (f : List ℕ). Descends (alone key o) (file_state f).contents.table) (sym ends)
     (knows_alone key o (file_state after).contents.table its_file.known.stored_is_table there))
 waits_once key o old new is waits (GaveUp stores same) =

@@ -1,6 +1,6 @@
 -- The file of a host: how it relates to his node, what he does to store a record, and what a crash
 -- leaves of that. The rule is our own.
-use Rattle.std.specs.Prelude.{◌≡◌, ℕ, ◌+◌, List, [], ◌∷◌, take, drop, Option, Some, None, Ok}
+use Rattle.std.specs.Prelude.{◌≡◌, ℕ, zero, suc, ◌+◌, List, [], ◌∷◌, ◌++◌, length, take, drop, Option, Some, None, Ok}
 use Rattle.std.specs.FinMap.{find}
 use Rattle.meta_types.specs.Name.{Key}
 use Rattle.meta_types.specs.Order.{key_cmp}
@@ -10,7 +10,7 @@ use Rattle.node_events.specs.declared.event.NodeEvent.{NodeEvent}
 use Rattle.node_events.specs.declared.event.NodeEvent.TheVariants.{PutOver, Write}
 use Rattle.node_core.specs.Growing.{Descends, KeepsKeys}
 use Rattle.node_core.specs.Node.{NodeParts}
-use Rattle.devices.specs.Calls.{CrashLeaves, CrashLeftSince, DeviceCall, content_after, synced, wrote}
+use Rattle.devices.specs.Calls.{CrashLeaves, CrashLeftSince, DeviceCall, content_after, failed_to_write, synced, wrote}
 use Rattle.node_file.specs.declared.record.Record.{Record}
 use Rattle.node_file.specs.declared.record.Record.TheVariants.{Life, Object}
 use Rattle.node_file.specs.File.{FileState, WithOrWithout, file_state, gated, opened, state_with}
@@ -67,9 +67,19 @@ calls_to_store (Some gate) (Some bytes) =
     synced ∷ wrote gate (take 1 bytes) ∷ synced ∷ wrote (gate + 1) (drop 1 bytes) ∷ []
 calls_to_store gate bytes = []
 
--- the calls by which he stores what the node has to store
-abbrev pub host_calls : HostedParts → List DeviceCall
-host_calls n = calls_to_store n.gate n.to_store
+-- The first of these calls failed this often: he may make it again, since nothing was synced and
+-- the gate is still closed.
+abbrev pub failed_writes : ℕ → Option ℕ → Option (List ℕ) → List DeviceCall
+failed_writes zero gate bytes = []
+failed_writes (suc failures) (Some gate) (Some bytes) =
+    failed_to_write (gate + 1) (length (drop 1 bytes))
+    ∷ failed_writes failures (Some gate) (Some bytes)
+failed_writes (suc failures) gate bytes = []
+
+-- the calls by which he stores what the node has to store, if the first one failed this often
+-- before it was made
+abbrev pub host_calls : ℕ → HostedParts → List DeviceCall
+host_calls failures n = calls_to_store n.gate n.to_store ++ failed_writes failures n.gate n.to_store
 
 -- ---- what there is to store
 
@@ -87,16 +97,17 @@ pub record HasRecordOf (key : Key) (n : HostedParts) : Type 0 where
 
 -- ---- what becomes of his file
 
--- After the calls the file says what it said, and then the record. It is the new node's file, and
--- every crash until the next call leaves such a file. A crash at any earlier moment leaves the old
--- file without the record or with it.
-pub record IsStoredIn (file : List ℕ) (old new : HostedParts) : Type 0 where
+-- After the calls, the first of which may have failed before, the file says what it said, and then
+-- the record. It is the new node's file, and every crash until the next call leaves such a file. A
+-- crash at any earlier moment leaves the old file without the record or with it.
+pub record IsStoredIn (failures : ℕ) (file : List ℕ) (old new : HostedParts) : Type 0 where
   pub said : Record
   pub spelled : old.to_store ≡ Some (gated said)
-  pub tells : file_state (content_after file (host_calls old)) ≡ state_with (file_state file) said
-  pub after : IsFileOf (content_after file (host_calls old)) new
-  pub durable : (c : List ℕ) → CrashLeaves file (host_calls old) c → IsFileOf c new
-  pub any_moment : (c : List ℕ) → CrashLeftSince file (host_calls old) 0 c
+  pub tells : file_state (content_after file (host_calls failures old))
+      ≡ state_with (file_state file) said
+  pub after : IsFileOf (content_after file (host_calls failures old)) new
+  pub durable : (c : List ℕ) → CrashLeaves file (host_calls failures old) c → IsFileOf c new
+  pub any_moment : (c : List ℕ) → CrashLeftSince file (host_calls failures old) 0 c
       → WithOrWithout file said c
 
 -- the file has under the key the object that the node holds there

@@ -36,10 +36,12 @@ FailsMidway [] made = ⊥
 FailsMidway (call ∷ calls) made = (made ≡ as_failed call calls) ⊎ FailsMidway calls made
 
 -- the machine stopped at any moment of the host's calls, or before or after them; or one of them
--- failed, and the machine stopped at any moment, before that or later
+-- failed, and the machine stopped at any moment, before that or later. The first call may have
+-- failed before, any number of times, and was made again.
 pub record IsLeft (file : List ℕ) (n : HostedParts) (c : List ℕ) : Type 0 where
+  pub failures : ℕ
   pub made : List DeviceCall
-  pub by_host : (made ≡ host_calls n) ⊎ FailsMidway (host_calls n) made
+  pub by_host : (made ≡ host_calls failures n) ⊎ FailsMidway (host_calls failures n) made
   pub left : CrashLeftSince file made 0 c
 
 -- the bytes open as the file does, or with the record that was to be stored
@@ -77,7 +79,8 @@ pub record IsTyped (event : NodeEvent) (n : HostedParts) : Type 0 where
   pub held : IsTable n.state.table
 
 -- One thing that happens in a life of the node: a step, a step that is refused, a frame is sent,
--- contexts are kept or forgotten, the host stored the record, or says that he failed to.
+-- contexts are kept or forgotten, the host stored the record, however often the first call failed
+-- before, or says that he failed to.
 pub data Happens (old new : Moment) : Type 0 where
   Stepped : (event : NodeEvent) → IsTyped event new.node → Acts old.node event new.node
       → new.file ≡ old.file → Happens old new
@@ -85,8 +88,8 @@ pub data Happens (old new : Moment) : Type 0 where
       → RefusesActing old.node event new.node fault → new.file ≡ old.file → Happens old new
   Sent : new.node ≡ after_sending old.node → new.file ≡ old.file → Happens old new
   Contexts : KeepsAllButContexts old.node new.node → new.file ≡ old.file → Happens old new
-  Stored : Stores true old.node (Ok tt) new.node
-      → new.file ≡ content_after old.file (host_calls old.node) → Happens old new
+  Stored : (failures : ℕ) → Stores true old.node (Ok tt) new.node
+      → new.file ≡ content_after old.file (host_calls failures old.node) → Happens old new
   GaveUp : Stores false old.node (Ok tt) new.node → new.file ≡ old.file → Happens old new
 
 -- the host stops, and his node is served again from a file that says what is left of his file: that

@@ -20,7 +20,8 @@ impl HostedNode {
 
     /// Returns the bytes of the record that the host has to store. He writes the bytes after the
     /// first, beginning one byte after the gate; syncs; writes the first byte over the gate; and
-    /// syncs.
+    /// syncs. If the first write fails, he may make it again, any number of times; if another call
+    /// fails, he repeats none, and says that he failed.
     pub fn record(&self) -> Option<&[u8]>
         ensures { option_copied result ≡ handed_record self.now }
     {

@@ -67,22 +67,24 @@ pub fn a_write_has_its_record()
 
 /// Once the host has stored a record by his four calls, and says so, the file says what it said and
 /// then the record. It is the node's file, and every crash until the next call of the file leaves
-/// such a file. A crash at any earlier moment leaves the file without the record or with it.
+/// such a file. A crash at any earlier moment leaves the file without the record or with it. If the
+/// first of the calls fails, he may make it again, any number of times.
 pub fn a_stored_record_is_in_the_file()
-    ensures { (file : List ℕ) (old new : HostedParts)
-        → Stores true old (Ok tt) new → IsFileOf file old → IsStoredIn file old new }
+    ensures { (failures : ℕ) (file : List ℕ) (old new : HostedParts)
+        → Stores true old (Ok tt) new → IsFileOf file old → IsStoredIn failures file old new }
 {}
 
 /// Once the host has stored the record of a key, and until the next call of the file, every crash
 /// leaves in it the object that the node holds under the key.
 pub fn a_stored_write_is_in_the_file()
-    ensures { (file c : List ℕ) (old new : HostedParts) (key : Key)
+    ensures { (failures : ℕ) (file c : List ℕ) (old new : HostedParts) (key : Key)
         → IsFileOf file old → HasRecordOf key old → Stores true old (Ok tt) new
-        → CrashLeaves file (host_calls old) c → HasObjectOf key new c }
+        → CrashLeaves file (host_calls failures old) c → HasObjectOf key new c }
 {}
 
 /// If a crash or a failed call breaks off the host's calls, what is left opens as the file did, or
-/// with the record that was to be stored. It has all that the file had.
+/// with the record that was to be stored. It has all that the file had. The first call may have
+/// failed before, any number of times.
 pub fn what_is_left_has_all()
     ensures opens { (file c : List ℕ) (n : HostedParts)
         → IsFileOf file n → IsLeft file n c → OpensWithOrWithout file n c }
@@ -93,9 +95,9 @@ pub fn what_is_left_has_all()
 /// An append ends with a sync. So a crash after further calls leaves what it would leave if they
 /// had begun with the appended file.
 pub fn later_calls_go_on_from_the_sync()
-    ensures { (file c : List ℕ) (n : HostedParts) (later : List DeviceCall)
-        → CrashLeftSince file (later ++ host_calls n) (length (host_calls n)) c
-        → CrashLeftSince (content_after file (host_calls n)) later 0 c }
+    ensures { (failures : ℕ) (file c : List ℕ) (n : HostedParts) (later : List DeviceCall)
+        → CrashLeftSince file (later ++ host_calls failures n) (length (host_calls failures n)) c
+        → CrashLeftSince (content_after file (host_calls failures n)) later 0 c }
 {}
 
 /// A node can be served again from its file, unless the file is full or there is no next life.

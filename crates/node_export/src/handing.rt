@@ -30,7 +30,8 @@ pub(crate) fn copy_out(bytes: Option<&[u8]>, buffer: &mut [u8], len: &mut usize)
 
 /// Hands out the record that the program has to store before it is handed the reply and the frames,
 /// and the offset of the closed gate of its file. The program writes the bytes after the first,
-/// beginning one byte after the gate; syncs; writes the first byte over the gate; and syncs.
+/// beginning one byte after the gate; syncs; writes the first byte over the gate; and syncs. If the
+/// first write fails, it may be made again.
 ///
 /// Refused with 80 `NoNode`, 38 `Nothing` and 81 `ShortBuffer`; with 81, `len` says how long the
 /// record is.

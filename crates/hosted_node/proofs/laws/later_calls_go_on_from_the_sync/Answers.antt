@@ -2,4 +2,4 @@ use Rattle.hosted_node.proofs.Histories.{goes_on}
 use Rattle.hosted_node.proofs.laws.later_calls_go_on_from_the_sync.Goals as goal
 
 pub returns : goal.returns
-returns c = λ file crash n later left. goes_on file crash n.gate n.to_store later left
+returns c = λ failures file crash n later left. goes_on failures file crash n.gate n.to_store later left
