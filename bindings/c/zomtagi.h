@@ -319,7 +319,7 @@ uint16_t zomtagi_root(zomtagi_slot *slot, uint8_t *buffer, size_t buffer_len, si
 uint16_t zomtagi_about(zomtagi_slot *slot, uint16_t *number, uint32_t *life,
                        uint8_t *is_stopped);
 
-/* ---- what bytes are refused with ----
+/* ---- of bytes alone ----
  *
  * Each needs no slot, and returns 0 if the bytes are right. It changes nothing, and writes *at only
  * as its comment says.
@@ -340,6 +340,17 @@ uint16_t zomtagi_check_file(const uint8_t *bytes, size_t bytes_len, uint16_t nod
  * 15 BadBody; 99 Memory.
  */
 uint16_t zomtagi_check_frame(const uint8_t *frame, size_t frame_len, size_t *at);
+
+/*
+ * Hands out the bytes of a clean copy of the file of the node of this number: of the same last life
+ * and table, with one record for each key. The records of a long file can be handed in piece by
+ * piece: first those at its front, with a closed gate (0) behind them; then each copy with the next
+ * records in the place of its closed gate. Write the last copy to a new file, sync it, and rename it.
+ * Refused with 3 BadNode; 31 Damaged, 32 OtherNode, 25 StoreFull; 81 ShortBuffer, and then *len says
+ * how long the copy is; 99 Memory.
+ */
+uint16_t zomtagi_clean_copy(const uint8_t *bytes, size_t bytes_len, uint16_t node,
+                            uint8_t *buffer, size_t buffer_len, size_t *len);
 
 #ifdef __cplusplus
 }

@@ -1,6 +1,6 @@
-use crate::error::{Error, MEMORY};
-use crate::node::{answered, Node, Store};
-use crate::raw::zomtagi_empty_file;
+use crate::error::{Error, DAMAGED, MEMORY, SHORT_BUFFER};
+use crate::node::{answered, damage, Node, Store};
+use crate::raw::{zomtagi_clean_copy, zomtagi_empty_file};
 use std::ffi::OsString;
 use std::fs::{self, File, OpenOptions, Permissions};
 use std::io::{self, BufReader, ErrorKind, Read, Seek, SeekFrom};
@@ -27,6 +27,9 @@ const MOST_TURNS: usize = 100;
 const OPEN: u8 = 1;
 const CLOSED: u8 = 0;
 
+/// From how many bytes of records on a clean copy takes their place.
+const PIECE: usize = 1 << 20;
+
 /// The bytes before the first gate, and the most of a record's payload.
 const FRONT: usize = 10;
 const MOST_PAYLOAD: u32 = 1 << 24;
@@ -40,6 +43,8 @@ const MOST_PAYLOAD: u32 = 1 << 24;
 /// - Into a copy beside it, `PATH.zomtagi-copy`, which it locks first, it writes what counts of the file and the record of the
 ///   next life. It syncs the copy, renames it over the path, and syncs the folder. Then the old inode's lock ends, and who waited
 ///   for it finds another inode at the path, which is locked.
+/// - If the records take more than 1 MiB, one for each key stands in the copy instead of the first of them. So a file that is
+///   opened now and then doesn't grow for ever, and opening it takes memory for the table, not for the file.
 /// - A crash before the rename leaves the file as it was. Only who holds the file's lock touches the copy, so the next opening
 ///   removes what is left of it.
 /// - A new file has a name of its own, `PATH.zomtagi-new-..`, until it is locked and synced, with the record of life 1. Then it is
@@ -59,10 +64,10 @@ impl FileStore {
     /// is; and with [`Error::Io`] or [`Error::Sync`] if the copy can't be made. It is then as it was.
     pub fn open(path: impl AsRef<Path>, node: u16) -> Result<Node, Error> {
         let (old, path) = locked_at(path.as_ref())?;
-        let bytes = read_records(&old)?;
-        let served = Node::of_bytes(node, &bytes)?;
-        if is_changed_gate(&old, &bytes, node)? {
-            return Err(Error::GateChanged { at: bytes.len() as u64 - 1 });
+        let records = Records::read(&old, node)?;
+        let served = records.serve(node)?;
+        if records.end_at_a_changed_gate(&old, node)? {
+            return Err(Error::GateChanged { at: records.gate() });
         }
         let copy = with_end(&path, ".zomtagi-copy");
         match fs::remove_file(&copy) {
@@ -71,7 +76,7 @@ impl FileStore {
         }
         let (beside, file) = Beside::make(copy)?;
         keep_rights(&old, &file)?;
-        let node = FileStore::fill(file, &bytes, served)?;
+        let node = FileStore::fill(file, &records.bytes, served)?;
         // (it has no name beside then that could be removed)
         fs::rename(&beside.0, &path)?;
         sync_folder(&path)?;
@@ -266,16 +271,91 @@ fn empty_file(node: u16) -> Result<[u8; FRONT + 1], Error> {
     Ok(bytes)
 }
 
-/// The bytes of a file up to its closed gate, and this too: those behind it count for nothing, and may be a hole. If the file is
-/// damaged, they end where that is seen.
-fn read_records(file: &File) -> io::Result<Vec<u8>> {
-    let (mut reader, mut bytes) = (BufReader::new(file), Vec::new());
-    reader.by_ref().take(FRONT as u64 + 1).read_to_end(&mut bytes)?;
-    let mut is_whole = bytes.starts_with(b"PMNODE0") && bytes.len() > FRONT;
-    while is_whole && bytes.ends_with(&[OPEN]) {
-        is_whole = read_record(&mut reader, &mut bytes)?;
+/// The front of a file and its records, with the gate behind them. What stands behind that counts for nothing, and may be a hole.
+struct Records {
+    /// If there were many, the first ones are those of a clean copy.
+    bytes: Vec<u8>,
+    /// How many bytes fewer that copy has.
+    saved: u64,
+}
+
+impl Records {
+    /// Reads a file, and takes memory for what it stands for. If it is damaged, they end where that is seen.
+    fn read(file: &File, node: u16) -> Result<Records, Error> {
+        let mut reader = BufReader::new(file);
+        let (mut records, mut limit) = (Records { bytes: Vec::new(), saved: 0 }, PIECE);
+        reader.by_ref().take(FRONT as u64 + 1).read_to_end(&mut records.bytes)?;
+        let mut is_whole = records.bytes.starts_with(b"PMNODE0") && records.bytes.len() > FRONT;
+        while is_whole && records.bytes.ends_with(&[OPEN]) {
+            is_whole = read_record(&mut reader, &mut records.bytes)?;
+            if is_whole && records.bytes.len() > limit && records.bytes.starts_with(b"PMNODE02") {
+                records.shorten(node)?;
+                limit = PIECE + 2 * records.bytes.len();
+            }
+        }
+        Ok(records)
     }
-    Ok(bytes)
+
+    /// Puts a clean copy in the place of what was read, with the same gate behind it.
+    fn shorten(&mut self, node: u16) -> Result<(), Error> {
+        let last = self.bytes.len() - 1;
+        let gate = replace(&mut self.bytes[last], CLOSED);
+        let mut copy = clean_copy(node, &self.bytes).map_err(|error| self.placed(error))?;
+        if let Some(last) = copy.last_mut() {
+            *last = gate;
+        }
+        self.saved += (self.bytes.len() - copy.len()) as u64;
+        self.bytes = copy;
+        Ok(())
+    }
+
+    /// The node that is served from them.
+    fn serve(&self, node: u16) -> Result<Node, Error> {
+        Node::of_bytes(node, &self.bytes).map_err(|error| self.placed(error))
+    }
+
+    /// The error with the offset in the file.
+    fn placed(&self, error: Error) -> Error {
+        match error {
+            Error::Damaged { at } => Error::Damaged { at: at + self.saved },
+            error => error,
+        }
+    }
+
+    /// Where in the file the gate stands that ends them.
+    fn gate(&self) -> u64 {
+        self.bytes.len() as u64 - 1 + self.saved
+    }
+
+    /// Whether that gate was open, by what the file has behind it. A crash leaves at most one whole record there, with a closed
+    /// gate behind that, and the gate itself as it was written.
+    fn end_at_a_changed_gate(&self, file: &File, node: u16) -> Result<bool, Error> {
+        let mut reader = BufReader::new(file);
+        reader.seek(SeekFrom::Start(self.gate() + 1))?;
+        let front = &self.bytes[..FRONT];
+        let Some(behind) = whole_record(&mut reader, front, node)? else {
+            return Ok(false);
+        };
+        Ok(behind == OPEN || !self.bytes.ends_with(&[CLOSED]) || whole_record(&mut reader, front, node)?.is_some())
+    }
+}
+
+/// The bytes of a clean copy of a file: of the same last life and table, with one record for each key.
+fn clean_copy(node: u16, bytes: &[u8]) -> Result<Vec<u8>, Error> {
+    let (mut copy, mut len) = (Vec::new(), bytes.len());
+    loop {
+        copy.resize(len, 0);
+        let (from, to) = (bytes.as_ptr(), copy.as_mut_ptr());
+        match unsafe { zomtagi_clean_copy(from, bytes.len(), node, to, copy.len(), &mut len) } {
+            SHORT_BUFFER => {}
+            DAMAGED => return Err(damage(node, bytes)),
+            number => {
+                answered(number)?;
+                copy.truncate(len);
+                return Ok(copy);
+            }
+        }
+    }
 }
 
 /// Reads the length, the payload and the digest of a record, and the gate behind them. Returns whether they were there.
@@ -287,18 +367,6 @@ fn read_record(reader: &mut impl Read, bytes: &mut Vec<u8>) -> io::Result<bool> 
     };
     let rest = u64::from(len) + 32 + 1;
     Ok(len <= MOST_PAYLOAD && reader.by_ref().take(rest).read_to_end(bytes)? as u64 == rest)
-}
-
-/// Whether the closed gate at the end of these bytes was open, by what the file has behind it. A crash leaves at most one whole
-/// record there, with a closed gate behind that, and the gate itself as it was written.
-fn is_changed_gate(file: &File, bytes: &[u8], node: u16) -> Result<bool, Error> {
-    let mut reader = BufReader::new(file);
-    reader.seek(SeekFrom::Start(bytes.len() as u64))?;
-    let front = &bytes[..FRONT];
-    let Some(behind) = whole_record(&mut reader, front, node)? else {
-        return Ok(false);
-    };
-    Ok(behind == OPEN || !bytes.ends_with(&[CLOSED]) || whole_record(&mut reader, front, node)?.is_some())
 }
 
 /// The gate behind the next record, if this is whole: if a file that has it alone is none that is damaged.

@@ -44,7 +44,7 @@ pub(crate) fn answered(number: u16) -> Result<(), Error> {
 }
 
 /// The refusal of the bytes of a file that is damaged.
-fn damage(node: u16, bytes: &[u8]) -> Error {
+pub(crate) fn damage(node: u16, bytes: &[u8]) -> Error {
     let mut at = 0;
     match unsafe { zomtagi_check_file(bytes.as_ptr(), bytes.len(), node, &mut at) } {
         DAMAGED => Error::Damaged { at: at as u64 },

@@ -17,6 +17,8 @@ macro_rules! exports {
             $(pub fn $name(slot: &mut Slot, $($argument: $type),*) -> u16;)*
             pub fn zomtagi_free(slot: &mut Slot);
             pub fn zomtagi_empty_file(node: u16, buffer: *mut u8, size: usize, len: &mut usize) -> u16;
+            pub fn zomtagi_clean_copy(bytes: *const u8, len: usize, node: u16, buffer: *mut u8, size: usize,
+                copy_len: &mut usize) -> u16;
             pub fn zomtagi_check_file(bytes: *const u8, len: usize, node: u16, at: &mut usize) -> u16;
             pub fn zomtagi_check_frame(frame: *const u8, len: usize, at: &mut usize) -> u16;
         }

@@ -13,6 +13,7 @@ use Rattle.meta_frame.specs.declared.fault.FrameFault.{FrameFault}
 use Rattle.meta_frame.specs.declared.fault.FrameFault.TheVariants.{BadBody}
 use Rattle.meta_frame.specs.declared.message.Frame.{Frame}
 use Rattle.node_file.specs.Fault as files
+use Rattle.node_file.specs.File.{StandsFor, file_state, new_state, opened}
 use Rattle.node_file.specs.declared.fault.FileFault.{FileFault}
 use Rattle.node_file.specs.declared.fault.FileFault.TheVariants.{Damaged}
 use Rattle.hosted_node.specs.Fault.{code_of}
@@ -217,3 +218,19 @@ TellsOfFrame bytes before at answer =
     (((frame : Frame) × Spells frame bytes) × (answer ≡ 0) × (at ≡ before))
     ⊎ ((fault : FrameFault) × RefusesBytes bytes fault × (answer ≡ frames.code_of fault)
     × (at ≡ field_told fault before))
+
+-- ---- clean copies of files
+
+-- the bytes are a file of the node, and the copy stands for what they stand for, in version 2
+pub record IsCleanCopy (node : ℕ) (bytes copy : List ℕ) : Type 0 where
+  pub opens : (gate : ℕ) × (opened (Some node) bytes ≡ Ok (file_state bytes, gate))
+  pub stands : let s = file_state bytes in
+      StandsFor (new_state s.node s.contents.life s.contents.table) copy
+
+-- a clean copy of the file; or the number of why the bytes aren't opened; or memory ran out
+abbrev pub HandsCopy : (node : ℕ) (bytes old new : List ℕ) (before len answer : ℕ) → Type 0
+HandsCopy node bytes old new before len answer =
+    ((copy : List ℕ) × IsCleanCopy node bytes copy × Hands (Some copy) old new before len answer)
+    ⊎ ((fault : FileFault) × (opened (Some node) bytes ≡ Err fault)
+    × HandsNothing (files.code_of fault) old new before len answer)
+    ⊎ HandsNothing 99 old new before len answer

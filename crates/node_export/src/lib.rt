@@ -10,12 +10,13 @@
 //! zomtagi_tick(&slot, random());
 //! ```
 //!
-//! Read `making`, `steps`, `writing`, `handing`, `contexts`, `reading` and `checking`; `numbers`
-//! has what they return, and `reply` how a reply is spelled.
+//! Read `making`, `steps`, `writing`, `handing`, `contexts`, `reading`, `checking` and `copying`;
+//! `numbers` has what they return, and `reply` how a reply is spelled.
 #![tactic(auto)]
 
 mod checking;
 mod contexts;
+mod copying;
 mod handing;
 mod making;
 mod numbers;
