@@ -153,15 +153,16 @@ then the report is of some moment.
 If the file is damaged, `error 31 Damaged at 52` names the first byte that is not as a file has it;
 a node can't be started from it. If it could not be read, or a copy not be written, `error 30
 Device` is printed. Standard error then says which path that is and why, and also if a file does not
-begin as a node file does.
+begin as a node file does. It warns if what stands behind the last record read shows that the file
+goes on there, since the disk has changed a byte; then the status is 1, and no copy is made.
 
 A clean copy has one record for each key. With --compact it takes the place of the file, and with
 --rewrite it is a new file, OUT. No node may have the file meanwhile. A copy has its name only once
 all of it is on the disk; until then it is beside it, with .zomtagi-new behind the name. A file of
 version 1 becomes one of version 2.
 
-Exit status: 0 done, 1 the file is damaged or has too many keys, 2 wrong arguments, 3 reading or
-writing failed, 4 memory ran out.";
+Exit status: 0 done, 1 the file is damaged, may be, or has too many keys, 2 wrong arguments, 3
+reading or writing failed, 4 memory ran out.";
 
 const LIVE_HELP: &str =
     "Each node has a worker in a thread of its own. All but node 0 join through node 0, and then

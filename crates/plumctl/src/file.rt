@@ -4,12 +4,15 @@ ghost use Rattle.std.specs.Prelude.{◌≢◌};
 
 use crate::command::OUTPUT_LEN;
 use crate::progress::{Known, told};
-use plumctl_core::tell;
+use plumctl_core::{tell, tell_text};
 use plumctl_file::{Purpose, Reported, compact_path, copy_to_path, report_path};
 use std::io::BufWriter;
 use std::sync::Wait;
 use std::thread::Threads;
 use streams::{MayFail, StreamFault};
+
+/// What is said if a copy was asked for of a file with a changed gate.
+const NO_COPY: &[u8] = b"error: no copy is made, since it would lack those records\n";
 
 /// Where a clean copy of a file is put.
 #[derive(Clone, Copy)]
@@ -30,8 +33,9 @@ pub fn file<R: Threads + Wait + Sync>(
     told(rt, handle, Known::Nothing, || report(rt, path, copied))
 }
 
-/// Reports the file at a path, and makes a clean copy, if that is asked for and a file was shown.
-/// Returns the exit status, which is never 2, the status of wrong arguments.
+/// Reports the file at a path, and makes a clean copy, if that is asked for and a file was shown
+/// whose gates don't show a change. Returns the exit status, which is never 2, the status of wrong
+/// arguments.
 fn report(rt: &HostRuntime, path: &str, copied: Option<Copied<'_>>) -> u8
     ensures { result ≢ 2 }
 {
@@ -45,13 +49,16 @@ fn report(rt: &HostRuntime, path: &str, copied: Option<Copied<'_>>) -> u8
         None => Purpose::Report,
     };
     let (status, reported) = report_path(rt, path, purpose, &mut writer, &mut errors);
-    match (copied, reported) {
-        (Some(Copied::New(out)), Some(Reported::Shown(shown))) => {
-            copy_to_path(rt, &shown, out, &mut writer, &mut errors)
+    let Some(Reported::Shown(shown)) = reported else {
+        return status;
+    };
+    match copied {
+        None => status,
+        Some(_) if status != 0 => {
+            tell_text(&mut errors, NO_COPY);
+            status
         }
-        (Some(Copied::Same), Some(Reported::Shown(shown))) => {
-            compact_path(rt, &shown, path, &mut writer, &mut errors)
-        }
-        _ => status,
+        Some(Copied::New(out)) => copy_to_path(rt, &shown, out, &mut writer, &mut errors),
+        Some(Copied::Same) => compact_path(rt, &shown, path, &mut writer, &mut errors),
     }
 }

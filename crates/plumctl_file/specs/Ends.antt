@@ -1,7 +1,8 @@
 -- How `plumctl file` ends for who started it: its exit status, and what is printed at standard
 -- error.
 --
--- The statuses: 0 done, 1 the bytes are no file, or one with too many keys, 3 a path couldn't be
+-- The statuses: 0 done, 1 the bytes are no file, or one with too many keys, or one whose closed
+-- gate shows that it was changed, 3 a path couldn't be
 -- opened, or a device or a writer failed, 4 memory ran out. Wrong arguments, with status 2, start
 -- nothing.
 use Rattle.std.specs.Prelude.{◌≡◌, ◌⊎◌, ℕ, nat_eq, if◌then◌else◌, List, [], ◌∷◌, Option, Some, None, Result, Ok, Err, Bool, true, false, MatchBool, codes}
@@ -107,11 +108,17 @@ TellsRefusal name [] refused old new status = (status ≡ refused) × IsQuiet ol
 TellsRefusal name (byte ∷ bytes) refused old new status =
     (status ≡ refused) × TellsText old new (cause_line name (byte ∷ bytes))
 
--- the status of a report, and what is printed at standard error: nothing for a file that was shown,
--- and a fault that stopped the report
+-- the status of a file that was shown, and what is printed at standard error: 0 and nothing, or 1
+-- and the warning of it
+abbrev pub TellsWarning : (warning : List ℕ) → (old new : SinkAt) → ℕ → Type 0
+TellsWarning [] old new status = (status ≡ 0) × IsQuiet old new
+TellsWarning (byte ∷ bytes) old new status = (status ≡ 1) × TellsText old new (byte ∷ bytes)
+
+-- the status of a report, and what is printed at standard error: the warning of a file that was
+-- shown, the cause of a refusal, and a fault that stopped the report
 abbrev pub TellsReport : {D : Type 0} → (name : List ℕ) → (old new : SinkAt) → Reported D → ℕ
     → Type 0
-TellsReport name old new (Shown shown) status = (status ≡ 0) × IsQuiet old new
+TellsReport name old new (Shown shown) status = TellsWarning shown.warning.items old new status
 TellsReport name old new (Refused back fault) status =
     TellsRefusal name (cause_of fault) (status_of_refusal fault) old new status
 TellsReport name old new (Stopped back fault) status =

@@ -1,5 +1,5 @@
 -- What `plumctl file` prints of a node's file: a rule of this project.
-use Rattle.std.specs.Prelude.{ℕ, Bool, nat_eq, nat_lt, if◌then◌else◌, List, [], ◌++◌, length, take, is_none, Result, Ok, Err, codes, decimal}
+use Rattle.std.specs.Prelude.{ℕ, Bool, nat_eq, nat_lt, if◌then◌else◌, List, [], ◌++◌, length, take, is_none, Option, Some, None, Result, Ok, Err, codes, decimal}
 use Rattle.std.specs.List.{flat_map}
 use Rattle.dvvset.specs.Object.{Entry}
 use Rattle.meta_types.specs.Name.{Key}
@@ -37,6 +37,13 @@ place_text fault = []
 unfoldable pub refusal_line : FileFault → List ℕ
 refusal_line fault = line (codes "error " ++ decimal (code_of fault) ++ codes " "
     ++ fault_name fault ++ place_text fault)
+
+-- what is said at standard error of a file whose closed gate shows that it was changed, by the
+-- offset of the gate
+unfoldable pub warning_of : Option ℕ → List ℕ
+warning_of None = []
+warning_of (Some gate) = line (codes "warning: the gate at " ++ decimal gate ++ codes
+    " may have been changed on the disk: whole records stand behind it, and are not read")
 
 -- no node file begins so: there are no bytes; or there are enough for a front and a gate, and the
 -- first eight are no magic

@@ -5,6 +5,7 @@ use Rattle.devices.specs.Device.{HasFailed, IsDurable, LeavesOnly}
 use Rattle.node_file.specs.declared.fault.FileFault.{FileFault}
 use Rattle.node_file.specs.declared.fault.FileFault.TheVariants.{Device}
 use Rattle.node_file.specs.File.{file_state, opened}
+use Rattle.node_file.specs.Gates.{changed_gate}
 use Rattle.node_file.specs.View.{IsSettled}
 use Rattle.streams.specs.declared.fault.StreamFault.{StreamFault}
 use Rattle.streams.specs.declared.fault.StreamFault.TheVariants.{Memory}
@@ -14,7 +15,7 @@ use Rattle.streams.specs.Written.{AppendsFront}
 use Rattle.plumctl_file.specs.declared.report.ShownFile.{ShownFile}
 use Rattle.plumctl_file.specs.declared.report.Reported.{Reported}
 use Rattle.plumctl_file.specs.declared.report.Reported.TheVariants.{Shown, Refused, Stopped}
-use Rattle.plumctl_file.specs.Report.{printed_of, refusal_line}
+use Rattle.plumctl_file.specs.Report.{printed_of, refusal_line, warning_of}
 
 -- ---- what a writer was given
 
@@ -49,12 +50,14 @@ device_of (Shown shown) = shown.file.device
 device_of (Refused back fault) = back
 device_of (Stopped back fault) = back
 
--- the bytes are a file: this file, which takes nothing, and this table are what they stand for
+-- the bytes are a file: this file, which takes nothing, and this table are what they stand for, and
+-- the warning is of their closed gate
 pub record IsShown {D : Type 0} (content : D → List ℕ) (may_leave : D → List ℕ → Type 0)
     (device : D) (shown : ShownFile D) : Type 0 where
   pub settled : IsSettled content may_leave shown.file
   pub table : shown.table ≡ (file_state (content device)).contents.table
   pub unserved : (shown.file.is_stopped ≡ false) × (shown.file.is_served ≡ false)
+  pub warning : shown.warning.items ≡ warning_of (changed_gate (content device))
 
 abbrev pub IfShown : {D : Type 0} → Reported D → (ShownFile D → Type 0) → Type 0
 IfShown (Shown shown) holds = holds shown

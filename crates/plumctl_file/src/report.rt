@@ -1,14 +1,18 @@
 //! Reporting what a device holds.
 
-ghost use Rattle.std.specs.Prelude.{OnOk, IfErr};
-ghost use Rattle.devices.specs.Device.{IsDurable};
+ghost use Rattle.std.specs.Prelude.{◌≡◌, ◌⊎◌, false, None, Ok, Err, OnOk, IfOk, IfErr};
+ghost use Rattle.devices.specs.Device.{IsDurable, LeavesOnly};
+ghost use Rattle.node_file.specs.Fault.{IsOfDevice};
+ghost use Rattle.node_file.specs.File.{file_state, opened};
+ghost use Rattle.node_file.specs.Gates.{changed_gate};
+ghost use Rattle.node_file.specs.View.{IsSettled};
 ghost use Rattle.streams.specs.Fault.{IsWriterFault};
 ghost use Rattle.plumctl_file.specs.Reported.{IfShown, IsShown, IsUntouched, WritesOut, WritesFront, PrintsReport, device_of};
 
-use crate::text::{refusal_of, report_of};
+use crate::text::{refusal_of, texts_of};
 use devices::Device;
 use meta_store::Store;
-use node_file::{FileFault, NodeFile, open_node};
+use node_file::{FileFault, NodeFile, changed_gate_of, open_node};
 use std::alloc::Global;
 use streams::{Sink, StreamFault, flush, write_whole};
 
@@ -17,6 +21,9 @@ use streams::{Sink, StreamFault, flush, write_whole};
 pub struct ShownFile<D: Device> {
     pub file: NodeFile<D>,
     pub table: Store,
+    /// What is said of it at standard error: nothing, or that its closed gate may have been changed
+    /// on the disk, so that records behind it are lost.
+    pub warning: Vec<u8>,
 }
 
 /// What was reported of a device.
@@ -43,6 +50,7 @@ pub fn print<W: Sink>(writer: &mut W, text: &[u8]) -> Result<(), StreamFault>
 /// Prints what a device holds that may be the file of any node: a line of the node, its last life
 /// and how many keys there are, a line for each key in order, and a line of the root of the table's
 /// tree; or the line of the refusal, as `error 31 Damaged at 10`. Nothing of the device changes.
+/// Whoever passes the report on says the file's warning too.
 ///
 /// Refused with 31 `Damaged`, 25 `StoreFull` and 30 `Device`, as `open_node` refuses if no node
 /// is asked for. Stopped by 99 `Memory`, which may come at any time before the first byte is
@@ -60,14 +68,17 @@ pub fn file_report<D: Device + Drop, W: Sink>(
     ensures untouched { IsUntouched D.content D.may_leave D.moment D.left_since device
         (device_of result) }
 {
-    match open_node(alloc, device, None) {
-        Ok((file, table, life)) => {
-            let printed = match report_of(alloc, file.node(), life, &table) {
-                Ok(text) => print(writer, &text),
-                Err(_) => Err(StreamFault::Memory),
+    match open_and_look(alloc, device) {
+        Ok((file, table, life, changed)) => {
+            let Ok((text, warning)) = texts_of(alloc, file.node(), life, &table, changed) else {
+                return Reported::Stopped(file.into_device(), StreamFault::Memory);
             };
-            match printed {
-                Ok(()) => Reported::Shown(ShownFile { file, table }),
+            match print(writer, &text) {
+                Ok(()) => Reported::Shown(ShownFile {
+                    file,
+                    table,
+                    warning,
+                }),
                 Err(fault) => Reported::Stopped(file.into_device(), fault),
             }
         }
@@ -82,5 +93,39 @@ pub fn file_report<D: Device + Drop, W: Sink>(
                 Err(stopped) => Reported::Stopped(device, stopped),
             }
         }
+    }
+}
+
+/// Opens a file as `open_node` does, and looks whether its closed gate shows that it was changed.
+fn open_and_look<D: Device + Drop>(
+    alloc: Global,
+    device: D,
+) -> Result<(NodeFile<D>, Store, u32, Option<usize>), (D, FileFault)>
+    requires pending { IsDurable (D.content device) (D.may_leave device) }
+    ensures ok { IfOk result (λ r. opened None (D.content device)
+        ≡ Ok (file_state (D.content device), r.0.gate)) }
+    ensures table { IfOk result (λ r. r.1 ≡ (file_state (D.content device)).contents.table) }
+    ensures life { IfOk result (λ r. r.2 ≡ (file_state (D.content device)).contents.life) }
+    ensures changed { IfOk result (λ r. r.3 ≡ changed_gate (D.content device)) }
+    ensures settled { IfOk result (λ r. IsSettled D.content D.may_leave r.0) }
+    ensures unserved { IfOk result (λ r. (r.0.is_stopped ≡ false) × (r.0.is_served ≡ false)) }
+    ensures same { IfOk result (λ r. D.content r.0.device ≡ D.content device) }
+    ensures still { IfOk result (λ r. D.failed r.0.device ≡ D.failed device) }
+    ensures refused { IfErr result (λ e. IsOfDevice e.1 (D.failed device) (D.failed e.0)
+        ⊎ (opened None (D.content device) ≡ Err e.1)) }
+    ensures same_refused { IfErr result (λ e. (D.content e.0 ≡ D.content device)
+        × IsDurable (D.content e.0) (D.may_leave e.0)) }
+    ensures any_moment { IfOk result (λ r. LeavesOnly D.moment D.left_since device r.0.device
+        (λ c. c ≡ D.content device)) }
+    ensures any_moment_refused { IfErr result (λ e. LeavesOnly D.moment D.left_since device e.0
+        (λ c. c ≡ D.content device)) }
+{
+    let mut device = device;
+    match changed_gate_of(alloc, &mut device) {
+        Err(fault) => Err((device, fault)),
+        Ok(changed) => match open_node(alloc, device, None) {
+            Err((device, fault)) => Err((device, fault)),
+            Ok((file, table, life)) => Ok((file, table, life, changed)),
+        },
     }
 }

@@ -2,7 +2,7 @@
 
 ghost use Rattle.std.specs.Prelude.{◌≡◌, ◌≢◌, IfOk};
 ghost use Rattle.devices.specs.Device.{IsDurable};
-ghost use Rattle.plumctl_file.specs.Ends.{EndsCopy, EndsFile, EndsRewrite, HandsBack, HandsOutShown, TellsRefusal, cause_of, is_memory, status_of_refusal};
+ghost use Rattle.plumctl_file.specs.Ends.{EndsCopy, EndsFile, EndsRewrite, HandsBack, HandsOutShown, TellsRefusal, TellsWarning, cause_of, is_memory, status_of_refusal};
 ghost use Rattle.plumctl_file.specs.Reported.{IsUntouched};
 
 use crate::cause::{
@@ -11,7 +11,7 @@ use crate::cause::{
 use crate::report::{Reported, ShownFile, file_report};
 use devices::{Device, OpenFault};
 use node_file::FileFault;
-use plumctl_core::{tell, tell_cause};
+use plumctl_core::{tell, tell_cause, tell_text};
 use std::alloc::Global;
 use streams::{Sink, StreamFault};
 
@@ -50,12 +50,25 @@ fn refused<E: Sink>(errors: &mut E, path: &str, fault: &FileFault) -> u8
     status_of_refusal(fault)
 }
 
+/// Prints at `errors` the warning of a file that was shown, if it has one, and returns the exit
+/// status.
+fn told_warning<E: Sink>(errors: &mut E, warning: &[u8]) -> u8
+    ensures { TellsWarning warning.now (E.at errors.old) (E.at errors.new) result }
+{
+    if warning.is_empty() {
+        return 0;
+    }
+    tell_text(errors, warning);
+    1
+}
+
 /// Reports what is at a path, by how it was opened, and returns the exit status with what was
 /// reported, if the path was opened: 0 if a file was shown, 1 if the bytes are no file, or
-/// one with too many keys, 3 if the path couldn't be opened, the device failed or the report
-/// couldn't be written, 4 if memory was refused. Prints what `file_report` prints, or
-/// `error 30 Device`; and at `errors` the path and why it couldn't be opened or read, or that its
-/// bytes don't begin as a node file does, and a fault of the writer, or of memory.
+/// one with too many keys, or one whose closed gate shows that it was changed, 3 if the path
+/// couldn't be opened, the device failed or the report couldn't be written, 4 if memory was
+/// refused. Prints what `file_report` prints, or `error 30 Device`; and at `errors` the path and
+/// why it couldn't be opened or read, or that its bytes don't begin as a node file does, the
+/// warning of a changed gate, and a fault of the writer, or of memory.
 pub fn run_file<D: Device + Drop, W: Sink, E: Sink>(
     alloc: Global,
     path: &str,
@@ -82,7 +95,7 @@ pub fn run_file<D: Device + Drop, W: Sink, E: Sink>(
     };
     let reported = file_report(alloc, device, writer);
     let status = match &reported {
-        Reported::Shown(_) => 0,
+        Reported::Shown(shown) => told_warning(errors, &shown.warning),
         Reported::Refused(_, fault) => refused(errors, path, fault),
         Reported::Stopped(_, fault) => tell(errors, *fault),
     };

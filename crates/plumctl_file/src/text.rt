@@ -5,7 +5,7 @@ ghost use Rattle.std.specs.List.{flat_map};
 ghost use Rattle.meta_store.specs.Kept.{rows_under};
 ghost use Rattle.scenario_stage.specs.Meaning.{root_text};
 ghost use Rattle.scenario_stage.specs.Printed.{line};
-ghost use Rattle.plumctl_file.specs.Report.{key_line, node_line, place_text, refusal_line, report_text};
+ghost use Rattle.plumctl_file.specs.Report.{key_line, node_line, place_text, refusal_line, report_text, warning_of};
 
 use dvvset::Entries;
 use hash_tree::plain_root;
@@ -14,6 +14,10 @@ use meta_types::{ByteString, FullPrefix, MetaKey, NodeId};
 use node_file::FileFault;
 use printing::{print_digest, print_key, print_number, print_object};
 use std::alloc::{AllocError, Global};
+
+/// What is said of a gate that shows that it was changed, after its offset.
+const CHANGED: &[u8] =
+    b" may have been changed on the disk: whole records stand behind it, and are not read";
 
 /// Adds the line of a node and its last life.
 fn add_node(text: &mut Vec<u8>, node: NodeId, life: u32, keys: usize) -> Result<(), AllocError>
@@ -75,12 +79,7 @@ fn add_root(alloc: Global, text: &mut Vec<u8>, table: &Store) -> Result<(), Allo
 
 /// The report of a file of this node, with this last life and this table.
 #[tactic(auto, unfolding(crate::specs::Report::report_text))]
-pub(crate) fn report_of(
-    alloc: Global,
-    node: NodeId,
-    life: u32,
-    table: &Store,
-) -> Result<Vec<u8>, AllocError>
+fn report_of(alloc: Global, node: NodeId, life: u32, table: &Store) -> Result<Vec<u8>, AllocError>
     ensures { IfOk result (λ text. text.items ≡ report_text node life table.now) }
 {
     let mut text = Vec::new(alloc);
@@ -99,6 +98,37 @@ fn add_place(text: &mut Vec<u8>, fault: &FileFault) -> Result<(), AllocError>
         print_number(text, *at as u64)?;
     }
     Ok(())
+}
+
+/// What is said at standard error of a file, by the offset of its closed gate if this shows that it
+/// was changed.
+#[tactic(auto, unfolding(crate::specs::Report::warning_of))]
+fn warning_of(alloc: Global, changed: Option<usize>) -> Result<Vec<u8>, AllocError>
+    ensures { IfOk result (λ text. text.items ≡ warning_of changed) }
+{
+    let mut text = Vec::new(alloc);
+    if let Some(gate) = changed {
+        text.extend_from_slice(b"warning: the gate at ")?;
+        print_number(&mut text, gate as u64)?;
+        text.extend_from_slice(CHANGED)?;
+        text.push(b'\n')?;
+    }
+    Ok(text)
+}
+
+/// The report of a file, and what is said of it at standard error.
+pub(crate) fn texts_of(
+    alloc: Global,
+    node: NodeId,
+    life: u32,
+    table: &Store,
+    changed: Option<usize>,
+) -> Result<(Vec<u8>, Vec<u8>), AllocError>
+    ensures { IfOk result (λ texts. (texts.0.items ≡ report_text node life table.now)
+        × (texts.1.items ≡ warning_of changed)) }
+{
+    let report = report_of(alloc, node, life, table)?;
+    Ok((report, warning_of(alloc, changed)?))
 }
 
 /// The line of a refusal.

@@ -1,5 +1,5 @@
-//! A folder with a new file for each node, and what is printed about a path at which nothing could be
-//! made.
+//! A folder with a new file for each node, and what is printed about a path at which nothing could
+//! be made.
 
 ghost use Rattle.std.specs.Prelude.{◌≡◌, ◌≢◌, length, All, IfOk};
 ghost use Rattle.devices.specs.Device.{IsDurable};
