@@ -1,15 +1,21 @@
 //! The command `file` over paths: which path is opened how.
 
-ghost use Rattle.std.specs.Prelude.{◌≡◌, ◌≢◌, IfOk};
+ghost use Rattle.std.specs.Prelude.{◌≡◌, ◌≢◌, ◌≤◌, ◌++◌, ℕ, List, length, None, IfOk, IfSome};
 ghost use Rattle.devices.specs.Device.{IsDurable};
+ghost use Rattle.node_file.specs.File.{opened};
+ghost use Rattle.node_file.specs.Gates.{changed_gate};
 
 use crate::cause::{cause_of_unmade, tell_device};
 use crate::report::{Reported, ShownFile};
 use crate::run::{run_file, run_rewrite};
 use devices::{Device, FileDevice, MemoryDevice, NewName, OpenFault, read_front};
-use node_file::{MIN_FILE_LEN, is_refused_by_front};
+use node_file::laws::{a_changed_gate_is_seen_close_behind_it, nothing_counts_behind_the_records};
+use node_file::{MAX_LOOKED_AT, MIN_FILE_LEN, end_of_records, is_refused_by_front};
 use plumctl_core::tell;
 use streams::{Sink, StreamFault};
+
+/// How many bytes of a file are read first.
+const FIRST_READ: usize = 1 << 20;
 
 /// What the file at a path is opened for.
 #[derive(Clone, Copy)]
@@ -21,20 +27,56 @@ pub enum Purpose {
 }
 
 impl Purpose {
+    /// Opens the file at a path, and reads as much of it as a report needs: no hole behind its
+    /// records.
     fn open(self, rt: &HostRuntime, path: &str) -> Result<FileDevice, OpenFault>
         ensures { IfOk result (λ d. IsDurable
             (⟦<FileDevice as Device>⟧.content d) (⟦<FileDevice as Device>⟧.may_leave d)) }
     {
-        match self {
-            Purpose::Report => FileDevice::open_to_read(rt, rt.alloc(), path),
-            Purpose::Copy => FileDevice::open_to_copy(rt, rt.alloc(), path),
+        let is_held = matches!(self, Purpose::Copy);
+        let mut len = FIRST_READ;
+        for _ in 0..usize::BITS {
+            let device = FileDevice::open_front(rt, rt.alloc(), path, is_held, len)?;
+            match device.held().and_then(|bytes| len_to_read(bytes, len)) {
+                None => return Ok(device),
+                Some(more) => len = more,
+            }
+        }
+        FileDevice::open_front(rt, rt.alloc(), path, is_held, usize::MAX)
+    }
+}
+
+/// Returns how many bytes of a file are to be read, if these are its first and `len` were asked
+/// for; `None` if these are enough. What is reported then doesn't depend on those behind them.
+fn len_to_read(bytes: &[u8], len: usize) -> Option<usize>
+    ensures enough { result ≡ None → len ≤ length bytes.now → (rest : List ℕ)
+        → (opened None (bytes.now ++ rest) ≡ opened None bytes.now)
+        × (changed_gate (bytes.now ++ rest) ≡ changed_gate bytes.now) }
+    ensures more { IfSome result (λ more. len ≤ more) }
+{
+    nothing_counts_behind_the_records();
+    a_changed_gate_is_seen_close_behind_it();
+    if bytes.len() < len {
+        return None;
+    }
+    match end_of_records(bytes) {
+        None => Some(len.saturating_mul(2)),
+        Some(gate) => {
+            let needed = gate.saturating_add(MAX_LOOKED_AT);
+            if needed > bytes.len() {
+                Some(needed.max(len))
+            } else {
+                None
+            }
         }
     }
 }
 
 /// Reports the file at a path, by `run_file`, and returns the exit status, which is never 2, the
 /// status of wrong arguments, with what was reported. Where a file is refused for its front, no
-/// more of it is read: opening the front alone gives the same refusal.
+/// more of it is read: opening the front alone gives the same refusal. Of any other file no more is
+/// read than a report needs, twice as much at most, or `node_file::MAX_LOOKED_AT` bytes behind the
+/// end of its records.
 pub fn report_path<W: Sink, E: Sink>(
     rt: &HostRuntime,
     path: &str,
