@@ -10,8 +10,8 @@ pub record ShareASeal (keys : Keys) (one other : List ℕ) : Type 0 where
   pub unequal : frame_in one ≢ frame_in other
   pub one_seal : seal_in one ≡ seal_in other
 
--- how bytes open that are none of those that were sealed: another frame was sealed that has the same
--- seal, or none was, and the seal is right all the same
+-- how bytes open that are none of those that were sealed: another frame was sealed that has the
+-- same seal, or none was, and the seal is right all the same
 pub data IsForged (keys : Keys) (sealed : List (List ℕ)) (bytes : List ℕ) : Type 0 where
   two_share_a_seal : (other : List ℕ) → Contains sealed other → ShareASeal keys bytes other
       → IsForged keys sealed bytes

@@ -1,7 +1,7 @@
 //! Sealing frames, and opening what was sealed.
 
 ghost use Rattle.std.specs.Prelude.{◌≡◌, ◌↔◌, IfOk, IsOk, IsTrue, length};
-ghost use Rattle.sealed_frames.specs.Seal.{IsSealed, IsSealedUnder, frame_in, seal_of, sealed_frame};
+ghost use Rattle.sealed_frames.specs.Seal.{IsSealed, frame_in, seal_of, sealed_frame};
 
 use crate::fault::SealFault;
 use crate::hmac::hmac;
@@ -11,7 +11,8 @@ use std::alloc::{AllocError, Global};
 /// How many bytes a sealed frame has more than the frame.
 pub const SEAL_LEN: usize = 16;
 
-/// Returns the frame, and behind it its seal under the current key. Fails only when memory runs out.
+/// Returns the frame, and behind it its seal under the current key. Fails only when memory runs
+/// out.
 pub fn seal(alloc: Global, keys: &Keys, frame: &[u8]) -> Result<Vec<u8>, AllocError>
     ensures { IfOk result (λ sealed. sealed.items ≡ sealed_frame keys.now.current frame.now) }
 {

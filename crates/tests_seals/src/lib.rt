@@ -1,5 +1,5 @@
-//! The tests of `sealed_frames`, over its public calls and apart from it: a crate is proved once more
-//! with its tests. No crate uses this one.
+//! The tests of `sealed_frames`, over its public calls and apart from it: a crate is proved once
+//! more with its tests. No crate uses this one.
 #![tactic(auto)]
 
 #[cfg(test)]
