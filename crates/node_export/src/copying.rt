@@ -8,12 +8,12 @@ use meta_types::{NodeId, TypeFault};
 use node_file::clean_copy;
 use std::alloc::Global;
 
-/// Hands out the bytes of a clean copy of the file of the node of this number: of the same last life
-/// and table, with one record for each key, and of version 2.
+/// Hands out the bytes of a clean copy of the file of the node of this number: of the same last
+/// life and table, with one record for each key, and of version 2.
 ///
 /// Refused in this order: 3 `BadNode`; 31 `Damaged`, 32 `OtherNode` and 25 `StoreFull` as by
-/// `zomtagi_serve`; 81 `ShortBuffer`, and then `len` says how long the copy is. 99 `Memory` may come
-/// in place of each but 3 and 81. It takes memory for the table, and for the copy three times.
+/// `zomtagi_serve`; 81 `ShortBuffer`, and then `len` says how long the copy is. 99 `Memory` may
+/// come in place of each except 3. It takes memory for the table, and for the copy three times.
 #[unsafe(no_mangle)]
 pub extern "C" fn zomtagi_clean_copy(
     alloc: Global,

@@ -1,25 +1,16 @@
-//! Laws of seals. The contract of a function is the law; its body does nothing, or opens.
+//! Laws of seals. The contract of a function is the law; its body does nothing.
 
-ghost use Rattle.std.specs.Prelude.{◌≡◌, ◌⊎◌, ℕ, List, All, Contains, IsTrue};
-ghost use Rattle.sealed_frames.specs.Seal.{IsKeyOf, IsSealed, sealed_frame};
+ghost use Rattle.std.specs.Prelude.{◌≡◌, ◌⊎◌, ℕ, List, All, Contains};
+ghost use Rattle.sealed_frames.specs.Seal.{IsKeyOf, IsSealed, frame_in, sealed_frame};
 ghost use Rattle.sealed_frames.specs.Forged.{IsForged};
 ghost use Rattle.sealed_frames.specs.declared.key.Keys.{Keys};
 
-use crate::fault::SealFault;
-use crate::key::Keys;
-use crate::sealing::open;
-
-/// Returns whether the bytes open to this frame. They do if they are the frame, sealed under the
-/// current or the previous key.
-pub fn what_was_sealed_opens(keys: &Keys, frame: &[u8], bytes: &[u8]) -> bool
-    ensures { (key : List ℕ) → IsKeyOf keys.now key → bytes.now ≡ sealed_frame key frame.now
-        → IsTrue result }
-{
-    match open(keys, bytes) {
-        Ok(opened) => opened == frame,
-        Err(SealFault::BadSeal) => false,
-    }
-}
+/// What was sealed under the current or the previous key opens, by what [`open`](crate::open)
+/// ensures, and gives the frame that was sealed.
+pub fn what_was_sealed_opens()
+    ensures { (keys : Keys) (key frame : List ℕ) → IsKeyOf keys key
+        → IsSealed keys (sealed_frame key frame) × (frame_in (sealed_frame key frame) ≡ frame) }
+{}
 
 /// If these are all byte strings that were sealed under the keys, then bytes that open are one of
 /// them; or they are forged: two unequal frames have one seal, or a right seal was found that
