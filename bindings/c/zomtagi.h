@@ -58,6 +58,8 @@ enum {
     ZOMTAGI_TOO_LONG = 14,
     ZOMTAGI_BAD_BODY = 15,        /* zomtagi_check_frame says where */
     ZOMTAGI_LEFT_OVER = 16,
+    ZOMTAGI_BAD_SEAL = 17,        /* no key of the cluster sealed the bytes */
+    ZOMTAGI_BAD_KEY = 18,         /* keys have 32 bytes, or 64 */
     ZOMTAGI_COUNTER_SPENT = 20,   /* this life of the node can't count another write of the key */
     ZOMTAGI_BAD_ENTRIES = 21,     /* the frame's object can't have arisen beside the one held */
     ZOMTAGI_STORE_FULL = 25,      /* the node holds 8,192 keys, and this is another one */
@@ -351,6 +353,23 @@ uint16_t zomtagi_check_frame(const uint8_t *frame, size_t frame_len, size_t *at)
  */
 uint16_t zomtagi_clean_copy(const uint8_t *bytes, size_t bytes_len, uint16_t node,
                             uint8_t *buffer, size_t buffer_len, size_t *len);
+
+/*
+ * Hands out the seal of a frame, 16 bytes: send the frame, and the seal behind it. The keys of the
+ * cluster are 32 bytes, the current key, or 64: behind it the previous one, which only opens. The
+ * library keeps no copy of them; wipe yours.
+ * Refused with 18 BadKey; 81 ShortBuffer, and then *len says 16.
+ */
+uint16_t zomtagi_seal(const uint8_t *keys, size_t keys_len, const uint8_t *frame, size_t frame_len,
+                      uint8_t *buffer, size_t buffer_len, size_t *len);
+
+/*
+ * Says whether the bytes are a frame, and behind it its seal under one of the keys; *len is then how
+ * many of them are the frame, which zomtagi_take takes. Otherwise *len is as it was.
+ * Refused with 18 BadKey; 17 BadSeal.
+ */
+uint16_t zomtagi_open(const uint8_t *keys, size_t keys_len, const uint8_t *bytes, size_t bytes_len,
+                      size_t *len);
 
 #ifdef __cplusplus
 }

@@ -6,8 +6,8 @@
 //! `put NAME VALUE`, `get NAME`, `del NAME`, `list`, `watch`, `root`, `leave` and `quit`, and prints a line for each.
 //!
 //! The node lives in the main thread, which takes one event after the other: a frame that came, a line that was typed, a second
-//! that passed. Threads that read sockets and the prompt only send it events. It relies on TCP to bring each frame unchanged or
-//! not at all; over a network use TLS.
+//! that passed. Threads that read sockets and the prompt only send it events. Frames are sealed under the key in FOLDER/key, which
+//! the first process makes: a frame of whoever doesn't have it, or one that changed on its way, closes its stream.
 
 use std::collections::HashMap;
 use std::error::Error;
@@ -17,7 +17,7 @@ use std::sync::mpsc::{sync_channel, Receiver, RecvTimeoutError, SyncSender};
 use std::sync::Arc;
 use std::time::{Duration, Instant, SystemTime, UNIX_EPOCH};
 use std::{env, thread};
-use zomtagi::{FileStore, Frame, Key, Node, Value};
+use zomtagi::{FileStore, Frame, Key, Keys, Node, Value, SEAL_LEN};
 
 /// The bytes of a frame's header, of which the last four say how many follow, and the most that may.
 const HEADER: usize = 20;
@@ -47,7 +47,8 @@ fn main() -> Result<(), Box<dyn Error>> {
     };
     let (node, nodes, port): (u16, u16, u16) = (node.parse()?, nodes.parse()?, port.parse()?);
     // (a service makes the file of a node once, by `create`, and then only opens it: docs/EMBEDDING.md)
-    let served = FileStore::open_or_create(format!("{folder}/node-{node}"), node)?;
+    let mut served = FileStore::open_or_create(format!("{folder}/node-{node}"), node)?;
+    served.set_keys(Some(Keys::read_or_create(format!("{folder}/key"))?));
     let (events, coming) = sync_channel(MOST_EVENTS);
     listen(TcpListener::bind(("127.0.0.1", port + node))?, events.clone());
     thread::spawn(move || read_lines(&events));
@@ -82,8 +83,9 @@ fn read_frame(mut stream: &TcpStream) -> io::Result<Vec<u8>> {
     let mut frame = vec![0; HEADER];
     stream.read_exact(&mut frame)?;
     let len = u32::from_be_bytes([frame[16], frame[17], frame[18], frame[19]]);
+    let rest = u64::from(len) + SEAL_LEN as u64;
     // (it takes memory as it comes)
-    if len > LONGEST || stream.take(len.into()).read_to_end(&mut frame)? < len as usize {
+    if len > LONGEST || (stream.take(rest).read_to_end(&mut frame)? as u64) < rest {
         return Err(io::ErrorKind::InvalidData.into());
     }
     Ok(frame)
@@ -198,8 +200,8 @@ impl Driver {
         match self.node.take(frame, word) {
             Ok((_taken, frames)) => self.send(frames),
             Err(error) if error.ends_node() => return Err(error),
-            // (the bytes are no frame, and where the next one begins isn't known)
-            Err(error) if matches!(error.number(), Some(10..=16)) => drop(from.shutdown(Shutdown::Both)),
+            // (no node of this cluster sealed it, or the bytes are no frame: where the next one begins isn't known)
+            Err(error) if matches!(error.number(), Some(10..=17)) => drop(from.shutdown(Shutdown::Both)),
             // (a frame is refused without harm, whatever it says)
             Err(_) => {}
         }

@@ -32,9 +32,9 @@ pub(crate) const MEMORY: u16 = 99;
 
 /// The names of the refusals, as `docs/REFUSALS.md` has them.
 #[rustfmt::skip]
-const NAMES: [(u16, &str); 31] = [
+const NAMES: [(u16, &str); 33] = [
     (1, "BadName"), (2, "ValueTooLong"), (3, "BadNode"), (10, "Short"), (11, "BadMagic"), (12, "BadVersion"), (13, "BadKind"),
-    (14, "TooLong"), (15, "BadBody"), (16, "LeftOver"), (20, "CounterSpent"), (21, "BadEntries"), (25, "StoreFull"),
+    (14, "TooLong"), (15, "BadBody"), (16, "LeftOver"), (17, "BadSeal"), (18, "BadKey"), (20, "CounterSpent"), (21, "BadEntries"), (25, "StoreFull"),
     (26, "WrongKey"), (27, "ObjectTooLarge"), (28, "BadWatch"), (29, "NoSuchWatch"), (31, "Damaged"), (32, "OtherNode"),
     (33, "FileFull"), (34, "Stopped"), (35, "IncarnationSpent"), (36, "OldVersion"), (37, "Pending"), (38, "Nothing"),
     (40, "NotAddressed"), (43, "NoSuchRead"), (80, "NoNode"), (81, "ShortBuffer"), (82, "BadLife"),

@@ -24,11 +24,13 @@
 
 mod error;
 mod file;
+mod keys;
 mod node;
 mod raw;
 mod types;
 
 pub use error::Error;
 pub use file::FileStore;
+pub use keys::{Keys, KEY_LEN, SEAL_LEN};
 pub use node::{Node, Store};
 pub use types::{Changes, Context, Frame, Key, Read, Taken, Value};

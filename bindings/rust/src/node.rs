@@ -1,4 +1,5 @@
 use crate::error::{Error, BAD_BODY, DAMAGED, NOTHING, SHORT_BUFFER, STOPPED};
+use crate::keys::Keys;
 use crate::raw::*;
 use crate::types::{Changes, Context, Frame, Key, Read, Taken, Value};
 use std::mem::{forget, take};
@@ -18,6 +19,7 @@ pub trait Store {
 pub struct Node {
     slot: Slot,
     store: Option<Box<dyn Store>>,
+    keys: Option<Keys>,
     /// The contexts that were dropped, and are to be forgotten.
     dropped: Arc<Mutex<Vec<u64>>>,
     buffer: Vec<u8>,
@@ -93,7 +95,13 @@ impl Node {
     }
 
     fn empty() -> Node {
-        Node { slot: Slot::EMPTY, store: None, dropped: Arc::default(), buffer: vec![0; 4096], is_stopped: false }
+        Node { slot: Slot::EMPTY, store: None, keys: None, dropped: Arc::default(), buffer: vec![0; 4096], is_stopped: false }
+    }
+
+    /// Seals each frame from now on, and takes only what opens: [`Frame::bytes`] are sealed, and [`Node::take`] refuses other
+    /// bytes with 17 `BadSeal`, and the node never sees them. `None` as it began: frames go out and are taken as they are.
+    pub fn set_keys(&mut self, keys: Option<Keys>) {
+        self.keys = keys;
     }
 
     /// What the node shows under a key.
@@ -132,8 +140,12 @@ impl Node {
         Ok(())
     }
 
-    /// Takes a frame that came. The word is a random number.
-    pub fn take(&mut self, frame: &[u8], word: u64) -> Result<(Taken, Vec<Frame>), Error> {
+    /// Takes a frame that came, sealed if keys are set. The word is a random number.
+    pub fn take(&mut self, bytes: &[u8], word: u64) -> Result<(Taken, Vec<Frame>), Error> {
+        let frame = match &self.keys {
+            Some(keys) => keys.open(bytes)?,
+            None => bytes,
+        };
         let reply = match self.step(|slot| unsafe { zomtagi_take(slot, frame.as_ptr(), frame.len(), word) }) {
             Err(Error::Refused(BAD_BODY)) => return Err(bad_body(frame)),
             reply => reply?,
@@ -272,7 +284,10 @@ impl Node {
     fn frames(&mut self) -> Result<Vec<Frame>, Error> {
         let mut frames = Vec::new();
         while let Some(frame) = self.fetch(|slot, buffer, size, len| unsafe { zomtagi_frame(slot, buffer, size, len) })? {
-            frames.push(Frame(frame));
+            frames.push(Frame(match &self.keys {
+                Some(keys) => keys.seal(&frame)?,
+                None => frame,
+            }));
             answered(unsafe { zomtagi_sent(&mut self.slot) })?;
         }
         Ok(frames)

@@ -21,6 +21,9 @@ macro_rules! exports {
                 copy_len: &mut usize) -> u16;
             pub fn zomtagi_check_file(bytes: *const u8, len: usize, node: u16, at: &mut usize) -> u16;
             pub fn zomtagi_check_frame(frame: *const u8, len: usize, at: &mut usize) -> u16;
+            pub fn zomtagi_seal(keys: *const u8, keys_len: usize, frame: *const u8, frame_len: usize, buffer: *mut u8,
+                size: usize, len: &mut usize) -> u16;
+            pub fn zomtagi_open(keys: *const u8, keys_len: usize, bytes: *const u8, bytes_len: usize, len: &mut usize) -> u16;
         }
     };
 }

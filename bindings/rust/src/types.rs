@@ -85,6 +85,7 @@ impl Frame {
         u16::from_be_bytes([self.0[6], self.0[7]])
     }
 
+    /// What is sent: the frame, and behind it its seal, if the node has keys.
     pub fn bytes(&self) -> &[u8] {
         &self.0
     }

@@ -12,6 +12,7 @@ use std::sync::atomic::{AtomicU16, Ordering};
 use std::sync::mpsc::{channel, Receiver};
 use std::thread;
 use std::time::{Duration, Instant};
+use zomtagi::{Keys, SEAL_LEN};
 
 const SOON: Duration = Duration::from_secs(20);
 
@@ -21,8 +22,9 @@ struct Process {
     prompt: ChildStdin,
     lines: Receiver<String>,
     port: u16,
-    /// Where node 1 listens.
+    /// Where node 1 listens, and the keys that the process made.
     peer: TcpListener,
+    keys: Keys,
     _folder: Folder,
 }
 
@@ -44,9 +46,9 @@ impl Process {
         let printed = BufReader::new(child.stdout.take().unwrap());
         thread::spawn(move || printed.lines().map_while(Result::ok).try_for_each(|line| told.send(line)));
         let prompt = child.stdin.take().unwrap();
-        let process = Process { child, prompt, lines, port, peer, _folder: folder };
-        assert_eq!(process.lines.recv_timeout(SOON).unwrap(), "node 0 life 1");
-        process
+        assert_eq!(lines.recv_timeout(SOON).unwrap(), "node 0 life 1");
+        let keys = Keys::read(folder.at("key")).unwrap();
+        Process { child, prompt, lines, port, peer, keys, _folder: folder }
     }
 
     /// What it answers to a line.
@@ -59,6 +61,11 @@ impl Process {
         let stream = TcpStream::connect(("127.0.0.1", self.port)).unwrap();
         stream.set_read_timeout(Some(SOON)).unwrap();
         stream
+    }
+
+    /// What node 1 sends for a frame.
+    fn sealed(&self, frame: &[u8]) -> Vec<u8> {
+        self.keys.seal(frame).unwrap()
     }
 
     /// The memory that it has, in kB.
@@ -127,15 +134,21 @@ fn a_stream_with_bytes_that_are_no_frame_is_closed() {
     for (at, byte) in [(0, 0), (2, 9), (3, 99), (16, 1)] {
         let before = std::mem::replace(&mut bytes[at], byte);
         let mut stream = process.connect();
-        stream.write_all(&bytes).unwrap();
+        stream.write_all(&process.sealed(&bytes)).unwrap();
         assert!(is_closed(&stream), "byte {at}");
         bytes[at] = before;
+    }
+    // So is one with a frame that no key of the cluster sealed.
+    for bytes in [[&bytes[..], &[0; SEAL_LEN]].concat(), Keys::new([7; 32]).seal(&bytes).unwrap()] {
+        let mut stream = process.connect();
+        stream.write_all(&bytes).unwrap();
+        assert!(is_closed(&stream));
     }
     // (a frame that is refused for what it says is no reason)
     let stream = process.connect();
     stream.set_read_timeout(Some(Duration::from_secs(1))).unwrap();
     bytes[7] = 2;
-    (&stream).write_all(&bytes).unwrap();
+    (&stream).write_all(&process.sealed(&bytes)).unwrap();
     assert!(!is_closed(&stream));
 }
 
@@ -186,7 +199,7 @@ fn a_flood_of_frames_does_not_keep_it_from_ticking() {
     assert_eq!(process.ask(&format!("put wide {}", "x".repeat(1024))), "ok");
     let (before, began) = (process.memory(), Instant::now());
     // Node 1 wants the value all the time, on forty connections, and reads what it is sent.
-    let flood = want("wide").repeat(1_000);
+    let flood = process.sealed(&want("wide")).repeat(1_000);
     for mut stream in (0..40).map(|_| process.connect()) {
         let flood = flood.clone();
         thread::spawn(move || while stream.write_all(&flood).is_ok() {});
@@ -198,7 +211,7 @@ fn a_flood_of_frames_does_not_keep_it_from_ticking() {
     while exchanges < 3 {
         let mut header = [0; 20];
         came.read_exact(&mut header).unwrap();
-        let mut body = vec![0; u32::from_be_bytes(header[16..].try_into().unwrap()) as usize];
+        let mut body = vec![0; u32::from_be_bytes(header[16..].try_into().unwrap()) as usize + SEAL_LEN];
         came.read_exact(&mut body).unwrap();
         exchanges += u32::from(header[3] == 12);
         assert!(began.elapsed() < SOON, "{exchanges} exchanges");
@@ -212,7 +225,7 @@ fn a_peer_that_reads_nothing_does_not_stop_it() {
     let mut process = Process::start("deaf");
     assert_eq!(process.ask(&format!("put wide {}", "x".repeat(1024))), "ok");
     // Node 1 wants the value twenty thousand times, and never reads.
-    let (mut stream, frame) = (process.connect(), want("wide"));
+    let (mut stream, frame) = (process.connect(), process.sealed(&want("wide")));
     let flood = thread::spawn(move || (0..20_000).try_for_each(|_| stream.write_all(&frame)));
     thread::sleep(Duration::from_secs(1));
     assert_eq!(process.ask("put a x"), "ok");

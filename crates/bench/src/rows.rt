@@ -1,8 +1,7 @@
 //! Writers, keys, the value that is written under them, and places that look random.
 
 use crate::samples::refused;
-use meta_types::{Actor, FullPrefix, MetaKey, NodeId, Value};
-use node_parts::both;
+use meta_types::{Actor, FullPrefix, MetaKey, NodeId, Value, both};
 use std::alloc::Global;
 use std::io;
 

@@ -91,12 +91,6 @@ read_more frames bytes rest front after f front_is after_is enough s read =
       back = λ are. subst AreFrames (sym after_is) (opens rest (read.back are) (omega (arith, enough))).others;
     }
 
-pub all_read : (frames : List Frame) (bytes rest : List ℕ) → length rest ≡ 0 → IsRead frames bytes rest → AreSpelled frames bytes
-all_read frames bytes rest none read = record {
-  each = read.each;
-  spelled = read.spelled ∙ ap (λ bs. flat_map spelling frames ++ bs) (nil_from_length rest none) ∙ append-nil (flat_map spelling frames);
-}
-
 pub read_fails : (frames : List Frame) (bytes rest front : List ℕ) (fault : FrameFault) → front ≡ take (named rest) rest → named rest ≤ length rest → (fault ≡ Memory) ⊎ RefusesBytes front fault → IsRead frames bytes rest → (fault ≡ Memory) ⊎ (¬ AreFrames bytes)
 read_fails frames bytes rest front fault front_is enough (inl memory) read = inl memory
 read_fails frames bytes rest front fault front_is enough (inr refuses) read =

@@ -7,13 +7,13 @@ use Rattle.std.proofs.lemmas.Option.{slice_get-get_or, slice_get-map, slice_get_
 use Rattle.meta_types.specs.First.{first_that_applies}
 use Rattle.node_file.specs.File.{FileState, empty_file, file_state, new_state}
 use Rattle.node_file.specs.Refusal.{refusal_of_serve}
-use Rattle.cluster_parts.specs.Plan.{is_outside, largest, refusal_of_run}
+use Rattle.cluster_worker.specs.Plan.{is_outside, largest, refusal_of_run}
 use Rattle.cluster.specs.Run.{RefusesNewRun, RefusesRun}
-use Rattle.cluster_parts.specs.Serving.{file_bytes, first_lives, life_of, life_on, lives_from}
-use Rattle.cluster_parts.specs.declared.fault.ClusterFault.{ClusterFault}
-use Rattle.cluster_parts.specs.declared.fault.ClusterFault.TheVariants.{BadLimit, File, Memory, Node, NoSuchNode, NoThread}
-use Rattle.cluster_parts.specs.declared.plan.ClusterPlan.{ClusterPlan}
-use Rattle.cluster_parts.specs.declared.plan.Limits.{Limits}
+use Rattle.cluster_worker.specs.Serving.{file_bytes, first_lives, life_of, life_on, lives_from}
+use Rattle.cluster_worker.specs.declared.fault.ClusterFault.{ClusterFault}
+use Rattle.cluster_worker.specs.declared.fault.ClusterFault.TheVariants.{BadLimit, File, Memory, Node, NoSuchNode, NoThread}
+use Rattle.cluster_worker.specs.declared.plan.ClusterPlan.{ClusterPlan}
+use Rattle.cluster_worker.specs.declared.plan.Limits.{Limits}
 use Rattle.cluster.proofs.Gathered.{inboxes_within}
 
 -- an empty file that was made for a node can be served; it was in no life, and holds nothing

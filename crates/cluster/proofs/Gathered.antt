@@ -7,21 +7,21 @@ use Rattle.std.proofs.lemmas.List.{append-nil, append_assoc, map-append, map_pus
 use Rattle.std.proofs.lemmas.List.Elements.{All-cons, All-head, All-nil, All-tail, filter-append}
 use Rattle.std.proofs.lemmas.List.Sums.{sum_by_push}
 use Rattle.meta_types.specs.First.{first_that_applies}
-use Rattle.desk_parts.specs.declared.fault.LockFault.{LockFault}
+use Rattle.node_call.specs.declared.fault.LockFault.{LockFault}
 use Rattle.inbox.specs.Views.{InboxView}
-use Rattle.cluster_parts.specs.Fault.{of_node}
-use Rattle.cluster_parts.specs.Passes.{ArePassesOf}
-use Rattle.cluster_parts.specs.Plan.{refusal_of_run}
-use Rattle.cluster_parts.specs.Serving.{IsServed, LifeView, life_of_file, lives_from}
-use Rattle.cluster_parts.specs.Worked.{AreOutcomesOf, EndsRun, HasWorked, IsJob, IsOutcomeOf}
-use Rattle.cluster_parts.specs.declared.fault.ClusterFault.{ClusterFault}
-use Rattle.cluster_parts.specs.declared.fault.ClusterFault.TheVariants.{BadLimit, File, Memory, Node, NoSuchNode, NoThread}
-use Rattle.cluster_parts.specs.declared.passes.Passes.{Passes}
-use Rattle.cluster_parts.specs.declared.plan.ClusterPlan.{ClusterPlan}
-use Rattle.cluster_parts.specs.declared.plan.Limits.{Limits}
-use Rattle.cluster_parts.specs.declared.serving.ServedFile.{ServedFile}
-use Rattle.cluster_parts.specs.declared.worker.Job.{Job}
-use Rattle.cluster_parts.specs.declared.worker.Worked.{Worked}
+use Rattle.cluster_worker.specs.Fault.{of_node}
+use Rattle.cluster_worker.specs.Passes.{ArePassesOf}
+use Rattle.cluster_worker.specs.Plan.{refusal_of_run}
+use Rattle.cluster_worker.specs.Serving.{IsServed, LifeView, life_of_file, lives_from}
+use Rattle.cluster_worker.specs.Worked.{AreOutcomesOf, EndsRun, HasWorked, IsJob, IsOutcomeOf}
+use Rattle.cluster_worker.specs.declared.fault.ClusterFault.{ClusterFault}
+use Rattle.cluster_worker.specs.declared.fault.ClusterFault.TheVariants.{BadLimit, File, Memory, Node, NoSuchNode, NoThread}
+use Rattle.cluster_worker.specs.declared.passes.Passes.{Passes}
+use Rattle.cluster_worker.specs.declared.plan.ClusterPlan.{ClusterPlan}
+use Rattle.cluster_worker.specs.declared.plan.Limits.{Limits}
+use Rattle.cluster_worker.specs.declared.serving.ServedFile.{ServedFile}
+use Rattle.cluster_worker.specs.declared.worker.Job.{Job}
+use Rattle.cluster_worker.specs.declared.worker.Worked.{Worked}
 use Rattle.cluster.specs.Run.{CanRun, IsPutTogether, IsRunOf, RefusesGathering, RefusesRun, up_to_most}
 use Rattle.cluster.specs.declared.run.ClusterRun.{ClusterRun}
 

@@ -1,15 +1,15 @@
 -- What a run of a cluster leaves, and why there is none.
 use Rattle.std.specs.Prelude.{◌≡◌, ℕ, min, List, [], length, map, filter, replicate, sum_by, Some, None}
 use Rattle.std.specs.List.{AllZip, flat_map}
-use Rattle.desk_parts.specs.declared.fault.LockFault.TheVariants.{SeatsMissing}
-use Rattle.cluster_parts.specs.Plan.{largest, refusal_of_run}
-use Rattle.cluster_parts.specs.Serving.{CanServeAll, CannotServeOne, LifeView}
-use Rattle.cluster_parts.specs.Worked.{HasWorked}
-use Rattle.cluster_parts.specs.declared.fault.ClusterFault.{ClusterFault}
-use Rattle.cluster_parts.specs.declared.fault.ClusterFault.TheVariants.{BadLimit, File, Memory, Node, NoSuchNode, NoThread}
-use Rattle.cluster_parts.specs.declared.plan.ClusterPlan.{ClusterPlan}
-use Rattle.cluster_parts.specs.declared.plan.Limits.{Limits}
-use Rattle.cluster_parts.specs.declared.worker.Worked.{Worked}
+use Rattle.node_call.specs.declared.fault.LockFault.TheVariants.{SeatsMissing}
+use Rattle.cluster_worker.specs.Plan.{largest, refusal_of_run}
+use Rattle.cluster_worker.specs.Serving.{CanServeAll, CannotServeOne, LifeView}
+use Rattle.cluster_worker.specs.Worked.{HasWorked}
+use Rattle.cluster_worker.specs.declared.fault.ClusterFault.{ClusterFault}
+use Rattle.cluster_worker.specs.declared.fault.ClusterFault.TheVariants.{BadLimit, File, Memory, Node, NoSuchNode, NoThread}
+use Rattle.cluster_worker.specs.declared.plan.ClusterPlan.{ClusterPlan}
+use Rattle.cluster_worker.specs.declared.plan.Limits.{Limits}
+use Rattle.cluster_worker.specs.declared.worker.Worked.{Worked}
 use Rattle.cluster.specs.declared.run.ClusterRun.{ClusterRun}
 
 -- a count that stays at its greatest value

@@ -9,12 +9,12 @@
 //! }
 //! ```
 //!
-//! Read `run` (`run_cluster_on`) and `threads`; `cluster_parts` has what a worker does in its
+//! Read `run` (`run_cluster_on`) and `threads`; `cluster_worker` has what a worker does in its
 //! thread.
 #![tactic(auto)]
 
 mod run;
 mod threads;
 
-pub use cluster_parts::{ClusterFault, ClusterPlan, Limits, MAX_NODES, NoHook, TurnHook};
+pub use cluster_worker::{ClusterFault, ClusterPlan, Limits, MAX_NODES, NoHook, TurnHook};
 pub use run::{ClusterRun, run_cluster, run_cluster_on};

@@ -2,15 +2,15 @@
 
 ghost use Rattle.std.specs.Prelude.{◌≡◌, ◌≤◌, ◌++◌, List, ◌∷◌, [], length, map, All, None, Some, Ok, IfOk, IfErr, OnOk, IsErrOf, vec_len, if◌then◌else◌};
 ghost use Rattle.devices.specs.Device.{IsDurable};
-ghost use Rattle.cluster_parts.specs.Plan.{largest, refusal_of_run};
-ghost use Rattle.cluster_parts.specs.Serving.{first_lives, lives_from};
-ghost use Rattle.cluster_parts.specs.Worked.{EndsRun};
-ghost use Rattle.cluster_parts.specs.declared.fault.ClusterFault.{ClusterFault as Fault};
-ghost use Rattle.cluster_parts.specs.declared.worker.Worked.{Worked as Work};
+ghost use Rattle.cluster_worker.specs.Plan.{largest, refusal_of_run};
+ghost use Rattle.cluster_worker.specs.Serving.{first_lives, lives_from};
+ghost use Rattle.cluster_worker.specs.Worked.{EndsRun};
+ghost use Rattle.cluster_worker.specs.declared.fault.ClusterFault.{ClusterFault as Fault};
+ghost use Rattle.cluster_worker.specs.declared.worker.Worked.{Worked as Work};
 ghost use Rattle.cluster.specs.Run.{CanRun, IsPutTogether, IsRunOf, RefusesGathering, RefusesNewRun, RefusesRun, nothing_on};
 
 use crate::threads::work_all;
-use cluster_parts::{
+use cluster_worker::{
     ClusterFault, ClusterPlan, Job, Limits, Passes, ServedFile, Shared, TurnHook, Worked,
     begin_all, close_all, connect, is_node_count, refusal_of,
 };

@@ -1,11 +1,11 @@
 //! A thread for each worker.
 
 ghost use Rattle.std.specs.Prelude.{◌≡◌, ◌⊎◌, ◌≤◌, [], length, map, All, IfOk, IfErr, IsTrue, vec_capacity};
-ghost use Rattle.cluster_parts.specs.Serving.{life_of_file};
-ghost use Rattle.cluster_parts.specs.Worked.{IsOutcomeOf, AreOutcomesOf, IsJob};
-ghost use Rattle.cluster_parts.specs.declared.fault.ClusterFault.TheVariants.{Memory, NoThread};
+ghost use Rattle.cluster_worker.specs.Serving.{life_of_file};
+ghost use Rattle.cluster_worker.specs.Worked.{IsOutcomeOf, AreOutcomesOf, IsJob};
+ghost use Rattle.cluster_worker.specs.declared.fault.ClusterFault.TheVariants.{Memory, NoThread};
 
-use cluster_parts::{ClusterFault, Job, Shared, TurnHook, Worked, work};
+use cluster_worker::{ClusterFault, Job, Shared, TurnHook, Worked, work};
 use devices::Device;
 use meta_store::Store;
 use meta_types::NodeId;
@@ -27,7 +27,7 @@ struct InLife {
 }
 
 impl Model for InLife {
-    ghost use Rattle.cluster_parts.specs.Serving.{LifeView};
+    ghost use Rattle.cluster_worker.specs.Serving.{LifeView};
 
     ghost Value = { LifeView };
 
@@ -39,7 +39,7 @@ impl Model for InLife {
 }
 
 impl Promise<Outcome> for InLife {
-    ghost use Rattle.cluster_parts.specs.Worked.{IsOutcomeOf};
+    ghost use Rattle.cluster_worker.specs.Worked.{IsOutcomeOf};
 
     ghost kept_by = { λ life outcome. IsOutcomeOf life outcome };
 }

@@ -1,4 +1,5 @@
--- What contracts see of a file device: the calls that it noted, and which call failed first.
+-- What contracts see of a file device: the calls that it noted, which call failed first, and
+-- whether it has a copy of its content in memory.
 use Rattle.std.specs.Prelude.{◌≡◌, ℕ, List, [], length, Option, Some, Result, Ok, Err, IsSome, IsErrOf}
 use Rattle.std.specs.Option.{option_or}
 use Rattle.devices.specs.Calls.{content_after, CrashLeaves, CrashLeftSince}
@@ -37,10 +38,17 @@ first_failed_after call (Err Memory) d = first_failed d
 first_failed_after call (Ok done) d = first_failed d
 
 -- the new device tells so of the call that was made of the old one
-abbrev pub TellsFirst : FailedCall → Result (Unit {0}) DeviceFault → FileDevice → FileDevice → Type 0
+abbrev pub TellsFirst : FailedCall → Result (Unit {0}) DeviceFault → (old new : FileDevice)
+    → Type 0
 TellsFirst call result old new = first_failed new ≡ first_failed_after call result old
 
 -- if a call of the old device had failed, this one fails too, and no call is noted
-abbrev pub CallsNoMore : Result (Unit {0}) DeviceFault → FileDevice → FileDevice → Type 0
+abbrev pub CallsNoMore : Result (Unit {0}) DeviceFault → (old new : FileDevice) → Type 0
 CallsNoMore result old new = IsSome (first_failed old)
     → IsErrOf result Failed × (new.raw.noted.calls ≡ old.raw.noted.calls)
+
+-- ---- what it has in memory
+
+-- it has the copy of its content from which it answers reads
+abbrev pub HasCopy : FileDevice → Type 0
+HasCopy d = IsSome d.copy

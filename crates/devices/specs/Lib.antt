@@ -9,3 +9,5 @@ pub mod Noted
 pub mod Laws
 -- a device over a file: which of its calls failed first, and that none follows
 pub mod File
+-- why a path isn't opened or made
+pub mod Opening

@@ -114,9 +114,9 @@ pub trait Device {
         ensures time { Elapses moment left_since may_leave self.old self.new }
         ensures cause { CountsFailure (failed self.old) (failed self.new) result };
 
-    /// Lets a device that keeps its content in memory forget it. It is called once all that is
-    /// needed was read. A later read may fail, and then counts as a failure.
-    fn seal(&mut self)
+    /// Lets a device that keeps a copy of its content in memory drop that. It is called once all
+    /// that is needed was read. A later read may fail, and then counts as a failure.
+    fn drop_copy(&mut self)
         ensures same { content self.new ≡ content self.old }
         ensures crash { LeavesNoMore (may_leave self.old) (may_leave self.new) }
         ensures time { Elapses moment left_since may_leave self.old self.new }

@@ -128,8 +128,8 @@ impl<D: Device> Device for FailsAfter<D> {
         counted(&mut self.failed, answer)
     }
 
-    fn seal(&mut self) {
-        self.inner.seal();
+    fn drop_copy(&mut self) {
+        self.inner.drop_copy();
     }
 }
 
@@ -212,7 +212,7 @@ impl<D: Device> Device for FailsOnce<D> {
         counted(&mut self.failed, answer)
     }
 
-    fn seal(&mut self) {
-        self.inner.seal();
+    fn drop_copy(&mut self) {
+        self.inner.drop_copy();
     }
 }

@@ -7,7 +7,7 @@ use crate::device::DeviceFault;
 /// A call of a device that failed.
 #[derive(Clone, Copy, Debug, PartialEq, Eq)]
 pub enum FailedCall {
-    /// A read of a device that was sealed.
+    /// A read of a device that has dropped its copy.
     Read,
     /// A write; or one that would end past `usize::MAX`, which isn't made.
     Write,

@@ -10,19 +10,20 @@ use std::fs::File;
 
 /// A device over a file of the operating system.
 ///
-/// The file is read once, as it is opened, and reads are answered from that copy until the device
-/// is sealed: then the copy is dropped, and what is written afterwards takes no memory. It holds
-/// the lock of the file as long as it lives.
+/// The file is read once, as it is opened, and reads are answered from that copy until
+/// `drop_copy`; what is written afterwards takes no memory. It holds the lock of the file as long
+/// as it lives.
 ///
-/// After a call that returned `Failed`, each later one fails too, except `len`, `failures`, `held`
-/// `seal` and `failed_call`: the file may differ from what these say. Then open the path again.
+/// After a call that returned `Failed`, each later one fails too, except `len`, `failures`, `held`,
+/// `drop_copy` and `failed_call`: the file may differ from what these say. Then open the path
+/// again.
 ///
 /// The README of the crate says what is assumed of a file.
 #[derive(Drop)]
 pub struct FileDevice {
     raw: RawFile,
     len: usize,
-    /// What a read gives, until the device is sealed.
+    /// What a read gives, until it is dropped.
     copy: Option<Vec<u8>>,
     failures: Failures,
     ghost len_is: { len ≡ length (content_after [] raw.noted.calls) },
@@ -30,12 +31,13 @@ pub struct FileDevice {
 }
 
 impl FileDevice {
-    ghost use Rattle.devices.specs.File.{failed, first_failed};
+    ghost use Rattle.devices.specs.File.{HasCopy, failed, first_failed};
 
     /// Makes a device of an open file that holds these bytes, and was synced.
     pub(crate) fn new(file: File, bytes: Vec<u8>) -> FileDevice
         ensures calls { result.raw.noted.calls ≡ synced ∷ wrote 0 bytes.items ∷ [] }
         ensures first { IsNone (first_failed result) }
+        ensures copy { HasCopy result }
     {
         FileDevice {
             raw: RawFile::new(file, &bytes),
@@ -61,10 +63,10 @@ impl FileDevice {
 
 // A method's own clauses replace the trait's, so these are repeated, and its own stand below them.
 impl Device for FileDevice {
-    ghost use Rattle.std.specs.Prelude.{◌≡◌, ◌≤◌, ◌+◌, ◌⊎◌, [], length, take, drop, OnOk, OnErr, IsErrOf};
+    ghost use Rattle.std.specs.Prelude.{◌≡◌, ◌↔◌, ◌≤◌, ◌+◌, ◌⊎◌, [], length, take, drop, OnOk, OnErr, IsErrOf, IsNone, IsOk, IsSome, IfSome};
     ghost use Rattle.devices.specs.declared.device.DeviceFault.TheVariants.{Memory};
     ghost use Rattle.devices.specs.Device.{CountsFailure, Elapses, IsDurable, LeavesChanged, LeavesNoMore, Overwrites, Shortened, Torn};
-    ghost use Rattle.devices.specs.File.{CallsNoMore, content, failed, first_failed, left_since, may_leave, moment, TellsFirst};
+    ghost use Rattle.devices.specs.File.{CallsNoMore, HasCopy, content, failed, first_failed, left_since, may_leave, moment, TellsFirst};
     ghost use Rattle.devices.specs.Laws.{now_counts, now_is_all, what_is_read_is_left};
 
     ghost content = { content };
@@ -91,7 +93,10 @@ impl Device for FileDevice {
         self.len
     }
 
-    fn held(&self) -> Option<&[u8]> {
+    fn held(&self) -> Option<&[u8]>
+        ensures value { IfSome result (λ bytes. bytes.now ≡ content self.now) }
+        ensures held { IsSome result ↔ HasCopy self.now }
+    {
         match &self.copy {
             Some(copy) => Some(copy.as_slice()),
             None => None,
@@ -109,6 +114,8 @@ impl Device for FileDevice {
         ensures no_memory { IsErrOf result Memory → ⊥ }
         ensures first { TellsFirst FailedCall.Read result self.old self.new }
         ensures ended { CallsNoMore result self.old self.new }
+        ensures reads { IsOk result ↔ (IsNone (first_failed self.old) × HasCopy self.old) }
+        ensures copy { HasCopy self.new ↔ HasCopy self.old }
     {
         if self.failures.first().is_none() {
             if let Some(copy) = &self.copy {
@@ -135,6 +142,7 @@ impl Device for FileDevice {
         ensures cause { CountsFailure (failed self.old) (failed self.new) result }
         ensures first { TellsFirst FailedCall.Write result self.old self.new }
         ensures ended { CallsNoMore result self.old self.new }
+        ensures copy { OnOk result (HasCopy self.new ↔ HasCopy self.old) }
     {
         let Some(end) = at.checked_add(bytes.len()) else {
             return Err(self.failures.add(FailedCall::Write));
@@ -168,6 +176,7 @@ impl Device for FileDevice {
         ensures no_memory { IsErrOf result Memory → ⊥ }
         ensures first { TellsFirst FailedCall.Cut result self.old self.new }
         ensures ended { CallsNoMore result self.old self.new }
+        ensures copy { OnOk result (HasCopy self.new ↔ HasCopy self.old) }
     {
         if self.failures.first().is_some() {
             return Err(self.failures.add(FailedCall::Cut));
@@ -193,6 +202,7 @@ impl Device for FileDevice {
         ensures no_memory { IsErrOf result Memory → ⊥ }
         ensures first { TellsFirst FailedCall.Sync result self.old self.new }
         ensures ended { CallsNoMore result self.old self.new }
+        ensures copy { HasCopy self.new ↔ HasCopy self.old }
     {
         if self.failures.first().is_none() && self.raw.sync() {
             Ok(())
@@ -201,12 +211,14 @@ impl Device for FileDevice {
         }
     }
 
-    fn seal(&mut self)
+    fn drop_copy(&mut self)
         ensures same { content self.new ≡ content self.old }
         ensures crash { LeavesNoMore (may_leave self.old) (may_leave self.new) }
         ensures time { Elapses moment left_since may_leave self.old self.new }
         ensures failures { failed self.new ≡ failed self.old }
         ensures first { first_failed self.new ≡ first_failed self.old }
+        ensures no_call { self.new.raw.noted.calls ≡ self.old.raw.noted.calls }
+        ensures copy { HasCopy self.new → ⊥ }
     {
         drop(self.copy.take());
     }

@@ -149,5 +149,5 @@ impl Device for MemoryDevice {
         Ok(())
     }
 
-    fn seal(&mut self) {}
+    fn drop_copy(&mut self) {}
 }

@@ -1,8 +1,9 @@
 //! A new file that has its name only once it is whole.
 
-ghost use Rattle.std.specs.Prelude.{◌≡◌, [], IfOk, IsNone, OnOk};
+ghost use Rattle.std.specs.Prelude.{◌≡◌, ◌↔◌, [], IfOk, IsNone, OnOk};
 ghost use Rattle.devices.specs.Device.{IsDurable};
-ghost use Rattle.devices.specs.File.{first_failed};
+ghost use Rattle.devices.specs.File.{HasCopy, first_failed};
+ghost use Rattle.devices.specs.Opening.{folder_synced};
 
 use crate::device::Device;
 use crate::file::FileDevice;
@@ -47,6 +48,7 @@ impl NewName {
         ensures durable { IfOk result (λ r. IsDurable
             (⟦<FileDevice as Device>⟧.content r.0) (⟦<FileDevice as Device>⟧.may_leave r.0)) }
         ensures usable { IfOk result (λ r. IsNone (first_failed r.0)) }
+        ensures readable { IfOk result (λ r. HasCopy r.0) }
     {
         if is_there(rt, path)? {
             return Err(OpenFault::Exists);
@@ -75,6 +77,7 @@ impl NewName {
         ensures durable { IfOk result (λ r. IsDurable
             (⟦<FileDevice as Device>⟧.content r.0) (⟦<FileDevice as Device>⟧.may_leave r.0)) }
         ensures usable { IfOk result (λ r. IsNone (first_failed r.0)) }
+        ensures readable { IfOk result (λ r. HasCopy r.0) }
     {
         let path = fs::canonicalize(rt, path)?;
         let path = format!(in alloc; "{}", path.as_str())?;
@@ -92,6 +95,7 @@ impl NewName {
         ensures durable { IfOk result (λ r. IsDurable
             (⟦<FileDevice as Device>⟧.content r.0) (⟦<FileDevice as Device>⟧.may_leave r.0)) }
         ensures usable { IfOk result (λ r. IsNone (first_failed r.0)) }
+        ensures readable { IfOk result (λ r. HasCopy r.0) }
     {
         if !is_at(rt, held, path.as_str())? {
             return Err(OpenFault::InUse);
@@ -117,14 +121,15 @@ impl NewName {
     }
 
     /// Syncs the file that was made for the name, gives it the name, and syncs the folder. Refused
-    /// with `Exists` if something has the name by now, `Failed` or `Memory`; the new file is
-    /// removed then.
+    /// with `Exists` if something has the name by now, `Missing` if the folder has another name,
+    /// `Failed` or `Memory`; the new file is removed then.
     pub fn put(self, rt: &HostRuntime, device: FileDevice) -> Result<FileDevice, OpenFault>
         ensures same { IfOk result (λ d. ⟦<FileDevice as Device>⟧.content d
             ≡ ⟦<FileDevice as Device>⟧.content device) }
         ensures durable { IfOk result (λ d. IsDurable
             (⟦<FileDevice as Device>⟧.content d) (⟦<FileDevice as Device>⟧.may_leave d)) }
         ensures usable { IfOk result (λ d. IsNone (first_failed d)) }
+        ensures copy { IfOk result (λ d. HasCopy d ↔ HasCopy device) }
     {
         let mut device = device;
         match self.put_synced(rt, &mut device) {
@@ -142,6 +147,7 @@ impl NewName {
         ensures durable { OnOk result (IsDurable (⟦<FileDevice as Device>⟧.content device.old)
             (⟦<FileDevice as Device>⟧.may_leave device.new)) }
         ensures usable { OnOk result (IsNone (first_failed device.new)) }
+        ensures copy { HasCopy device.new ↔ HasCopy device.old }
     {
         if device.sync().is_err() {
             return Err(OpenFault::Failed);
@@ -159,11 +165,20 @@ impl NewName {
     fn link(&self, rt: &HostRuntime) -> Result<(), OpenFault> {
         fs::hard_link(rt, self.beside.as_str(), self.path.as_str())?;
         let _ = fs::remove_file(rt, self.beside.as_str());
-        if sync_folder(rt, self.path.as_str()).is_err() {
-            let _ = fs::remove_file(rt, self.path.as_str());
-            return Err(OpenFault::Failed);
+        self.keep_if(rt, sync_folder(rt, self.path.as_str()))
+    }
+
+    /// Takes the name away again if its folder couldn't be synced, and returns why.
+    fn keep_if(&self, rt: &HostRuntime, synced: io::Result<()>) -> Result<(), OpenFault>
+        ensures { result ≡ folder_synced synced }
+    {
+        match synced {
+            Ok(()) => Ok(()),
+            Err(error) => {
+                let _ = fs::remove_file(rt, self.path.as_str());
+                Err(OpenFault::from(error))
+            }
         }
-        Ok(())
     }
 
     /// Removes the file that was made for the name.

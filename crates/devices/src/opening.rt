@@ -1,8 +1,10 @@
 //! Opening a path as a device.
 
 ghost use Rattle.std.specs.Prelude.{◌≡◌, ◌≤◌, [], IfOk, IsNone, length};
+ghost use Rattle.std.specs.IoError.{error_kind};
 ghost use Rattle.devices.specs.Device.{IsDurable};
-ghost use Rattle.devices.specs.File.{first_failed};
+ghost use Rattle.devices.specs.File.{HasCopy, first_failed};
+ghost use Rattle.devices.specs.Opening.{fault_of_kind};
 
 use crate::device::{Device, DeviceFault};
 use crate::file::FileDevice;
@@ -32,7 +34,18 @@ pub enum OpenFault {
     Failed,
 }
 
+/// Whether a file that is opened to be read is locked.
+#[derive(Clone, Copy, Debug, PartialEq, Eq)]
+pub enum ReadLock {
+    /// It isn't, so what a node writes meanwhile may be there in part.
+    NotTaken,
+    /// It is, so that no node begins a life in it meanwhile.
+    Taken,
+}
+
 impl From<io::Error> for OpenFault {
+    ghost from_gives = { λ error fault. fault ≡ fault_of_kind (error_kind error) };
+
     fn from(error: io::Error) -> Self {
         match error.kind() {
             ErrorKind::OutOfMemory => OpenFault::Memory,
@@ -61,8 +74,9 @@ impl FileDevice {
         ensures durable { IfOk result (λ d. IsDurable
             (⟦<FileDevice as Device>⟧.content d) (⟦<FileDevice as Device>⟧.may_leave d)) }
         ensures usable { IfOk result (λ d. IsNone (first_failed d)) }
+        ensures readable { IfOk result (λ d. HasCopy d) }
     {
-        FileDevice::open_front(rt, alloc, path, false, usize::MAX)
+        FileDevice::open_front(rt, alloc, path, ReadLock::NotTaken, usize::MAX)
     }
 
     /// Opens the file at the path to be read, and holds it, so that no node begins a life in it
@@ -75,28 +89,30 @@ impl FileDevice {
         ensures durable { IfOk result (λ d. IsDurable
             (⟦<FileDevice as Device>⟧.content d) (⟦<FileDevice as Device>⟧.may_leave d)) }
         ensures usable { IfOk result (λ d. IsNone (first_failed d)) }
+        ensures readable { IfOk result (λ d. HasCopy d) }
     {
-        FileDevice::open_front(rt, alloc, path, true, usize::MAX)
+        FileDevice::open_front(rt, alloc, path, ReadLock::Taken, usize::MAX)
     }
 
-    /// Opens the file at the path as `open_to_copy` does if `is_held`, and otherwise as
-    /// `open_to_read`; but reads at most its first `len` bytes, and takes memory for no more. The
-    /// device is then one of these bytes alone.
+    /// Opens the file at the path to be read, as `open_to_copy` does if the lock is taken, and
+    /// otherwise as `open_to_read`; but reads at most its first `len` bytes, and takes memory for no
+    /// more. The device is then one of these bytes alone.
     pub fn open_front(
         rt: &HostRuntime,
         alloc: Global,
         path: &str,
-        is_held: bool,
+        read_lock: ReadLock,
         len: usize,
     ) -> Result<FileDevice, OpenFault>
         ensures durable { IfOk result (λ d. IsDurable
             (⟦<FileDevice as Device>⟧.content d) (⟦<FileDevice as Device>⟧.may_leave d)) }
         ensures within { IfOk result (λ d. length (⟦<FileDevice as Device>⟧.content d) ≤ len) }
         ensures usable { IfOk result (λ d. IsNone (first_failed d)) }
+        ensures readable { IfOk result (λ d. HasCopy d) }
     {
         refuse_other_kinds(rt, path)?;
         let file = OpenOptions::new().read(true).open(rt, path)?;
-        if is_held {
+        if read_lock == ReadLock::Taken {
             lock(&file)?;
             if !is_at(rt, &file, path)? {
                 return Err(OpenFault::InUse);
@@ -114,6 +130,7 @@ impl FileDevice {
         ensures durable { IfOk result (λ d. IsDurable
             (⟦<FileDevice as Device>⟧.content d) (⟦<FileDevice as Device>⟧.may_leave d)) }
         ensures usable { IfOk result (λ d. IsNone (first_failed d)) }
+        ensures readable { IfOk result (λ d. HasCopy d) }
     {
         refuse_other_kinds(rt, path)?;
         let path = fs::canonicalize(rt, path)?;
@@ -142,6 +159,7 @@ impl FileDevice {
         ensures durable { IfOk result (λ d. IsDurable
             (⟦<FileDevice as Device>⟧.content d) (⟦<FileDevice as Device>⟧.may_leave d)) }
         ensures usable { IfOk result (λ d. IsNone (first_failed d)) }
+        ensures readable { IfOk result (λ d. HasCopy d) }
     {
         let (device, name) = NewName::at(rt, alloc, path)?;
         filled(rt, device, name, bytes)
@@ -159,6 +177,7 @@ impl FileDevice {
         ensures durable { IfOk result (λ d. IsDurable
             (⟦<FileDevice as Device>⟧.content d) (⟦<FileDevice as Device>⟧.may_leave d)) }
         ensures usable { IfOk result (λ d. IsNone (first_failed d)) }
+        ensures readable { IfOk result (λ d. HasCopy d) }
     {
         match FileDevice::open(rt, alloc, path) {
             Err(OpenFault::Missing) => FileDevice::create(rt, alloc, path, bytes),
@@ -174,11 +193,13 @@ fn filled(
     name: NewName,
     bytes: &[u8],
 ) -> Result<FileDevice, OpenFault>
-    requires { ⟦<FileDevice as Device>⟧.content device ≡ [] }
+    requires empty { ⟦<FileDevice as Device>⟧.content device ≡ [] }
+    requires readable { HasCopy device }
     ensures content { IfOk result (λ d. ⟦<FileDevice as Device>⟧.content d ≡ bytes.now) }
     ensures durable { IfOk result (λ d. IsDurable
         (⟦<FileDevice as Device>⟧.content d) (⟦<FileDevice as Device>⟧.may_leave d)) }
     ensures usable { IfOk result (λ d. IsNone (first_failed d)) }
+    ensures readable { IfOk result (λ d. HasCopy d) }
 {
     let mut device = device;
     match device.write_at(0, bytes) {

@@ -50,9 +50,6 @@ pub record Descending (a b : List Counter) (i j : ℕ) : Type 0 where
   pub counted : All IsCounter (drop j b)
   pub same : descends a b ≡ descends (drop i a) (drop j b)
 
-pub descending_start : (a b : List Counter) → IsVector a → IsVector b → Descending a b 0 0
-descending_start a b is js = record { left = omega arith; right = omega arith; rises_left = is.rising; rises_right = js.rising; counted = js.counters; same = refl }
-
 Rises-weaken : (cs : List Counter) (low least : ℕ) → Rises low cs → least ≤ low → Rises least cs
 Rises-weaken [] low least rises le = tt
 Rises-weaken (c ∷ cs) low least rises le = (let first : low ≤ c.id = rises.0 in omega arith, rises.1)
@@ -130,9 +127,6 @@ descending_skip a b i j x y d li lj ix iy lt =
       counted = d.counted;
       same = d.same ∙ (λ k. descends (ex k) (ey k)) ∙ skip x xs (y ∷ ys) y.id (first, ry.1) lt ∙ ap (λ cs. descends xs cs) (sym ey);
     }
-
-pub descending_end : (a b : List Counter) (i j : ℕ) → Descending a b i j → length b ≤ j → descends a b ≡ true
-descending_end a b i j d end = d.same ∙ ap (λ cs. descends (drop i a) cs) (drop_of_length-le b end)
 
 -- ---- by counters
 

@@ -11,9 +11,6 @@ object_from_rest es rest = record {
   entries = rest.lawful;
 }
 
-pub rest_from_object : (es : List Entry) → IsObject es → Rest (λ e. e.id) IsEntry 0 es
-rest_from_object es is = record { rising = is.rising; lawful = is.entries }
-
 pub vector_from_rest : (cs : List Counter) → Rest (λ c. c.id) IsCounter 0 cs → IsVector cs
 vector_from_rest cs rest = record {
   rising = rest.rising;

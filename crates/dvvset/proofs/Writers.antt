@@ -21,10 +21,6 @@ sync_at None b = b
 sync_at (Some a) None = Some a
 sync_at (Some a) (Some b) = Some (sync_entry a b)
 
-sync_at-none : (o : Option Entry) → sync_at o None ≡ o
-sync_at-none None = refl
-sync_at-none (Some a) = refl
-
 -- no entry below the least writer
 pub entry_of-low : (xs : List Entry) (low w : ℕ) → Rises low xs → w < low → entry_of xs w ≡ None
 entry_of-low [] low w rises lt = refl

@@ -9,9 +9,8 @@ mod begun;
 mod used;
 
 use begun::{begin, refused};
-use meta_types::{FullPrefix, MetaKey, Value};
+use meta_types::{FullPrefix, MetaKey, Value, both};
 use node_lock::Beginning;
-use node_parts::both;
 use std::alloc::Global;
 use std::io;
 use std::marker::Brand;

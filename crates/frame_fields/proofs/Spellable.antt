@@ -262,9 +262,6 @@ few_prefixes rows fits = (number_within w16 0 8192 (length rows) fits.0).most
 pub place_fits : (n : ℕ) → n < 16 → place.Fits n
 place_fits n lt = number_fits w8 0 15 n (omega arith) (omega arith) (omega arith)
 
-pub place_below : (n : ℕ) → place.Fits n → n < 16
-place_below n fits = let within = number_within w8 0 15 n fits in omega (arith, within.most)
-
 -- ---- what the tests of an object answer
 
 pub shown_object : (es entries : List Entry) (bare : Bool) → entries ≡ es → IsObject es → AreFew entries → All IsShort entries → bare ≡ list_all is_bare entries → (not bare ≡ true) ↔ object.Fits es

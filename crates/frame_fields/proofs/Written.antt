@@ -12,12 +12,6 @@ use Rattle.frame_fields.specs.Form.{spell_each}
 use Rattle.frame_fields.specs.Field.{writer_from, value, entry, object, above_entry, counter_form, above_counter, vector, forget, no_state, node, nodes, digest, digests, prefix_row, prefix_of, lowest, prefixes, key_row, key_bytes, keys}
 use Rattle.frame_fields.proofs.Spellable.{spell_plain, spell_entries, spell_counters, spell_prefixes, spell_keys}
 
-pub written_writer : (front : List ℕ) (w : ℕ) → (front ++ to_be_bytes w16 (node_of_writer w)) ++ to_be_bytes w32 (incarnation_of_writer w) ≡ front ++ (writer_from 0).spell w
-written_writer front w = append_assoc front (to_be_bytes w16 (node_of_writer w)) (to_be_bytes w32 (incarnation_of_writer w))
-
-pub written_counter : (front : List ℕ) (c : Counter) → (front ++ (writer_from 0).spell c.id) ++ to_be_bytes w64 c.count ≡ front ++ (counter_form 0).spell c
-written_counter front c = append_assoc front ((writer_from 0).spell c.id) (to_be_bytes w64 c.count)
-
 pub written_entry : (front : List ℕ) (e : Entry) → (((front ++ (writer_from 0).spell e.id) ++ to_be_bytes w64 e.count) ++ to_be_bytes w16 (length e.values)) ++ flat_map value.spell e.values ≡ front ++ (entry 0).spell e
 written_entry front e =
     let a = (writer_from 0).spell e.id in

@@ -112,7 +112,8 @@ first_above low = named 1 most_prefix_len (λ first. not (is_before first low))
 
 -- a second part that lies above another, or after a first part that does
 abbrev pub second_above : Prefix → List ℕ → Form (List ℕ)
-second_above low first = named 1 most_prefix_len (λ sub. is_before low.prefix first || is_before low.sub sub)
+second_above low first =
+    named 1 most_prefix_len (λ sub. is_before low.prefix first || is_before low.sub sub)
 
 -- a prefix that stands after another. One that doesn't is at fault at the bytes of its first part
 -- if these stand before the other's, and otherwise at the bytes of its second part; never at a

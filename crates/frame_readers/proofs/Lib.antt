@@ -8,5 +8,3 @@ pub mod Fields
 pub mod Listed
 -- what was read keeps the rules of its type
 pub mod Found
--- the same for objects in the form that node files had first
-pub mod FoundOld

@@ -9,5 +9,3 @@ pub use Rattle.frame_fields.specs.Form
 pub use Rattle.frame_fields.specs.Field
 -- the forms of the fields as readers on lists
 pub mod Reader
--- objects in the form that node files had first
-pub mod Old

@@ -144,7 +144,8 @@ entry_reader low =
 
 unfoldable pub entries_reader : Reader (List Entry)
 entries_reader =
-    made_reader (then_reader (within_reader w16 1 most_listed) (each_reader entry_reader above_entry 0))
+    made_reader
+    (then_reader (within_reader w16 1 most_listed) (each_reader entry_reader above_entry 0))
     (λ p. p.1)
 
 unfoldable pub object_reader : Reader (List Entry)

@@ -6,13 +6,11 @@
 //! let (object, rest) = read_object(alloc, rest)?;
 //! ```
 //!
-//! Read `reading` (numbers, names, objects), `listing` (lists whose rows rise), `old` (objects in
-//! the form that node files had first), then `fault`.
+//! Read `reading` (numbers, names, objects) and `listing` (lists whose rows rise), then `fault`.
 #![tactic(auto)]
 
 pub mod fault;
 pub mod listing;
-pub mod old;
 pub mod reading;
 
 pub use fault::FieldFault;

@@ -103,8 +103,9 @@ fn u8_within(low: u8, high: u8, bytes: &[u8]) -> Result<(u8, &[u8]), FieldFault>
     }
 }
 
+/// Reads a number of two bytes from `low` to `high`.
 #[tactic(auto, unfolding(crate::specs::Reader::within_reader))]
-pub(crate) fn u16_within(low: u16, high: u64, bytes: &[u8]) -> Result<(u16, &[u8]), FieldFault>
+pub fn u16_within(low: u16, high: u64, bytes: &[u8]) -> Result<(u16, &[u8]), FieldFault>
     ensures value { MatchesReader result (within_reader w16 low high bytes.now) }
     ensures range { IfOk result (λ x. (low ≤ x.0) × (x.0 ≤ high)) }
     ensures memory { IfErr result (λ fault. fault ≢ Memory) }
@@ -117,8 +118,9 @@ pub(crate) fn u16_within(low: u16, high: u64, bytes: &[u8]) -> Result<(u16, &[u8
     }
 }
 
+/// Reads a number of eight bytes from `low` to `high`.
 #[tactic(auto, unfolding(crate::specs::Reader::within_reader))]
-pub(crate) fn u64_within(low: u64, high: u64, bytes: &[u8]) -> Result<(u64, &[u8]), FieldFault>
+pub fn u64_within(low: u64, high: u64, bytes: &[u8]) -> Result<(u64, &[u8]), FieldFault>
     ensures value { MatchesReader result (within_reader w64 low high bytes.now) }
     ensures range { IfOk result (λ x. (low ≤ x.0) × (x.0 ≤ high)) }
     ensures memory { IfErr result (λ fault. fault ≢ Memory) }
@@ -314,8 +316,9 @@ fn read_value(alloc: Global, bytes: &[u8]) -> Result<(Value, &[u8]), FieldFault>
     Ok((Value::of(stamp, Some(body)), rest))
 }
 
+/// Reads the values of an entry of `count` events, which shows no more of them.
 #[tactic(auto, unfolding(crate::specs::Reader::values_reader))]
-pub(crate) fn read_values(
+pub fn read_values(
     alloc: Global,
     count: u64,
     bytes: &[u8],

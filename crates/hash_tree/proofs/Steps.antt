@@ -50,10 +50,6 @@ unfolding text_of
 row_added front key digest rest rows all so_far is =
     two_more front ((name 1 256).spell key) digest (text_of rest) ∙ ap (λ (xs : OwnRows). front ++ text_of xs) (sym is) ∙ so_far
 
-pub rows_done : (front : List ℕ) (rows : OwnRows) (all : List ℕ) → rows ≡ [] → front ++ text_of rows ≡ all → front ≡ all
-unfolding text_of
-rows_done front rows all none so_far = sym (append-nil front) ∙ ap (λ (xs : OwnRows). front ++ text_of xs) (sym none) ∙ so_far
-
 -- ---- the full prefixes with their roots
 
 pub part_added : (front : List ℕ) (p : Prefix) (own : OwnRows) (rest parts : List (Prefix × OwnRows)) (all : List ℕ) → front ++ flat_map part_text parts ≡ all → parts ≡ (p, own) ∷ rest → ((front ++ prefix.spell p) ++ prefix_root own) ++ flat_map part_text rest ≡ all

@@ -43,14 +43,6 @@ one_pass_more line n ps are = record {
         (omega (arith, less', are.number))
         ∙ get_or_from_slice_get ps k (new_pass line k) (new_pass line n) (are.each k less'))
 
--- what stands at a place is of this inbox
-pub line_at : (line : TableId) (n : ℕ) (ps : List PutView) → AreNewPasses line n ps → (k : ℕ)
-    (p : PutView) → k < length ps → p ≡ get_or ps k p → p.line ≡ line
-line_at line n ps are k p less is =
-    ap (λ (q : PutView). q.line)
-    (is ∙ get_or_from_slice_get ps k (new_pass line k) p
-    (are.each k (omega (arith, less, are.number))))
-
 -- all are of this inbox
 pub lines : (line : TableId) (n : ℕ) (ps : List PutView) → AreNewPasses line n ps
     → (k : ℕ) (d : PutView) → k < length ps → (get_or ps k d).line ≡ line

@@ -52,13 +52,3 @@ header_at_front bytes read value frame front rest split spells =
     let same : bytes ≡ spelling frame ++ rest = split ∙ ap (λ xs. xs ++ rest) spells.spelled in
     let short : length (spelling frame) ≤ limit = subst (λ xs. length xs ≤ limit) spells.spelled spells.short in
     value ∙ ap header_in same ∙ header_is frame rest spells.lawful short
-
--- so no test of it applies
-pub no_test_applies : (bytes : List ℕ) (fault : FrameFault) → first_that_applies (front_tests bytes ++ node_tests bytes) ≡ Some fault
-    → (frame : Frame) (front rest : List ℕ) → bytes ≡ front ++ rest → Spells frame front → ⊥
-no_test_applies bytes fault refused frame front rest split spells =
-    let same : bytes ≡ spelling frame ++ rest = split ∙ ap (λ xs. xs ++ rest) spells.spelled in
-    let short : length (spelling frame) ≤ limit = subst (λ xs. length xs ≤ limit) spells.spelled spells.short in
-    let none : first_that_applies (front_tests bytes ++ node_tests bytes) ≡ None = ap (λ xs. first_that_applies (front_tests xs ++ node_tests xs)) same ∙ tests_pass frame rest spells.lawful short in
-    let no : Some fault ≡ None = sym refused ∙ none in
-    cc

@@ -11,7 +11,8 @@
 //! ```
 //!
 //! Read `node`, `actor`, `prefix`, `key`, `value`, then `fault`; `bytes` is the string that names
-//! are made of, and `laws` says that comparisons are what they seem.
+//! are made of, and `laws` says that comparisons are what they seem. `together` takes two results
+//! as one.
 #![tactic(auto)]
 
 pub mod actor;
@@ -21,6 +22,7 @@ pub mod key;
 pub mod laws;
 pub mod node;
 pub mod prefix;
+pub mod together;
 pub mod value;
 
 pub use actor::Actor;
@@ -29,4 +31,5 @@ pub use fault::TypeFault;
 pub use key::MetaKey;
 pub use node::NodeId;
 pub use prefix::FullPrefix;
+pub use together::both;
 pub use value::Value;

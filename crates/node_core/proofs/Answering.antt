@@ -20,8 +20,8 @@ use Rattle.hash_tree.specs.Tree.{Digest, bucket, inner_digests, leaf_digests, pr
 use Rattle.hash_tree.specs.Hashed.{rows_below}
 use Rattle.exchange.specs.Answers.{answers_to, answer_bucket, answer_inner, answer_key, answer_leaves, answer_root, bucket_message, inner_message, leaves_message, object_if_held, object_messages, want_if_listed, want_messages}
 use Rattle.exchange.specs.Sides.{differ, differing_keys, differing_places, same_digest}
-use Rattle.node_parts.specs.Outbox.{IsSendable, MaySend}
-use Rattle.node_parts.specs.Overlay.{envelope}
+use Rattle.node_overlay.specs.Outbox.{IsSendable, MaySend}
+use Rattle.node_overlay.specs.Overlay.{envelope}
 
 -- ---- lists
 

@@ -20,10 +20,10 @@ use Rattle.node_events.specs.declared.fault.StepFault.{StepFault}
 use Rattle.node_events.specs.declared.fault.StepFault.TheVariants.{Memory}
 use Rattle.node_events.specs.declared.reply.Reply.{Reply}
 use Rattle.node_events.specs.declared.reply.Reply.TheVariants.{TookFresh, TookStale}
-use Rattle.node_parts.specs.declared.origin.Origin.TheVariants as OfOrigin
-use Rattle.node_parts.specs.Outbox.{HasSpelling, frames_from}
-use Rattle.node_parts.specs.Origin.{whole_messages}
-use Rattle.node_parts.specs.Overlay.{Overlay, envelope, out_of, overlay_after_call}
+use Rattle.node_overlay.specs.declared.origin.Origin.TheVariants as OfOrigin
+use Rattle.node_overlay.specs.Outbox.{HasSpelling, frames_from}
+use Rattle.node_overlay.specs.Origin.{whole_messages}
+use Rattle.node_overlay.specs.Overlay.{Overlay, envelope, out_of, overlay_after_call}
 use Rattle.node_core.specs.declared.state.Stepped.{Stepped}
 use Rattle.node_core.specs.Node.{NodeParts, with_overlay}
 use Rattle.node_core.specs.Draft.{NodeDraft}

@@ -21,10 +21,10 @@ use Rattle.plumtree.specs.Broadcast.{CastCall, TakesGraft, TakesIHave, TakesPrun
 use Rattle.plumtree.specs.Rows as cast
 use Rattle.node_events.specs.declared.outbox.Outbox.{Outbox}
 use Rattle.node_events.specs.declared.reply.Reply.TheVariants.{Took}
-use Rattle.node_parts.specs.declared.envelope.Envelope.{Envelope}
-use Rattle.node_parts.specs.Outbox.{HasSpelling, IsSpelledVector, frames_from}
-use Rattle.node_parts.specs.Origin.{envelope_with}
-use Rattle.node_parts.specs.Overlay.{Overlay, envelope, out_of, overlay_after_call}
+use Rattle.node_overlay.specs.declared.envelope.Envelope.{Envelope}
+use Rattle.node_overlay.specs.Outbox.{HasSpelling, IsSpelledVector, frames_from}
+use Rattle.node_overlay.specs.Origin.{envelope_with}
+use Rattle.node_overlay.specs.Overlay.{Overlay, envelope, out_of, overlay_after_call}
 use Rattle.node_core.specs.declared.state.Stepped.{Stepped}
 use Rattle.node_core.specs.Node.{NodeParts, with_overlay}
 use Rattle.node_core.specs.Draft.{NodeDraft, call_broadcast}

@@ -11,10 +11,10 @@ use Rattle.plumtree.specs.declared.entry.CastOut.TheVariants as OfCast
 use Rattle.plumtree.specs.Broadcast.{Changes, TakesStale, gossip_call}
 use Rattle.plumtree.specs.Rows.{on_broadcast, on_change, on_fresh, on_stale}
 use Rattle.subscriptions.specs.Watching.{with_change}
-use Rattle.node_parts.specs.declared.origin.Origin.{Origin}
-use Rattle.node_parts.specs.declared.origin.Origin.TheVariants.{Write, Gossip}
-use Rattle.node_parts.specs.Origin.{call_of, envelope_with}
-use Rattle.node_parts.specs.Overlay.{envelope, overlay_after_call}
+use Rattle.node_overlay.specs.declared.origin.Origin.{Origin}
+use Rattle.node_overlay.specs.declared.origin.Origin.TheVariants.{Write, Gossip}
+use Rattle.node_overlay.specs.Origin.{call_of, envelope_with}
+use Rattle.node_overlay.specs.Overlay.{envelope, overlay_after_call}
 use Rattle.node_core.specs.Node.{NodeParts, vector_under, with_overlay}
 use Rattle.node_core.specs.Draft.{NodeDraft, call_broadcast, change, envelope_of}
 use Rattle.node_core.specs.Rows.{is_fresh, merge, row_of_gossip}

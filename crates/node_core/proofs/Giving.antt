@@ -35,8 +35,8 @@ use Rattle.plumtree.specs.Missing.{MissingObject}
 use Rattle.plumtree.specs.Draft as cast
 use Rattle.plumtree.specs.Rows.{ask_first, down, ihave_of, keep, next_round, none_missing, noted, on_broadcast, on_change, on_fresh, on_graft, on_ihave, on_prune, on_stale, on_tick, send_announcements, tick_each, tick_one, up}
 use Rattle.plumtree.specs.Broadcast.{Broadcast, CastCall, Up, Down, Broadcasts, TakesFresh, TakesStale, TakesPrune, TakesIHave, TakesGraft, Changes, Tick, draft_of, row}
-use Rattle.node_parts.specs.declared.envelope.Envelope.{Envelope}
-use Rattle.node_parts.specs.Overlay.{envelope, messages_of}
+use Rattle.node_overlay.specs.declared.envelope.Envelope.{Envelope}
+use Rattle.node_overlay.specs.Overlay.{envelope, messages_of}
 use Rattle.node_core.specs.Draft.{envelope_of}
 use Rattle.node_core.specs.Leaving.{IsOfHeld, carried_object}
 use Rattle.node_core.proofs.Answering.{All-flat_map, All-mapped}

@@ -33,11 +33,11 @@ use Rattle.node_events.specs.declared.event.NodeEvent.{NodeEvent}
 use Rattle.node_events.specs.declared.event.NodeEvent.TheVariants.{Read, Write, PutOver, Take, Changes}
 use Rattle.node_events.specs.declared.reply.Reply.{Reply}
 use Rattle.node_events.specs.declared.reply.Reply.TheVariants.{Looked, Wrote, Took, TookFresh, TookStale}
-use Rattle.node_parts.specs.Watches.{at_number, reply_of_changes}
+use Rattle.subscriptions.specs.Watches.{at_number}
 use Rattle.node_core.specs.declared.state.Stepped.{Stepped}
 use Rattle.node_core.specs.Node.{NodeParts, present, vector_under, writer}
 use Rattle.node_core.specs.Rows.{Input, IsInput, Local, Received, is_fresh}
-use Rattle.node_core.specs.Step.{IsNodeStep, IsStepOf, reply_of, reply_of_message}
+use Rattle.node_core.specs.Step.{IsNodeStep, IsStepOf, reply_of, reply_of_changes, reply_of_message}
 use Rattle.node_core.specs.Run.{IsRun}
 use Rattle.node_core.specs.Leaving.{LeavesHeld, carried_object, with_carried}
 use Rattle.node_core.specs.Growing.{ChangesUnder, Descends, HeldIsKept, KeepsKeys, OnlyReadsHandOut, StepGrows, TellsOf, TellsWrite, context_of_write, newest}
@@ -136,6 +136,10 @@ held_rises old event new is read held = subst (λ t. Rises old.table t) (sym hel
 descending : (old new : Table) → IsTable old → Rises old new → Descends old new
 descending old new is more k =
     (descends-Decides (join (object_at new k)) (join (object_at old k)) (IsVector-join (object_at old k) (held_lawful old k is))).1 (more k)
+
+-- a table descends itself
+pub descends_itself : (table : Table) → IsTable table → Descends table table
+descends_itself table is = descending table table is (same_rises table)
 
 from_descends : (v w : List Counter) → descends v w ≡ true → (u : ℕ) → count_for w u ≤ count_for v u
 from_descends v [] e u = omega arith

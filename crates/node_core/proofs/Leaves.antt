@@ -23,10 +23,10 @@ use Rattle.node_events.specs.declared.event.NodeEvent.{NodeEvent}
 use Rattle.node_events.specs.declared.event.NodeEvent.TheVariants.{Read, Write, PutOver, Take, Tick, Join as JoinThrough, PeerDown, Exchange, Keep, Watch, Changes, Hello as SayHello, Leave}
 use Rattle.node_events.specs.declared.fault.StepFault.{StepFault}
 use Rattle.node_events.specs.declared.reply.Reply.{Reply}
-use Rattle.node_parts.specs.declared.envelope.Envelope.{Envelope}
-use Rattle.node_parts.specs.Origin.{is_due}
-use Rattle.node_parts.specs.Outbox.{HasSpelling, count_on, frame_of, frames_from}
-use Rattle.node_parts.specs.Overlay.{envelope, out_of, sent_by_view}
+use Rattle.node_overlay.specs.declared.envelope.Envelope.{Envelope}
+use Rattle.node_overlay.specs.Origin.{is_due}
+use Rattle.node_overlay.specs.Outbox.{HasSpelling, count_on, frame_of, frames_from}
+use Rattle.node_overlay.specs.Overlay.{envelope, out_of, sent_by_view}
 use Rattle.node_core.specs.declared.state.Stepped.{Stepped}
 use Rattle.node_core.specs.Node.{NodeParts, present, vector_under, writer}
 use Rattle.node_core.specs.Draft.{NodeDraft, call_broadcast, change, change_under, envelope_of, hold, note, send_one, send_all, step_views}

@@ -14,7 +14,9 @@ pub mod Casting
 pub mod Answering
 -- an event of the views, a tick and HELLO are those of the table
 pub mod Viewing
--- what comes of bytes that spell a frame
+-- what a watch hands out is what the step replies
+pub mod Handing
+-- what comes of bytes that spell a frame, and the key whose object a step changes
 pub mod Coming
 -- no event has two outcomes, and a run goes on
 pub mod Outcomes
@@ -28,5 +30,7 @@ pub mod Leaves
 pub mod Runs
 -- what a step changes, and that what is held only grows
 pub mod Growing
+-- a table each of whose keys is held in another
+pub mod Within
 -- a store that is filled in the order of a table holds what was gone over
 pub mod Filling

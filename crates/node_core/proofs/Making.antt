@@ -4,9 +4,9 @@ use Rattle.std.proofs.lemmas.List.Elements.{All-same}
 use Rattle.meta_frame.specs.Frame.{spelling}
 use Rattle.node_events.specs.declared.fault.StepFault.{StepFault}
 use Rattle.node_events.specs.declared.reply.Reply.{Reply}
-use Rattle.node_parts.specs.declared.envelope.Envelope.{Envelope}
-use Rattle.node_parts.specs.Outbox.{AreFramesOf, HasSpelling, count_on, frames_from}
-use Rattle.node_parts.proofs.Naming.{same_frames}
+use Rattle.node_overlay.specs.declared.envelope.Envelope.{Envelope}
+use Rattle.node_overlay.specs.Outbox.{AreFramesOf, HasSpelling, count_on, frames_from}
+use Rattle.node_overlay.proofs.Naming.{same_frames}
 use Rattle.node_core.specs.declared.state.Stepped.{Stepped}
 use Rattle.node_core.specs.Node.{NodeParts}
 use Rattle.node_core.specs.Draft.{NodeDraft}

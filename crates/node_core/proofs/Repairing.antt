@@ -16,14 +16,6 @@ use Rattle.node_core.specs.Handling.{Steps}
 use Rattle.node_core.specs.Repair.{CanComeOfRepair, IsRepair, chosen, repair_event}
 use Rattle.node_core.proofs.Outcomes.{refused, stepped}
 
-pub chosen_is : (choice : List ValueParts → ℕ) (siblings : List ValueParts) (place : ℕ)
-    (v : ValueParts) → nat_le 2 (length siblings) ≡ true → place ≡ choice siblings
-    → place < length siblings → v ≡ get_or siblings place v → Some v ≡ chosen choice siblings
-chosen_is choice siblings place v several at within is =
-    sym (ap (λ b. if b then slice_get siblings (choice siblings) else None) several
-    ∙ ap (slice_get siblings) (sym at)
-    ∙ slice_get_read siblings (length siblings) place v refl within is)
-
 -- the siblings that were read are those of the key, and this is the chosen one
 is_event : (choice : List ValueParts → ℕ) (key : Key) (s : NodeParts) (siblings : List ValueParts)
     (v : ValueParts) → siblings ≡ values_of (object_at s.table key)

@@ -14,11 +14,11 @@ use Rattle.meta_store.proofs.Sizes.{held_fits}
 use Rattle.plumtree.specs.Lawful.{MayCome}
 use Rattle.plumtree.specs.Savepoint.{IsOfObjects, Standing, rolled_back, savepoint_of}
 use Rattle.plumtree.proofs.TakingBack.{are_taken_back}
-use Rattle.node_parts.specs.declared.origin.Origin.{Origin}
-use Rattle.node_parts.specs.declared.origin.Origin.TheVariants.{Write, Gossip}
-use Rattle.node_parts.specs.Origin.{HasOtherSender, call_of}
-use Rattle.node_parts.specs.Outbox.{IsSpelledVector}
-use Rattle.node_parts.specs.Overlay.{IsOverlay, Overlay, overlay_of, overlay_after_call}
+use Rattle.node_overlay.specs.declared.origin.Origin.{Origin}
+use Rattle.node_overlay.specs.declared.origin.Origin.TheVariants.{Write, Gossip}
+use Rattle.node_overlay.specs.Origin.{HasOtherSender, call_of}
+use Rattle.node_overlay.specs.Outbox.{IsSpelledVector}
+use Rattle.node_overlay.specs.Overlay.{IsOverlay, Overlay, overlay_of, overlay_after_call}
 use Rattle.node_core.specs.Node.{NodeParts, with_overlay}
 use Rattle.node_core.specs.Changing.{HasRound, IsBehind}
 
@@ -29,14 +29,6 @@ joined_spells es is =
     let count = number_within w16 1 65535 (length es) (held_fits es is).0.0 in
     let size : length (join es) ≡ length es = length-map es _ in
     vector_fits (join es) (IsVector-join es is.lawful) (omega (arith, size, count.most)) (omega (arith, size, count.least))
-
--- if nothing is held, no spelled object is stale
-pub known_by_none : (es : List Entry) → object.Fits es → descends [] (join es) ≡ true → ⊥
-known_by_none [] fits stale = absurd (omega (arith, (number_within w16 1 65535 0 fits.0.0).least))
-known_by_none (e ∷ es) fits stale =
-    let count = number_within w64 1 greatest_count e.count fits.0.1.1.0.1.0 in
-    let first = and_parts (leb e.count 0) (descends [] (join es)) stale in
-    absurd (omega (arith, count.least, leb-true e.count 0 first.0))
 
 -- ---- what the broadcast is told
 

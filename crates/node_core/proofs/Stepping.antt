@@ -12,8 +12,8 @@ use Rattle.meta_store.specs.Step.{object_after_put, refusal_of_put}
 use Rattle.meta_store.proofs.Tables.{object_at-here}
 use Rattle.node_events.specs.Fault.{of_store}
 use Rattle.node_events.specs.declared.reply.Reply.TheVariants.{Wrote}
-use Rattle.node_parts.specs.declared.origin.Origin.TheVariants as OfOrigin
-use Rattle.node_parts.specs.Outbox.{HasSpelling, frames_from}
+use Rattle.node_overlay.specs.declared.origin.Origin.TheVariants as OfOrigin
+use Rattle.node_overlay.specs.Outbox.{HasSpelling, frames_from}
 use Rattle.node_core.specs.declared.state.Stepped.{Stepped}
 use Rattle.node_core.specs.Node.{NodeParts, vector_under, writer}
 use Rattle.node_core.specs.Draft.{NodeDraft}

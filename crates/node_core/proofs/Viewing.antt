@@ -24,11 +24,11 @@ use Rattle.node_events.specs.declared.fault.StepFault.{StepFault}
 use Rattle.node_events.specs.declared.reply.Reply.{Reply}
 use Rattle.node_events.specs.declared.reply.Reply.TheVariants.{Took}
 use Rattle.node_core.specs.declared.state.Stepped.{Stepped}
-use Rattle.node_parts.specs.declared.envelope.Envelope.{Envelope}
-use Rattle.node_parts.specs.Origin.{overlay_after_tick, is_due, whole_messages, sent_by_tick}
-use Rattle.node_parts.specs.Outbox.{HasSpelling, count_on, frames_from}
-use Rattle.node_parts.specs.Overlay.{IsOverlay, Overlay, overlay_after_view, envelope, out_of, sent_by_view, overlay_after_call}
-use Rattle.node_parts.proofs.Naming.{names_others_on}
+use Rattle.node_overlay.specs.declared.envelope.Envelope.{Envelope}
+use Rattle.node_overlay.specs.Origin.{overlay_after_tick, is_due, whole_messages, sent_by_tick}
+use Rattle.node_overlay.specs.Outbox.{HasSpelling, count_on, frames_from}
+use Rattle.node_overlay.specs.Overlay.{IsOverlay, Overlay, overlay_after_view, envelope, out_of, sent_by_view, overlay_after_call}
+use Rattle.node_overlay.proofs.Naming.{names_others_on}
 use Rattle.node_core.specs.Node.{IsInLife, NodeParts, with_overlay}
 use Rattle.node_core.specs.Draft.{NodeDraft, envelope_of, step_views}
 use Rattle.node_core.specs.Rows.{drop_neighbour, hear, row_of_hello, row_of_message, shuffle_if_due, tick}

@@ -9,13 +9,13 @@ use Rattle.plumtree.specs.Broadcast.{Changes}
 use Rattle.plumtree.specs.Savepoint.{rolled_back, savepoint_of}
 use Rattle.subscriptions.specs.declared.change.Change.{Change}
 use Rattle.subscriptions.specs.Watching.{with_change}
-use Rattle.node_parts.specs.declared.envelope.Envelope.{Envelope}
-use Rattle.node_parts.specs.declared.origin.Origin.{Origin}
-use Rattle.node_parts.specs.declared.origin.Origin.TheVariants.{Write, Gossip}
-use Rattle.node_parts.specs.News.{NewsParts}
-use Rattle.node_parts.specs.Origin.{call_of, envelope_with}
-use Rattle.node_parts.specs.Overlay.{out_of, overlay_after_call}
-use Rattle.node_parts.specs.Watches.{hearing_count}
+use Rattle.node_overlay.specs.declared.envelope.Envelope.{Envelope}
+use Rattle.node_overlay.specs.declared.origin.Origin.{Origin}
+use Rattle.node_overlay.specs.declared.origin.Origin.TheVariants.{Write, Gossip}
+use Rattle.subscriptions.specs.News.{NewsParts}
+use Rattle.node_overlay.specs.Origin.{call_of, envelope_with}
+use Rattle.node_overlay.specs.Overlay.{out_of, overlay_after_call}
+use Rattle.subscriptions.specs.Watches.{hearing_count}
 use Rattle.node_core.specs.Node.{NodeParts, with_overlay}
 
 -- the object is held under the key

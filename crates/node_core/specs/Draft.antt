@@ -14,8 +14,8 @@ use Rattle.plumtree.specs.Broadcast.{CastCall, Changes, Broadcasts}
 use Rattle.subscriptions.specs.declared.change.Change.{Change}
 use Rattle.subscriptions.specs.Watching.{with_change}
 use Rattle.node_core.specs.Node.{NodeParts, vector_under, with_overlay}
-use Rattle.node_parts.specs.Overlay.{overlay_after_view, envelope, out_of, sent_by_view, overlay_after_call}
-use Rattle.node_parts.specs.declared.envelope.Envelope.{Envelope}
+use Rattle.node_overlay.specs.Overlay.{overlay_after_view, envelope, out_of, sent_by_view, overlay_after_call}
+use Rattle.node_overlay.specs.declared.envelope.Envelope.{Envelope}
 
 pub record NodeDraft : Type 0 where
   pub parts : NodeParts

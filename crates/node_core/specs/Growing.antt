@@ -39,6 +39,11 @@ IsKeyChanged (PutOver written value) reply key = key ≡ written
 IsKeyChanged (Take bytes word) TookFresh key = CarriesUnder key bytes
 IsKeyChanged event reply key = ⊥
 
+-- this is the key under which it changed what is held, or none if it changed nothing
+abbrev pub TellsKeyChanged : NodeEvent → Reply → Option Key → Type 0
+TellsKeyChanged event reply None = (key : Key) → IsKeyChanged event reply key → ⊥
+TellsKeyChanged event reply (Some key) = IsKeyChanged event reply key
+
 -- under that key there may be another object now, and all else is as before; if there is no such
 -- key, all is as before
 pub record ChangesUnder (event : NodeEvent) (reply : Reply) (old new : Table) : Type 0 where

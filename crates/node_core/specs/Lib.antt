@@ -1,10 +1,10 @@
 -- What must be believed of one node, in the order in which to read it.
 -- whom it talks to, and what always holds of that
-pub use Rattle.node_parts.specs.Overlay
+pub use Rattle.node_overlay.specs.Overlay
 -- its frames
-pub use Rattle.node_parts.specs.Outbox
+pub use Rattle.node_overlay.specs.Outbox
 -- who watches it
-pub use Rattle.node_parts.specs.Watches
+pub use Rattle.subscriptions.specs.Watches
 -- one node
 pub mod Node
 -- a node in the midst of a step, and the small steps that the rows are made of

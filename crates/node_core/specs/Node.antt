@@ -8,9 +8,9 @@ use Rattle.dvvset.specs.Object.{Counter}
 use Rattle.meta_store.specs.Context.{Reading, reading_at}
 use Rattle.meta_store.specs.Table.{Table, object_at}
 use Rattle.subscriptions.specs.Watching.{Watching}
-use Rattle.node_parts.specs.Outbox.{count_on}
-use Rattle.node_parts.specs.Overlay.{IsOverlay, Overlay, empty_overlay}
-use Rattle.node_parts.specs.Watches.{most_watches}
+use Rattle.node_overlay.specs.Outbox.{count_on}
+use Rattle.node_overlay.specs.Overlay.{IsOverlay, Overlay, empty_overlay}
+use Rattle.subscriptions.specs.Watches.{most_watches}
 
 -- which node it is, and in which of its lives; what it holds, whom it talks to, and who watches it;
 -- the greatest life that it heard of each of the sixteen nodes, in the order of their numbers, 0 if

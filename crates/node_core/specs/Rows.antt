@@ -20,9 +20,9 @@ use Rattle.plumtree.specs.Broadcast.{TakesPrune, TakesIHave, TakesGraft, Tick as
 use Rattle.subscriptions.specs.Watching.{empty}
 use Rattle.node_events.specs.declared.event.NodeEvent.{NodeEvent}
 use Rattle.node_events.specs.declared.event.NodeEvent.TheVariants.{Read, Write, PutOver, Take, Tick, Join, PeerDown, Exchange, Keep, Watch, Changes, Hello as SayHello, Leave}
-use Rattle.node_parts.specs.Origin.{is_due}
-use Rattle.node_parts.specs.Outbox.{count_on}
-use Rattle.node_parts.specs.Watches.{hand_out}
+use Rattle.node_overlay.specs.Origin.{is_due}
+use Rattle.node_overlay.specs.Outbox.{count_on}
+use Rattle.subscriptions.specs.Watches.{hand_out}
 use Rattle.node_core.specs.Node.{NodeParts, present, vector_under, writer}
 use Rattle.node_core.specs.Draft.{NodeDraft, send_one, send_all, call_broadcast, step_views, change, broadcast_held}
 use Rattle.meta_types.specs.Chain.{◌▷◌}

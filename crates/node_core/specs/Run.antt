@@ -4,7 +4,7 @@ use Rattle.node_events.specs.declared.event.NodeEvent.{NodeEvent}
 use Rattle.node_events.specs.declared.fault.StepFault.{StepFault}
 use Rattle.node_events.specs.declared.fault.StepFault.TheVariants.{Memory}
 use Rattle.node_core.specs.declared.state.Stepped.{Stepped}
-use Rattle.node_parts.specs.Outbox.{count_on}
+use Rattle.node_overlay.specs.Outbox.{count_on}
 use Rattle.node_core.specs.Node.{NodeParts}
 use Rattle.node_core.specs.Step.{CanComeOf, IsNodeStep}
 

@@ -14,16 +14,17 @@ use Rattle.meta_frame.specs.Frame.{RefusesBytes, spelling}
 use Rattle.meta_store.specs.Context.{Reading}
 use Rattle.meta_store.specs.Step.{refusal_of_merge, refusal_of_put}
 use Rattle.meta_store.specs.Table.{object_at}
-use Rattle.node_events.specs.Fault.{of_store}
+use Rattle.subscriptions.specs.Watching.{Watching}
+use Rattle.subscriptions.specs.Watches.{at_number, refusal_of_changes, refusal_of_watch}
+use Rattle.node_events.specs.Fault.{of_store, of_watch}
 use Rattle.node_events.specs.declared.fault.StepFault.{StepFault}
 use Rattle.node_events.specs.declared.fault.StepFault.TheVariants.{BadNode, NotAddressed, Frame as OfFrame, Memory}
 use Rattle.node_events.specs.declared.event.NodeEvent.{NodeEvent}
 use Rattle.node_events.specs.declared.event.NodeEvent.TheVariants.{Take, Read, Write, PutOver, Join, PeerDown, Exchange, Watch, Changes, Hello}
 use Rattle.node_events.specs.declared.reply.Reply.{Reply}
-use Rattle.node_events.specs.declared.reply.Reply.TheVariants.{Looked, Wrote, Took, TookFresh, TookStale, Done, Watching as IsWatching}
+use Rattle.node_events.specs.declared.reply.Reply.TheVariants.{Looked, Wrote, Took, TookFresh, TookStale, Done, Watching as IsWatching, Changed}
 use Rattle.node_core.specs.declared.state.Stepped.{Stepped}
-use Rattle.node_parts.specs.Outbox.{HasSpelling, count_on, frames_from}
-use Rattle.node_parts.specs.Watches.{at_number, refusal_of_changes, refusal_of_watch, reply_of_changes}
+use Rattle.node_overlay.specs.Outbox.{HasSpelling, count_on, frames_from}
 use Rattle.node_core.specs.Node.{NodeParts, present, vector_under, writer}
 use Rattle.node_core.specs.Draft.{NodeDraft}
 use Rattle.node_core.specs.Rows.{Local, Received, Input, IsInput, is_fresh, row_of_input}
@@ -56,8 +57,10 @@ refusal_of_event (Join contact word) s = refusal_of_peer contact s
 refusal_of_event (PeerDown peer word) s = refusal_of_peer peer s
 refusal_of_event (Exchange peer) s = refusal_of_peer peer s
 refusal_of_event (Hello peer) s = refusal_of_peer peer s
-refusal_of_event (Watch prefix capacity) s = refusal_of_watch capacity s.watches
-refusal_of_event (Changes number) s = refusal_of_changes number s.watches
+refusal_of_event (Watch prefix capacity) s =
+    option_map of_watch (refusal_of_watch capacity s.watches)
+refusal_of_event (Changes number) s =
+    option_map of_watch (refusal_of_changes number s.watches)
 refusal_of_event event s = None
 
 abbrev pub refusal_of : Input → NodeParts → Option StepFault
@@ -88,6 +91,11 @@ abbrev pub reply_of_message : Message → NodeParts → Reply
 reply_of_message (Gossip round key object) s = reply_of_object key object s
 reply_of_message (XObject key object) s = reply_of_object key object s
 reply_of_message message s = Took
+
+-- what a watch hands out
+abbrev pub reply_of_changes : Option Watching → Reply
+reply_of_changes None = Done
+reply_of_changes (Some w) = Changed w.missed w.changes
 
 abbrev pub reply_of : Input → NodeParts → Reply
 reply_of (Local (Read key)) s = Looked (values_of (object_at s.table key)) (present key s)

@@ -3,7 +3,7 @@
 ghost use Rattle.std.specs.Prelude.{◌≡◌, ◌≢◌, true};
 ghost use Rattle.meta_frame.specs.declared.message.Message.TheVariants.{Graft, IHave, Prune};
 ghost use Rattle.meta_store.specs.Table.{is_stale};
-ghost use Rattle.node_parts.specs.Outbox.{IsSpelledVector};
+ghost use Rattle.node_overlay.specs.Outbox.{IsSpelledVector};
 ghost use Rattle.node_core.specs.Handling.{StepsOnMessage};
 
 use crate::state::{NodeState, Stepped};

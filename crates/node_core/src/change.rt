@@ -7,16 +7,17 @@ ghost use Rattle.meta_frame.specs.Frame.{spelling};
 ghost use Rattle.meta_store.specs.Step.{is_full_for};
 ghost use Rattle.meta_store.specs.Table.{IsHeld};
 ghost use Rattle.node_core.specs.Changing.{AreNews, HasRound, IsBehind, change_to, gossips, holding, noting, spreading};
-ghost use Rattle.node_parts.specs.Origin.{HasOtherSender};
-ghost use Rattle.node_parts.specs.Outbox.{HasSpelling, frames_from};
-ghost use Rattle.node_parts.specs.Watches.{hearing_count};
+ghost use Rattle.node_overlay.specs.Origin.{HasOtherSender};
+ghost use Rattle.node_overlay.specs.Outbox.{HasSpelling, frames_from};
+ghost use Rattle.subscriptions.specs.Watches.{hearing_count};
 ghost use Rattle.node_events.specs.declared.fault.StepFault.TheVariants.{Memory};
 
 use crate::state::NodeState;
 use dvvset::{Entries, Vector, join};
 use meta_types::MetaKey;
 use node_events::{Outbox, StepFault};
-use node_parts::{News, Origin, gossips};
+use node_overlay::{Origin, gossips};
+use subscriptions::News;
 
 impl NodeState {
     /// Holds this object under the key, and tells all that hear of it. Returns its vector, and the

@@ -3,8 +3,8 @@
 
 ghost use Rattle.std.specs.Prelude.{◌≡◌, ◌∷◌, [], All, IfOk, IfErr, length, map};
 ghost use Rattle.meta_frame.specs.Frame.{spelling};
-ghost use Rattle.node_parts.specs.Outbox.{HasSpelling, MaySend, frames_from};
-ghost use Rattle.node_parts.specs.Overlay.{envelope};
+ghost use Rattle.node_overlay.specs.Outbox.{HasSpelling, MaySend, frames_from};
+ghost use Rattle.node_overlay.specs.Overlay.{envelope};
 ghost use Rattle.node_core.specs.Step.{with_counts};
 ghost use Rattle.node_events.specs.declared.fault.StepFault.TheVariants.{Memory};
 
@@ -12,7 +12,7 @@ use crate::state::{NodeState, Stepped};
 use meta_frame::Message;
 use meta_types::NodeId;
 use node_events::{Outbox, Reply, StepFault};
-use node_parts::{Envelope, outbox};
+use node_overlay::{Envelope, outbox};
 
 impl NodeState {
     /// Returns the frames of these messages, with the numbers that come next. Fails only when

@@ -11,7 +11,7 @@ use crate::state::{NodeState, Stepped};
 use dvvset::Entries;
 use meta_types::{MetaKey, NodeId};
 use node_events::{Reply, StepFault};
-use node_parts::Origin;
+use node_overlay::Origin;
 
 impl NodeState {
     /// Takes a GOSSIP: what wasn't known is merged and passed on.

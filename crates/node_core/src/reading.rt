@@ -2,7 +2,7 @@
 
 ghost use Rattle.std.specs.Prelude.{◌≡◌};
 ghost use Rattle.node_core.specs.Node.{writer};
-ghost use Rattle.node_parts.specs.Outbox.{count_on};
+ghost use Rattle.node_overlay.specs.Outbox.{count_on};
 ghost use Rattle.node_core.specs.Rows.{Local};
 ghost use Rattle.node_core.specs.Step.{IsStepOf};
 ghost use Rattle.node_events.specs.declared.event.NodeEvent.TheVariants.{Keep, Read};

@@ -2,7 +2,7 @@ ghost use Rattle.std.specs.Prelude.{◌≡◌, ◌↔◌, ◌≤◌, [], IfErr, 
 ghost use Rattle.hash_tree.specs.Tree.{rows_of};
 ghost use Rattle.meta_store.specs.Table.{IsTable};
 ghost use Rattle.node_core.specs.Node.{IsNodeState, opening};
-ghost use Rattle.node_parts.specs.Overlay.{ArePeers};
+ghost use Rattle.node_overlay.specs.Overlay.{ArePeers};
 
 use crate::table::store_of;
 use dvvset::Entries;
@@ -10,13 +10,13 @@ use hash_tree::{Held, Tree};
 use hyparview::Views;
 use meta_store::Store;
 use meta_types::node::MAX_NODES;
-use meta_types::{MetaKey, NodeId};
+use meta_types::{MetaKey, NodeId, both};
 use node_events::{Outbox, Reply};
-use node_parts::{Overlay, Watches, both};
+use node_overlay::Overlay;
 use plumtree::Cast;
 use std::alloc::{AllocError, AllocFailed, Global};
 use std::marker::Model;
-use subscriptions::Watch;
+use subscriptions::{Watch, Watches};
 
 /// What a step gives: the reply, and the frames to send.
 #[derive(Debug, Drop)]

@@ -1,22 +1,23 @@
 //! Frames that come.
 
-ghost use Rattle.std.specs.Prelude.{◌≡◌, ◌≢◌, IfOk, IfErr, All, map};
+ghost use Rattle.std.specs.Prelude.{◌≡◌, ◌≢◌, ◌⊎◌, IfOk, IfErr, OnErr, Some, All, map};
 ghost use Rattle.exchange.specs.Answers.{answers_to};
 ghost use Rattle.meta_frame.specs.Frame.{IsLawful, IsMessage};
-ghost use Rattle.node_parts.specs.Outbox.{MaySend};
-ghost use Rattle.node_parts.specs.Overlay.{envelope};
+ghost use Rattle.node_overlay.specs.Outbox.{MaySend};
+ghost use Rattle.node_overlay.specs.Overlay.{envelope};
 ghost use Rattle.node_core.specs.Rows.{Received};
-ghost use Rattle.node_core.specs.Step.{IsNodeStep, Rejects};
+ghost use Rattle.node_core.specs.Growing.{TellsKeyChanged};
+ghost use Rattle.node_core.specs.Step.{IsNodeStep, IsStepOf, Rejects, refusal_of};
 ghost use Rattle.node_events.specs.declared.event.NodeEvent.TheVariants.{Take};
 ghost use Rattle.node_events.specs.declared.fault.StepFault.TheVariants.{Memory};
-ghost use Rattle.node_core.specs.Handling.{Steps, StepsOnMessage, IsQuestion};
+ghost use Rattle.node_core.specs.Handling.{IsQuestion, Steps, StepsOnMessage, carried_key, key_if_fresh};
 
 use crate::state::{NodeState, Stepped};
 use exchange::answer;
 use meta_frame::{Frame, Message, decode};
-use meta_types::{ByteString, NodeId};
+use meta_types::{ByteString, MetaKey, NodeId};
 use node_events::{Reply, StepFault};
-use node_parts::Envelope;
+use node_overlay::Envelope;
 use std::alloc::{AllocError, Global};
 
 impl NodeState {
@@ -32,6 +33,47 @@ impl NodeState {
         let taken = self.receive(&frame, word);
         drop(frame);
         taken
+    }
+
+    /// Takes them, and returns the key of the object that they brought, too, if it was fresh.
+    pub(crate) fn take_changing(
+        &mut self,
+        bytes: &ByteString,
+        word: u64,
+    ) -> Result<(Stepped, Option<MetaKey>), StepFault>
+        ensures step { IfOk result
+            (λ taken. IsNodeStep self.old (Take bytes.now word) self.new taken.0) }
+        ensures key { IfOk result
+            (λ taken. TellsKeyChanged (Take bytes.now word) taken.0.reply taken.1) }
+        ensures refused { IfErr result
+            (λ fault. Rejects self.old (Take bytes.now word) fault self.new) }
+    {
+        let frame = decode(self.alloc, bytes.as_slice())?;
+        let taken = self.receive_changing(&frame, word);
+        drop(frame);
+        taken
+    }
+
+    /// Takes a frame, and returns the key of its object, too, if it was fresh. The key is copied
+    /// before anything changes.
+    fn receive_changing(
+        &mut self,
+        frame: &Frame,
+        word: u64,
+    ) -> Result<(Stepped, Option<MetaKey>), StepFault>
+        requires { IsLawful frame.now }
+        ensures step { IfOk result
+            (λ taken. IsStepOf self.old (Received frame.now word) self.new taken.0) }
+        ensures key { IfOk result
+            (λ taken. taken.1 ≡ key_if_fresh taken.0.reply (carried_key frame.now.message)) }
+        ensures refused { IfErr result (λ fault.
+            (fault ≡ Memory) ⊎ (refusal_of (Received frame.now word) self.old ≡ Some fault)) }
+        ensures same { OnErr result (self.new ≡ self.old) }
+    {
+        let carried = carried_key(&frame.message)?;
+        let stepped = self.receive(frame, word)?;
+        let key = key_if_fresh(&stepped.reply, carried);
+        Ok((stepped, key))
     }
 
     fn receive(&mut self, frame: &Frame, word: u64) -> Result<Stepped, StepFault>
@@ -102,6 +144,25 @@ impl NodeState {
         let _few = self.held.store().len();
         let messages = answer(self.alloc, &self.held, message)?;
         Ok(addressed(self.alloc, to, messages)?)
+    }
+}
+
+/// Returns a copy of the key of the object that a message carries. Fails only when memory runs out.
+fn carried_key(message: &Message) -> Result<Option<MetaKey>, AllocError>
+    ensures { IfOk result (λ key. key ≡ carried_key message.now) }
+{
+    match message {
+        Message::Gossip { key, .. } | Message::XObject { key, .. } => Ok(Some(key.copy()?)),
+        _ => Ok(None),
+    }
+}
+
+fn key_if_fresh(reply: &Reply, key: Option<MetaKey>) -> Option<MetaKey>
+    ensures { result ≡ key_if_fresh reply.now key }
+{
+    match reply {
+        Reply::TookFresh => key,
+        _ => None,
     }
 }
 

@@ -1,12 +1,13 @@
 //! Events of those who watch a node.
 
 ghost use Rattle.node_core.specs.Rows.{Local};
-ghost use Rattle.node_events.specs.declared.event.NodeEvent.TheVariants.{Changes, Watch};
+ghost use Rattle.node_events.specs.declared.event.NodeEvent.TheVariants.{Changes as TakesChanges, Watch};
 ghost use Rattle.node_core.specs.Handling.{Steps};
 
 use crate::state::{NodeState, Stepped};
 use meta_types::FullPrefix;
-use node_events::{Reply, StepFault};
+use node_events::{Changes, Reply, StepFault};
+use subscriptions::HandedOut;
 
 impl NodeState {
     /// Adds a watch of the changes under the prefix.
@@ -22,10 +23,12 @@ impl NodeState {
     }
 
     /// Hands out what a watch has noted.
+    #[tactic(auto, using(crate::proofs::Handing::replied))]
     pub(crate) fn changes(&mut self, number: u64) -> Result<Stepped, StepFault>
-        ensures { Steps self.old (Local (Changes number)) result self.new }
+        ensures { Steps self.old (Local (TakesChanges number)) result self.new }
     {
-        let reply = self.watches.hand_out(number)?;
-        Ok(self.finish(reply, self.nothing_sent()))
+        let HandedOut { missed, changes } = self.watches.hand_out(number)?;
+        let changes = Changes::new(changes);
+        Ok(self.finish(Reply::Changed { missed, changes }, self.nothing_sent()))
     }
 }

@@ -9,7 +9,7 @@ use crate::state::{NodeState, Stepped};
 use meta_store::Context;
 use meta_types::{MetaKey, Value};
 use node_events::{Reply, StepFault};
-use node_parts::Origin;
+use node_overlay::Origin;
 
 impl NodeState {
     /// Writes a value, which has read what the context says, or nothing.

@@ -27,16 +27,17 @@ use Rattle.node_file.specs.declared.fault.FileFault.TheVariants as OfFile
 use Rattle.node_file.specs.declared.record.Record.{Record}
 use Rattle.node_file.specs.File.{FileState}
 use Rattle.node_file.specs.View.{FileView}
-use Rattle.node_history.specs.Published.{Published, with_all}
-use Rattle.desk_parts.specs.declared.fault.LockFault.{LockFault}
-use Rattle.desk_parts.specs.declared.fault.LockFault.TheVariants.{Step, FileFull, Device, JournalFull, Memory}
-use Rattle.desk_parts.specs.Fault.{of_append}
-use Rattle.desk_parts.specs.Journaled.{IsJournaled, IsPublishedBy, TellsOfEntry}
-use Rattle.desk_parts.specs.Ready.{IsFullFor, IsKnownStep, Prevents, listed}
-use Rattle.desk_parts.specs.Stored.{IsStoredOf, LeavesOfEvent, LeavesRecord, RefusesStoring, object_record, record_after, record_under, with_stored}
-use Rattle.desk_parts.proofs.Files.{within_stored}
-use Rattle.desk_parts.proofs.Listing.{ends_on, list_on}
-use Rattle.desk_parts.proofs.Runs.{journaled_on, run_of}
+use Rattle.node_readers.specs.Published.{Published, with_all}
+use Rattle.node_call.specs.declared.fault.LockFault.{LockFault}
+use Rattle.node_call.specs.declared.fault.LockFault.TheVariants.{Step, FileFull, Device, JournalFull, Memory}
+use Rattle.node_call.specs.Fault.{of_append}
+use Rattle.node_call.specs.Journaled.{IsJournaled, IsPublishedBy, TellsOfEntry}
+use Rattle.node_call.specs.Ready.{IsFullFor, IsKnownStep, Prevents, listed}
+use Rattle.node_file.specs.Stored.{LeavesRecord, RefusesStoring, object_record, record_under, with_stored}
+use Rattle.node_call.specs.Stored.{IsStoredOf, LeavesOfEvent, record_after}
+use Rattle.node_call.proofs.Files.{within_stored}
+use Rattle.node_call.proofs.Listing.{ends_on, list_on}
+use Rattle.node_call.proofs.Runs.{journaled_on, run_of}
 use Rattle.node_desk.specs.Acting.{IsFull, Refuses, RefusesKeeping}
 use Rattle.node_desk.specs.Desk.{BeganWith, DeskView, IsOfLife}
 
@@ -132,16 +133,6 @@ leaves_of content moment left_since from to old new event e is step leaves =
     subst (λ ev. LeavesOnly moment left_since from to (LeavesOfEvent old ev (content from))) is
     (weaker moment left_since from to (LeavesRecord (content from) (record_after e.event new.table)) (LeavesOfEvent old e.event (content from)) leaves
     (λ c left. inr (record { new = new; stepped = stepped_of e; step = step; left = left })))
-
--- what prevents that anything is made ready refuses the call
-pub prevented : {D : Type 0} (failed : D → ℕ) (old new : DeskView D) (event : NodeEvent)
-    (fault : LockFault) → new.stopped ≡ false
-    → Prevents old.state event old.limit (length old.journal) fault
-    → Refuses failed old event fault new
-prevented failed old new event (Step fault) going is = (is.0, (is.1, going))
-prevented failed old new event JournalFull going is = (is.0, (is.1, going))
-prevented failed old new event Memory going is = λ stops. let clash : true ≡ false = sym stops ∙ going in absurd (cc)
-prevented failed old new event _ going is = absurd is
 
 pub not_full : (limit count steps : ℕ) → (count < limit) × (steps < 2 ^ 64 - 1)
     → IsFullFor limit count steps → ⊥

@@ -9,13 +9,14 @@ use Rattle.node_events.specs.declared.reply.Reply.{Reply}
 use Rattle.node_core.specs.Growing.{IsKeyChanged}
 use Rattle.node_core.specs.Step.{CanComeOf}
 use Rattle.node_file.specs.declared.record.Record.{Record}
-use Rattle.node_history.specs.Published.{Published}
-use Rattle.desk_parts.specs.declared.fault.LockFault.{LockFault}
-use Rattle.desk_parts.specs.declared.fault.LockFault.TheVariants.{Step, Device, FileFull, Stopped, JournalFull, Memory}
-use Rattle.desk_parts.specs.Ready.{CanStep, IsFullFor}
+use Rattle.node_readers.specs.Published.{Published}
+use Rattle.node_call.specs.declared.fault.LockFault.{LockFault}
+use Rattle.node_call.specs.declared.fault.LockFault.TheVariants.{Step, Device, FileFull, Stopped, JournalFull, Memory}
+use Rattle.node_call.specs.Ready.{CanStep, IsFullFor}
 use Rattle.node_desk.specs.Desk.{DeskView}
-use Rattle.desk_parts.specs.Journaled.{IsPublishedBy}
-use Rattle.desk_parts.specs.Stored.{IsTooLong, record_after}
+use Rattle.node_call.specs.Journaled.{IsPublishedBy}
+use Rattle.node_file.specs.Stored.{IsTooLong}
+use Rattle.node_call.specs.Stored.{record_after}
 
 -- the list goes on by what the event published, of what is held then
 pub record ListsChange (event : NodeEvent) (reply : Reply) (held : Table) (old new : List Published)

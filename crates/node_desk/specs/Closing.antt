@@ -5,10 +5,10 @@ use Rattle.node_core.specs.Node.{NodeParts}
 use Rattle.node_core.specs.Run.{IsRun}
 use Rattle.node_journal.specs.Closed.{ClosedNode}
 use Rattle.node_journal.specs.Entry.{step_of}
-use Rattle.node_history.specs.Published.{Published}
+use Rattle.node_readers.specs.Published.{Published}
 use Rattle.node_readers.specs.Views.{SeatView}
-use Rattle.desk_parts.specs.declared.fault.LockFault.{LockFault}
-use Rattle.desk_parts.specs.declared.fault.LockFault.TheVariants.{SeatsMissing, Stopped}
+use Rattle.node_call.specs.declared.fault.LockFault.{LockFault}
+use Rattle.node_call.specs.declared.fault.LockFault.TheVariants.{SeatsMissing, Stopped}
 
 -- its journal is a run of the node from its base, which ends with its table
 pub record EndsWithTable (c : ClosedNode) : Type 0 where

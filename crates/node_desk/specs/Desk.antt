@@ -9,10 +9,10 @@ use Rattle.node_events.specs.declared.event.NodeEvent.{NodeEvent}
 use Rattle.node_journal.specs.declared.entry.Entry.{Entry}
 use Rattle.node_journal.specs.declared.receipt.Receipt.{Receipt}
 use Rattle.node_journal.specs.Entry.{step_of}
-use Rattle.node_history.specs.Published.{Published}
-use Rattle.desk_parts.specs.Stored.{IsStoredOf}
-use Rattle.desk_parts.specs.declared.fault.LockFault.{LockFault}
-use Rattle.desk_parts.specs.declared.fault.LockFault.TheVariants.{NoSeat, Stopped}
+use Rattle.node_readers.specs.Published.{Published}
+use Rattle.node_call.specs.Stored.{IsStoredOf}
+use Rattle.node_call.specs.declared.fault.LockFault.{LockFault}
+use Rattle.node_call.specs.declared.fault.LockFault.TheVariants.{NoSeat, Stopped}
 
 -- the state from which the journal began, the state now, and the journal between them; all that was
 -- published; the file; how many write seats are out; how many calls were counted by seats that were

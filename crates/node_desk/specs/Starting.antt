@@ -6,8 +6,8 @@ use Rattle.node_core.specs.Node.{NodeParts}
 use Rattle.node_file.specs.File.{file_state}
 use Rattle.node_file.specs.View.{FileView}
 use Rattle.node_readers.specs.Views.{SeatView}
-use Rattle.desk_parts.specs.declared.fault.LockFault.{LockFault}
-use Rattle.desk_parts.specs.declared.fault.LockFault.TheVariants.{BadLimit, NoSeat, Memory}
+use Rattle.node_call.specs.declared.fault.LockFault.{LockFault}
+use Rattle.node_call.specs.declared.fault.LockFault.TheVariants.{BadLimit, NoSeat, Memory}
 use Rattle.node_desk.specs.declared.starting.Capacity.{Capacity}
 use Rattle.node_desk.specs.Desk.{DeskView, most_seats}
 

@@ -1,17 +1,17 @@
 //! What is left of a node when it is closed.
 
 ghost use Rattle.std.specs.Prelude.{◌≡◌, ◌≢◌, ◌+◌, ◌↔◌, IsTrue, length, sum_by, All, IfOk, IfErr, OnOk};
-ghost use Rattle.node_history.specs.Published.{with_all};
-ghost use Rattle.desk_parts.specs.Journaled.{IsJournaled};
+ghost use Rattle.node_readers.specs.Published.{with_all};
+ghost use Rattle.node_call.specs.Journaled.{IsJournaled};
 ghost use Rattle.node_desk.specs.Closing.{EndsWithTable, IsWithin, RefusesClosing};
 ghost use Rattle.node_desk.specs.Desk.{BeganWith};
 
 use crate::desk::Desk;
-use desk_parts::{LockFault, WriteSeat, merge_all};
+use crate::outlets::Outlets;
 use devices::Device;
-use node_history::Naming;
+use node_call::{LockFault, WriteSeat, merge_all};
 use node_journal::Closed;
-use node_readers::{Publisher, ReadSeat};
+use node_readers::{Naming, Publisher, ReadSeat};
 use std::sync::Wait;
 
 /// A desk that wasn't closed: why, and what was handed in.
@@ -59,7 +59,7 @@ impl<D: Device + Drop, J: Naming, H: Wait + Drop> Desk<D, J, H> {
                 seats,
             });
         }
-        if !all_within(&self.publisher, readers) {
+        if !all_within(&self.outlets.publisher, readers) {
             return Err(NotClosed {
                 fault: LockFault::Stopped,
                 desk: self,
@@ -71,13 +71,17 @@ impl<D: Device + Drop, J: Naming, H: Wait + Drop> Desk<D, J, H> {
             state,
             spare,
             journal,
-            file,
-            publisher,
-            tail,
+            outlets,
             mut counts,
             mut rest,
             ..
         } = self;
+        let Outlets {
+            file,
+            publisher,
+            tail,
+            ..
+        } = outlets;
         drop((spare, publisher, tail));
         merge_all(&mut rest, seats);
         counts.audit(&mut rest);

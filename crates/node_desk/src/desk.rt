@@ -1,11 +1,10 @@
 //! What lies under a node's lock.
 
+use crate::outlets::Outlets;
 use devices::Device;
 use node_core::NodeState;
-use node_file::NodeFile;
-use node_history::{Naming, Tail};
 use node_journal::Entry;
-use node_readers::Publisher;
+use node_readers::Naming;
 use std::alloc::Global;
 use std::marker::Model;
 use std::sync::Wait;
@@ -32,23 +31,20 @@ pub struct Desk<D: Device + Drop, J: Naming, H: Wait + Drop> {
     /// Whether the spare is known to be the state.
     pub(crate) is_even: bool,
     pub(crate) journal: Vec<Entry>,
-    pub(crate) file: NodeFile<D>,
-    pub(crate) publisher: Publisher<J, H>,
-    pub(crate) tail: Tail<J>,
+    pub(crate) outlets: Outlets<D, J, H>,
     pub(crate) counts: Book<J>,
     /// The share of those seats that aren't out, with what was counted by those that were given up.
     pub(crate) rest: Share<J>,
     /// How many seats are out.
     pub(crate) out: u64,
-    pub(crate) is_stopped: bool,
 }
 
 impl<D: Device + Drop, J: Naming, H: Wait + Drop> Model for Desk<D, J, H> {
     ghost use Rattle.std.specs.Prelude.{◌≡◌, ◌+◌, true, false, length};
-    ghost use Rattle.node_history.specs.Published.{with_all};
+    ghost use Rattle.node_readers.specs.Published.{with_all};
     ghost use Rattle.node_file.specs.File.{file_state};
     ghost use Rattle.node_desk.specs.Desk.{BeganWith, DeskView, IsGoing, IsOfLife};
-    ghost use Rattle.desk_parts.specs.Journaled.{IsJournaled};
+    ghost use Rattle.node_call.specs.Journaled.{IsJournaled};
 
     ghost Value = { DeskView D };
 
@@ -56,23 +52,24 @@ impl<D: Device + Drop, J: Naming, H: Wait + Drop> Model for Desk<D, J, H> {
       base = d.base;
       state = d.state;
       journal = d.journal.items;
-      list = d.publisher.list;
-      file = d.file;
+      list = d.outlets.publisher.list;
+      file = d.outlets.file;
       out = d.out;
       given_up = d.rest.amount;
       limit = d.limit;
-      stopped = d.is_stopped;
+      stopped = d.outlets.is_stopped;
     } };
 
-    ghost invariant = { λ d. IsJournaled d.base d.state d.journal.items d.publisher.list
+    ghost invariant = { λ d. IsJournaled d.base d.state d.journal.items d.outlets.publisher.list
         × BeganWith J.node J.incarnation J.opening d.base
         × IsOfLife J.node J.incarnation d.state
         × (d.counts.total ≡ d.state.steps)
         × (d.base.steps + length d.journal.items ≡ d.state.steps)
         × (d.rest.parts + d.out ≡ J.parts)
-        × (with_all J.opening d.publisher.list ≡ d.state.table)
+        × (with_all J.opening d.outlets.publisher.list ≡ d.state.table)
         × (d.is_even ≡ true → d.spare ≡ d.state)
-        × (d.file.is_served ≡ true)
-        × (d.is_stopped ≡ false → IsGoing d.file.is_stopped d.publisher.stopped
-        (file_state (D.content d.file.device)).contents.table d.state.table) };
+        × (d.outlets.file.is_served ≡ true)
+        × (d.outlets.is_stopped ≡ false
+        → IsGoing d.outlets.file.is_stopped d.outlets.publisher.stopped
+        (file_state (D.content d.outlets.file.device)).contents.table d.state.table) };
 }

@@ -7,13 +7,14 @@
 //! reader.learn(done.revision()); // from here on this reader shows it or what came later
 //! ```
 //!
-//! Read `desk` (`Desk::act`), `seats`, `starting` and `closing`; `desk_parts` has what a call is
+//! Read `desk` (`Desk::act`), `seats`, `starting` and `closing`; `node_call` has what a call is
 //! made of.
 #![tactic(auto)]
 
 mod acting;
 mod closing;
 mod desk;
+mod outlets;
 mod seats;
 mod starting;
 

@@ -2,12 +2,12 @@
 
 ghost use Rattle.std.specs.Prelude.{◌≡◌, ◌+◌, ◌≤◌, ◌⊎◌, [], true, length, Some, None, Err, IfOk, IfErr, OnOk, OnErr};
 ghost use Rattle.node_desk.specs.Desk.{KeepsButJournal, KeepsButSeats, refusal_of_seat};
-ghost use Rattle.desk_parts.specs.declared.fault.LockFault.TheVariants.{Memory, Stopped};
+ghost use Rattle.node_call.specs.declared.fault.LockFault.TheVariants.{Memory, Stopped};
 
 use crate::desk::{Desk, MAX_SEATS};
-use desk_parts::{LockFault, WriteSeat};
 use devices::Device;
-use node_history::Naming;
+use node_call::{LockFault, WriteSeat};
+use node_readers::Naming;
 use std::mem::replace;
 use std::sync::Wait;
 
@@ -26,7 +26,7 @@ impl<D: Device + Drop, J: Naming, H: Wait + Drop> Desk<D, J, H> {
             ⊎ ((fault ≡ Stopped) × (self.old.stopped ≡ true))) }
         ensures same { OnErr result (self.new ≡ self.old) }
     {
-        if self.is_stopped {
+        if self.outlets.is_stopped {
             return Err(LockFault::Stopped);
         }
         let state = self.state.copy()?;
@@ -52,7 +52,7 @@ impl<D: Device + Drop, J: Naming, H: Wait + Drop> Desk<D, J, H> {
         if self.out >= MAX_SEATS {
             return Err(LockFault::NoSeat);
         }
-        if self.is_stopped {
+        if self.outlets.is_stopped {
             return Err(LockFault::Stopped);
         }
         let share = self.rest.split_off(1, 0);

@@ -4,18 +4,17 @@ ghost use Rattle.std.specs.Prelude.{◌≡◌, ◌≤◌, ◌<◌, ◌+◌, ◌^
 ghost use Rattle.meta_store.specs.Table.{IsTable};
 ghost use Rattle.node_core.specs.Node.{opening};
 ghost use Rattle.node_desk.specs.Starting.{AreNewReaders, AreNewWriters, IsFileOf, RefusesStarting, new_desk, refusal_of_start};
-ghost use Rattle.desk_parts.specs.declared.fault.LockFault.TheVariants.{Memory};
+ghost use Rattle.node_call.specs.declared.fault.LockFault.TheVariants.{Memory};
 
 use crate::desk::{Desk, MAX_SEATS};
-use desk_parts::{LockFault, WriteSeat};
+use crate::outlets::Outlets;
 use devices::Device;
 use meta_store::Store;
-use meta_types::NodeId;
+use meta_types::{NodeId, both};
+use node_call::{LockFault, WriteSeat};
 use node_core::NodeState;
 use node_file::NodeFile;
-use node_history::{Beginning, Naming, Revision, Tail};
-use node_parts::both;
-use node_readers::{Publisher, ReadSeat};
+use node_readers::{Beginning, Naming, Publisher, ReadSeat, Revision, Tail};
 use std::alloc::{AllocError, Global};
 use std::sync::Wait;
 use std::sync::ledger::{Blank, Book, Share};
@@ -248,13 +247,15 @@ fn desk_of<D: Device + Drop, J: Naming, H: Wait + Drop>(
             spare: parts.spare,
             is_even: true,
             journal: Vec::new(alloc),
-            file,
-            publisher: parts.publisher,
-            tail: parts.tail,
+            outlets: Outlets {
+                file,
+                publisher: parts.publisher,
+                tail: parts.tail,
+                is_stopped: false,
+            },
             counts: parts.counts,
             rest: parts.rest,
             out,
-            is_stopped: false,
         },
         writers: parts.writers,
         readers: parts.readers,

@@ -54,4 +54,5 @@ of_frame OfFrame.Memory = Memory
 -- the refusal of a watch, under the same name
 abbrev pub of_watch : WatchFault → StepFault
 of_watch OfWatch.BadWatch = BadWatch
+of_watch OfWatch.NoSuchWatch = NoSuchWatch
 of_watch OfWatch.Memory = Memory

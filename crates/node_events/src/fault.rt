@@ -39,7 +39,7 @@ impl StepFault {
             StepFault::Frame(fault) => fault.code(),
             StepFault::Store(fault) => fault.code(),
             StepFault::BadWatch => WatchFault::BadWatch.code(),
-            StepFault::NoSuchWatch => 29,
+            StepFault::NoSuchWatch => WatchFault::NoSuchWatch.code(),
             StepFault::NotAddressed => 40,
             StepFault::Memory => TypeFault::Memory.code(),
         }
@@ -114,6 +114,7 @@ impl From<WatchFault> for StepFault {
     fn from(fault: WatchFault) -> StepFault {
         match fault {
             WatchFault::BadWatch => StepFault::BadWatch,
+            WatchFault::NoSuchWatch => StepFault::NoSuchWatch,
             WatchFault::Memory => StepFault::Memory,
         }
     }

@@ -13,13 +13,16 @@ use Rattle.meta_frame.specs.declared.fault.FrameFault.{FrameFault}
 use Rattle.meta_frame.specs.declared.fault.FrameFault.TheVariants.{BadBody}
 use Rattle.meta_frame.specs.declared.message.Frame.{Frame}
 use Rattle.node_file.specs.Fault as files
+use Rattle.node_file.specs.Clean.{clean_bytes}
 use Rattle.node_file.specs.File.{StandsFor, file_state, new_state, opened}
 use Rattle.node_file.specs.declared.fault.FileFault.{FileFault}
 use Rattle.node_file.specs.declared.fault.FileFault.TheVariants.{Damaged}
-use Rattle.hosted_node.specs.Fault.{code_of}
-use Rattle.hosted_node.specs.Hosting.{Acts, ForgetsContext, HostedParts, IsLooked, KeepsContext, RefusesActing, after_sending, context_at, handed_reply}
-use Rattle.hosted_node.specs.declared.fault.HostFault.{HostFault}
-use Rattle.hosted_node.specs.declared.fault.HostFault.TheVariants.{Argument, Memory, NoSuchRead}
+use Rattle.node_hosted.specs.Fault.{code_of}
+use Rattle.node_hosted.specs.Hosting.{Acts, ForgetsContext, HostedParts, IsLooked, KeepsContext, RefusesActing, after_sending, context_at, handed_reply}
+use Rattle.node_hosted.specs.declared.fault.HostFault.{HostFault}
+use Rattle.node_hosted.specs.declared.fault.HostFault.TheVariants.{Argument, Memory, NoSuchRead}
+use Rattle.sealed_frames.specs.Seal.{IsSealed, frame_in, seal_of}
+use Rattle.sealed_frames.specs.declared.key.Keys.{Keys}
 use Rattle.node_export.specs.Spelling.{list_bytes, reply_bytes}
 
 -- the number of how a call ended: 0, or that of its refusal
@@ -221,11 +224,13 @@ TellsOfFrame bytes before at answer =
 
 -- ---- clean copies of files
 
--- the bytes are a file of the node, and the copy stands for what they stand for, in version 2
+-- the bytes are a file of the node, and the copy is the clean file of what they stand for
 pub record IsCleanCopy (node : ℕ) (bytes copy : List ℕ) : Type 0 where
   pub opens : (gate : ℕ) × (opened (Some node) bytes ≡ Ok (file_state bytes, gate))
   pub stands : let s = file_state bytes in
       StandsFor (new_state s.node s.contents.life s.contents.table) copy
+  pub spelled : let s = file_state bytes in
+      copy ≡ clean_bytes s.node s.contents.life s.contents.table
 
 -- a clean copy of the file; or the number of why the bytes aren't opened; or memory ran out
 abbrev pub HandsCopy : (node : ℕ) (bytes old new : List ℕ) (before len answer : ℕ) → Type 0
@@ -234,3 +239,19 @@ HandsCopy node bytes old new before len answer =
     ⊎ ((fault : FileFault) × (opened (Some node) bytes ≡ Err fault)
     × HandsNothing (files.code_of fault) old new before len answer)
     ⊎ HandsNothing 99 old new before len answer
+
+-- ---- seals
+
+-- the seal of the frame under the current key; 18 if the bytes are no keys
+abbrev pub HandsSeal : Option Keys → (frame old new : List ℕ) → (before len answer : ℕ) → Type 0
+HandsSeal None frame old new before len answer = HandsNothing 18 old new before len answer
+HandsSeal (Some keys) frame old new before len answer =
+    Hands (Some (seal_of keys.current frame)) old new before len answer
+
+-- The bytes are sealed under one of the keys: 0, and how many of them are the frame. They aren't:
+-- 17. The bytes of the keys are none: 18. What should hold the length then stays as it was.
+abbrev pub TellsOfSealed : Option Keys → (bytes : List ℕ) → (before len answer : ℕ) → Type 0
+TellsOfSealed None bytes before len answer = (answer ≡ 18) × (len ≡ before)
+TellsOfSealed (Some keys) bytes before len answer =
+    (IsSealed keys bytes × (answer ≡ 0) × (len ≡ length (frame_in bytes)))
+    ⊎ ((IsSealed keys bytes → ⊥) × (answer ≡ 17) × (len ≡ before))

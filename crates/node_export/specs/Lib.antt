@@ -1,4 +1,6 @@
 -- What must be believed of the exports, in the order in which to read it.
+-- what a handle owns: a box of a hosted node, or nothing
+pub mod Held
 -- the bytes of a reply and of a list of keys
 pub mod Spelling
 -- what each export does with the node in the slot, and what it returns and hands out

@@ -4,7 +4,7 @@ ghost use Rattle.std.specs.Prelude.{◌≡◌, ◌≢◌};
 ghost use Rattle.node_export.specs.Exports.{Forgets, InSlot, KeepsAs};
 
 use crate::numbers::{NO_NODE, OK};
-use node_handle::Slot;
+use crate::slot::Slot;
 use std::alloc::Global;
 
 /// Keeps the context of the last reply, which must be that of a read, and says its number. Refused

@@ -2,14 +2,14 @@
 
 ghost use Rattle.std.specs.Prelude.{◌≡◌, ◌≢◌, Some, None, IfSome, nat_eq, not};
 ghost use Rattle.std.specs.Option.{option_copied};
-ghost use Rattle.hosted_node.specs.Hosting.{Stores, handed_record, next_frame};
+ghost use Rattle.node_hosted.specs.Hosting.{Stores, handed_record, next_frame};
 ghost use Rattle.node_export.specs.Exports.{AnswersAs, Hands, HandsFrom, HandsOf, HandsReply, InSlot, Sends};
 
 use crate::numbers::{NO_NODE, OK, SHORT_BUFFER, answer_of};
 use crate::reply::spell_reply;
-use hosted_node::{HostFault, HostedNode};
+use crate::slot::Slot;
 use meta_types::TypeFault;
-use node_handle::Slot;
+use node_hosted::{HostFault, HostedNode};
 use std::alloc::Global;
 
 /// Copies bytes to the front of a buffer, and says how many there are. Refused with 38 `Nothing` if

@@ -10,8 +10,9 @@
 //! zomtagi_tick(&slot, random());
 //! ```
 //!
-//! Read `making`, `steps`, `writing`, `handing`, `contexts`, `reading`, `checking` and `copying`;
-//! `numbers` has what they return, and `reply` how a reply is spelled.
+//! Read `making`, `steps`, `writing`, `handing`, `contexts`, `reading`, `checking`, `copying` and
+//! `sealing`; `numbers` has what they return, `reply` how a reply is spelled, and `slot` where the
+//! program keeps the node, with `parts` for how a box is taken apart.
 #![tactic(auto)]
 
 mod checking;
@@ -20,9 +21,13 @@ mod copying;
 mod handing;
 mod making;
 mod numbers;
+mod parts;
 mod reading;
 mod reply;
+mod sealing;
+mod slot;
 mod steps;
 mod writing;
 
 pub use numbers::{BAD_LIFE, NO_NODE, OK, SHORT_BUFFER};
+pub use slot::Slot;

@@ -6,15 +6,15 @@ ghost use Rattle.node_file.specs.Fault.{code_of};
 ghost use Rattle.node_file.specs.File.{empty_file};
 ghost use Rattle.node_file.specs.Refusal.{refusal_of_serve};
 ghost use Rattle.node_file.specs.declared.fault.FileFault.{FileFault};
-ghost use Rattle.hosted_node.specs.Hosting.{Serves, beginning};
+ghost use Rattle.node_hosted.specs.Hosting.{Serves, beginning};
 ghost use Rattle.node_export.specs.Exports.{Hands, HandsNothing};
 
 use crate::handing::copy_out;
 use crate::numbers::{BAD_LIFE, OK};
-use hosted_node::HostedNode;
+use crate::slot::Slot;
 use meta_types::{NodeId, TypeFault};
 use node_file::empty_file;
-use node_handle::Slot;
+use node_hosted::HostedNode;
 use std::alloc::Global;
 
 /// Puts a node without a file into the slot, in the life of this number, and frees what was there.

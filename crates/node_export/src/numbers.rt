@@ -3,7 +3,7 @@
 ghost use Rattle.std.specs.Prelude.{◌≡◌};
 ghost use Rattle.node_export.specs.Exports.{answer_of};
 
-use hosted_node::HostFault;
+use node_hosted::HostFault;
 
 /// All went well.
 pub const OK: u16 = 0;

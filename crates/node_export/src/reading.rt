@@ -9,11 +9,11 @@ ghost use Rattle.node_export.specs.Spelling.{list_bytes};
 
 use crate::handing::copy_out;
 use crate::numbers::{NO_NODE, OK};
+use crate::slot::Slot;
 use crate::steps::prefix_of;
 use frame_fields::writing::write_key;
-use hosted_node::HostedNode;
 use meta_types::{FullPrefix, MetaKey, TypeFault};
-use node_handle::Slot;
+use node_hosted::HostedNode;
 use std::alloc::{AllocError, Global};
 
 /// Hands out the keys under a full prefix, in order, each as frames have it. What the node holds

@@ -9,9 +9,9 @@ ghost use Rattle.node_events.specs.declared.event.NodeEvent.TheVariants.{Changes
 ghost use Rattle.node_export.specs.Exports.{Answers, AnswersCopied, AnswersNamed, AnswersPeer, Declines, InSlot, key_named};
 
 use crate::numbers::{NO_NODE, answer_of};
+use crate::slot::Slot;
 use meta_types::{ByteString, FullPrefix, MetaKey, NodeId, TypeFault};
 use node_events::NodeEvent;
-use node_handle::Slot;
 use std::alloc::Global;
 
 /// Has the node in the slot make the step of an event.

@@ -4,16 +4,16 @@ ghost use Rattle.std.specs.Prelude.{◌≡◌, ◌⊎◌, None, Some, IfOk, IfEr
 ghost use Rattle.std.specs.Option.{option_copied};
 ghost use Rattle.meta_types.specs.Name.{IsKey};
 ghost use Rattle.meta_types.specs.Value.{IsBody};
-ghost use Rattle.hosted_node.specs.declared.fault.HostFault.TheVariants as OfHost;
+ghost use Rattle.node_hosted.specs.declared.fault.HostFault.TheVariants as OfHost;
 ghost use Rattle.meta_types.specs.declared.fault.TypeFault.TheVariants as OfType;
 ghost use Rattle.node_export.specs.Exports.{AnswersAs, InSlot, Writes, WritesOver, key_named};
 
 use crate::numbers::{NO_NODE, answer_of};
+use crate::slot::Slot;
 use crate::steps::key_of;
-use hosted_node::{HostFault, HostedNode};
 use meta_types::{MetaKey, Value};
 use node_events::NodeEvent;
-use node_handle::Slot;
+use node_hosted::{HostFault, HostedNode};
 use std::alloc::Global;
 
 /// Returns the key of these names, and the value of this stamp and body; without a body, a

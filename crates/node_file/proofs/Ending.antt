@@ -26,21 +26,21 @@ unfolding end_from
 no_end zero here = refl
 no_end (suc skip) here = refl
 
-ends_shut : (here gate : ℕ) (b : List ℕ) → gate ≢ 1 → end_from 0 here (gate ∷ b) ≡ Some here
+pub ends_shut : (here gate : ℕ) (b : List ℕ) → gate ≢ 1 → end_from 0 here (gate ∷ b) ≡ Some here
 unfolding end_from
 ends_shut here gate b shut = grind (arith, nat_tests)
 
-end_opens : (here : ℕ) (b : List ℕ) → end_from 0 here (1 ∷ b) ≡ if_too_long here b (end_from (36 + length_said b) (here + 1) b)
+pub end_opens : (here : ℕ) (b : List ℕ) → end_from 0 here (1 ∷ b) ≡ if_too_long here b (end_from (36 + length_said b) (here + 1) b)
 unfolding end_from
 end_opens here b = refl
 
-skips_end : (n here : ℕ) (b : List ℕ) → end_from n here b ≡ end_from 0 (here + n) (drop n b)
+pub skips_end : (n here : ℕ) (b : List ℕ) → end_from n here b ≡ end_from 0 (here + n) (drop n b)
 unfolding end_from
 skips_end zero here b = let same : here ≡ here + 0 = omega arith in ap (λ (h : ℕ). end_from 0 h b) same
 skips_end (suc n) here [] = refl
 skips_end (suc n) here (x ∷ b) = let same : here + 1 + n ≡ here + suc n = omega arith in skips_end n (here + 1) b ∙ ap (λ (h : ℕ). end_from 0 h (drop n b)) same
 
-is_short : (here : ℕ) (b : List ℕ) (more : Option ℕ) → 4 ≤ length b → length_said b ≤ 16777216 → if_too_long here b more ≡ more
+pub is_short : (here : ℕ) (b : List ℕ) (more : Option ℕ) → 4 ≤ length b → length_said b ≤ 16777216 → if_too_long here b more ≡ more
 is_short here b more four fits = rw (not_below (length b) 4 four, not_below 16777216 (length_said b) fits) refl
 
 above : (a b : ℕ) → a < b → nat_lt a b ≡ true
@@ -96,7 +96,7 @@ pub ruleset end_turns = (end_went_on, end_was_shut, end_was_long, end_was_cut, e
 
 -- ---- what is behind a closed gate, by the parts of the bytes
 
-unequal : (a b : ℕ) → a ≢ b → (a == b) ≡ false
+pub unequal : (a b : ℕ) → a ≢ b → (a == b) ≡ false
 unequal a b e = grind (arith, nat_tests)
 
 pub shows_none : (version : ℕ) (bytes : List ℕ) → length bytes ≡ 0 → shows_changed_gate version bytes ≡ false

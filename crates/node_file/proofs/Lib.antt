@@ -1,3 +1,5 @@
+-- what was read of version 1 keeps the rules of its type
+mod FoundOld
 mod Limits
 mod Folding
 mod Parting
@@ -8,5 +10,7 @@ pub mod Appending
 mod Writing
 pub mod Lives
 mod Tables
+mod Clean
+mod Changed
 mod Payloads
 pub mod ByHosts

@@ -122,13 +122,3 @@ of_head head version n e = of_tests (bytes_eq (take 8 head) magic) (bytes_eq (ta
 
 pub versions : (bytes : List ℕ) (s : FileState) (end : ℕ) → opened None bytes ≡ Ok (s, end) → (s.version ≡ 1) ⊎ (s.version ≡ 2)
 versions bytes s end e = of_head (take 10 bytes) s.version s.node (head_read bytes s end e)
-
--- failures that rose later have risen
-pub rises_from : (a b c : ℕ) → a ≤ b → HasFailed b c → HasFailed a c
-rises_from a b c le rose = (omega (arith, le, rose.0), ⊎_elim (λ (lt : b < c). inl (omega (arith, le, lt))) (λ (most : b ≡ 18446744073709551615). by_case most) rose.1)
-  where
-    by_case : b ≡ 18446744073709551615 → (a < c) ⊎ (a ≡ 18446744073709551615)
-    by_case most = elim (cases_lt a b) [
-      | inl lt ↦ inl (omega (arith, lt, rose.0))
-      | inr ge ↦ inr (omega (arith, ge, le, most))
-    ]

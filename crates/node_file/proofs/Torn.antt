@@ -76,7 +76,7 @@ whole_is version m =
     ap (λ (l : List ℕ). drop (4 + length m) l) (sym (append_assoc (to_be_bytes w32 (length m)) m (sha256 m))) ∙ drop_at (to_be_bytes w32 (length m) ++ m) (sha256 m) (4 + length m) (omega (arith, length-append (to_be_bytes w32 (length m)) m, four)) in
     rw (body, digest, (bytes_eq-Decides (sha256 m) (sha256 m)).1 refl) refl
 
-number : (m rest : List ℕ) → length m ≤ 16777216 → from_be_bytes w32 (take 4 (record_bytes m ++ rest)) ≡ length m
+pub number : (m rest : List ℕ) → length m ≤ 16777216 → from_be_bytes w32 (take 4 (record_bytes m ++ rest)) ≡ length m
 unfolding record_bytes
 number m rest fits =
     let grouped = append_assoc (to_be_bytes w32 (length m)) (m ++ sha256 m) rest in

@@ -1,5 +1,5 @@
 -- What private functions return.
-use Rattle.std.specs.Prelude.{◌≡◌, ◌⊎◌, ◌<◌, ◌≤◌, ℕ, length, Option, Some, None, Result, Ok, Err, true, false}
+use Rattle.std.specs.Prelude.{◌≡◌, ◌⊎◌, ◌<◌, ◌≤◌, ◌-◌, ◌++◌, ℕ, List, [], ◌∷◌, length, take, Option, Some, None, Result, Ok, Err, true, false}
 use Rattle.frame_readers.specs.declared.fault.FieldFault.{FieldFault}
 use Rattle.frame_readers.specs.declared.fault.FieldFault.TheVariants as fields
 use Rattle.meta_store.specs.Table.{Table, most_keys}
@@ -14,7 +14,7 @@ use Rattle.node_file.specs.declared.contents.ReadFault.TheVariants as reads
 use Rattle.node_file.specs.declared.contents.Taken.{Taken}
 use Rattle.node_file.specs.declared.contents.Taken.TheVariants as takes
 use Rattle.node_file.specs.Fold.{Contents, with_record, may_follow, may_follow_life, life_with}
-use Rattle.node_file.specs.File.{FileState}
+use Rattle.node_file.specs.File.{FileState, gated}
 
 -- the record that is to be written
 abbrev pub record_given : NewRecord → Record
@@ -89,3 +89,14 @@ with_table table s = record {
   node = s.node;
   contents = record { life = s.contents.life; table = table };
 }
+
+-- ---- records that are written in place of the closed gate
+
+-- a file with a record in place of its last byte
+abbrev pub with_last : List ℕ → Record → List ℕ
+with_last file record_ = take (length file - 1) file ++ gated record_
+
+-- and then with each of these, one after the other
+abbrev pub with_each : List ℕ → List Record → List ℕ
+with_each file [] = file
+with_each file (record_ ∷ records) = with_each (with_last file record_) records

@@ -7,7 +7,7 @@ use Rattle.meta_types.specs.Name.{Key, IsKey}
 use Rattle.dvvset.specs.Object.{Entry}
 use Rattle.frame_fields.specs.Field.{key, object, has_value}
 use Rattle.frame_readers.specs.Reader.{key_reader, object_reader, then_reader}
-use Rattle.frame_readers.specs.Old.{old_object_reader}
+use Rattle.node_file.specs.Old.{old_object_reader}
 use Rattle.meta_store.specs.Table.{IsHeld, is_small_enough, most_merged}
 use Rattle.node_file.specs.declared.record.Record.{Record}
 use Rattle.node_file.specs.declared.record.Record.TheVariants.{Life, Object}

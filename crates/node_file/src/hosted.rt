@@ -2,6 +2,7 @@
 
 ghost use Rattle.std.specs.Prelude.{◌≡◌, ◌⊎◌, ◌+◌, ◌≤◌, ℕ, length, None, Some, Ok, Err, false, true, IfOk, IfErr, OnOk};
 ghost use Rattle.frame_fields.specs.Field.{has_value};
+ghost use Rattle.node_file.specs.Clean.{clean_bytes};
 ghost use Rattle.node_file.specs.File.{StandsFor, file_state, gated, new_state, opened};
 ghost use Rattle.node_file.specs.Hosted.{CanTake};
 ghost use Rattle.node_file.specs.Record.{IsRecord};
@@ -83,6 +84,8 @@ pub fn clean_copy(alloc: Global, bytes: &[u8], asked: Option<NodeId>) -> Result<
         × (opened asked bytes.now ≡ Ok (file_state bytes.now, gate))) }
     ensures stands { IfOk result (λ copy. let s = file_state bytes.now in
         StandsFor (new_state s.node s.contents.life s.contents.table) copy.items) }
+    ensures bytes { IfOk result (λ copy. let s = file_state bytes.now in
+        copy.items ≡ clean_bytes s.node s.contents.life s.contents.table) }
     ensures refused { IfErr result (λ fault. (fault ≡ FileFault.Memory)
         ⊎ (opened asked bytes.now ≡ Err fault)) }
 {

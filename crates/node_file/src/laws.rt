@@ -1,7 +1,8 @@
 //! Laws of node files. The contract of a function is the law; its body does nothing.
 
-ghost use Rattle.std.specs.Prelude.{◌≡◌, ◌↔◌, ◌+◌, ◌<◌, ◌≤◌, ◌++◌, List, [], ℕ, None, Some, Ok, length, take, drop};
+ghost use Rattle.std.specs.Prelude.{◌≡◌, ◌≢◌, ◌↔◌, ◌+◌, ◌-◌, ◌<◌, ◌≤◌, ◌++◌, ◌∷◌, All, List, [], ℕ, None, Some, Ok, length, set, take, drop};
 ghost use Rattle.frame_readers.proofs.Readers.{IsBytes};
+ghost use Rattle.node_file.specs.Clean.{file_of};
 ghost use Rattle.node_file.specs.File.{empty_file, file_state, new_state, opened, FileState};
 ghost use Rattle.node_file.specs.Gates.{changed_gate, end_of_records};
 ghost use Rattle.node_file.specs.Hosted.{CanTake, TakesRecord};
@@ -52,6 +53,17 @@ pub fn nothing_counts_behind_the_records()
 pub fn a_changed_gate_is_seen_close_behind_it()
     ensures { (front rest : List ℕ) (gate : ℕ) → end_of_records front ≡ Some gate
         → gate + MAX_LOOKED_AT ≤ length front → changed_gate (front ++ rest) ≡ changed_gate front }
+{}
+
+/// If the open gate in front of a record of a file is changed to another byte, so that this record
+/// and those behind it are hidden, [`changed_gate`](crate::changed_gate) tells its offset. The one
+/// exception is a change to 0 in front of the last record, since a crash leaves the same.
+pub fn a_changed_gate_is_told()
+    ensures { (node byte : ℕ) (before : List Record) (hidden : Record) (behind : List Record)
+        → node < 16 → All IsRecord before → IsRecord hidden
+        → byte ≢ 1 → (byte ≡ 0 → behind ≢ [])
+        → let gate = length (file_of node before) - 1 in
+        changed_gate (set (file_of node (before ++ hidden ∷ behind)) gate byte) ≡ Some gate }
 {}
 
 /// A record that was written is read again from the front of its bytes, whatever follows them.

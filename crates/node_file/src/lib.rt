@@ -9,7 +9,8 @@
 //! ```
 //!
 //! Read `node_file` and `opening`, then `hosted` (a file without a device), `record`, `laws` and
-//! `fault`; `reading`, `contents`, `found`, `putting` and `rewriting` hold the code.
+//! `fault`; `reading`, `old` (objects of version 1), `contents`, `found`, `putting` and `rewriting`
+//! hold the code.
 #![tactic(auto)]
 
 mod contents;
@@ -19,6 +20,7 @@ mod gates;
 mod hosted;
 pub mod laws;
 mod node_file;
+mod old;
 mod opening;
 mod putting;
 mod reading;

@@ -76,7 +76,7 @@ pub fn open_node<D: Device>(
     match find(alloc, &mut device, asked) {
         Err(fault) => Err((device, fault)),
         Ok(found) => {
-            device.seal();
+            device.drop_copy();
             let Found {
                 version,
                 node,
@@ -186,7 +186,7 @@ fn begin_life<D: Device>(
     let record = NewRecord::Life(before + 1);
     let bytes = spell_record(alloc, record)?;
     let spelled = &bytes[1..];
-    device.seal();
+    device.drop_copy();
     put_record(device, gate, record, spelled)?;
     Ok(gate + spelled.len())
 }

@@ -4,9 +4,9 @@ ghost use Rattle.std.specs.Prelude.{◌≡◌, ◌+◌, ◌≤◌, length, IfOk,
 ghost use Rattle.node_file.specs.Record.{IsRecord, life_in, object_in, old_object_in, record_in, record_of, whole_record};
 ghost use Rattle.node_file.specs.Reads.{ReadsRecord};
 
+use crate::old::read_old_object;
 use crate::record::{LIFE, MAX_PAYLOAD_LEN, OBJECT, Record, record_if_held};
 use frame_readers::fault::FieldFault;
-use frame_readers::old::read_old_object;
 use frame_readers::reading::{read_key, read_object};
 use sha2::{Digest, Sha256};
 use std::alloc::Global;

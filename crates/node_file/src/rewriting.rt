@@ -1,15 +1,16 @@
 //! Writing a table as a new file.
 
-ghost use Rattle.std.specs.Prelude.{◌≡◌, ◌+◌, ◌*◌, ◌<◌, ◌≤◌, ◌^◌, ◌++◌, [], ◌∷◌, true, All, length, None, Ok, OnOk, IfOk, IfErr};
+ghost use Rattle.std.specs.Prelude.{◌≡◌, ◌+◌, ◌*◌, ◌<◌, ◌≤◌, ◌^◌, ◌++◌, [], ◌∷◌, true, All, length, map, None, Ok, OnOk, IfOk, IfErr};
 ghost use Rattle.std.specs.FinMap.{is_sorted};
 ghost use Rattle.devices.specs.Device.{IsDurable};
 ghost use Rattle.meta_types.specs.Order.{key_cmp};
 ghost use Rattle.meta_store.specs.Kept.{rows_under};
 ghost use Rattle.meta_store.specs.Table.{IsHeld, most_keys};
+ghost use Rattle.node_file.specs.Clean.{clean_bytes, life_records, row_record};
 ghost use Rattle.node_file.specs.Fault.{IsOfDevice};
 ghost use Rattle.node_file.specs.File.{file_state, new_state, opened, state_with, StandsFor};
 ghost use Rattle.node_file.specs.Fold.{may_follow};
-ghost use Rattle.node_file.specs.Reads.{record_given, with_table};
+ghost use Rattle.node_file.specs.Reads.{record_given, with_each, with_last, with_table};
 ghost use Rattle.node_file.specs.Record.{IsRecord, payload, record_bytes};
 ghost use Rattle.node_file.specs.declared.record.Record.TheVariants.{Object};
 
@@ -40,6 +41,8 @@ impl<D: Device> NodeFile<D> {
     ) -> Result<(), FileFault>
         ensures stands { OnOk result
             (StandsFor (new_state self.now.node life table.now) (E.content target.new)) }
+        ensures bytes { OnOk result
+            (E.content target.new ≡ clean_bytes self.now.node life table.now) }
         ensures durable { OnOk result
             (IsDurable (E.content target.new) (E.may_leave target.new)) }
         ensures refused { IfErr result (λ fault.
@@ -47,7 +50,7 @@ impl<D: Device> NodeFile<D> {
         ensures still { OnOk result (E.failed target.new ≡ E.failed target.old) }
     {
         // What it holds isn't needed any more.
-        target.seal();
+        target.drop_copy();
         write_file(alloc, self.node(), table, life, target)
     }
 }
@@ -62,6 +65,7 @@ pub(crate) fn write_file<E: Device>(
 ) -> Result<(), FileFault>
     ensures stands { OnOk result
         (StandsFor (new_state node life table.now) (E.content target.new)) }
+    ensures bytes { OnOk result (E.content target.new ≡ clean_bytes node life table.now) }
     ensures durable { OnOk result (IsDurable (E.content target.new) (E.may_leave target.new)) }
     ensures refused { IfErr result (λ fault.
         IsOfDevice fault (E.failed target.old) (E.failed target.new)) }
@@ -99,10 +103,14 @@ fn write_record<D: Device>(
     requires room { length (state_with (file_state (D.content device.old))
         (record_given given)).contents.table ≤ most_keys }
     requires short { gate < 2 ^ 60 }
+    requires last { length (D.content device.old) ≡ gate + 1 }
     ensures opens { IfOk result (λ end. opened None (D.content device.new)
         ≡ Ok (state_with (file_state (D.content device.old)) (record_given given.entry), end)) }
     ensures end { IfOk result (λ end.
         end ≡ gate + (37 + length (payload (record_given given.entry)))) }
+    ensures bytes { OnOk result
+        (D.content device.new ≡ with_last (D.content device.old) (record_given given.entry)) }
+    ensures last { IfOk result (λ end. length (D.content device.new) ≡ end + 1) }
     ensures refused { IfErr result (λ fault.
         IsOfDevice fault (D.failed device.old) (D.failed device.new)) }
     ensures still { OnOk result (D.failed device.new ≡ D.failed device.old) }
@@ -120,9 +128,13 @@ fn write_life<D: Device>(
     life: u32,
 ) -> Result<usize, FileFault>
     requires begun { opened None (D.content device.old) ≡ Ok (new_state node 0 [], 10) }
+    requires last { length (D.content device.old) ≡ 11 }
     ensures opens { IfOk result (λ gate.
         opened None (D.content device.new) ≡ Ok (new_state node life [], gate)) }
     ensures short { IfOk result (λ gate. gate ≤ 52) }
+    ensures bytes { OnOk result
+        (D.content device.new ≡ with_each (D.content device.old) (life_records life)) }
+    ensures last { IfOk result (λ gate. length (D.content device.new) ≡ gate + 1) }
     ensures refused { IfErr result (λ fault.
         IsOfDevice fault (D.failed device.old) (D.failed device.new)) }
     ensures still { OnOk result (D.failed device.new ≡ D.failed device.old) }
@@ -145,8 +157,11 @@ fn write_table<D: Device>(
     requires version { (file_state (D.content device.old)).version ≡ 2 }
     requires none { (file_state (D.content device.old)).contents.table ≡ [] }
     requires short { begun ≤ 52 }
+    requires last { length (D.content device.old) ≡ begun + 1 }
     ensures stands { OnOk result (StandsFor
         (with_table table.now (file_state (D.content device.old))) (D.content device.new)) }
+    ensures bytes { OnOk result
+        (D.content device.new ≡ with_each (D.content device.old) (map row_record table.now)) }
     ensures refused { IfErr result (λ fault.
         IsOfDevice fault (D.failed device.old) (D.failed device.new)) }
     ensures still { OnOk result (D.failed device.new ≡ D.failed device.old) }
@@ -179,6 +194,7 @@ fn write_rows<D: Device>(
     requires held { All (λ row. IsHeld row.1) (rows_under prefix.now rows.now) }
     requires short { begun
         ≤ 52 + 16777253 * length (file_state (D.content device.old)).contents.table }
+    requires last { length (D.content device.old) ≡ begun + 1 }
     ensures opens { IfOk result (λ end. opened None (D.content device.new)
         ≡ Ok (
           with_table ((file_state (D.content device.old)).contents.table
@@ -187,6 +203,9 @@ fn write_rows<D: Device>(
         )) }
     ensures short { IfOk result (λ end. end
         ≤ 52 + 16777253 * length (file_state (D.content device.new)).contents.table) }
+    ensures bytes { OnOk result (D.content device.new
+        ≡ with_each (D.content device.old) (map row_record (rows_under prefix.now rows.now))) }
+    ensures last { IfOk result (λ end. length (D.content device.new) ≡ end + 1) }
     ensures refused { IfErr result (λ fault.
         IsOfDevice fault (D.failed device.old) (D.failed device.new)) }
     ensures still { OnOk result (D.failed device.new ≡ D.failed device.old) }
@@ -217,9 +236,13 @@ fn write_object<D: Device>(
     requires room { length (state_with (file_state (D.content device.old))
         (Object key.now object.now)).contents.table ≤ most_keys }
     requires short { gate < 2 ^ 60 }
+    requires last { length (D.content device.old) ≡ gate + 1 }
     ensures opens { IfOk result (λ end. opened None (D.content device.new)
         ≡ Ok (state_with (file_state (D.content device.old)) (Object key.now object.now), end)) }
     ensures end { IfOk result (λ end. end ≤ gate + 16777253) }
+    ensures bytes { OnOk result
+        (D.content device.new ≡ with_last (D.content device.old) (Object key.now object.now)) }
+    ensures last { IfOk result (λ end. length (D.content device.new) ≡ end + 1) }
     ensures refused { IfErr result (λ fault.
         IsOfDevice fault (D.failed device.old) (D.failed device.new)) }
     ensures still { OnOk result (D.failed device.new ≡ D.failed device.old) }

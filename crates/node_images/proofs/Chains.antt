@@ -7,7 +7,7 @@ use Rattle.past_model.specs.Sets.{set_at}
 use Rattle.meta_types.specs.Equal.{key_eq}
 use Rattle.past_model.proofs.Sound.{set_at-here}
 use Rattle.past_model.proofs.Walking.{set_at-other}
-use Rattle.past_objects.specs.Objects.{Holding, holds_nothing}
+use Rattle.past_model.specs.Objects.{Holding, holds_nothing}
 use Rattle.node_images.specs.Images.{Image, ChangeEarlier, changed, instead, holdings, holdings_from}
 
 -- later images leave earlier ones as they are

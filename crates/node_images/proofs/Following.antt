@@ -21,15 +21,15 @@ use Rattle.meta_store.specs.Context.{Reading, vector_read}
 use Rattle.meta_store.specs.Table.{Table, is_stale, object_at, with_object}
 use Rattle.meta_store.specs.Step.{table_after_merge, merge_of, object_after_put}
 use Rattle.meta_store.proofs.Tables.{object_at-elsewhere, object_at-here}
-use Rattle.past_objects.specs.Objects.{held_object, image_object, incarnation, last_image, object_of_read, sent_object, standing_object, writer}
-use Rattle.past_objects.specs.Laws.{MakesImage}
+use Rattle.past_model.specs.Objects.{held_object, image_object, incarnation, last_image, object_of_read, sent_object, standing_object, next_writer}
+use Rattle.past_model.specs.ObjectLaws.{MakesImage}
 use Rattle.node_images.specs.Images.{change_of, changed, holdings}
 use Rattle.node_images.specs.Keeping.{Keeping, IsRestorable, change_at}
 use Rattle.node_images.proofs.Keepings.{with_image, with_kept, with_merge, with_restart, with_write}
 use Rattle.node_images.specs.Follows.{FollowsHistory}
-use Rattle.past_objects.proofs.Changes.{after_write, after_look, after_sending, after_delivery, after_keeping, after_restart}
-use Rattle.past_objects.proofs.Deliveries.{stale_unchanged}
-use Rattle.past_objects.proofs.Standing.{sent_under}
+use Rattle.past_model.proofs.Changes.{after_write, after_look, after_sending, after_delivery, after_keeping, after_restart}
+use Rattle.past_model.proofs.Deliveries.{stale_unchanged}
+use Rattle.past_model.proofs.Standing.{sent_under}
 use Rattle.node_images.proofs.Noding.{reads_before, reads_new}
 
 -- ---- if nothing changes for the node
@@ -148,7 +148,7 @@ imaged hs h n k node table made i =
 
 -- ---- the four changes of a node
 
-write_by : (hs : List Happening) (n w : ℕ) (k : Key) (v : ValueParts) (r : Option ℕ) (context : Option Reading) (node : Keeping) → w ≡ writer hs n → FollowsHistory hs n node → vector_read context ≡ join (object_of_read hs k r)
+write_by : (hs : List Happening) (n w : ℕ) (k : Key) (v : ValueParts) (r : Option ℕ) (context : Option Reading) (node : Keeping) → w ≡ next_writer hs n → FollowsHistory hs n node → vector_read context ≡ join (object_of_read hs k r)
     → (l : Key) (b : Bool) → key_eq l k ≡ b → object_at (with_object k (object_after_put node.table w k v context) node.table) l ≡ held_object (hs ++ Wrote n k v r ∷ []) n l
 write_by hs n w k v r context node by f read l true e =
     let a = after_write hs n k v r in
@@ -164,7 +164,7 @@ write_by hs n w k v r context node by f read l false e =
     object_at-elsewhere k (object_after_put node.table w k v context) node.table l ne ∙ f.holds l ∙ sym (a.holds.other_keys l ne)
 
 -- a write with a context of what the Looked at place r saw
-pub follows_write : (hs : List Happening) (n w : ℕ) (k : Key) (v : ValueParts) (r : Option ℕ) (context : Option Reading) (node : Keeping) → w ≡ writer hs n → IsRestorable node
+pub follows_write : (hs : List Happening) (n w : ℕ) (k : Key) (v : ValueParts) (r : Option ℕ) (context : Option Reading) (node : Keeping) → w ≡ next_writer hs n → IsRestorable node
     → ((l : Key) → object_at node.table l ≢ [] → object_at (with_object k (object_after_put node.table w k v context) node.table) l ≢ [])
     → FollowsHistory hs n node → vector_read context ≡ join (object_of_read hs k r) → FollowsHistory (hs ++ Wrote n k v r ∷ []) n (with_write w k v context node)
 follows_write hs n w k v r context node by is grows f read =

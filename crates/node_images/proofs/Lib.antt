@@ -1,3 +1,7 @@
+-- logs that grow, and what entries show of them
+pub mod Growing
+-- the places of values in logs
+pub mod Placing
 -- what images have, read from the newest down
 pub mod Chains
 -- how many keys a table has

@@ -20,29 +20,12 @@ use Rattle.meta_store.specs.Table.{Table, IsHeld, IsTable, is_stale, object_at, 
 use Rattle.meta_store.specs.Step.{table_after_merge}
 use Rattle.meta_store.proofs.Keys.{key_total}
 use Rattle.meta_store.proofs.Tables.{found_row, not_absent, object_at-elsewhere, object_at-here, table_put}
-use Rattle.past_objects.specs.Objects.{Holding}
+use Rattle.past_model.specs.Objects.{Holding}
 use Rattle.node_images.specs.Images.{Image, ChangeEarlier, IsTabled, change_of, changed, holdings}
 use Rattle.node_images.specs.Keeping.{Keeping, IsRestorable, change_at, most_incarnation}
 use Rattle.node_images.proofs.Keepings.{new_keeping, with_image, with_restart}
 use Rattle.node_images.proofs.Bounded.{KeysWithin, found_from, room_within, shown_from}
 use Rattle.node_images.proofs.Chains.{holdings_snoc, none}
-
--- the empty table has what image 0 has
-pub tabled-none : (images : List Image) (number : ℕ) → number ≤ 0 → IsTabled (holdings images number)
-tabled-none images number low = record {
-  table = [];
-  is_table = record { rising = refl; keys = All-nil (λ row. IsKey row.0); few = omega arith; held = All-nil (λ row. IsHeld row.1) };
-  same = λ k. sym (ap (λ n. holdings images n k) (let e : number ≡ 0 = omega (arith, low) in e) ∙ none images k);
-}
-
-pub is_node-new : IsRestorable new_keeping
-is_node-new = record {
-  earlier = record { earlier = λ at d low. let no : at < 0 = low in absurd (omega (arith, no)) };
-  standing = omega arith;
-  lives = omega arith;
-  tabled = λ number low. tabled-none [] number low;
-  within = λ k some. absurd (some refl);
-}
 
 -- ---- one more image
 
@@ -191,25 +174,3 @@ pub merge_grows : (table : Table) (key : Key) (came : List Entry) → IsTable (t
 merge_grows table key came is = merge_grows_by table key came (is_stale table key (join came)) is
 
 -- ---- the node after a call
-
-pub is_node-added : (node : Keeping) (table : Table) (key : Key) → IsRestorable node → IsTable table → ((k : Key) → object_at node.table k ≢ [] → object_at table k ≢ [])
-    → (image : Image) (images : List Image) (standing : ℕ) → image ≡ record { base = node.standing; change = change_at table key } → images ≡ node.images ++ image ∷ [] → standing ≡ length images
-    → IsRestorable (record { table = table; images = images; standing = standing; incarnation = node.incarnation })
-is_node-added node table key is is_table more image images standing made e l =
-    let whole : IsRestorable (with_image table key node) = is_node-image node table key is is_table more in
-    let new : List Image = node.images ++ (record { base = node.standing; change = change_at table key }) ∷ [] in
-    let same : images ≡ new = e ∙ ap (λ x. node.images ++ x ∷ []) made in
-    let long : length new ≡ length node.images + 1 = length-append node.images ((record { base = node.standing; change = change_at table key }) ∷ []) in
-    let last : standing ≡ length node.images + 1 = l ∙ ap length same ∙ long in
-    subst (λ n. IsRestorable (record { table = table; images = images; standing = n; incarnation = node.incarnation })) (sym last)
-    (subst (λ xs. IsRestorable (record { table = table; images = xs; standing = length node.images + 1; incarnation = node.incarnation })) (sym same) whole)
-
-pub is_node-written : (node : Keeping) (table : Table) (key : Key) (o : List Entry) → IsRestorable node → IsTable table → table ≡ with_object key o node.table
-    → (image : Image) (images : List Image) (standing : ℕ) → image ≡ record { base = node.standing; change = Some (key, o) } → images ≡ node.images ++ image ∷ [] → standing ≡ length images
-    → IsRestorable (record { table = table; images = images; standing = standing; incarnation = node.incarnation })
-is_node-written node table key o is is_table put image images standing made e l =
-    let held : IsHeld o = held_at node.table key o (subst IsTable put is_table) in
-    is_node-added node table key is is_table (λ k some. subst (λ t. object_at t k ≢ []) (sym put) (put_grows node.table key o held k some))
-    image images standing
-    (made ∙ ap (λ c. record { base = node.standing; change = c }) (sym (change_at-put node.table key o) ∙ ap (λ t. change_at t key) (sym put)))
-    e l

@@ -11,8 +11,9 @@ use Rattle.node_events.specs.declared.event.NodeEvent.{NodeEvent}
 use Rattle.node_events.specs.declared.event.NodeEvent.TheVariants.{Read, Write, PutOver, Keep, Changes}
 use Rattle.node_events.specs.declared.reply.Reply.{Reply}
 use Rattle.node_events.specs.declared.reply.Reply.TheVariants.{Looked, Wrote, Changed}
-use Rattle.node_parts.specs.Watches.{at_number, reply_of_changes}
+use Rattle.subscriptions.specs.Watches.{at_number}
 use Rattle.node_core.specs.Node.{NodeParts, present, writer}
+use Rattle.node_core.specs.Step.{reply_of_changes}
 use Rattle.node_images.specs.declared.ahead.Ahead.{Ahead}
 use Rattle.node_images.specs.Keeping.{change_at}
 use Rattle.node_images.specs.Node.{context_read}

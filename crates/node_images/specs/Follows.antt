@@ -5,7 +5,7 @@ use Rattle.std.specs.Prelude.{◌≡◌, ℕ, ◌≤◌, List, length}
 use Rattle.meta_types.specs.Name.{Key}
 use Rattle.meta_store.specs.Table.{object_at}
 use Rattle.past_model.specs.declared.happening.Happening.{Happening}
-use Rattle.past_objects.specs.Objects.{held_object, image_object, incarnation, last_image, standing_object}
+use Rattle.past_model.specs.Objects.{held_object, image_object, incarnation, last_image, standing_object}
 use Rattle.node_images.specs.Images.{holdings}
 use Rattle.node_images.specs.Keeping.{Keeping}
 

@@ -6,8 +6,8 @@ use Rattle.meta_types.specs.Name.{Key}
 use Rattle.dvvset.specs.Object.{Entry}
 use Rattle.past_model.specs.Sets.{set_at}
 use Rattle.meta_store.specs.Table.{Table, IsTable, object_at}
-pub use Rattle.image_list.specs.Image.{Image, IsChange, instead}
-use Rattle.past_objects.specs.Objects.{Holding, holds_nothing, with_held}
+pub use Rattle.node_images.specs.Image.{Image, IsChange, instead}
+use Rattle.past_model.specs.Objects.{Holding, holds_nothing, with_held}
 
 -- the change that an object under a key makes, if there is one
 abbrev pub change_of : Key → Option (List Entry) → Option (Key × List Entry)

@@ -6,7 +6,9 @@ pub use Rattle.dvvset.specs.Object
 pub use Rattle.dvvset.specs.Clock
 pub use Rattle.meta_store.specs.Table
 pub use Rattle.meta_store.specs.Step
-pub use Rattle.past_objects.specs.Objects
+pub use Rattle.past_model.specs.Objects
+-- an image
+pub mod Image
 -- images as they are kept
 pub mod Images
 -- what a history tells of one node
@@ -16,6 +18,7 @@ pub mod Node
 -- where a node stands after a history, which the rule of a world cites
 pub mod Follows
 -- what private functions alone cite: what is made ready before a step, and a store that is filled
--- from an image
+-- from an image; and how images are kept
 pub mod Ahead
 pub mod Restore
+pub mod Logs

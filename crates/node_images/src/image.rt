@@ -3,11 +3,11 @@
 ghost use Rattle.std.specs.Prelude.{◌≡◌, ◌≤◌, [], length, IfOk, IfSome};
 ghost use Rattle.std.specs.Option.{unwrap_or};
 ghost use Rattle.meta_store.specs.Table.{IsHeld};
-ghost use Rattle.image_list.specs.Image.{instead};
+ghost use Rattle.node_images.specs.Image.{instead};
 ghost use Rattle.node_images.specs.Images.{ChangeEarlier, holdings};
 
+use crate::{Image, Images};
 use dvvset::Entries;
-use image_list::{Image, Images};
 use meta_types::MetaKey;
 use std::alloc::AllocError;
 

@@ -6,15 +6,14 @@ ghost use Rattle.node_images.specs.Images.{IsChange};
 ghost use Rattle.node_images.specs.Keeping.{IsRestorable, most_incarnation};
 ghost use Rattle.node_images.specs.Node.{IsImagedStep, IsRestarted, images_with, keeping, new_node, standing_with};
 
+use crate::Images;
 use crate::ahead::{Ahead, copy_of};
 use crate::restore::restore;
 use dvvset::Entries;
-use image_list::Images;
 use meta_store::Context;
-use meta_types::{MetaKey, NodeId};
+use meta_types::{MetaKey, NodeId, both};
 use node_core::{NodeState, Stepped};
 use node_events::{NodeEvent, Outbox, Reply, StepFault};
-use node_parts::both;
 use std::alloc::{AllocError, Global};
 use std::marker::Model;
 use std::mem::replace;

@@ -6,7 +6,7 @@ ghost use Rattle.meta_store.specs.Table.{IsTable, object_at};
 ghost use Rattle.node_images.specs.Restore.{HasRoomFor, filled};
 ghost use Rattle.node_images.specs.Images.{ChangeEarlier, IsChange, IsTabled, holdings};
 
-use image_list::{Image, Images};
+use crate::{Image, Images};
 use meta_store::Store;
 use std::alloc::{AllocError, Global};
 

@@ -9,14 +9,14 @@ use Rattle.node_core.specs.Node.{NodeParts}
 use Rattle.node_core.specs.Step.{CanComeOf, IsNodeStep}
 use Rattle.node_journal.specs.Closed.{ClosedNode}
 use Rattle.node_journal.specs.Entry.{stepped_of}
-use Rattle.node_history.specs.Published.{Published, with_all}
+use Rattle.node_readers.specs.Published.{Published, with_all}
 use Rattle.node_readers.specs.Views.{SeatView}
-use Rattle.desk_parts.specs.declared.fault.LockFault.{LockFault}
-use Rattle.desk_parts.specs.declared.fault.LockFault.TheVariants.{Step, Device, FileFull, JournalFull, NoSeat, SeatsMissing, BadLimit}
+use Rattle.node_call.specs.declared.fault.LockFault.{LockFault}
+use Rattle.node_call.specs.declared.fault.LockFault.TheVariants.{Step, Device, FileFull, JournalFull, NoSeat, SeatsMissing, BadLimit}
 use Rattle.node_desk.specs.Closing.{IsWithin, RefusesClosing}
-use Rattle.desk_parts.specs.Acknowledged.{Acknowledged}
-use Rattle.desk_parts.specs.Journaled.{IsJournaled}
-use Rattle.desk_parts.specs.Ready.{CanStep}
+use Rattle.node_call.specs.Acknowledged.{Acknowledged}
+use Rattle.node_call.specs.Journaled.{IsJournaled}
+use Rattle.node_call.specs.Ready.{CanStep}
 use Rattle.node_desk.specs.Desk.{BeganWith, IsReceiptOf}
 
 -- the event makes the step of the receipt, at its place, from some state that a node comes to after

@@ -12,14 +12,13 @@
 //! ```
 //!
 //! Read `node` (`Node`), then `node_desk` for what a call does under the lock, and `node_readers`
-//! for what a reader sees.
+//! for what a reader sees. The refusals, 51 `JournalFull` among them, are those of `LockFault`.
 #![tactic(auto)]
 
 mod node;
 
-pub use desk_parts::{Acknowledgement, LockFault, WriteSeat};
 pub use node::{Node, NotClosed, Started};
+pub use node_call::{Acknowledgement, LockFault, WriteSeat};
 pub use node_desk::{Capacity, MAX_JOURNAL, MAX_SEATS, NotStarted};
-pub use node_history::{Beginning, Naming, Revision};
 pub use node_journal::{Closed, Entry, Receipt};
-pub use node_readers::{PeekFault, ReadSeat, Shown};
+pub use node_readers::{Beginning, Naming, PeekFault, ReadSeat, Revision, Shown};

@@ -2,22 +2,21 @@
 
 ghost use Rattle.std.specs.Prelude.{◌≡◌, ◌≤◌, ◌⊎◌, ◌+◌, ℕ, None, length, sum_by, IfOk, IfErr, OnOk};
 ghost use Rattle.node_events.specs.declared.event.NodeEvent.TheVariants.{Read, Write, PutOver, Take, Tick, Join, PeerDown, Exchange, Keep, Watch, Changes, Hello, Leave};
-ghost use Rattle.desk_parts.specs.declared.fault.LockFault.TheVariants.{Memory, NoSeat, Stopped};
+ghost use Rattle.node_call.specs.declared.fault.LockFault.TheVariants.{Memory, NoSeat, Stopped};
 ghost use Rattle.node_desk.specs.Closing.{EndsWithTable};
 ghost use Rattle.node_desk.specs.Desk.{BeganWith};
 ghost use Rattle.node_desk.specs.Starting.{AreNewReaders, AreNewWriters, IsFileOf, RefusesStarting, refusal_of_start};
 ghost use Rattle.node_lock.specs.Call.{AnswersCall, CanRefuseClosing, Counts, EndsList, RefusesCall};
 
-use desk_parts::{Acknowledgement, LockFault, WriteSeat};
 use devices::Device;
 use meta_store::{Context, Store};
 use meta_types::{ByteString, FullPrefix, MetaKey, NodeId, Value};
+use node_call::{Acknowledgement, LockFault, WriteSeat};
 use node_desk::{Capacity, Desk, NotStarted};
 use node_events::NodeEvent;
 use node_file::NodeFile;
-use node_history::{Beginning, Naming};
 use node_journal::Closed;
-use node_readers::ReadSeat;
+use node_readers::{Beginning, Naming, ReadSeat};
 use std::alloc::Global;
 use std::sync::ledger::Blank;
 use std::sync::{Mutex, Wait};

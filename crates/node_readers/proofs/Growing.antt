@@ -1,39 +1,13 @@
 -- Tables whose objects know all that those before knew.
-use Rattle.std.proofs.Common.{◌≡◌, ℕ, ◌≤◌, List, [], ◌∷◌, ◌++◌, Option, None, Some, refl, sym, subst, arith, ⊎_elim}
-use Rattle.std.specs.Option.{unwrap_or}
-use Rattle.std.specs.FinMap.{find}
-use Rattle.std.proofs.lemmas.List.Elements.{All-nil}
+use Rattle.std.proofs.Common.{◌≡◌, List, [], ◌∷◌, ◌++◌, sym, subst, ⊎_elim}
 use Rattle.std.proofs.lemmas.List.Sums.{fold_push}
 use mathlib.Core.List.{IsPrefix}
-use Rattle.meta_types.specs.Name.{Key}
-use Rattle.meta_types.specs.Order.{key_cmp}
-use Rattle.dvvset.specs.Object.{Entry, IsEntry, IsObject}
-use Rattle.dvvset.specs.Clock.{count_for, join}
-use Rattle.dvvset.proofs.Descending.{descends-Decides}
-use Rattle.dvvset.proofs.Objects.{IsVector-join}
-use Rattle.meta_store.specs.Table.{IsTable, Table, object_at}
-use Rattle.meta_store.proofs.Tables.{found_row}
-use Rattle.node_history.specs.Published.{Published, with_all, with_published}
-use Rattle.node_history.proofs.Beginnings.{prefix_nil, prefix_snoc}
+use Rattle.meta_store.specs.Table.{IsTable, Table}
+use Rattle.node_readers.specs.Published.{Published, with_all, with_published}
+use Rattle.node_readers.proofs.Beginnings.{prefix_nil, prefix_snoc}
 use Rattle.node_core.specs.Growing.{Descends}
-use Rattle.node_core.proofs.Growing.{held_is_kept}
+use Rattle.node_core.proofs.Growing.{descends_itself, held_is_kept}
 use Rattle.node_readers.specs.Growth.{Grows, GrowsBy}
-
-object_of : (found : Option (List Entry)) → ((o : List Entry) → found ≡ Some o → IsObject o) → IsObject (unwrap_or found [])
-object_of None each = record { rising = tt; entries = All-nil IsEntry }
-object_of (Some o) each = each o refl
-
-object_lawful : (table : Table) (key : Key) → IsTable table → IsObject (object_at table key)
-object_lawful table key is = object_of (find key_cmp key table) (λ o e. (found_row key table o is.held is.keys e).held.lawful)
-
-equal_counts : (n : ℕ) → n ≤ n
-equal_counts n = omega arith
-
--- an object knows all that it knows
-pub descends_itself : (table : Table) → IsTable table → Descends table table
-descends_itself table is key =
-    let v = join (object_at table key) in
-    (descends-Decides v v (IsVector-join (object_at table key) (object_lawful table key is))).1 (λ u. equal_counts (count_for v u))
 
 -- before any change
 pub grows_first : (opening : Table) → IsTable opening → Grows opening []

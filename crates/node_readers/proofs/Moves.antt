@@ -8,8 +8,8 @@ use Rattle.left_right.specs.Register.{Admits, TurnsAt}
 use Rattle.atomic_table.proofs.Lists.{at_set, at_snoc}
 use Rattle.logbook.specs.Pages.{Book}
 use Rattle.meta_store.specs.Table.{IsTable, Table}
-use Rattle.node_history.specs.Published.{Published, with_all, with_published}
-use Rattle.node_history.proofs.Beginnings.{prefix_self, prefix_trans}
+use Rattle.node_readers.specs.Published.{Published, with_all, with_published}
+use Rattle.node_readers.proofs.Beginnings.{prefix_self, prefix_trans}
 use Rattle.node_readers.specs.Copies.{AdditionView, IsCopy, IsCopyOf, TableView, taken_in}
 use Rattle.node_readers.specs.Growth.{Grows, GrowsBy}
 use Rattle.node_readers.specs.Rule.{HoldsCopies, TakesCopy}

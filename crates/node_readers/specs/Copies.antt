@@ -2,7 +2,7 @@
 use Rattle.std.specs.Prelude.{◌≡◌, List, length}
 use Rattle.logbook.specs.Pages.{Book}
 use Rattle.meta_store.specs.Table.{Table}
-use Rattle.node_history.specs.Published.{Published, with_all}
+use Rattle.node_readers.specs.Published.{Published, with_all}
 use Rattle.node_readers.specs.Growth.{Grows}
 use Rattle.node_readers.specs.Spread.{IsSpreadOf, Spread, bucket_count, with_spread}
 

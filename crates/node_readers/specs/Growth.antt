@@ -6,7 +6,7 @@ use Rattle.dvvset.specs.Object.{Counter}
 use Rattle.dvvset.specs.Clock.{descends, join}
 use Rattle.meta_store.specs.Table.{IsTable, Table, object_at}
 use Rattle.node_core.specs.Growing.{Descends}
-use Rattle.node_history.specs.Published.{Published, with_all, with_published}
+use Rattle.node_readers.specs.Published.{Published, with_all, with_published}
 
 -- the table with the change put in is a table, whose objects know all that was known before
 pub record GrowsBy (table : Table) (change : Published) : Type 0 where

@@ -1,11 +1,14 @@
 -- What must be believed of readers, in the order in which to read it. The contracts speak of
--- tables and which of them descend others, of clocks and of published changes too.
+-- keys, objects, tables and which of them descend others, and of clocks too.
 pub use Rattle.meta_types.specs.Name
 pub use Rattle.dvvset.specs.Object
 pub use Rattle.dvvset.specs.Clock
 pub use Rattle.meta_store.specs.Table
 pub use Rattle.node_core.specs.Growing
-pub use Rattle.node_history.specs.Published
+-- changes, and what they make of a table
+pub mod Published
+-- the list of all changes, and the word that stands for it
+pub mod History
 -- what is published only grows
 pub mod Growth
 -- what a seat and the publisher are

@@ -5,7 +5,7 @@ use mathlib.Core.Option.{some}
 use lib.ListN.{get_elem?}
 use Rattle.logbook.specs.Pages.{Book}
 use Rattle.meta_store.specs.Table.{Table}
-use Rattle.node_history.specs.Published.{Published}
+use Rattle.node_readers.specs.Published.{Published}
 use Rattle.node_readers.specs.Copies.{IsCopy, TableView}
 
 -- the list begins with what each seat knows

@@ -3,7 +3,7 @@ use Rattle.std.specs.Prelude.{◌≡◌, Bool, List}
 use Rattle.meta_types.specs.Name.{Key}
 use Rattle.dvvset.specs.Clock.{join, values_of}
 use Rattle.meta_store.specs.Table.{Table, object_at}
-use Rattle.node_history.specs.Published.{Published, with_all}
+use Rattle.node_readers.specs.Published.{Published, with_all}
 use Rattle.node_readers.specs.Growth.{DescendsEach}
 use Rattle.node_readers.specs.declared.shown.Shown.{Shown}
 

@@ -6,10 +6,10 @@ ghost use Rattle.node_readers.specs.Spread.{object_in, bucket_count};
 
 use crate::shown::Shown;
 use crate::spread::SpreadTable;
+use crate::{Extent, Naming, Published, Revision};
 use dvvset::{Entries, join, values};
 use left_right::Absorb;
 use meta_types::MetaKey;
-use node_history::{Extent, Naming, Published, Revision};
 use std::alloc::{AllocError, Global};
 use std::marker::Model;
 

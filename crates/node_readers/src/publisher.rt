@@ -1,7 +1,7 @@
 ghost use Rattle.std.specs.Prelude.{◌≡◌, ◌↔◌, ◌++◌, ◌∷◌, ◌^◌, ◌<◌, [], IfOk, OnOk, OnErr, true, false, drop, IsTrue, Some};
 ghost use mathlib.Core.List.{IsPrefix};
 ghost use Rattle.left_right.specs.Sides.{view};
-ghost use Rattle.node_history.specs.Published.{with_all};
+ghost use Rattle.node_readers.specs.Published.{with_all};
 ghost use Rattle.node_readers.specs.Copies.{IsCopy, IsCopyOf};
 ghost use Rattle.node_readers.specs.Growth.{GrowsBy};
 
@@ -9,9 +9,9 @@ use crate::copies::{Addition, PublishedTable};
 use crate::rule::{CopiesOf, Known};
 use crate::seat::ReadSeat;
 use crate::spread::SpreadTable;
+use crate::{Naming, Published, Revision, Tail};
 use left_right::writer::Writer;
 use meta_store::Store;
-use node_history::{Naming, Published, Revision, Tail};
 use std::alloc::{AllocError, Global};
 use std::marker::Model;
 use std::sync::Wait;

@@ -2,8 +2,8 @@
 //! know is a list of changes. No value of these types is made.
 
 use crate::copies::PublishedTable;
+use crate::{Naming, Published};
 use crossbeam_utils::rule::{Outcome, Protocol};
-use node_history::{Naming, Published};
 use std::collections::LinkedList;
 use std::marker::PhantomData;
 

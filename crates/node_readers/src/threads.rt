@@ -1,14 +1,14 @@
 //! One thread publishes while another looks.
 
-ghost use Rattle.node_history.specs.Published.{with_all};
+ghost use Rattle.node_readers.specs.Published.{with_all};
 ghost use Rattle.node_readers.specs.Growth.{GrowsBy};
 
 use crate::fault::PeekFault;
 use crate::publisher::Publisher;
 use crate::seat::ReadSeat;
 use crate::shown::Shown;
+use crate::{Naming, Published, Revision, Tail};
 use meta_types::MetaKey;
-use node_history::{Naming, Published, Revision, Tail};
 use std::alloc::AllocError;
 use std::sync::Wait;
 use std::thread::{Threads, join};

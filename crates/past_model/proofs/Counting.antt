@@ -50,9 +50,6 @@ pub record Counts (hs : List Happening) (marks : List Bool) (w i count : ℕ) : 
   pub few : count ≤ i
   pub counted : count ≡ count_in (writes (take i hs)) (marked_places marks) w
 
-pub Counts-start : (hs : List Happening) (marks : List Bool) (w : ℕ) → Counts hs marks w 0 0
-Counts-start hs marks w = record { few = omega arith; counted = refl }
-
 -- whether the happening is a write of the writer
 abbrev pub is_by : ℕ → Past → Happening → Bool
 is_by w s h = list_any (λ x. eqb x.writer w) (writes_of_happening s h)

@@ -20,12 +20,6 @@ abbrev pub each_life : List Happening → ℕ → List ℕ
 each_life hs zero = []
 each_life hs (suc n) = each_life hs n ++ lives_of n ((past hs).restarts n + 1)
 
-pub each_life-next : (hs : List Happening) (n : ℕ) → each_life hs (n + 1) ≡ each_life hs n ++ lives_of n ((past hs).restarts n + 1)
-each_life-next hs n = ap (each_life hs) (add-one n)
-
-pub lives_of-next : (n life : ℕ) → lives_of n (life + 1) ≡ lives_of n life ++ writer_number n (life + 1) ∷ []
-lives_of-next n life = ap (lives_of n) (add-one life) ∙ ap (λ l. lives_of n life ++ writer_number n l ∷ []) (sym (add-one life))
-
 -- ---- it rises
 
 lives_rise : (n lives : ℕ) (ns : List ℕ) → Rise (writer_number n 1) ns → Rise (writer_number n (lives + 1)) (ns ++ lives_of n lives)

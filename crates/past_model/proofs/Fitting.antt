@@ -71,9 +71,6 @@ front (x ∷ xs) after = ap (λ l. x ∷ l) (front xs after)
 pub fits_at : (hs : List Happening) (p : ℕ) (h : Happening) → IsHistory hs → slice_get hs p ≡ Some h → Fits (take p hs) h
 fits_at hs p h history e = history.fits (take p hs) (drop (suc p) hs) h (split_at hs p h e)
 
-pub so_far_start : (hs : List Happening) → FitSoFar hs 0
-so_far_start hs = record { fits = λ p h lt e. absurd (omega arith) }
-
 pub so_far_next : (hs : List Happening) (i : ℕ) (h : Happening) → i < length hs → h ≡ get_or hs i h → Fits (take i hs) h → FitSoFar hs i → FitSoFar hs (i + 1)
 so_far_next hs i h lt is fits far = record {
   fits = λ p g less e.

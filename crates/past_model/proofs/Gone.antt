@@ -52,9 +52,6 @@ pub record GoneOver (among : List ℕ) (i n : ℕ) : Type 0 where
   pub rest : RisesFrom n (drop i among)
   pub left : (v : ℕ) → list_any (λ w. eqb w v) among ≡ true → n ≤ v → list_any (λ w. eqb w v) (drop i among) ≡ true
 
-pub gone_none : (among : List ℕ) → RisesFrom 0 among → GoneOver among 0 0
-gone_none among rises = record { rest = rises; left = λ v is le. is }
-
 -- what is left of a rising list has nothing below its first
 below_rest : (ns : List ℕ) (low v : ℕ) → RisesFrom low ns → v < low → list_any (λ w. eqb w v) ns ≡ true → ⊥
 below_rest [] low v rises lt is = cc is
@@ -117,9 +114,6 @@ pub record SiblingsSoFar (ws : List Write) (S : Places) (among : List ℕ) (i : 
   pub gone : GoneOver among i below
   pub are : values ≡ map (λ x. x.value) (by_writers ws S below)
 
-pub siblings_start : (ws : List Write) (S : Places) (among : List ℕ) → AreWriters ws among → SiblingsSoFar ws S among 0 []
-siblings_start ws S among are = record { below = 0; gone = gone_none among are.rising; are = refl }
-
 pub siblings_next : (ws : List Write) (S : Places) (among : List ℕ) (i w : ℕ) (values more : List ValueParts) → AreWriters ws among → i < length among → w ≡ get_or among i w → more ≡ values ++ siblings_by ws S w → SiblingsSoFar ws S among i values → SiblingsSoFar ws S among (i + 1) more
 siblings_next ws S among i w values more are lt is pushed far =
     let between = gone_between ws among i far.below w are far.gone lt is in
@@ -146,9 +140,6 @@ pub record CountersSoFar (ws : List Write) (S : Places) (among : List ℕ) (i : 
   pub below : ℕ
   pub gone : GoneOver among i below
   pub are : Counters ws S below counters
-
-pub counters_start : (ws : List Write) (S : Places) (among : List ℕ) → AreWriters ws among → CountersSoFar ws S among 0 []
-counters_start ws S among are = record { below = 0; gone = gone_none among are.rising; are = Counters-start ws S }
 
 counters_at : (ws : List Write) (S : Places) (n m : ℕ) (cs : List Counter) → counters_to ws S m ≡ counters_to ws S n → Counters ws S n cs → Counters ws S m cs
 counters_at ws S n m cs same c = record { are = c.are ∙ sym same; lawful = c.lawful }

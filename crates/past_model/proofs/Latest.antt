@@ -18,9 +18,6 @@ inside [] i lt = absurd (omega arith)
 inside (x ∷ xs) zero lt = (x, refl)
 inside (x ∷ xs) (suc i) lt = inside xs i (omega arith)
 
-pub latest_start : (hs : List Happening) (n : ℕ) → IsLatest hs 0 n 0
-latest_start hs n = record { within = omega arith; of_node = λ p h e at. absurd (omega arith); known = refl; standing = refl }
-
 pub latest_here : (hs : List Happening) (i n : ℕ) (h : Happening) → i < length hs → h ≡ get_or hs i h → node_of h ≡ n → IsLatest hs (i + 1) n (i + 1)
 latest_here hs i n h lt is mine = record {
   within = omega arith;
@@ -65,13 +62,6 @@ pub record Counting (hs : List Happening) (i n j images : ℕ) : Type 0 where
   pub few : images ≤ i
   pub counted : images ≡ (past (take i hs)).last n
   pub ahead : (j ≡ 0) ⊎ (images < j)
-
-pub counting_start : (hs : List Happening) (n j : ℕ) → Counting hs 0 n j 0
-counting_start hs n j = record {
-  few = omega arith;
-  counted = refl;
-  ahead = ⊎_elim (λ e. inl e) (λ ne. inr (omega arith)) (cases_eq j 0);
-}
 
 pub counting_next : (hs : List Happening) (i n j images : ℕ) (h : Happening) → i < length hs → h ≡ get_or hs i h → makes_image n h ≡ true → (images + 1 ≡ j → ⊥) → Counting hs i n j images → Counting hs (i + 1) n j (images + 1)
 counting_next hs i n j images h lt is makes other c = record {

@@ -44,13 +44,6 @@ below_place hs S w i = map (λ x. x.value) (filter (λ x. eqb x.writer w && is_s
 pub record Listed (hs : List Happening) (S : Places) (w : ℕ) (old values : List ValueParts) (i : ℕ) : Type 0 where
   pub whole : values ++ below_place hs S w i ≡ old ++ siblings_by (writes hs) S w
 
-pub Listed-start : (hs : List Happening) (S : Places) (w : ℕ) (old : List ValueParts) (i : ℕ) → i ≡ length hs → Listed hs S w old old i
-Listed-start hs S w old i all =
-    record { whole = ap (λ l. old ++ map (λ x. x.value) (filter (λ x. eqb x.writer w && is_sibling (writes hs) S x) (writes l))) (ap (λ n. take n hs) all ∙ take-length hs) }
-
-pub Listed-end : (hs : List Happening) (S : Places) (w : ℕ) (old values : List ValueParts) (i : ℕ) → i ≡ 0 → Listed hs S w old values i → values ≡ old ++ siblings_by (writes hs) S w
-Listed-end hs S w old values i none l = sym (append-nil values) ∙ sym (ap (λ n. values ++ below_place hs S w n) none) ∙ l.whole
-
 one_kept : (a b : Bool) (x : Write) → cond (a && b) (x ∷ []) [] ≡ cond b (cond a (x ∷ []) []) []
 one_kept true true x = refl
 one_kept true false x = refl
@@ -264,9 +257,6 @@ rise_more n ns r = rise_on n n (suc n) ns (omega arith) (omega arith) r
 abbrev pub places_to : Places → ℕ → List ℕ
 places_to S zero = []
 places_to S (suc n) = places_to S n ++ cond (S n) (n ∷ []) []
-
-pub places_to-next : (S : Places) (n : ℕ) → places_to S (n + 1) ≡ places_to S n ++ cond (S n) (n ∷ []) []
-places_to-next S n = ap (places_to S) (add-one n)
 
 places_rise : (S : Places) (n : ℕ) → Rise n (places_to S n)
 places_rise S zero = rise_none

@@ -17,9 +17,6 @@ pub record Marking (xs : List Bool) (f : Places) (i : ℕ) : Type 0 where
   pub len : length xs ≡ i
   pub marks : (p : ℕ) → p < i → marked_places xs p ≡ f p
 
-pub Marking-none : (f : Places) → Marking [] f 0
-Marking-none f = record { len = refl; marks = λ p lt. absurd (omega arith) }
-
 pub marked_past : (xs : List Bool) (p : ℕ) → length xs ≤ p → marked_places xs p ≡ false
 marked_past [] p le = refl
 marked_past (x ∷ xs) zero le = absurd (omega arith)

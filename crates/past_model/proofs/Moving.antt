@@ -152,15 +152,6 @@ nodes_next hs place here far = record {
       (cases_lt p place);
 }
 
--- the moment before all happenings
-pub moments_start : (hs : List Happening) → AreMoments hs ((record { known = []; standing = [] }) ∷ [])
-moments_start hs =
-    let empty_marks : GivesSets hs [] knows_nothing = record { gives = λ k p. and-false (is_write_under k (slice_get hs p)) } in
-    record {
-      first = λ n d. record { known = empty_marks; standing = empty_marks };
-      later = λ p h d lt at. absurd (omega arith);
-    }
-
 pub moments_next : (hs : List Happening) (ms items : List Marks) (place : ℕ) (m : Marks) → length ms ≡ place + 1 → AreMoments hs ms → IsBehind hs place m → items ≡ ms ++ m ∷ [] → AreMoments hs items
 moments_next hs ms items place m len are behind is =
     subst (AreMoments hs) (sym is) (record {

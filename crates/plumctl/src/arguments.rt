@@ -6,7 +6,7 @@ use clap::builder::ValueParser;
 use clap::error::ErrorKind;
 use clap::{Arg, ArgAction, ArgMatches, Command, Error};
 use cluster::ClusterPlan;
-use node_parts::both;
+use meta_types::both;
 use plumctl_draw::Excerpt;
 use std::alloc::{AllocError, Global};
 use std::io;
@@ -81,7 +81,7 @@ const RUN_HELP: &str =
   over N KEY VALUE [stamp S]            read N KEY          show N KEY
   resolve N KEY lww|largest             deliver F [N] [word W]
   tick N [word W]    join N C [word W]  down N P [word W]   exchange N P
-  hello N P          leave N            restart N I         keep N
+  hello N P          leave N            restart N I         keep N [KEY]
   watch N PREFIX CAP                    changes N W         list N PREFIX
   root N             images N           views N             settle
   junk N HEX
@@ -171,7 +171,8 @@ What all of them did is then put together as one run of the proved core:
   live nodes 4 turns 200
   calls 803 lost 0
   assembled
-If it is none, or the cluster gives none, `fault` with a number and a name says why.
+If it is none, or the cluster gives none, `fault` with a number and a name says why, and of 60 to 63
+standard error says where: which call of which node.
 
 With --record, if the run is assembled, FILE is a scenario of it: `plumctl run FILE` makes the
 same calls again, one after the other, and prints each reply and frame that the threads had. With

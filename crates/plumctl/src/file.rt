@@ -4,15 +4,12 @@ ghost use Rattle.std.specs.Prelude.{◌≢◌};
 
 use crate::command::OUTPUT_LEN;
 use crate::progress::{Known, told};
-use plumctl_core::{tell, tell_text};
+use plumctl_core::tell;
 use plumctl_file::{Purpose, Reported, compact_path, copy_to_path, report_path};
 use std::io::BufWriter;
 use std::sync::Wait;
 use std::thread::Threads;
 use streams::{MayFail, StreamFault};
-
-/// What is said if a copy was asked for of a file with a changed gate.
-const NO_COPY: &[u8] = b"error: no copy is made, since it would lack those records\n";
 
 /// Where a clean copy of a file is put.
 #[derive(Clone, Copy)]
@@ -54,10 +51,6 @@ fn report(rt: &HostRuntime, path: &str, copied: Option<Copied<'_>>) -> u8
     };
     match copied {
         None => status,
-        Some(_) if status != 0 => {
-            tell_text(&mut errors, NO_COPY);
-            status
-        }
         Some(Copied::New(out)) => copy_to_path(rt, &shown, out, &mut writer, &mut errors),
         Some(Copied::Same) => compact_path(rt, &shown, path, &mut writer, &mut errors),
     }

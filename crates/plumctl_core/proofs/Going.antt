@@ -400,9 +400,6 @@ Keeps-then (Some xs) None x p q = absurd p
 Keeps-then (Some xs) (Some ys) None p q = absurd q
 Keeps-then (Some xs) (Some ys) (Some zs) p q = q ∙ p
 
-pub last_none : (line : List ℕ) (v : SinkAt) → line ≡ [] → WritesLast line v v true
-last_none line v none = inl (none, Keeps-self v.contents, refl)
-
 and_is : (all is : Bool) → IsTrue is → (all && is) ≡ all
 and_is true true e = refl
 and_is false is e = refl

@@ -88,9 +88,6 @@ frame_line line bytes is e same = (
   λ f. same.1 (f.frame, subst (Spells f.frame) (same_digits line bytes f.bytes e f.digits) f.spelled),
 )
 
-pub no_frame_line : (line : List ℕ) (fault : FromHexError) → decode_of (without_spaces line) ≡ Err fault → IsTrue false ↔ IsFrameLine line
-no_frame_line line fault e = (λ no. cc no, λ f. cc (sym e ∙ f.digits))
-
 not_true : (b : Bool) → (b ≡ true → ⊥) → b ≡ false
 not_true true never = absurd (never refl)
 not_true false never = refl

@@ -6,7 +6,7 @@ use Rattle.streams.specs.declared.fault.StreamFault.{StreamFault}
 use Rattle.streams.specs.Fault.{Failed, FailsNoMore, IsWriterFault}
 use Rattle.streams.specs.Moment.{SinkAt}
 use Rattle.streams.proofs.Sent.{Appends-then}
-use Rattle.scenario_hint.specs.Hint.{shown_byte}
+use Rattle.scenario_text.specs.Hint.{shown_byte}
 use Rattle.plumctl_core.specs.Opening.{TellsText, WritesText, shown_text}
 
 earlier : {A B C : Type 0} → (A → B) → A ⊎ C → B ⊎ C

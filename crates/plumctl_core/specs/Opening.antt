@@ -10,7 +10,7 @@ use Rattle.streams.specs.declared.fault.StreamFault.TheVariants.{Read, Memory}
 use Rattle.streams.specs.Fault.{FailsNoMore, IsWriterFault}
 use Rattle.streams.specs.Moment.{SinkAt}
 use Rattle.streams.specs.Written.{AppendsFront}
-use Rattle.scenario_hint.specs.Hint.{shown_byte}
+use Rattle.scenario_text.specs.Hint.{shown_byte}
 use Rattle.plumctl_core.specs.Status.{TellsFault, TellsFront, line_of_fault, status_of_fault}
 
 -- the cause, by the kind of the error

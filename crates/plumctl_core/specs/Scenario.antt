@@ -15,7 +15,7 @@ use Rattle.scenario.specs.Run.{EndsText, Prints, ReadsAll, ReadsPart}
 use Rattle.scenario.specs.declared.fault.ScenarioFault.{ScenarioFault}
 use Rattle.scenario.specs.declared.fault.ScenarioFault.TheVariants.{BadLine, Limit, Stream}
 use Rattle.scenario_explain.specs.Told.{explained}
-use Rattle.scenario_hint.specs.Hint.{IsTold}
+use Rattle.scenario_text.specs.Hint.{IsTold}
 use Rattle.plumctl_core.specs.Opening.{TellsText}
 use Rattle.plumctl_core.specs.Status.{TellsFault, status_of_fault}
 

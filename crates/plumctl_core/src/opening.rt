@@ -4,7 +4,7 @@ ghost use Rattle.std.specs.Prelude.{◌≡◌, ◌≢◌, ◌++◌};
 ghost use Rattle.plumctl_core.specs.Opening.{EndsAtOpening, TellsText, WritesText, cause_line, cause_of_kind, shown_text};
 
 use crate::status::{line_of_fault, status_of_fault, tell};
-use scenario_hint::shown_byte;
+use scenario_text::shown_byte;
 use std::io::ErrorKind;
 use streams::{Sink, StreamFault, write_whole};
 

@@ -2,9 +2,8 @@
 
 use resolvers::Resolver;
 use scenario::Runner;
-use scenario_hint::is_skipped;
 use scenario_stage::{Stage, StageFault};
-use scenario_text::{Command, Lines};
+use scenario_text::{Command, Lines, is_skipped};
 use std::alloc::AllocError;
 
 /// What is called while a scenario is run, in the thread that runs it, to say how far it is.

@@ -12,7 +12,7 @@ use crate::status::tell;
 use resolvers::{Largest, Lww, Resolver};
 use scenario::{Plain, Runner, ScenarioFault, read_text, run_text};
 use scenario_explain::Explainer;
-use scenario_hint::told_of_line;
+use scenario_text::told_of_line;
 use std::alloc::Global;
 use streams::{Sink, Source, StreamFault};
 

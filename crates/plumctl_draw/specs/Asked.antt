@@ -6,7 +6,7 @@ use Rattle.streams.specs.Line.{lines_of}
 use Rattle.streams.specs.Moment.{SinkAt, SourceAt}
 use Rattle.streams.specs.declared.fault.StreamFault.{StreamFault}
 use Rattle.scenario.specs.Run.{ReadsAll, ReadsPart}
-use Rattle.scenario_hint.specs.Hint.{is_skipped}
+use Rattle.scenario_text.specs.Hint.{is_skipped}
 use Rattle.plumctl_core.specs.Opening.{TellsText}
 use Rattle.plumctl_core.specs.Status.{status_of_fault}
 

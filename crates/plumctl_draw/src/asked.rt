@@ -5,8 +5,7 @@ ghost use Rattle.plumctl_core.specs.Opening.{TellsText};
 ghost use Rattle.plumctl_draw.specs.Asked.{are_skipped, asks_nothing, lines_behind, nothing_line};
 
 use crate::drawing::Excerpt;
-use scenario_hint::is_skipped;
-use scenario_text::Lines;
+use scenario_text::{Lines, is_skipped};
 use streams::{Sink, write_whole};
 
 /// Passes this many lines, or all if there are fewer.

@@ -10,7 +10,7 @@ use plumctl_core::{Progress, tell};
 use printing::print_number;
 use resolvers::{Largest, Lww, Resolver};
 use scenario::{ScenarioFault, read_text};
-use scenario_hint::told_of_line;
+use scenario_text::told_of_line;
 use std::alloc::{AllocError, Global};
 use streams::{Sink, Source, StreamFault, flush, write_whole};
 

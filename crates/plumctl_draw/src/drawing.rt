@@ -2,7 +2,7 @@
 
 use crate::fault::DrawFault;
 use crate::observer::Observer;
-use diagram::{Notes, Span, add_picture};
+use crate::{Notes, Span, add_picture};
 use plumctl_core::{Followed, Progress};
 use resolvers::Resolver;
 use scenario::run_text;

@@ -6,15 +6,14 @@ ghost use Rattle.scenario_stage.specs.Obeying.{Obeys};
 use crate::bands::{KindCount, add_counts, count_kind};
 use crate::drawing::MAX_MOMENTS;
 use crate::labels::{add_done, add_first_line, add_held, first_line, key_changed};
-use diagram::{CommandLine, DrawnRow, Flight, Group, LaneMark, Notes, Span, bit};
+use crate::{CommandLine, DrawnRow, Flight, Group, LaneMark, Notes, Span, bit};
 use meta_frame::{Frame, Message, decode, kind_name};
 use meta_types::MetaKey;
 use node_events::Reply;
 use resolvers::Resolver;
 use scenario::Runner;
-use scenario_hint::is_skipped;
 use scenario_stage::{Stage, StageFault, print_line};
-use scenario_text::{Command, Lines};
+use scenario_text::{Command, Lines, is_skipped};
 use std::alloc::{AllocError, Global};
 use world_core::{Accepted, Event, FrameNumbers, World};
 
@@ -471,7 +470,7 @@ fn node_of(command: &Command<'_>) -> u64 {
         | Command::Hello { node, .. }
         | Command::Leave { node }
         | Command::Restart { node, .. }
-        | Command::Keep { node }
+        | Command::Keep { node, .. }
         | Command::Watch { node, .. }
         | Command::Changes { node, .. }
         | Command::Keys { node, .. }

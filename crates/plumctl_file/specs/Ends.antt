@@ -11,10 +11,12 @@ use Rattle.devices.specs.declared.opening.OpenFault.{OpenFault}
 use Rattle.devices.specs.declared.opening.OpenFault.TheVariants as opening
 use Rattle.node_file.specs.declared.fault.FileFault.{FileFault}
 use Rattle.node_file.specs.declared.fault.FileFault.TheVariants as files
+use Rattle.node_file.specs.Clean.{clean_bytes}
 use Rattle.node_file.specs.File.{StandsFor, new_state}
 use Rattle.streams.specs.declared.fault.StreamFault.{StreamFault}
 use Rattle.streams.specs.declared.fault.StreamFault.TheVariants as streams
 use Rattle.streams.specs.Moment.{SinkAt}
+use Rattle.scenario_stage.specs.Printed.{line}
 use Rattle.plumctl_core.specs.Opening.{TellsText, cause_line}
 use Rattle.plumctl_core.specs.Status.{TellsFault, status_of_fault}
 use Rattle.plumctl_file.specs.declared.report.ShownFile.{ShownFile}
@@ -136,12 +138,13 @@ EndsFile name content failed found old new status reported = ⊥
 
 -- ---- `file --rewrite`, of a file that was shown
 
--- the target is a file with the same node, life and table, which every crash leaves
+-- the target is the clean copy of the file that was shown, and every crash leaves it
 pub record FinishesRewrite {D T : Type 0} (content : T → List ℕ)
     (may_leave : T → List ℕ → Type 0) (shown : ShownFile D) (target : T) (old new : Outputs)
     (status : ℕ) : Type 0 where
   pub status_is : status ≡ 0
   pub stands : StandsFor (new_state shown.file.node shown.file.life shown.table) (content target)
+  pub spelled : content target ≡ clean_bytes shown.file.node shown.file.life shown.table
   pub durable : IsDurable (content target) (may_leave target)
   pub unprinted : IsQuiet old.writer new.writer
   pub quiet : IsQuiet old.errors new.errors
@@ -162,6 +165,16 @@ abbrev pub FailsRewrite : (out : List ℕ) → (before now : ℕ) → (old new :
 FailsRewrite out before now old new status =
     (HasFailed before now × EndsWithDevice (cause_line out write_failed) old new status)
     ⊎ ((now ≡ before) × EndsWithMemory old new status)
+
+-- the error if one was asked for of a file that was shown with a warning
+abbrev pub no_copy : List ℕ
+no_copy = line (codes "error: no copy is made, since it would lack those records")
+
+-- none is made of such a file
+pub record RefusesCopy (old new : Outputs) (status : ℕ) : Type 0 where
+  pub status_is : status ≡ 1
+  pub unprinted : IsQuiet old.writer new.writer
+  pub told : TellsText old.errors new.errors no_copy
 
 -- how it ends, by how its target was opened, and what has become of the target
 abbrev pub EndsRewrite : {D T : Type 0} → (out : List ℕ) → (T → List ℕ)

@@ -1,14 +1,15 @@
 //! The command `file` over paths: which path is opened how.
 
-ghost use Rattle.std.specs.Prelude.{◌≡◌, ◌≢◌, ◌≤◌, ◌++◌, ℕ, List, length, None, IfOk, IfSome};
+ghost use Rattle.std.specs.Prelude.{◌≡◌, ◌≢◌, ◌≤◌, ◌++◌, [], ℕ, List, length, None, IfOk, IfSome};
 ghost use Rattle.devices.specs.Device.{IsDurable};
 ghost use Rattle.node_file.specs.File.{opened};
 ghost use Rattle.node_file.specs.Gates.{changed_gate};
+ghost use Rattle.plumctl_file.specs.Ends.{RefusesCopy};
 
 use crate::cause::{cause_of_unmade, tell_device};
 use crate::report::{Reported, ShownFile};
-use crate::run::{run_file, run_rewrite};
-use devices::{Device, FileDevice, MemoryDevice, NewName, OpenFault, read_front};
+use crate::run::{run_file, run_rewrite, tell_no_copy};
+use devices::{Device, FileDevice, MemoryDevice, NewName, OpenFault, ReadLock, read_front};
 use node_file::laws::{a_changed_gate_is_seen_close_behind_it, nothing_counts_behind_the_records};
 use node_file::{MAX_LOOKED_AT, MIN_FILE_LEN, end_of_records, is_refused_by_front};
 use plumctl_core::tell;
@@ -33,16 +34,19 @@ impl Purpose {
         ensures { IfOk result (λ d. IsDurable
             (⟦<FileDevice as Device>⟧.content d) (⟦<FileDevice as Device>⟧.may_leave d)) }
     {
-        let is_held = matches!(self, Purpose::Copy);
+        let lock = match self {
+            Purpose::Report => ReadLock::NotTaken,
+            Purpose::Copy => ReadLock::Taken,
+        };
         let mut len = FIRST_READ;
         for _ in 0..usize::BITS {
-            let device = FileDevice::open_front(rt, rt.alloc(), path, is_held, len)?;
+            let device = FileDevice::open_front(rt, rt.alloc(), path, lock, len)?;
             match device.held().and_then(|bytes| len_to_read(bytes, len)) {
                 None => return Ok(device),
                 Some(more) => len = more,
             }
         }
-        FileDevice::open_front(rt, rt.alloc(), path, is_held, usize::MAX)
+        FileDevice::open_front(rt, rt.alloc(), path, lock, usize::MAX)
     }
 }
 
@@ -120,7 +124,7 @@ fn front_device(rt: &HostRuntime, front: &[u8]) -> Result<MemoryDevice, OpenFaul
 
 /// Makes a clean copy of a file that was shown, by `run_rewrite`, at a path where nothing is, and
 /// returns the exit status, which is never 2, the status of wrong arguments. Unless the copy is
-/// whole and on the disk, nothing is at the path.
+/// whole and on the disk, nothing is at the path. Of a file with a warning none is made.
 pub fn copy_to_path<W: Sink, E: Sink>(
     rt: &HostRuntime,
     shown: &ShownFile<FileDevice>,
@@ -128,15 +132,22 @@ pub fn copy_to_path<W: Sink, E: Sink>(
     writer: &mut W,
     errors: &mut E,
 ) -> u8
-    ensures { result ≢ 2 }
+    ensures not_usage { result ≢ 2 }
+    ensures warned { shown.now.warning.items ≢ [] → RefusesCopy
+        (record { writer = W.at writer.old; errors = E.at errors.old })
+        (record { writer = W.at writer.new; errors = E.at errors.new }) result }
 {
+    if !shown.warning.is_empty() {
+        return tell_no_copy(errors);
+    }
     let made = NewName::at(rt, rt.alloc(), out);
     copy(rt, shown, out, made, writer, errors)
 }
 
 /// Puts a clean copy in the place of a file that was shown for a copy, at this path, and returns
 /// the exit status, which is never 2, the status of wrong arguments. No node has the file until
-/// the copy is there. Unless that is whole and on the disk, the file stays as it was.
+/// the copy is there. Unless that is whole and on the disk, the file stays as it was; so does a file
+/// with a warning, of which none is made.
 pub fn compact_path<W: Sink, E: Sink>(
     rt: &HostRuntime,
     shown: &ShownFile<FileDevice>,
@@ -144,8 +155,14 @@ pub fn compact_path<W: Sink, E: Sink>(
     writer: &mut W,
     errors: &mut E,
 ) -> u8
-    ensures { result ≢ 2 }
+    ensures not_usage { result ≢ 2 }
+    ensures warned { shown.now.warning.items ≢ [] → RefusesCopy
+        (record { writer = W.at writer.old; errors = E.at errors.old })
+        (record { writer = W.at writer.new; errors = E.at errors.new }) result }
 {
+    if !shown.warning.is_empty() {
+        return tell_no_copy(errors);
+    }
     let made = NewName::over(rt, rt.alloc(), path, shown.file.device());
     copy(rt, shown, path, made, writer, errors)
 }

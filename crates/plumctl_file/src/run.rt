@@ -1,9 +1,10 @@
 //! The command `file`.
 
-ghost use Rattle.std.specs.Prelude.{◌≡◌, ◌≢◌, IfOk};
+ghost use Rattle.std.specs.Prelude.{◌≡◌, ◌≢◌, [], IfOk, Some};
 ghost use Rattle.devices.specs.Device.{IsDurable};
-ghost use Rattle.plumctl_file.specs.Ends.{EndsCopy, EndsFile, EndsRewrite, HandsBack, HandsOutShown, TellsRefusal, TellsWarning, cause_of, is_memory, status_of_refusal};
+ghost use Rattle.plumctl_file.specs.Ends.{EndsCopy, EndsFile, EndsRewrite, HandsBack, HandsOutShown, RefusesCopy, TellsRefusal, TellsWarning, cause_of, is_memory, no_copy, status_of_refusal};
 ghost use Rattle.plumctl_file.specs.Reported.{IsUntouched};
+ghost use Rattle.plumctl_core.specs.Opening.{TellsText};
 
 use crate::cause::{
     BEGINS_OTHERWISE, READ_FAILED, WRITE_FAILED, cause_of_path, cause_of_unmade, tell_device,
@@ -102,12 +103,54 @@ pub fn run_file<D: Device + Drop, W: Sink, E: Sink>(
     (status, Some(reported))
 }
 
+/// What is said if a copy was asked for of a file with a changed gate.
+const NO_COPY: &[u8] = b"error: no copy is made, since it would lack those records\n";
+
+/// Prints at `errors` that no copy is made of a file whose warning was printed, and returns the exit
+/// status.
+pub(crate) fn tell_no_copy<E: Sink>(errors: &mut E) -> u8
+    ensures status { result ≡ 1 }
+    ensures told { TellsText (E.at errors.old) (E.at errors.new) no_copy }
+{
+    tell_text(errors, NO_COPY);
+    1
+}
+
 /// Writes a clean copy of a file that was shown, with the same node, last life and table, to the
 /// target at the path `out`, by how it was opened. Returns the exit status, with the target where
 /// it was opened: 0 if every crash leaves the copy there, 3 if it couldn't be made or failed,
 /// which prints `error 30 Device`, 4 if memory was refused. After 3 and 4 the target may hold
 /// anything. The report was printed before.
+///
+/// Of a file with a warning no copy is made, which would lack the records behind the gate: that is
+/// printed at `errors`, the target stays as it is, and the status is 1.
 pub fn run_rewrite<D: Device, T: Device, W: Sink, E: Sink>(
+    alloc: Global,
+    shown: &ShownFile<D>,
+    out: &str,
+    target: Result<T, OpenFault>,
+    writer: &mut W,
+    errors: &mut E,
+) -> (u8, Option<T>)
+    ensures not_usage { result.0 ≢ 2 }
+    ensures warned { shown.now.warning.items ≢ [] → RefusesCopy
+        (record { writer = W.at writer.old; errors = E.at errors.old })
+        (record { writer = W.at writer.new; errors = E.at errors.new }) result.0 }
+    ensures untouched { shown.now.warning.items ≢ []
+        → IfOk target (λ given. result.1 ≡ Some given) }
+    ensures ends { shown.now.warning.items ≡ []
+        → EndsRewrite out.now T.content T.may_leave T.failed shown.now target result.1
+        (record { writer = W.at writer.old; errors = E.at errors.old })
+        (record { writer = W.at writer.new; errors = E.at errors.new }) result.0 }
+{
+    if shown.warning.is_empty() {
+        return rewrite_shown(alloc, shown, out, target, writer, errors);
+    }
+    (tell_no_copy(errors), target.ok())
+}
+
+/// Does that for a file without a warning.
+fn rewrite_shown<D: Device, T: Device, W: Sink, E: Sink>(
     alloc: Global,
     shown: &ShownFile<D>,
     out: &str,

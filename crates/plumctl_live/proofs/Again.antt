@@ -13,7 +13,7 @@ use Rattle.scenario.specs.Output.{IsOutput, ObeyAll, Plays, PlaysOrNothing, Play
 use Rattle.scenario.specs.declared.fault.ScenarioFault.{ScenarioFault}
 use Rattle.run_record.specs.Record as records
 use Rattle.run_record.specs.Record.{IsOfARun, outcome_of}
-use Rattle.run_replay.specs.Replay.{AskFor, Asks, Replays, roots_of}
+use Rattle.run_text.specs.Replay.{AskFor, Asks, Replays, roots_of}
 use Rattle.plumctl_live.specs.Recording.{IsRecording, MakesAgain}
 
 -- ---- looking at roots
@@ -32,7 +32,7 @@ no_limit old event Settle asks limit = absurd (cc (asks.is_event old.world))
 no_limit old event command asks limit = limit
 
 is_that_event : (choices : Choices) (old new : Stage) (event : Event) (command : Command) (text : List ℕ) → event_of old.world command ≡ Some event → Acts choices old command text new → Happens old event text new
-is_that_event choices old new event (Keep node) text is acts = absurd (cc (is))
+is_that_event choices old new event (Keep node None) text is acts = absurd (cc (is))
 is_that_event choices old new event (Resolve node key by) text is acts = absurd (cc (is))
 is_that_event choices old new event Settle text is acts = absurd (cc (is))
 is_that_event choices old new event command text is acts = subst (λ (e : Option Event). ActsOrLooks old e (report_of old.world command) text new) is acts
@@ -75,7 +75,7 @@ comes_to choices nodes old w (a ∷ accepted) (command ∷ commands) text ended 
 
 -- ---- the text
 
-plays : (choices : Choices) (nodes : ℕ) (events : List Event) (text output : List ℕ) (ended : Option ScenarioFault) → (r : Replays nodes events text) → length choices ≡ 2 → IsOutput (plain choices) text output ended
+plays : (choices : Choices) (nodes : ℕ) (events : List Event) (text output : List ℕ) (ended : Option ScenarioFault) → (r : Replays 2 nodes events text) → length choices ≡ 2 → IsOutput (plain choices) text output ended
     → Plays (plain choices) (record { nodes = nodes; commands = r.commands }) output ended
 plays choices nodes events text output ended r two is =
     let none : first_bad (length choices) text ≡ None = subst (λ n. first_bad n text ≡ None) (sym two) r.is_whole in
@@ -83,7 +83,7 @@ plays choices nodes events text output ended r two is =
     subst (λ n. scenario_of (commands_of n text) ≡ Some (record { nodes = nodes; commands = r.commands })) (sym two) r.is_scenario in
     subst (λ (s : Option Scenario). PlaysOrNothing (plain choices) s output ended) some (subst (λ (bad : Option ℕ). PlaysUnless bad (plain choices) text output ended) none is)
 
-makes_again : (nodes : ℕ) (w : World) (text : List ℕ) → Replays nodes (map records.event_of w.accepted) text → IsOfARun nodes w → (choices : Choices) (output : List ℕ) (ended : Option ScenarioFault)
+makes_again : (nodes : ℕ) (w : World) (text : List ℕ) → Replays 2 nodes (map records.event_of w.accepted) text → IsOfARun nodes w → (choices : Choices) (output : List ℕ) (ended : Option ScenarioFault)
     → length choices ≡ 2 → IsOutput (plain choices) text output ended → MakesAgain choices nodes w text output ended
 makes_again nodes w text r ran choices output ended two is =
     let played = plays choices nodes (map records.event_of w.accepted) text output ended r two is in
@@ -101,7 +101,7 @@ makes_again nodes w text r ran choices output ended two is =
 
 -- a text that replays the world is a recording of it
 pub recorded : {T E : Type 0} (items : T → List ℕ) (nodes : ℕ) (w : World) (result : Result (Option T) E) → IsOfARun nodes w
-    → IfOk result (λ found. IfSome found (λ text. Replays nodes (map records.event_of w.accepted) (items text)))
+    → IfOk result (λ found. IfSome found (λ text. Replays 2 nodes (map records.event_of w.accepted) (items text)))
     → IfOk result (λ found. IfSome found (λ text. IsRecording nodes w (items text)))
 recorded items nodes w (Ok (Some text)) ran replays = record { replays = replays; makes = makes_again nodes w (items text) replays ran }
 recorded items nodes w (Ok None) ran replays = tt

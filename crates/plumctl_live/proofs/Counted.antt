@@ -7,12 +7,12 @@ use Rattle.std.proofs.lemmas.Slice.Zip.{AllZip-long}
 use Rattle.meta_types.specs.First.{first_that_applies}
 use Rattle.run_record.specs.Record.{IsOfARun}
 use Rattle.world_core.specs.World.{World}
-use Rattle.cluster_parts.specs.Plan.{is_outside, largest, refusal_of_run}
-use Rattle.cluster_parts.specs.Serving.{LifeView, first_lives, life_of, lives_from}
-use Rattle.cluster_parts.specs.Worked.{HasWorked}
-use Rattle.cluster_parts.specs.declared.fault.ClusterFault.{ClusterFault}
-use Rattle.cluster_parts.specs.declared.fault.ClusterFault.TheVariants.{BadLimit, NoSuchNode}
-use Rattle.cluster_parts.specs.declared.plan.ClusterPlan.{ClusterPlan}
+use Rattle.cluster_worker.specs.Plan.{is_outside, largest, refusal_of_run}
+use Rattle.cluster_worker.specs.Serving.{LifeView, first_lives, life_of, lives_from}
+use Rattle.cluster_worker.specs.Worked.{HasWorked}
+use Rattle.cluster_worker.specs.declared.fault.ClusterFault.{ClusterFault}
+use Rattle.cluster_worker.specs.declared.fault.ClusterFault.TheVariants.{BadLimit, NoSuchNode}
+use Rattle.cluster_worker.specs.declared.plan.ClusterPlan.{ClusterPlan}
 use Rattle.cluster.specs.Run.{CanRun, IsRunOf}
 use Rattle.cluster.specs.declared.run.ClusterRun.{ClusterRun}
 use Rattle.plumctl_live.specs.Live.{Judges}
@@ -35,14 +35,6 @@ of_lives lives nodes (Err fault) many is = tt
 pub of_new : (nodes : ℕ) (run : Result ClusterRun ClusterFault) → IfOk run (IsRunOf (first_lives nodes)) → IsOfNodes nodes run
 of_new nodes run is =
     of_lives (first_lives nodes) nodes run (length-map-range_with_len (λ node. life_of node 1 []) 0 nodes) is
-
--- so what is judged is a run of so many
-pub judged_of : (nodes : ℕ) (run : Result ClusterRun ClusterFault) (judged : Result World LiveFault)
-    → IsOfNodes nodes run → Judges run judged → IfOk judged (IsOfARun nodes)
-judged_of nodes (Ok run) (Ok w) many judges = subst (λ n. IsOfARun n w) many judges.ran
-judged_of nodes (Ok run) (Err fault) many judges = tt
-judged_of nodes (Err fault) (Ok w) many judges = absurd (cc (judges))
-judged_of nodes (Err fault) (Err other) many judges = tt
 
 -- ---- on devices
 

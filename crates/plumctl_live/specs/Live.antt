@@ -6,16 +6,17 @@
 use Rattle.std.specs.Prelude.{◌≡◌, ◌⊎◌, ℕ, max, nat_eq, if◌then◌else◌, List, [], ◌∷◌, ◌++◌, length, map, All, Option, Some, None, Result, Ok, Err, IfOk, IfErr, OnOk, codes, decimal}
 use Rattle.node_journal.specs.Closed.{AreWhole}
 use Rattle.run_record.specs.Fault as records
+use Rattle.run_record.specs.declared.fault.RecordFault.TheVariants as record_faults
 use Rattle.run_record.specs.Record.{HoldsJournals, HoldsTables, IsKept, IsOfARun, Refuses, ShowWhatIsKnown}
 use Rattle.world_core.specs.World.{World}
 use Rattle.scenario_stage.specs.Printed.{line}
-use Rattle.cluster_parts.specs.Fault as clusters
-use Rattle.cluster_parts.specs.Plan.{largest, refusal_of_run}
-use Rattle.cluster_parts.specs.Serving.{first_lives, lives_from}
-use Rattle.cluster_parts.specs.declared.plan.ClusterPlan.{ClusterPlan}
+use Rattle.cluster_worker.specs.Fault as clusters
+use Rattle.cluster_worker.specs.Plan.{largest, refusal_of_run}
+use Rattle.cluster_worker.specs.Serving.{first_lives, lives_from}
+use Rattle.cluster_worker.specs.declared.plan.ClusterPlan.{ClusterPlan}
 use Rattle.cluster.specs.Run.{CanRun, IsRunOf, RefusesNewRun, RefusesRun}
 use Rattle.cluster.specs.declared.run.ClusterRun.{ClusterRun}
-use Rattle.cluster_parts.specs.declared.fault.ClusterFault.{ClusterFault}
+use Rattle.cluster_worker.specs.declared.fault.ClusterFault.{ClusterFault}
 use Rattle.streams.specs.declared.fault.StreamFault.{StreamFault}
 use Rattle.streams.specs.Moment.{SinkAt}
 use Rattle.plumctl_core.specs.Opening.{TellsText}
@@ -147,15 +148,27 @@ abbrev pub told_of : Option Counts → Result World LiveFault → List ℕ
 told_of counts (Ok w) = note_of_stopped counts
 told_of counts (Err fault) = told_of_fault fault
 
--- the text was printed, and at standard error what it doesn't say
+-- beside any verdict but 60 to 63 there are no words; of what they say nothing is said
+abbrev pub MaySayWhy : Result World LiveFault → (words : List ℕ) → Type 0
+MaySayWhy (Err (Record record_faults.Memory)) words = words ≡ []
+MaySayWhy (Err (Record fault)) words = Unit {0}
+MaySayWhy judged words = words ≡ []
+
+-- the words, if there are any; otherwise the line
+abbrev pub words_or_line : (words told : List ℕ) → List ℕ
+words_or_line [] told = told
+words_or_line (byte ∷ words) told = byte ∷ words
+
+-- the text was printed, and at standard error why there is no run, or what the text doesn't say
 pub record PrintsLive (plan : ClusterPlan) (counts : Option Counts)
-    (judged : Result World LiveFault) (old new : Outputs) (status : ℕ) : Type 0 where
+    (judged : Result World LiveFault) (words : List ℕ) (old new : Outputs) (status : ℕ)
+    : Type 0 where
   pub status_is : status ≡ status_of_verdict judged
   pub prints : WritesOut old.writer new.writer (live_text plan counts judged)
-  pub told : TellsText old.errors new.errors (told_of counts judged)
+  pub told : TellsText old.errors new.errors (words_or_line words (told_of counts judged))
 
--- a fault of the writer is printed at standard error where no fault of the run is; the note isn't
--- printed then
+-- a fault of the writer is printed at standard error where no fault of the run is; the note and the
+-- words aren't printed then
 abbrev pub TellsUnless : List ℕ → StreamFault → (old new : SinkAt) → Type 0
 TellsUnless [] fault old new = TellsFault old new fault
 TellsUnless (byte ∷ bytes) fault old new = TellsText old new (byte ∷ bytes)
@@ -174,9 +187,10 @@ pub record StopsLive (plan : ClusterPlan) (counts : Option Counts)
 
 -- what was judged was printed, as far as the writer takes it; or memory ran out, and nothing was
 -- printed
-abbrev pub EndsLive : ClusterPlan → Option Counts → Result World LiveFault → (old new : Outputs)
-    → ℕ → Type 0
-EndsLive plan counts judged old new status = PrintsLive plan counts judged old new status
+abbrev pub EndsLive : ClusterPlan → Option Counts → Result World LiveFault → (words : List ℕ)
+    → (old new : Outputs) → ℕ → Type 0
+EndsLive plan counts judged words old new status =
+    PrintsLive plan counts judged words old new status
     ⊎ (StopsLive plan counts judged old new status ⊎ EndsWithMemory old new status)
 
 -- a run that came about so was judged and reported
@@ -186,4 +200,6 @@ pub record IsJudgedAndTold (Came : Result ClusterRun ClusterFault → Type 0) (p
   pub came : Came run
   pub counts : live.counts ≡ counts_of run
   pub judges : Judges run live.judged
-  pub ends : EndsLive plan live.counts live.judged old new live.status
+  pub words : List ℕ
+  pub why : MaySayWhy live.judged words
+  pub ends : EndsLive plan live.counts live.judged words old new live.status

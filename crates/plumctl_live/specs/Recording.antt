@@ -8,14 +8,14 @@ use Rattle.streams.specs.Moment.{SinkAt}
 use Rattle.streams.specs.declared.fault.StreamFault.TheVariants as streams
 use Rattle.world_core.specs.World.{World}
 use Rattle.run_record.specs.Record.{event_of}
-use Rattle.run_replay.specs.Replay.{Replays}
+use Rattle.run_text.specs.Replay.{Replays}
 use Rattle.scenario_text.specs.Commands.{Command}
 use Rattle.scenario_text.specs.Script.{commands_of, scenario_of}
 use Rattle.scenario_stage.specs.Obeying.{Choices, Stage, new_stage}
 use Rattle.scenario_stage.specs.Printed.{line}
 use Rattle.scenario.specs.Output.{IsOutput, ObeyAll, plain}
 use Rattle.scenario.specs.declared.fault.ScenarioFault.{ScenarioFault}
-use Rattle.scenario_hint.specs.Hint.{shown_byte}
+use Rattle.scenario_text.specs.Hint.{shown_byte}
 use Rattle.plumctl_core.specs.Opening.{TellsText, cause_line}
 use Rattle.plumctl_core.specs.Status.{TellsFault}
 use Rattle.plumctl_file.specs.Ends.{cause_of_unmade, write_failed}
@@ -39,7 +39,7 @@ pub record MakesAgain (choices : Choices) (nodes : ℕ) (w : World) (text output
 -- the text asks for the events of the world, one after the other, and then for the root of each
 -- node; and a run of it to its end, with two resolvers at hand, makes the same world again
 pub record IsRecording (nodes : ℕ) (w : World) (text : List ℕ) : Type 0 where
-  pub replays : Replays nodes (map event_of w.accepted) text
+  pub replays : Replays 2 nodes (map event_of w.accepted) text
   pub makes : (choices : Choices) (output : List ℕ) (ended : Option ScenarioFault)
       → length choices ≡ 2 → IsOutput (plain choices) text output ended
       → MakesAgain choices nodes w text output ended

@@ -11,7 +11,7 @@
 //! }
 //! ```
 //!
-//! Read `judged` (`judge`), `counts`, `text` and `run` (`run_live`, `run_live_on`), then
+//! Read `judged` (`judge`), `why`, `counts`, `text` and `run` (`run_live`, `run_live_on`), then
 //! `recording` (`recording_of`, `write_recording`); `folder` makes files for the nodes.
 #![tactic(auto)]
 
@@ -21,6 +21,7 @@ mod judged;
 mod recording;
 mod run;
 mod text;
+mod why;
 
 pub use counts::Counts;
 pub use folder::{new_files, tell_unmade};

@@ -11,11 +11,14 @@ use cluster::ClusterPlan;
 use devices::{Device, DeviceFault};
 use plumctl_core::tell;
 use printing::print_number;
-use run_replay::replay_of;
-use scenario_hint::add_printable;
+use run_text::replay_of;
+use scenario_text::add_printable;
 use std::alloc::{AllocError, Global};
 use streams::{MAX_INPUT_LEN, Sink, StreamFault, write_whole};
 use world_core::World;
+
+/// How many resolvers `plumctl run` has at hand.
+const RESOLVERS: usize = 2;
 
 /// The comment on top of a recording.
 fn about(alloc: Global, plan: ClusterPlan) -> Result<Vec<u8>, AllocError> {
@@ -34,8 +37,8 @@ fn about(alloc: Global, plan: ClusterPlan) -> Result<Vec<u8>, AllocError> {
 /// its end, with two resolvers at hand as `plumctl run` has them, makes the same events, and comes
 /// to the same world: with the same replies and frames.
 ///
-/// Returns `None` if no text reads back as this run. Each event that the workers of a cluster
-/// make has a command: a join, a write over what is there, a delivery, a tick. No contract says so.
+/// Returns `None` if no text reads back as this run: if a name in it has no spelling. Those that
+/// the workers of a cluster write have one. No contract says so.
 ///
 /// It takes memory for the text, and for each event once more.
 pub fn recording_of(
@@ -48,7 +51,13 @@ pub fn recording_of(
         IsRecording plan.nodes world.now text.items)) }
 {
     let about = about(alloc, plan)?;
-    replay_of(alloc, about.as_slice(), plan.nodes, world.accepted())
+    replay_of(
+        alloc,
+        about.as_slice(),
+        plan.nodes,
+        world.accepted(),
+        RESOLVERS,
+    )
 }
 
 /// Writes the text at the front of the device, so that every crash leaves it there.
@@ -56,7 +65,7 @@ fn store<T: Device>(target: &mut T, text: &[u8]) -> Result<(), DeviceFault>
     ensures stored { OnOk result (IsStored T.content T.may_leave text.now target.old target.new) }
     ensures cause { IsErrOf result Failed → HasFailed (T.failed target.old) (T.failed target.new) }
 {
-    target.seal();
+    target.drop_copy();
     target.write_at(0, text)?;
     target.sync()
 }

@@ -3,11 +3,12 @@
 ghost use Rattle.std.specs.Prelude.{◌≡◌, ◌≢◌, All, IfOk, length};
 ghost use Rattle.devices.specs.Device.{IsDurable};
 ghost use Rattle.run_record.specs.Record.{IsOfARun};
-ghost use Rattle.plumctl_live.specs.Live.{EndsLive, IsJudgedAndTold, IsNewRun, IsRunOn, Judges, TellsStop, counts_of, status_of_verdict, told_of, told_of_fault};
+ghost use Rattle.plumctl_live.specs.Live.{EndsLive, IsJudgedAndTold, IsNewRun, IsRunOn, MaySayWhy, Judges, TellsStop, counts_of, status_of_verdict, told_of, told_of_fault, words_or_line};
 
 use crate::counts::Counts;
 use crate::judged::{LiveFault, judge};
 use crate::text::text_of;
+use crate::why::why_of;
 use cluster::{
     ClusterFault, ClusterPlan, ClusterRun, Limits, TurnHook, run_cluster, run_cluster_on,
 };
@@ -77,6 +78,13 @@ fn told_of(counts: Option<Counts>, judged: &Result<World, LiveFault>) -> &'stati
     }
 }
 
+/// Returns the words, if there are any, and otherwise the line.
+fn words_or_line<'a>(words: &'a [u8], told: &'a [u8]) -> &'a [u8]
+    ensures { result.now ≡ words_or_line words.now told.now }
+{
+    if words.is_empty() { told } else { words }
+}
+
 /// Prints at standard error that the writer failed; if a fault of the run has a line there,
 /// prints that line instead.
 fn tell_stop<E: Sink>(judged: &Result<World, LiveFault>, fault: StreamFault, errors: &mut E)
@@ -93,17 +101,19 @@ fn tell_stop<E: Sink>(judged: &Result<World, LiveFault>, fault: StreamFault, err
     }
 }
 
-/// Prints what became of a run of this plan, and returns the exit status.
+/// Prints what became of a run of this plan, and `words` at standard error, if there are any.
+/// Returns the exit status.
 fn report<W: Sink, E: Sink>(
     alloc: Global,
     plan: ClusterPlan,
     counts: Option<Counts>,
     judged: &Result<World, LiveFault>,
+    words: &[u8],
     writer: &mut W,
     errors: &mut E,
 ) -> u8
     ensures not_usage { result ≢ 2 }
-    ensures ends { EndsLive plan counts judged.now
+    ensures ends { EndsLive plan counts judged.now words.now
         (record { writer = W.at writer.old; errors = E.at errors.old })
         (record { writer = W.at writer.new; errors = E.at errors.new }) result }
 {
@@ -112,7 +122,8 @@ fn report<W: Sink, E: Sink>(
     };
     match print(writer, text.as_slice()) {
         Ok(()) => {
-            let _ = write_whole(errors, told_of(counts, judged).as_bytes());
+            let told = told_of(counts, judged).as_bytes();
+            let _ = write_whole(errors, words_or_line(words, told));
             status_of_verdict(judged)
         }
         Err(fault) => {
@@ -122,17 +133,35 @@ fn report<W: Sink, E: Sink>(
     }
 }
 
+/// What a run came to.
+#[derive(Drop)]
+struct Verdict {
+    counts: Option<Counts>,
+    judged: Result<World, LiveFault>,
+    /// Why it is no run of the world, if there are words for that.
+    why: Vec<u8>,
+}
+
 /// Judges what became of a run, and counts it.
-fn judge_run(
-    alloc: Global,
-    run: Result<ClusterRun, ClusterFault>,
-) -> (Option<Counts>, Result<World, LiveFault>)
-    ensures counts { result.0 ≡ counts_of run }
-    ensures judges { Judges run result.1 }
+fn judge_run(alloc: Global, run: Result<ClusterRun, ClusterFault>) -> Verdict
+    ensures counts { result.counts ≡ counts_of run }
+    ensures judges { Judges run result.judged }
+    ensures why { MaySayWhy result.judged result.why.items }
 {
     match run {
-        Ok(run) => (Some(Counts::of(&run)), judge(alloc, &run)),
-        Err(fault) => (None, Err(LiveFault::Cluster(fault))),
+        Ok(run) => {
+            let judged = judge(alloc, &run);
+            Verdict {
+                counts: Some(Counts::of(&run)),
+                why: why_of(alloc, &run, &judged),
+                judged,
+            }
+        }
+        Err(fault) => Verdict {
+            counts: None,
+            judged: Err(LiveFault::Cluster(fault)),
+            why: Vec::new(alloc),
+        },
     }
 }
 
@@ -140,10 +169,11 @@ fn judge_run(
 /// is a run, one of calls and lost frames; and then `assembled`, or `fault` with the number and the
 /// name of the refusal.
 ///
-/// Prints at standard error that memory ran out, that a journal isn't whole, or, if the run is
-/// one of the world, that a node stopped. Where the writer fails, its fault is printed there unless
-/// one of the first two is; the note about a node isn't printed then. It takes memory for the
-/// world.
+/// Prints at standard error, after that, where and why the run is none of the world, if it was
+/// refused with 60 to 63; that memory ran out; that a journal isn't whole; or, if the run is one of
+/// the world, that a node stopped. Where the writer fails, its fault is printed there unless memory
+/// ran out or a journal isn't whole; the words and the note aren't printed then. It takes memory for
+/// the world, and for the words, which are left out if there is none.
 pub fn tell_run<W: Sink, E: Sink>(
     alloc: Global,
     plan: ClusterPlan,
@@ -158,8 +188,13 @@ pub fn tell_run<W: Sink, E: Sink>(
         (record { writer = W.at writer.new; errors = E.at errors.new }) result }
     ensures world { IfOk result.judged (IsOfARun plan.nodes) }
 {
-    let (counts, judged) = judge_run(alloc, run);
-    let status = report(alloc, plan, counts, &judged, writer, errors);
+    let Verdict {
+        counts,
+        judged,
+        why,
+    } = judge_run(alloc, run);
+    let status = report(alloc, plan, counts, &judged, why.as_slice(), writer, errors);
+    drop(why);
     LiveRun {
         status,
         counts,

@@ -3,8 +3,7 @@
 use crate::fault::RowFault;
 use crate::words::{Words, key, node, number, vector};
 use dvvset::Vector;
-use meta_types::{MetaKey, NodeId};
-use node_parts::both;
+use meta_types::{MetaKey, NodeId, both};
 use plumtree::{Cast, CastOut};
 use std::alloc::AllocError;
 

@@ -3,8 +3,7 @@
 use crate::fault::RowFault;
 use dvvset::{Counter, Vector};
 use frame_fields::Nodes;
-use meta_types::{Actor, FullPrefix, MetaKey, NodeId};
-use node_parts::both;
+use meta_types::{Actor, FullPrefix, MetaKey, NodeId, both};
 use std::alloc::Global;
 use std::str::SplitWhitespace;
 

@@ -13,7 +13,7 @@ use Rattle.node_images.specs.Images.{Image}
 use Rattle.node_journal.specs.Closed.{ClosedNode}
 use Rattle.node_journal.specs.declared.entry.Entry.{Entry}
 use Rattle.node_journal.specs.Entry.{step_of, stepped_of}
-use Rattle.run_order.specs.Journals.{entry_at, journal_of}
+use Rattle.run_record.specs.Journals.{entry_at, journal_of}
 use Rattle.world_core.specs.declared.event.Event.{Event}
 use Rattle.world_core.specs.declared.fault.WorldFault.{WorldFault}
 use Rattle.world_core.specs.declared.fault.WorldFault.TheVariants.{IncarnationSpent, LooksLikeFrame, NoSuchFrame, NoSuchImage, NoSuchNode, NoSuchRead}

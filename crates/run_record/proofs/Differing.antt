@@ -4,9 +4,9 @@ use Rattle.node_core.specs.Run.{NoEventHasTwoOutcomes, RunsGoOn}
 use Rattle.node_events.specs.declared.fault.StepFault.{StepFault}
 use Rattle.node_journal.specs.Closed.{ClosedNode}
 use Rattle.node_journal.specs.declared.entry.Entry.{Entry}
-use Rattle.run_order.specs.Journals.{entry_at}
-use Rattle.run_order.specs.Order.{IsReady}
-use Rattle.run_order.specs.declared.order.Turn.{Turn}
+use Rattle.run_record.specs.Journals.{entry_at}
+use Rattle.run_record.specs.Order.{CanComeNext}
+use Rattle.run_record.specs.declared.order.Turn.{Turn}
 use Rattle.world_core.specs.declared.answer.Answer.{Answer}
 use Rattle.world_core.specs.declared.event.Event.{Event}
 use Rattle.world_core.specs.declared.fault.WorldFault.{WorldFault}
@@ -27,7 +27,7 @@ use Rattle.run_record.proofs.Replaying.{declines_of, made_of}
 pub unequal_gave : (closed : List ClosedNode) (old new : World) (next : List ℕ)
     (rows : List (Vec Mark Global)) (turn : Turn) (e : Entry) (event : Event) (answer : Answer)
     → RunsGoOn → NoEventHasTwoOutcomes → IsReplayOf closed old next rows
-    → IsReady closed next turn → entry_at closed turn.node (get_or next turn.node 0) ≡ Some e
+    → CanComeNext closed next turn → entry_at closed turn.node (get_or next turn.node 0) ≡ Some e
     → IsEventOf old turn.node e.event event → HasLived old turn.node (node_at old turn.node)
     → Passes old event (Ok answer) new → (AsTold new answer e → ⊥) → IsUnequal closed turn.node
 unequal_gave closed old new next rows turn e event answer goes once replay ready there is lived
@@ -46,7 +46,7 @@ unequal_gave closed old new next rows turn e event answer goes once replay ready
 pub unequal_refused : (closed : List ClosedNode) (old new : World) (next : List ℕ)
     (rows : List (Vec Mark Global)) (turn : Turn) (e : Entry) (event : Event) (fault : WorldFault)
     → RunsGoOn → NoEventHasTwoOutcomes → IsReplayOf closed old next rows
-    → IsReady closed next turn → entry_at closed turn.node (get_or next turn.node 0) ≡ Some e
+    → CanComeNext closed next turn → entry_at closed turn.node (get_or next turn.node 0) ≡ Some e
     → IsEventOf old turn.node e.event event → HasLived old turn.node (node_at old turn.node)
     → Passes old event (Err fault) new → (fault ≡ Memory → ⊥) → IsUnequal closed turn.node
 unequal_refused closed old new next rows turn e event fault goes once replay ready there is lived

@@ -11,9 +11,9 @@ use Rattle.node_images.specs.Node.{new_node}
 use Rattle.node_journal.specs.Closed.{ClosedNode}
 use Rattle.node_journal.specs.declared.entry.Entry.{Entry}
 use Rattle.node_journal.specs.Entry.{step_of}
-use Rattle.run_order.specs.Journals.{journal_of, last_table}
-use Rattle.run_order.specs.Order.{AreFirst, HasEnded, IsOrder, IsOrderFrom}
-use Rattle.run_order.specs.declared.order.Turn.{Turn}
+use Rattle.run_record.specs.Journals.{journal_of, last_table}
+use Rattle.run_record.specs.Order.{AreFirst, HasEnded, IsOrder, IsOrderFrom}
+use Rattle.run_record.specs.declared.order.Turn.{Turn}
 use Rattle.world_core.specs.Knowledge.{OfAllTold, ShowsKnown}
 use Rattle.world_core.specs.Refusal.{node_at, table_at}
 use Rattle.world_core.specs.World.{HasLived, World, deeds_in, new_world}

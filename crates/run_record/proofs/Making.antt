@@ -14,9 +14,9 @@ use Rattle.node_images.specs.Node.{context_read}
 use Rattle.node_journal.specs.Closed.{ClosedNode}
 use Rattle.node_journal.specs.declared.entry.Entry.{Entry}
 use Rattle.node_journal.specs.Entry.{stepped_of}
-use Rattle.run_order.specs.Giving.{IsHandedOut}
-use Rattle.run_order.specs.Journals.{entry_at, journal_of}
-use Rattle.run_order.specs.Order.{with_turn}
+use Rattle.run_record.specs.Giving.{IsHandedOut}
+use Rattle.run_record.specs.Journals.{entry_at, journal_of}
+use Rattle.run_record.specs.Order.{with_turn}
 use Rattle.world_core.specs.declared.answer.Answer.{Answer}
 use Rattle.world_core.specs.declared.event.Event.{Event}
 use Rattle.world_core.specs.Events.{Doing}

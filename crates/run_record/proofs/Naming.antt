@@ -9,10 +9,10 @@ use Rattle.node_events.specs.declared.event.NodeEvent.{NodeEvent}
 use Rattle.node_events.specs.declared.event.NodeEvent.TheVariants.{Write}
 use Rattle.node_journal.specs.Closed.{ClosedNode}
 use Rattle.node_journal.specs.declared.entry.Entry.{Entry}
-use Rattle.run_order.specs.Journals.{entry_at, journal_of}
-use Rattle.run_order.specs.Order.{IsGivenBy, IsPassedGiver, IsReady}
-use Rattle.run_order.specs.declared.giving.Giver.{Giver}
-use Rattle.run_order.specs.declared.order.Turn.{Turn}
+use Rattle.run_record.specs.Journals.{entry_at, journal_of}
+use Rattle.run_record.specs.Order.{IsGivenBy, IsPassedGiver, CanComeNext}
+use Rattle.run_record.specs.declared.giving.Giver.{Giver}
+use Rattle.run_record.specs.declared.order.Turn.{Turn}
 use Rattle.world_core.specs.Numbers.{numbered}
 use Rattle.world_core.specs.World.{World}
 use Rattle.run_record.specs.declared.replay.Mark.{Mark}
@@ -40,7 +40,7 @@ named_read closed w next rows key value c g mark are passed at =
 
 -- the entry that is read is the next one
 pub there_of : (closed : List ClosedNode) (next : List ℕ) (turn : Turn) (journal : List Entry)
-    (v : ℕ) (e : Entry) → IsReady closed next turn → journal ≡ journal_of closed turn.node
+    (v : ℕ) (e : Entry) → CanComeNext closed next turn → journal ≡ journal_of closed turn.node
     → v ≡ get_or next turn.node v → e ≡ get_or journal v e
     → entry_at closed turn.node (get_or next turn.node 0) ≡ Some e
 there_of closed next turn journal v e ready is at here =
@@ -55,7 +55,7 @@ there_of closed next turn journal v e ready is at here =
 
 -- and what it needs is given
 pub given_to : (closed : List ClosedNode) (next : List ℕ) (turn : Turn) (e : Entry)
-    → (ready : IsReady closed next turn)
+    → (ready : CanComeNext closed next turn)
     → entry_at closed turn.node (get_or next turn.node 0) ≡ Some e
     → IsGivenBy closed next e.event turn.giver
 given_to closed next turn e ready there =
@@ -64,7 +64,7 @@ given_to closed next turn e ready there =
 
 pub row_of : (closed : List ClosedNode) (w : World) (next : List ℕ)
     (rows : List (Vec Mark Global)) (turn : Turn) (row : Vec Mark Global)
-    → IsReplayOf closed w next rows → IsReady closed next turn → row ≡ get_or rows turn.node row
+    → IsReplayOf closed w next rows → CanComeNext closed next turn → row ≡ get_or rows turn.node row
     → slice_get rows turn.node ≡ Some row
 row_of closed w next rows turn row replay ready is =
     slice_get_read rows (length rows) turn.node row refl

@@ -8,10 +8,10 @@ use Rattle.node_events.specs.Event.{stored_key}
 use Rattle.node_images.specs.Node.{ImagedNode, arrived, context_read}
 use Rattle.node_journal.specs.Closed.{ClosedNode}
 use Rattle.node_journal.specs.declared.entry.Entry.{Entry}
-use Rattle.run_order.proofs.Waiting.{places_step}
-use Rattle.run_order.specs.Journals.{entry_at}
-use Rattle.run_order.specs.Order.{IsReady, with_turn}
-use Rattle.run_order.specs.declared.order.Turn.{Turn}
+use Rattle.run_record.proofs.Waiting.{places_step}
+use Rattle.run_record.specs.Journals.{entry_at}
+use Rattle.run_record.specs.Order.{CanComeNext, with_turn}
+use Rattle.run_record.specs.declared.order.Turn.{Turn}
 use Rattle.world_core.specs.declared.answer.Accepted.{Accepted}
 use Rattle.world_core.specs.declared.answer.Answer.{Answer}
 use Rattle.world_core.specs.declared.event.Event.{Event}
@@ -69,7 +69,7 @@ run_step count old new event answer goes run passes =
 pub replay_step : (closed : List ClosedNode) (old new : World) (next : List ℕ)
     (rows : List (Vec Mark Global)) (turn : Turn) (e : Entry) (event : Event) (answer : Answer)
     (mark : Mark) (row more : Vec Mark Global) → WorldRunsGoOn → OnlyReadsHandOut
-    → IsReplayOf closed old next rows → IsReady closed next turn
+    → IsReplayOf closed old next rows → CanComeNext closed next turn
     → entry_at closed turn.node (get_or next turn.node 0) ≡ Some e
     → IsEventOf old turn.node e.event event → Passes old event (Ok answer) new
     → AsTold new answer e → mark.first ≡ answer.sent.first → mark.read ≡ answer.read

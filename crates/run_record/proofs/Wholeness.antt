@@ -9,7 +9,7 @@ use Rattle.std.proofs.lemmas.List.Elements.{All-head, All-tail, All-nil}
 use Rattle.std.proofs.lemmas.Map.Steps.{length-le_from_distinct_below}
 use Rattle.node_journal.specs.Closed.{AreWhole, ClosedNode, IsWhole, NamesBelow, number_of}
 use Rattle.node_journal.specs.declared.entry.Entry.{Entry}
-use Rattle.run_order.specs.Journals.{HaveNodes, entry_at, journal_of}
+use Rattle.run_record.specs.Journals.{HaveNodes, entry_at, journal_of}
 use Rattle.run_record.proofs.Numbers.{all_at}
 
 -- ---- no other node has a journal

@@ -1,7 +1,7 @@
 -- The numbers and names of refusals.
 use Rattle.std.specs.Prelude.{ℕ, List, codes}
-use Rattle.run_order.specs.declared.fault.OrderFault.{OrderFault}
-use Rattle.run_order.specs.declared.fault.OrderFault.TheVariants as order
+use Rattle.run_record.specs.declared.order_fault.OrderFault.{OrderFault}
+use Rattle.run_record.specs.declared.order_fault.OrderFault.TheVariants as order
 use Rattle.run_record.specs.declared.fault.RecordFault.{RecordFault}
 use Rattle.run_record.specs.declared.fault.RecordFault.TheVariants.{Unsent, Stuck, Unequal, StrangeReceipt, Memory}
 

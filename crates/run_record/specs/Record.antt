@@ -9,8 +9,8 @@ use Rattle.node_journal.specs.declared.entry.Entry.{Entry}
 use Rattle.node_journal.specs.declared.receipt.Receipt.{Receipt}
 use Rattle.node_journal.specs.Closed.{ClosedNode}
 use Rattle.node_journal.specs.Entry.{step_of, stepped_of}
-use Rattle.run_order.specs.Journals.{entry_at, journal_of, last_table}
-use Rattle.run_order.specs.Refusal.{IsStuck, IsUnsent, NoneIsStuck, NoneIsUnsent}
+use Rattle.run_record.specs.Journals.{entry_at, journal_of, last_table}
+use Rattle.run_record.specs.Refusal.{IsStuck, IsUnsent, NoneIsStuck, NoneIsUnsent}
 use Rattle.world_core.specs.declared.answer.Accepted.{Accepted}
 use Rattle.world_core.specs.declared.answer.Answer.{Answer}
 use Rattle.world_core.specs.declared.event.Event.{Event}

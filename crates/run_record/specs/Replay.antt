@@ -7,9 +7,9 @@ use Rattle.node_events.specs.declared.event.NodeEvent.{NodeEvent}
 use Rattle.node_journal.specs.declared.entry.Entry.{Entry}
 use Rattle.node_journal.specs.declared.receipt.Receipt.{Receipt}
 use Rattle.node_journal.specs.Closed.{ClosedNode}
-use Rattle.run_order.specs.Giving.{IsHandedOut}
-use Rattle.run_order.specs.Journals.{entry_at, journal_of}
-use Rattle.run_order.specs.Passing.{AreNextPlaces}
+use Rattle.run_record.specs.Giving.{IsHandedOut}
+use Rattle.run_record.specs.Journals.{entry_at, journal_of}
+use Rattle.run_record.specs.Passing.{AreNextPlaces}
 use Rattle.world_core.specs.declared.answer.Answer.{Answer}
 use Rattle.world_core.specs.declared.event.Event.{Event}
 use Rattle.world_core.specs.declared.fault.WorldFault.{WorldFault}

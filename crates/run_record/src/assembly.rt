@@ -2,15 +2,17 @@
 
 ghost use Rattle.std.specs.Prelude.{◌≡◌, length, All, IfOk, IfErr, OnOk};
 ghost use Rattle.node_journal.specs.Closed.{AreWhole};
-ghost use Rattle.run_order.specs.Order.{IsOrder};
+ghost use Rattle.run_record.specs.Order.{IsOrder};
 ghost use Rattle.run_record.specs.Record.{HoldsJournals, HoldsTables, IsKept, IsOfARun, Refuses, ShowWhatIsKnown};
 ghost use Rattle.run_record.specs.Replay.{RefusesReplay};
 
 use crate::checks::{check_receipts, check_tables};
 use crate::fault::RecordFault;
+use crate::hint::Hints;
+use crate::order::{Turn, find_order};
 use crate::replay::Replay;
+use crate::sending::find_all_sent;
 use node_journal::{Closed, Receipt};
-use run_order::{Turn, find_all_sent, find_order};
 use std::alloc::Global;
 use world_core::World;
 
@@ -37,8 +39,9 @@ fn replayed(alloc: Global, closed: &[Closed], order: &[Turn]) -> Result<World, R
 /// `RecordFault` says of each. 99 `Memory` may come at any time. Journals that real nodes left, and
 /// receipts of their calls, are refused only when memory runs out; no contract can say so.
 ///
-/// It takes memory for the world, which holds a copy of each event and frame, for a turn and a mark
-/// of each entry, and time for each entry once, as long as the journals are those of nodes.
+/// It takes memory for the world, which holds a copy of each event and frame, for a number, a turn
+/// and a mark of each entry, and time for each entry once, as long as the journals are those of
+/// nodes.
 pub fn assemble(
     alloc: Global,
     closed: &[Closed],
@@ -52,8 +55,10 @@ pub fn assemble(
     ensures receipts { OnOk result (All (IsKept closed.now) receipts.now) }
     ensures refused { IfErr result (Refuses closed.now receipts.now) }
 {
-    find_all_sent(alloc, closed)?;
-    let order = find_order(alloc, closed)?;
+    let hints = Hints::new(alloc, closed)?;
+    find_all_sent(alloc, closed, &hints)?;
+    let order = find_order(alloc, closed, &hints)?;
+    drop(hints); // a number for each entry, which the world doesn't need
     let world = replayed(alloc, closed, order.as_slice())?;
     check_tables(closed, &world)?;
     check_receipts(closed, receipts)?;

@@ -2,15 +2,15 @@
 
 ghost use Rattle.std.specs.Prelude.{◌≡◌, ◌↔◌, length, All, IfErr, IsTrue, OnOk};
 ghost use Rattle.node_journal.specs.Closed.{AreWhole};
-ghost use Rattle.run_order.specs.Journals.{last_table};
+ghost use Rattle.run_record.specs.Journals.{last_table};
 ghost use Rattle.run_record.specs.Record.{AllRanAsTold, HoldsJournals, HoldsTables, IsKept, ShowWhatIsKnown};
 ghost use Rattle.run_record.specs.Replay.{RefusesReceipts, RefusesReplay};
 
 use crate::fault::RecordFault;
+use crate::{journal_of, last_table};
 use meta_store::Store;
 use node_core::laws::runs_go_on;
 use node_journal::{Closed, Receipt};
-use run_order::{journal_of, last_table};
 use world_core::World;
 
 fn are_same(one: &Store, other: &Store) -> bool

@@ -4,18 +4,18 @@ ghost use Rattle.std.specs.Prelude.{◌≡◌, ◌<◌, length, Some, IfOk, IsSo
 ghost use Rattle.node_events.specs.declared.event.NodeEvent.TheVariants.{Take, Write};
 ghost use Rattle.node_events.specs.Event.{other_of};
 ghost use Rattle.node_journal.specs.Closed.{NamesBelow};
-ghost use Rattle.run_order.specs.Giving.{Needs};
-ghost use Rattle.run_order.specs.Order.{IsGivenBy};
+ghost use Rattle.run_record.specs.Giving.{Needs};
+ghost use Rattle.run_record.specs.Order.{IsGivenBy};
 ghost use Rattle.world_core.specs.Numbers.{numbered};
 ghost use Rattle.world_core.specs.declared.event.Event.TheVariants.{Put};
 ghost use Rattle.run_record.specs.Replay.{IsEventOf, IsReplay, mark_at};
 
+use crate::Giver;
 use crate::replay::{Mark, Replay};
 use meta_store::Context;
 use meta_types::{ByteString, MetaKey, NodeId, Value};
 use node_events::NodeEvent;
 use node_journal::Closed;
-use run_order::Giver;
 use std::alloc::AllocError;
 use world_core::Event;
 

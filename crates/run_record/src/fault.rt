@@ -2,7 +2,7 @@ ghost use Rattle.std.specs.Prelude.{◌≡◌};
 ghost use Rattle.run_record.specs.Fault.{code_of, fault_name, of_order};
 ghost use Rattle.run_record.specs.declared.fault.RecordFault.TheVariants.{Memory};
 
-use run_order::{OrderFault, Place};
+use crate::{OrderFault, Place};
 use std::alloc::{AllocError, AllocFailed};
 use thiserror::Error;
 

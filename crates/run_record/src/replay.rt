@@ -2,20 +2,20 @@
 
 ghost use Rattle.std.specs.Prelude.{ℕ, ◌≡◌, ◌<◌, ◌≤◌, length, slice_index, All, IfOk, IfErr, IfSome, IsNone, IsTrue, Some, ◌↔◌, OnOk};
 ghost use Rattle.node_journal.specs.Closed.{AreWhole};
-ghost use Rattle.run_order.specs.Journals.{entry_at};
-ghost use Rattle.run_order.specs.Order.{AreFirst, HasEnded, IsOrderFrom, IsReady, with_turn};
+ghost use Rattle.run_record.specs.Journals.{entry_at};
+ghost use Rattle.run_record.specs.Order.{AreFirst, HasEnded, IsOrderFrom, CanComeNext, with_turn};
 ghost use Rattle.world_core.specs.Refusal.{node_at};
 ghost use Rattle.world_core.specs.World.{HasLived};
 ghost use Rattle.run_record.specs.Replay.{AsTold, IsMarkOf, IsRefusal, IsReplay, RefusesReplay};
 
 use crate::fault::RecordFault;
+use crate::{Turn, first_places, journal_of};
 use meta_types::ByteString;
 use node_core::laws::{
     no_event_has_two_outcomes, only_reads_hand_out_a_context, runs_go_on as node_runs_go_on,
 };
 use node_events::Reply;
 use node_journal::{Closed, Entry};
-use run_order::{Turn, first_places, journal_of};
 use std::alloc::{AllocError, Global};
 use world_core::laws::runs_go_on;
 use world_core::{Answer, World, WorldFault};
@@ -92,7 +92,7 @@ impl Replay {
 
     /// Returns the next entry of the turn's node.
     fn next_entry<'a>(&self, closed: &'a [Closed], turn: Turn) -> &'a Entry
-        requires { IsReady closed.now self.now.next.items turn }
+        requires { CanComeNext closed.now self.now.next.items turn }
         ensures { entry_at closed.now turn.node (slice_index self.now.next.items turn.node)
             ≡ Some result.now }
     {
@@ -105,7 +105,7 @@ impl Replay {
     pub(crate) fn make(&mut self, closed: &[Closed], turn: Turn) -> Result<(), RecordFault>
         requires whole { AreWhole closed.now }
         requires replay { IsReplay closed.now self.old }
-        requires ready { IsReady closed.now self.old.next.items turn }
+        requires ready { CanComeNext closed.now self.old.next.items turn }
         ensures ok { OnOk result (IsReplay closed.now self.new) }
         ensures next { OnOk result (self.new.next.items
             ≡ with_turn self.old.next.items turn.node) }

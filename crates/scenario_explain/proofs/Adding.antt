@@ -34,13 +34,6 @@ command_told text (inr (number, shown, is)) =
 pub no_command : (text : List ℕ) → AddsCommand text text
 no_command text = record { added = []; of_command = inl refl; text_is = sym (append-nil text) }
 
-pub one_command : (old new line shown : List ℕ) (number : ℕ) → line ≡ decimal number ++ codes ": " ++ shown → new ≡ old ++ told_line line → AddsCommand old new
-one_command old new line shown number is added = record {
-  added = told_line line;
-  of_command = inr (number, shown, ap told_line is);
-  text_is = added;
-}
-
 -- ---- lines of nodes
 
 pub adds_none : (text : List ℕ) → AddsOfNodes text text

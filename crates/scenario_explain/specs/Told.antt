@@ -3,7 +3,7 @@
 -- after them the frames that are then on their way, and lines of nodes.
 use Rattle.std.specs.Prelude.{◌≡◌, ◌⊎◌, ℕ, List, [], ◌∷◌, ◌++◌, map, codes, decimal}
 use Rattle.scenario_text.specs.Commands.{Command}
-use Rattle.scenario_hint.specs.Hint.{shown_byte}
+use Rattle.scenario_text.specs.Hint.{shown_byte}
 use Rattle.scenario_stage.specs.Marking.{all_waiting}
 use Rattle.scenario_stage.specs.Obeying.{Choices, Obeys, Stage}
 use Rattle.scenario_stage.specs.Printed.{line}

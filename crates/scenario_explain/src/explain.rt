@@ -12,9 +12,8 @@ use crate::waiting::Waiting;
 use printing::print_number;
 use resolvers::Resolver;
 use scenario::{Runner, ScenarioFault, read_text, run_text};
-use scenario_hint::{add_shown, is_skipped};
 use scenario_stage::{Stage, StageFault, print_line};
-use scenario_text::{Command, Lines};
+use scenario_text::{Command, Lines, add_shown, is_skipped};
 use std::alloc::{AllocError, Global};
 use streams::{Sink, Source};
 

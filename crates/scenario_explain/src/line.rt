@@ -3,7 +3,7 @@
 ghost use Rattle.std.specs.Prelude.{◌≡◌, ◌++◌, OnOk};
 ghost use Rattle.scenario_explain.specs.Told.{told_line};
 
-use scenario_hint::add_printable;
+use scenario_text::add_printable;
 use std::alloc::AllocError;
 
 /// Adds a line: two spaces, the bytes with `?` for what can't be printed, and a line feed.

@@ -15,6 +15,8 @@ IfEvent (Some event) = IsNoDelivery event
 
 event_here : (w : World) (command : Command) → IsActOrLook command → IfEvent (event_of w command)
 event_here w (spoken.Deliver frame to word) here = absurd here
+event_here w (spoken.Keep n None) here = absurd here
+event_here w (spoken.Keep n (Some k)) here = tt
 event_here w command here = tt
 
 pub event_is : (w : World) (command : Command) (event : Option Event) → IsActOrLook command → IsEventOf command event → event_of w command ≡ event

@@ -184,6 +184,3 @@ get_more k (suc place) (mark ∷ items) = get_more k place items
 get_more zero place [] = refl
 get_more (suc k) zero [] = refl
 get_more (suc k) (suc place) [] = get_more k place []
-
-pub given_still : (n frame place : ℕ) (items : List Bool) → frame ≡ suc place → unwrap_or (slice_get items place) false ≡ was_given frame (with_new n items)
-given_still n frame place items is = subst (λ f. unwrap_or (slice_get items place) false ≡ was_given f (with_new n items)) (sym is) (sym (get_more (n - length items) place items))

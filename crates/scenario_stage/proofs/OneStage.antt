@@ -141,7 +141,7 @@ one_act_or_look old new left None (Some look) text other a b = one_answer old ne
 one_act_or_look old new left None None text other a b = (a.0 ∙ sym b.0, a.1 ∙ sym b.1)
 
 one_act : (choices : Choices) (old new left : Stage) (command : Command) (text other : List ℕ) → Acts choices old command text new → Acts choices old command other left → AreOne text other new left
-one_act choices old new left (Keep node) text other a b = one_keeps_or_not node old new left text other a b
+one_act choices old new left (Keep node None) text other a b = one_keeps_or_not node old new left text other a b
 one_act choices old new left (Resolve node key by) text other a b = one_resolves node key _ old new left text other a b
 one_act choices old new left Settle text other a b = one_settles old new left text other a b
 one_act choices old new left command text other a b = one_act_or_look old new left (event_of old.world command) (report_of old.world command) text other a b

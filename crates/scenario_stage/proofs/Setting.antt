@@ -99,7 +99,7 @@ none_wait number (true ∷ given) none = none_wait (number + 1) given none
 none_wait number (false ∷ given) none = let no : Some number ≡ None = none in absurd (cc)
 
 acts : (choices : Choices) (old new : Stage) (command : Command) (text : List ℕ) → Acts choices old command text new → SetsMarks command old.given new.given
-acts choices old new (Keep node) text does = keeps_or_not node old new text does
+acts choices old new (Keep node None) text does = keeps_or_not node old new text does
 acts choices old new (Resolve node key by) text does = resolves node key _ old new text does
 acts choices old new Settle text settles = (settling_grows settles.delivered old new settles.hands_on, none_wait 1 new.given settles.none_waits)
 acts choices old new (Deliver frame to word) text happens = comes_by_delivery old new frame (unwrap_or to (addressee old.world frame)) word happens.outcome happens.comes

@@ -34,6 +34,7 @@ IsEventOfNumbers (spoken.Del n k s r) event = Unit {0}
 IsEventOfNumbers (spoken.Over n k v s) event = Unit {0}
 IsEventOfNumbers (spoken.Read n k) event = Unit {0}
 IsEventOfNumbers (spoken.Junk n bytes) event = Unit {0}
+IsEventOfNumbers (spoken.Keep n k) event = Unit {0}
 IsEventOfNumbers (spoken.Watch n p capacity) event = Unit {0}
 IsEventOfNumbers command event = IsEventOf command event
 
@@ -111,7 +112,7 @@ IsNoDelivery event = Unit {0}
 -- a command that is an event other than a delivery, or only looks, or does nothing
 abbrev pub IsActOrLook : Command → Type 0
 IsActOrLook (spoken.Deliver frame to word) = ⊥
-IsActOrLook (spoken.Keep n) = ⊥
+IsActOrLook (spoken.Keep n None) = ⊥
 IsActOrLook (spoken.Resolve n k by) = ⊥
 IsActOrLook spoken.Settle = ⊥
 IsActOrLook command = Unit {0}

@@ -8,7 +8,7 @@ use Rattle.dvvset.specs.Object.{Counter}
 use Rattle.meta_frame.specs.Frame.{to_in}
 use Rattle.hash_tree.specs.Tree.{rows_of, tree_root}
 use Rattle.meta_store.specs.Table.{Table, keys_under, object_at}
-use Rattle.node_parts.specs.Overlay.{Overlay}
+use Rattle.node_overlay.specs.Overlay.{Overlay}
 use Rattle.node_events.specs.declared.reply.Reply.{Reply}
 use Rattle.node_events.specs.declared.reply.Reply.TheVariants.{Looked, Wrote, Took, TookFresh, TookStale, Done, Watching, Changed}
 use Rattle.subscriptions.specs.declared.change.Change.{Change}
@@ -22,7 +22,7 @@ use Rattle.world_core.specs.declared.event.Event.TheVariants as events
 use Rattle.world_core.specs.Refusal.{node_at, table_at}
 use Rattle.world_core.specs.Numbers.{numbered}
 use Rattle.world_core.specs.World.{World}
-use Rattle.scenario_text.specs.Commands.{Command, Put, Del, Over, Read, Show, Deliver, Junk, Tick, Join, Down, Exchange, Hello, Leave, Restart, Watch, Changes, Keys, Root, Images, Views}
+use Rattle.scenario_text.specs.Commands.{Command, Put, Del, Over, Read, Show, Deliver, Junk, Tick, Join, Down, Exchange, Hello, Leave, Restart, Keep, Watch, Changes, Keys, Root, Images, Views}
 
 -- ---- to the world
 
@@ -50,6 +50,7 @@ event_of w (Exchange n peer) = Some (events.Exchange n peer)
 event_of w (Hello n peer) = Some (events.Hello n peer)
 event_of w (Leave n) = Some (events.Leave n)
 event_of w (Restart n image) = Some (events.Restart n image)
+event_of w (Keep n (Some k)) = Some (events.Keep n k)
 event_of w (Watch n p capacity) = Some (events.Watch n p capacity)
 event_of w (Changes n number) = Some (events.Changes n number)
 event_of w command = None

@@ -189,7 +189,7 @@ ActsOrLooks old None (Some look) text new = Looks old look text new
 ActsOrLooks old None None text new = (text ≡ []) × (new ≡ old)
 
 abbrev pub Acts : Choices → Stage → Command → (text : List ℕ) → Stage → Type 0
-Acts choices old (Keep node) text new = KeepsHeld old node text new ⊎ IsNoNode old node text new
+Acts choices old (Keep node None) text new = KeepsHeld old node text new ⊎ IsNoNode old node text new
 Acts choices old (Resolve node key by) text new = Resolves old node key
     (chosen_by choices by (values_of (object_at (table_at old.world node) key))) text new
 Acts choices old Settle text new = Settles old text new

@@ -4,7 +4,7 @@ ghost use Rattle.std.specs.Prelude.{◌≡◌, None, Some, IfOk};
 ghost use Rattle.std.specs.Option.{option_map};
 ghost use Rattle.meta_types.specs.Name.{IsFullPrefix, IsKey};
 ghost use Rattle.meta_types.specs.Value.{IsBody};
-ghost use Rattle.world_core.specs.declared.event.Event.TheVariants.{Get, Junk, Put, PutOver, Watch};
+ghost use Rattle.world_core.specs.declared.event.Event.TheVariants.{Get, Junk, Keep, Put, PutOver, Watch};
 ghost use Rattle.scenario_stage.specs.Coded.{IsEventOf, IsEventOfNumbers};
 ghost use Rattle.scenario_text.specs.Coded.{bytes_word, command_word, key_word, prefix_word};
 ghost use Rattle.scenario_text.specs.Commands.{fault_in};
@@ -15,7 +15,8 @@ use std::alloc::{AllocError, Global};
 use world_core::Event;
 
 /// Returns the event that a command is, if it is one. Returns none for a delivery too, since the
-/// world must be asked for its addressee. Fails only when memory runs out.
+/// world must be asked for its addressee, and for a `keep` of all keys, which is an event for each.
+/// Fails only when memory runs out.
 pub fn event_of(alloc: Global, command: &Command<'_>) -> Result<Option<Event>, AllocError>
     requires { fault_in (command_word command.now) ≡ None }
     ensures { IfOk result (λ event. IsEventOf (command_word command.now) event) }
@@ -42,6 +43,11 @@ pub fn event_of(alloc: Global, command: &Command<'_>) -> Result<Option<Event>, A
         } => over(alloc, *node, key, value, *stamp),
         Command::Read { node, key } => get(alloc, *node, key),
         Command::Junk { node, bytes } => junk(alloc, *node, bytes),
+        Command::Keep {
+            node,
+            key: Some(key),
+        } => keep(alloc, *node, key),
+        Command::Keep { key: None, .. } => Ok(None),
         Command::Watch {
             node,
             prefix,
@@ -137,6 +143,14 @@ fn get(alloc: Global, node: u64, key: &KeyWord<'_>) -> Result<Option<Event>, All
 {
     let key = key.to_key(alloc)?;
     Ok(Some(Event::Get { node, key }))
+}
+
+fn keep(alloc: Global, node: u64, key: &KeyWord<'_>) -> Result<Option<Event>, AllocError>
+    requires { IsKey (key_word key.now) }
+    ensures { IfOk result (λ event. event ≡ Some (Keep node (key_word key.now))) }
+{
+    let key = key.to_key(alloc)?;
+    Ok(Some(Event::Keep { node, key }))
 }
 
 /// Makes bytes that should be no frame.

@@ -127,7 +127,7 @@ impl Stage {
     {
         match command {
             Command::Deliver { frame, node, word } => self.deliver(*frame, *node, *word, text),
-            Command::Keep { node } => self.keep(*node, text),
+            Command::Keep { node, key: None } => self.keep(*node, text),
             Command::Resolve { node, key, by } => {
                 self.resolve(*node, key, resolvers.get(*by), text)?;
                 Ok(())

@@ -114,7 +114,7 @@ only_rows resolvers =
     also only2 Hello forms.a_number forms.a_number (λ a b. tt)
     also only1 Leave forms.a_number (λ a. tt)
     also only2 Restart forms.a_number forms.a_number (λ a b. tt)
-    also only1 Keep forms.a_number (λ a. tt)
+    also only2 Keep forms.a_number forms.key_if_any (λ a b. tt)
     also only3 Watch forms.a_number forms.a_prefix forms.a_number (λ a b c. tt)
     also only2 Changes forms.a_number forms.a_number (λ a b. tt)
     also only2 Keys forms.a_number forms.a_prefix (λ a b. tt)

@@ -12,3 +12,5 @@ pub mod Readings
 pub mod Rows
 -- a line that asks for nodes asks for 1 to 16 of them
 pub mod Counts
+-- words that are near, and verbs one after the other
+pub mod Hints

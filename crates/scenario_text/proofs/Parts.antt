@@ -28,10 +28,6 @@ parts_of-only separator (b ∷ part) one =
 
 -- ---- words
 
-pub words_of-space : (bytes : List ℕ) → words_of (32 ∷ bytes) ≡ words_of bytes
-unfolding parts_of
-words_of-space bytes = refl
-
 -- what stands behind a first space
 pub words_of-behind : (bytes : List ℕ) (n : ℕ) → 1 ≤ length bytes → get_or bytes 0 0 ≡ 32 → length (drop 1 bytes) ≤ n → words_of (take n (drop 1 bytes)) ≡ words_of bytes
 unfolding parts_of

@@ -1,7 +1,7 @@
 -- What the types of the code stand for: a command and a line that borrow their words from a text.
 use Rattle.std.specs.Prelude.{◌≡◌, ◌≢◌, ◌+◌, ℕ, Bool, true, false, List, [], ◌∷◌, ◌++◌, All, Option, Some, None, Result, Ok, Err, codes}
 use Rattle.std.specs.Borrow.{Bor}
-use Rattle.std.specs.Option.{unwrap_or}
+use Rattle.std.specs.Option.{option_map, unwrap_or}
 use Rattle.meta_types.specs.Name.{Prefix, Key}
 use Rattle.scenario_text.specs.declared.name.KeyWord.{KeyWord}
 use Rattle.scenario_text.specs.declared.name.PrefixWord.{PrefixWord}
@@ -50,7 +50,7 @@ command_word (code.Exchange n peer) = spoken.Exchange n peer
 command_word (code.Hello n peer) = spoken.Hello n peer
 command_word (code.Leave n) = spoken.Leave n
 command_word (code.Restart n image) = spoken.Restart n image
-command_word (code.Keep n) = spoken.Keep n
+command_word (code.Keep n k) = spoken.Keep n (option_map key_word k)
 command_word (code.Watch n p capacity) = spoken.Watch n (prefix_word p) capacity
 command_word (code.Changes n number) = spoken.Changes n number
 command_word (code.Keys n p) = spoken.Keys n (prefix_word p)

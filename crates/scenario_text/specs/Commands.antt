@@ -6,7 +6,7 @@ use Rattle.meta_types.specs.declared.fault.TypeFault.TheVariants.{BadName, Value
 use Rattle.meta_types.specs.Value.{most_body_len}
 use Rattle.meta_types.specs.Node.{most_nodes}
 use Rattle.scenario_text.specs.Word.{Word, number_of, full_prefix_of, key_of, value_of, junk_of, choice_of, below, within}
-use Rattle.scenario_text.specs.Reading.{WordReader, just, one, number_or_none, labelled, labelled_or_zero, exactly, ◌and◌}
+use Rattle.scenario_text.specs.Reading.{WordReader, just, one, number_or_none, labelled, labelled_or_zero, exactly, if_any, ◌and◌}
 
 pub data Command : Type 0 where
   -- the number of nodes: the first command, and only the first
@@ -30,7 +30,8 @@ pub data Command : Type 0 where
   Hello : ℕ → ℕ → Command
   Leave : ℕ → Command
   Restart : ℕ → ℕ → Command
-  Keep : ℕ → Command
+  -- an image of what a node holds under a key, or one for each key that it holds
+  Keep : ℕ → Option Key → Command
   Watch : ℕ → Prefix → ℕ → Command
   Changes : ℕ → ℕ → Command
   -- looking only
@@ -48,6 +49,10 @@ a_number = one number_of
 
 abbrev pub a_key : WordReader Key
 a_key = one key_of
+
+-- a key, or nothing at the end of the line
+abbrev pub key_if_any : WordReader (Option Key)
+key_if_any = if_any a_key
 
 abbrev pub a_prefix : WordReader Prefix
 a_prefix = one full_prefix_of
@@ -98,7 +103,7 @@ rows resolvers =
     ∷ (codes "hello", just Hello and a_number and a_number)
     ∷ (codes "leave", just Leave and a_number)
     ∷ (codes "restart", just Restart and a_number and a_number)
-    ∷ (codes "keep", just Keep and a_number)
+    ∷ (codes "keep", just Keep and a_number and key_if_any)
     ∷ (codes "watch", just Watch and a_number and a_prefix and a_number)
     ∷ (codes "changes", just Changes and a_number and a_number)
     ∷ (codes "list", just Keys and a_number and a_prefix)
@@ -138,7 +143,8 @@ fault_of_key k = if is_key k then None else Some BadName
 
 abbrev pub fault_of_write : Key → List ℕ → Option TypeFault
 fault_of_write k v =
-    if is_key k then (if nat_le (length v) most_body_len then None else Some ValueTooLong) else Some BadName
+    if is_key k then (if nat_le (length v) most_body_len then None else Some ValueTooLong)
+    else Some BadName
 
 -- what no world takes: the length of a part of a name is out of range, or a value is too long;
 -- these come before all other refusals
@@ -149,6 +155,7 @@ fault_in (Over n k v s) = fault_of_write k v
 fault_in (Read n k) = fault_of_key k
 fault_in (Show n k) = fault_of_key k
 fault_in (Resolve n k by) = fault_of_key k
+fault_in (Keep n (Some k)) = fault_of_key k
 fault_in (Watch n p capacity) = fault_of_prefix p
 fault_in (Keys n p) = fault_of_prefix p
 fault_in command = None

@@ -11,3 +11,5 @@ pub mod Commands
 pub mod Script
 -- what the types of the code stand for
 pub mod Coded
+-- what is printed about a line that breaks a rule
+pub mod Hint

@@ -61,6 +61,11 @@ abbrev pub and_then : {A B : Type 0} → WordReader A → Option ((A → B) × L
 and_then next None = None
 and_then next (Some read) = applied read.0 (next read.1)
 
+-- what is read, unless no word is left; then none
+abbrev pub if_any : {A : Type 0} → WordReader A → WordReader (Option A)
+if_any reads [] = Some (None, [])
+if_any reads (word ∷ words) = applied Some (reads (word ∷ words))
+
 -- the first reading gives a function; it is applied to what the second reads from the words that
 -- the first left
 abbrev pub ◌and◌ : {A B : Type 0} → WordReader (A → B) → WordReader A → WordReader B

@@ -94,9 +94,10 @@ pub enum Command<'a> {
         node: u64,
         image: u64,
     },
-    /// The node keeps all that it holds.
+    /// The node keeps what it holds under the key, or under each key if none is named.
     Keep {
         node: u64,
+        key: Option<KeyWord<'a>>,
     },
     Watch {
         node: u64,
@@ -139,6 +140,10 @@ impl<'a> Command<'a> {
             | Command::Read { key, .. }
             | Command::Show { key, .. }
             | Command::Resolve { key, .. } => fault_of_name(key.is_name()),
+            Command::Keep { key, .. } => match key {
+                Some(key) => fault_of_name(key.is_name()),
+                None => None,
+            },
             Command::Watch { prefix, .. } | Command::Keys { prefix, .. } => fault_of_name(
                 prefix.is_name(),
             ),

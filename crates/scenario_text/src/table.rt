@@ -229,11 +229,13 @@ fn restart<'a>(words: &mut Words<'a>) -> Option<Command<'a>>
 }
 
 fn keep<'a>(words: &mut Words<'a>) -> Option<Command<'a>>
-    ensures { ReadsWords (just forms.Keep and forms.a_number)
+    ensures { ReadsWords (just forms.Keep and forms.a_number and forms.key_if_any)
         words.old (option_map command_word result) words.new }
 {
-    let node = words.number()?;
-    Some(Command::Keep { node })
+    Some(Command::Keep {
+        node: words.number()?,
+        key: words.key_if_any()?,
+    })
 }
 
 fn watch<'a>(words: &mut Words<'a>) -> Option<Command<'a>>

@@ -99,6 +99,17 @@ impl<'a> Words<'a> {
         key_word(self.next()?)
     }
 
+    /// Reads a key, unless no word is left.
+    pub fn key_if_any(&mut self) -> Option<Option<KeyWord<'a>>>
+        ensures { ReadsWords forms.key_if_any self.old
+            (option_map (λ key. option_map key_word key) result) self.new }
+    {
+        if self.are_over() {
+            return Some(None);
+        }
+        Some(Some(self.key()?))
+    }
+
     /// Reads a full prefix, as `a/b`.
     pub fn prefix(&mut self) -> Option<PrefixWord<'a>>
         ensures { ReadsWords forms.a_prefix self.old (option_map prefix_word result) self.new }

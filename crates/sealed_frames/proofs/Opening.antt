@@ -1,9 +1,9 @@
 -- What bytes are that open.
-use Rattle.std.proofs.Common.{◌≡◌, ℕ, zero, suc, ◌<◌, Bool, true, false, List, [], ◌∷◌, length, All, Contains, get_or, inl, inr, refl, sym, ap, subst, ◌∙◌, arith}
+use Rattle.std.proofs.Common.{◌≡◌, ℕ, zero, suc, ◌<◌, Bool, true, false, List, [], ◌∷◌, length, map, All, Contains, get_or, inl, inr, refl, sym, ap, subst, ◌∙◌, arith}
 use Rattle.std.specs.Prelude.{◌≢◌, ◌⊎◌}
 use Rattle.std.specs.Str.{bytes_eq}
 use Rattle.std.proofs.lemmas.Slice.Eq.{bytes_eq-Decides}
-use Rattle.std.proofs.lemmas.List.Elements.{All-contains, Contains-append_cases, Contains-append_left, Contains-append_right, Contains-push}
+use Rattle.std.proofs.lemmas.List.Elements.{All-cons, All-contains, All-head, All-nil, All-tail, Contains-append_cases, Contains-append_left, Contains-append_right, Contains-push}
 use Rattle.sealed_frames.specs.Seal.{IsKeyOf, IsSealed, IsSealedUnder, frame_in, seal_in, sealed_frame}
 use Rattle.sealed_frames.specs.Forged.{IsForged, the_seal_is_new, two_share_a_seal}
 use Rattle.sealed_frames.specs.declared.key.Keys.{Keys}
@@ -77,4 +77,39 @@ sealed_or_forged keys sealed bytes all is =
             }))
           ]
       | inr none ↦ inr (the_seal_is_new is none)
+    ]
+
+-- ---- what opens was sent, or is forged
+
+abbrev Sent : Type 0
+Sent = List ℕ × List ℕ
+
+abbrev sealed_of : Sent → List ℕ
+sealed_of s = sealed_frame s.0 s.1
+
+abbrev frame_of : Sent → List ℕ
+frame_of s = s.1
+
+all_sealed : (keys : Keys) (sent : List Sent) → All (λ s. IsKeyOf keys s.0) sent → All (IsSealed keys) (map sealed_of sent)
+all_sealed keys [] are = All-nil (IsSealed keys)
+all_sealed keys (x ∷ xs) are =
+    let is_key = All-head (λ (s : Sent). IsKeyOf keys s.0) x xs are in
+    All-cons (IsSealed keys) (sealed_of x) (map sealed_of xs) (is_sealed keys x.0 x.1 (sealed_of x) is_key refl)
+    (all_sealed keys xs (All-tail (λ (s : Sent). IsKeyOf keys s.0) x xs are))
+
+was_sent : (sent : List Sent) (bytes : List ℕ) → Contains (map sealed_of sent) bytes → Contains (map frame_of sent) (frame_in bytes)
+was_sent [] bytes is = absurd (let low = is.1 in omega (arith, low))
+was_sent (x ∷ xs) bytes is =
+    elim (Contains-append_cases (sealed_of x ∷ []) (map sealed_of xs) bytes is) [
+      | inl at ↦
+          let frame : frame_in bytes ≡ x.1 = frame_in_sealed x.0 x.1 bytes (sym (the_one (sealed_of x) bytes at)) in
+          subst (Contains (x.1 ∷ map frame_of xs)) (sym frame) (Contains-append_left (x.1 ∷ []) (map frame_of xs) x.1 (Contains-push [] x.1))
+      | inr at ↦ Contains-append_right (x.1 ∷ []) (map frame_of xs) (frame_in bytes) (was_sent xs bytes at)
+    ]
+
+pub sent_or_forged : (keys : Keys) (sent : List Sent) (bytes : List ℕ) → All (λ s. IsKeyOf keys s.0) sent → IsSealed keys bytes → Contains (map (λ s. s.1) sent) (frame_in bytes) ⊎ IsForged keys (map (λ s. sealed_frame s.0 s.1) sent) bytes
+sent_or_forged keys sent bytes are is =
+    elim (sealed_or_forged keys (map sealed_of sent) bytes (all_sealed keys sent are) is) [
+      | inl at ↦ inl (was_sent sent bytes at)
+      | inr forged ↦ inr forged
     ]

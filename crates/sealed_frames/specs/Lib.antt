@@ -5,6 +5,8 @@ pub use Rattle.sha2.specs.Sha256
 pub mod Hmac
 -- the seal of a frame, and which bytes open
 pub mod Seal
+-- the keys that bytes are
+pub mod Keys
 -- bytes that open though nobody sealed them
 pub mod Forged
 -- the number and the name of a refusal

@@ -3,12 +3,14 @@ ghost use Rattle.sealed_frames.specs.Fault.{code_of, fault_name};
 
 use thiserror::Error;
 
-/// Why bytes weren't opened. It prints as the name of the variant.
+/// Why bytes weren't opened, or are no keys. It prints as the name of the variant.
 #[derive(Clone, Copy, Debug, Error, PartialEq, Eq)]
 #[error("{}", self.name())]
 pub enum SealFault {
     /// 17: the last 16 bytes aren't the seal of what stands before them, under any of the keys.
     BadSeal,
+    /// 18: the bytes are no keys, which have 32 bytes, or 64.
+    BadKey,
 }
 
 impl SealFault {
@@ -18,6 +20,7 @@ impl SealFault {
     {
         match self {
             SealFault::BadSeal => 17,
+            SealFault::BadKey => 18,
         }
     }
 
@@ -27,6 +30,7 @@ impl SealFault {
     {
         match self {
             SealFault::BadSeal => "BadSeal",
+            SealFault::BadKey => "BadKey",
         }
     }
 }

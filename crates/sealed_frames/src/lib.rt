@@ -22,4 +22,4 @@ pub mod sealing;
 
 pub use fault::SealFault;
 pub use key::{Key, Keys};
-pub use sealing::{open, seal};
+pub use sealing::{SEAL_LEN, open, seal, seal_of};

@@ -18,7 +18,7 @@ pub fn seal(alloc: Global, keys: &Keys, frame: &[u8]) -> Result<Vec<u8>, AllocEr
 {
     let mut sealed = Vec::with_capacity(alloc, frame.len() + SEAL_LEN)?;
     sealed.extend_from_slice(frame)?;
-    sealed.extend_from_slice(seal_of(&keys.current, frame).as_slice())?;
+    sealed.extend_from_slice(seal_under(&keys.current, frame).as_slice())?;
     Ok(sealed)
 }
 
@@ -47,9 +47,17 @@ pub fn open<'a>(keys: &Keys, bytes: &'a [u8]) -> Result<&'a [u8], SealFault>
     }
 }
 
+/// Returns the seal of a frame under the current key, for who sends it behind the frame himself. It
+/// takes no memory.
+pub fn seal_of(keys: &Keys, frame: &[u8]) -> [u8; SEAL_LEN]
+    ensures { result ≡ seal_of keys.now.current frame.now }
+{
+    seal_under(&keys.current, frame)
+}
+
 /// Returns the seal of a frame under a key.
 #[tactic(auto, unfolding(crate::specs::Seal::seal_of))]
-fn seal_of(key: &Key, frame: &[u8]) -> [u8; SEAL_LEN]
+fn seal_under(key: &Key, frame: &[u8]) -> [u8; SEAL_LEN]
     ensures { result ≡ seal_of key.now frame.now }
 {
     let code = hmac(key, frame);
@@ -63,7 +71,7 @@ fn has_seal(key: &Key, frame: &[u8], seal: &[u8]) -> bool
     requires { length seal.now ≡ 16 }
     ensures { IsTrue result ↔ (seal.now ≡ seal_of key.now frame.now) }
 {
-    difference(seal, seal_of(key, frame).as_slice()) == 0
+    difference(seal, seal_under(key, frame).as_slice()) == 0
 }
 
 /// Returns the bits in which bytes of the two differ at any place: none if the two are the same. It

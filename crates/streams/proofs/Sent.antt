@@ -26,9 +26,6 @@ Appends-kept (Some xs) None c x p q = absurd p
 Appends-kept (Some xs) (Some ys) None x p q = absurd q
 Appends-kept (Some xs) (Some ys) (Some zs) x p q = q ∙ p
 
-pub sent_none : (old : Option (List ℕ)) (bytes : List ℕ) → Sent old old bytes bytes
-sent_none old bytes = record { front = []; parts = refl; appended = Appends-nil old }
-
 sent_more : (old now new : Option (List ℕ)) (bytes rest : List ℕ) (n : ℕ) → Sent old now bytes rest → Appends now new (take n rest) → Sent old new bytes (drop n rest)
 sent_more old now new bytes rest n s more = record {
   front = s.front ++ take n rest;
@@ -39,14 +36,6 @@ sent_more old now new bytes rest n s more = record {
 -- `n` more bytes, if what is left is cut as a slice is
 pub sent_on : (old now new : Option (List ℕ)) (bytes rest : List ℕ) (n : ℕ) → Sent old now bytes rest → Appends now new (take n rest) → Sent old new bytes (take (length rest - n) (drop n rest))
 sent_on old now new bytes rest n s more = rw (take_all (length rest - n) (drop n rest) (omega (arith, length-drop n rest))) (sent_more old now new bytes rest n s more)
-
--- nothing is left
-pub sent_all : (old new : Option (List ℕ)) (bytes rest : List ℕ) → Sent old new bytes rest → rest ≡ [] → Appends old new bytes
-sent_all old new bytes rest s none = let e : bytes ≡ s.front = s.parts ∙ ap (λ (t : List ℕ). s.front ++ t) none ∙ append-nil s.front in rw e s.appended
-
--- a write failed, and kept what the writer held
-pub sent_front : (old now new : Option (List ℕ)) (bytes rest : List ℕ) → Sent old now bytes rest → Keeps now new → AppendsFront old new bytes
-sent_front old now new bytes rest s keeps = record { front = s.front; rest = rest; parts = s.parts; appended = Appends-kept old now new s.front s.appended keeps }
 
 pub positive : (n : ℕ) → (n ≡ 0 → ⊥) → 0 < n
 positive n some = omega (arith, some)

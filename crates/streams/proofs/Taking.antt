@@ -99,13 +99,3 @@ taking_refused failed memory old now r s line fault so_far lacks e = record {
       subst (IsReadFault failed (old.left < length so_far.reads.bytes) (memory × (length so_far.reads.bytes ≤ old.left))) (sym e)
       ((lacks, within), inl (λ kind has. has));
 }
-
--- a piece that was moved leaves less to do
-pub taking_less : (now filled new : Pending) (s t : Option (List ℕ)) (line longer : List ℕ) → Fills now filled s t true → Moves filled new line longer false → new.left + length new.bytes < now.left + length now.bytes
-taking_less now filled new s t line longer fill move =
-    let left = fill.reads.counted in
-    let same = move.left in
-    let some = fill.answer in
-    let pending : length filled.bytes ≡ length now.bytes + length fill.reads.bytes = ap length fill.pending ∙ length-append now.bytes fill.reads.bytes in
-    let none : length new.bytes ≡ 0 = ap length move.answer.1 in
-    omega arith

@@ -6,12 +6,14 @@ use meta_types::TypeFault;
 use std::alloc::{AllocError, AllocFailed};
 use thiserror::Error;
 
-/// Why there is no watch. It prints as the name of the variant.
+/// Why there is no watch, or none of that number. It prints as the name of the variant.
 #[derive(Debug, Drop, Error, PartialEq, Eq)]
 #[error("{}", self.name())]
 pub enum WatchFault {
-    /// 28: the capacity is 0, or more than 1,024.
+    /// 28: the capacity is 0, or more than 1,024; or there are 16 watches.
     BadWatch,
+    /// 29: there is no watch of this number.
+    NoSuchWatch,
     /// 99: an allocation was refused.
     Memory,
 }
@@ -23,6 +25,7 @@ impl WatchFault {
     {
         match self {
             WatchFault::BadWatch => 28,
+            WatchFault::NoSuchWatch => 29,
             WatchFault::Memory => TypeFault::Memory.code(),
         }
     }
@@ -33,6 +36,7 @@ impl WatchFault {
     {
         match self {
             WatchFault::BadWatch => "BadWatch",
+            WatchFault::NoSuchWatch => "NoSuchWatch",
             WatchFault::Memory => "Memory",
         }
     }

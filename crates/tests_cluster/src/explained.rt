@@ -3,8 +3,8 @@
 use crate::parts::plan;
 use cluster::{ClusterRun, NoHook, run_cluster};
 use node_journal::Receipt;
-use run_explain::explain_fault;
 use run_record::RecordFault;
+use run_text::explain_fault;
 use std::alloc::Global;
 use std::sync::Wait;
 use std::thread::Threads;

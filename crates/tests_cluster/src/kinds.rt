@@ -2,7 +2,7 @@
 
 use meta_types::{ByteString, FullPrefix, MetaKey, Value};
 use node_events::Reply;
-use run_replay::replay_of;
+use run_text::replay_of;
 use std::alloc::Global;
 use std::process::Abort;
 use world_core::{Accepted, Answer, Event, FrameNumbers};
@@ -65,6 +65,7 @@ fn event_under(rt: &impl Abort, alloc: Global, number: u64) -> Event {
             key,
             value: value(rt, alloc, 0, b"y"),
         },
+        16 => Event::Keep { node: 1, key },
         _ => Event::Get { node: 0, key },
     }
 }
@@ -97,11 +98,15 @@ fn event(rt: &impl Abort, alloc: Global, number: u64) -> Event {
             capacity: 2,
         },
         14 => Event::Changes { node: 0, number: 1 },
+        15 => Event::Junk {
+            node: 1,
+            bytes: ByteString::new(b"PT".to_vec(alloc).expect(rt, "memory")),
+        },
         number => event_under(rt, alloc, number),
     }
 }
 
-/// The text of 15 events, one of each kind that has a command, and of a write three.
+/// The text of 17 events, one of each kind, and of a write three.
 const TEXT: &[u8] = b"# each kind
 nodes 2
 put 0 a/b/k x
@@ -119,6 +124,8 @@ leave 1
 restart 1 0
 watch 0 a/b 2
 changes 0 1
+junk 1 5054
+keep 1 a/b/k
 root 0
 root 1
 ";
@@ -131,7 +138,7 @@ fn is_told(
     events: &[Accepted],
     wanted: Option<&[u8]>,
 ) -> bool {
-    match replay_of(alloc, about, nodes, events) {
+    match replay_of(alloc, about, nodes, events, 0) {
         Ok(Some(text)) => wanted == Some(text.as_slice()),
         Ok(None) => wanted.is_none(),
         Err(_) => false,
@@ -141,34 +148,25 @@ fn is_told(
 #[test]
 fn each_kind_of_event_has_its_command(rt: HostRuntime) {
     let mut events = Vec::new(rt.alloc());
-    for number in 0..15 {
+    for number in 0..17 {
         let one = accepted(event(&rt, rt.alloc(), number));
         events.push(one).ok().expect(&rt, "memory");
     }
     assert!(&rt; is_told(rt.alloc(), b"each kind", 2, events.as_slice(), Some(TEXT)));
 }
 
-/// Returns an event for which there is no text.
+/// Returns an event that names a key without a spelling.
 fn untold(rt: &impl Abort, alloc: Global, number: u64) -> Event {
+    let key = key(rt, alloc, b"k k");
     match number {
-        0 => Event::Keep {
-            node: 0,
-            key: key(rt, alloc, b"k"),
-        },
-        1 => Event::Get {
-            node: 0,
-            key: key(rt, alloc, b"k k"),
-        },
-        _ => Event::Junk {
-            node: 0,
-            bytes: ByteString::new(b"PT".to_vec(alloc).expect(rt, "memory")),
-        },
+        0 => Event::Get { node: 0, key },
+        _ => Event::Keep { node: 0, key },
     }
 }
 
 #[test]
-fn what_has_no_command_has_no_text(rt: HostRuntime) {
-    for number in 0..3 {
+fn what_has_no_spelling_has_no_text(rt: HostRuntime) {
+    for number in 0..2 {
         let mut events = Vec::new(rt.alloc());
         let one = accepted(untold(&rt, rt.alloc(), number));
         events.push(one).ok().expect(&rt, "memory");

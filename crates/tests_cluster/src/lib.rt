@@ -1,6 +1,6 @@
 //! The tests of clusters of threads, of their runs as texts and of what is wrong with one, and of
-//! `plumctl live` and `plumctl file`, over the public calls of `cluster`, `run_replay`,
-//! `run_explain`, `plumctl_live` and `plumctl_file` and apart from them: a crate is proved once
+//! `plumctl live` and `plumctl file`, over the public calls of `cluster`,
+//! `run_text`, `plumctl_live` and `plumctl_file` and apart from them: a crate is proved once
 //! more with its tests. No crate uses this one.
 #![tactic(auto)]
 

@@ -182,22 +182,22 @@ fn recordings_are_written(rt: HostRuntime) {
     assert!(&rt; is_written(&rt, rt.alloc(), 2, 0, b""));
 }
 
-/// Returns the key a/b/k.
-fn key(rt: &impl Abort, alloc: Global) -> MetaKey {
+/// Returns the key of this own part under a/b.
+fn key(rt: &impl Abort, alloc: Global, own: &[u8]) -> MetaKey {
     let prefix = b"a".to_vec(alloc).expect(rt, "memory");
     let sub = b"b".to_vec(alloc).expect(rt, "memory");
     let prefix = FullPrefix::new(prefix, sub).ok().expect(rt, "a prefix");
-    let own = b"k".to_vec(alloc).expect(rt, "memory");
+    let own = own.to_vec(alloc).expect(rt, "memory");
     MetaKey::new(prefix, own).ok().expect(rt, "a key")
 }
 
 /// Returns what is left of a node that held nothing and kept one key: an entry that sent nothing,
 /// and no object.
-fn kept(rt: &impl Abort, alloc: Global) -> Closed {
+fn kept(rt: &impl Abort, alloc: Global, own: &[u8]) -> Closed {
     let base = NodeState::new(alloc, NodeId::new(0).unwrap(), 1).expect(rt, "memory");
     let entry = Entry {
         event: NodeEvent::Keep {
-            key: key(rt, alloc),
+            key: key(rt, alloc, own),
         },
         reply: Reply::Done,
         outbox: Outbox::new(Vec::new(alloc)),
@@ -208,10 +208,10 @@ fn kept(rt: &impl Abort, alloc: Global) -> Closed {
 }
 
 /// Returns the world of that node alone.
-fn world_of_kept(rt: &impl Abort, alloc: Global) -> World
+fn world_of_kept(rt: &impl Abort, alloc: Global, own: &[u8]) -> World
     ensures { IsOfARun 1 result }
 {
-    let closed = [kept(rt, alloc)];
+    let closed = [kept(rt, alloc, own)];
     if !are_whole(&closed) {
         panic!(rt; "a whole life");
     }
@@ -219,16 +219,33 @@ fn world_of_kept(rt: &impl Abort, alloc: Global) -> World
     world.ok().expect(rt, "a run of the world")
 }
 
-/// The keeping of one key has no command.
+const ONE: ClusterPlan = ClusterPlan {
+    nodes: 1,
+    turns: 1,
+    seed: 0,
+};
+
+/// The recording of the keeping of one key.
+const KEPT: &[u8] = b"\
+# what the threads of 'plumctl live 1 1 0' did, call by call; at last the root of each node
+nodes 1
+keep 0 a/b/k
+root 0
+";
+
 #[test]
-fn a_run_without_a_command_has_no_recording(rt: HostRuntime) {
+fn a_keeping_of_one_key_is_recorded(rt: HostRuntime) {
     let alloc = rt.alloc();
-    let plan = ClusterPlan {
-        nodes: 1,
-        turns: 1,
-        seed: 0,
-    };
-    let world = world_of_kept(&rt, alloc);
+    let world = world_of_kept(&rt, alloc, b"k");
+    let text = recording_of(alloc, ONE, &world).expect(&rt, "memory");
+    drop(world);
+    assert!(rt; text.is_some_and(|text| text.as_slice() == KEPT));
+}
+
+#[test]
+fn a_run_without_a_spelling_has_no_recording(rt: HostRuntime) {
+    let (alloc, plan) = (rt.alloc(), ONE);
+    let world = world_of_kept(&rt, alloc, b"k k");
     let text = recording_of(alloc, plan, &world).expect(&rt, "memory");
     let mut target = MemoryDevice::new(alloc, Vec::new(alloc)).expect(&rt, "memory");
     let mut errors = Vec::new(alloc);

@@ -1,10 +1,10 @@
 //! What is printed at standard output and at standard error, and the exit status.
 
-ghost use Rattle.std.specs.Prelude.{All};
+ghost use Rattle.std.specs.Prelude.{All, length, ◌≡◌};
 ghost use Rattle.devices.specs.Device.{IsDurable};
 
 use crate::parts::{add, plan};
-use cluster::{ClusterFault, ClusterPlan, Limits, NoHook, run_cluster_on};
+use cluster::{ClusterFault, ClusterPlan, ClusterRun, Limits, NoHook, run_cluster, run_cluster_on};
 use devices::{Device, MemoryDevice};
 use node_file::FileFault;
 use plumctl_live::{judge, run_live, tell_run};
@@ -90,6 +90,36 @@ fn faults_are_told(rt: HostRuntime) {
             4
         )
     );
+}
+
+/// Makes two turns of one node, of which one receipt tells a later call.
+fn strange_run<R: Threads + Wait + Abort + Sync>(rt: &R, alloc: Global) -> ClusterRun
+    ensures { length result.closed.items ≡ 1 }
+{
+    let run = run_cluster(rt, alloc, plan(1, 2, 0), &NoHook);
+    let mut run = run.ok().expect(rt, "a run");
+    if let Some(receipt) = run.receipts.first_mut() {
+        receipt.place = 99;
+    }
+    if run.closed.len() != 1 {
+        panic!(rt; "one node");
+    }
+    run
+}
+
+#[test]
+fn it_is_told_why_a_run_is_refused(rt: HostRuntime) {
+    let alloc = rt.alloc();
+    let run = strange_run(&rt, alloc);
+    let mut writer = Vec::new(alloc);
+    let mut errors = Vec::new(alloc);
+    let live = tell_run(alloc, plan(1, 2, 0), Ok(run), &mut writer, &mut errors);
+    let status = live.status;
+    drop(live);
+    let printed = b"live nodes 1 turns 2\ncalls 2 lost 0\nfault 63 StrangeReceipt\n";
+    let why = b"node 0, call 100: a receipt tells of it, and the journal ends before\n";
+    assert!(&rt; status == 1 && writer.as_slice() == printed.as_slice());
+    assert!(&rt; errors.as_slice() == why.as_slice());
 }
 
 /// Returns a new device in memory, alone in a list.

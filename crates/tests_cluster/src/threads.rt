@@ -6,7 +6,7 @@ use node_journal::are_whole;
 use node_lock::Closed;
 use printing::print_digest;
 use run_record::assemble;
-use run_replay::replay_of;
+use run_text::replay_of;
 use scenario::run_over;
 use std::alloc::Global;
 use std::process::Abort;
@@ -32,7 +32,7 @@ fn output(rt: &impl Abort, alloc: Global, nodes: u64, run: &ClusterRun) -> Vec<u
     }
     let world = assemble(alloc, run.closed.as_slice(), run.receipts.as_slice());
     let world = world.ok().expect(rt, "a run of the world");
-    let text = replay_of(alloc, b"a run", nodes, world.accepted()).expect(rt, "memory");
+    let text = replay_of(alloc, b"a run", nodes, world.accepted(), 0).expect(rt, "memory");
     drop(world);
     let text = text.expect(rt, "a text");
     let mut output = Vec::new(alloc);

@@ -1,4 +1,4 @@
-//! The tests of frames: of `frame_fields`, `frame_readers`, `meta_frame` and `frame_list`, over
+//! The tests of frames: of `frame_fields`, `frame_readers`, `meta_frame` and `sealed_frames`, over
 //! their public calls, apart from them, since a crate is proved once more with its tests. They show
 //! what no contract says: that each call that takes memory succeeds if there is enough, and when it
 //! is made again after memory was refused. The stored run of the program `plumctl` shows what is
@@ -12,11 +12,11 @@
 #[cfg(test)]
 mod calling;
 #[cfg(test)]
+mod changed_seals;
+#[cfg(test)]
 mod damaged;
 #[cfg(test)]
 mod fields;
-#[cfg(test)]
-mod frame_lists;
 #[cfg(test)]
 mod kept;
 #[cfg(test)]
@@ -24,6 +24,10 @@ mod kinds;
 #[cfg(test)]
 mod large;
 #[cfg(test)]
-mod old;
+mod published_seals;
 #[cfg(test)]
 mod refused_memory;
+#[cfg(test)]
+mod seal_keys;
+#[cfg(test)]
+mod seal_parts;

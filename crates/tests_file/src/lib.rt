@@ -1,5 +1,6 @@
-//! The tests of `devices` and `node_file`, over their public calls and apart from them: a crate is
-//! proved once more with its tests. No crate uses this one.
+//! The tests of `devices`, `node_file` and `node_hosted`, over their public calls and apart from
+//! them: a crate is proved once more with its tests. A host keeps bytes in a list. No crate uses
+//! this one.
 #![tactic(auto)]
 
 // What is proved of a function grows with the places at which it may end while it owns something.
@@ -11,7 +12,17 @@ mod files;
 #[cfg(test)]
 mod gates;
 #[cfg(test)]
+mod hosted_refusals;
+#[cfg(test)]
+mod hosted_runs;
+#[cfg(test)]
+mod hosts;
+#[cfg(test)]
+mod hosts_without_memory;
+#[cfg(test)]
 mod keys;
+#[cfg(test)]
+mod old;
 #[cfg(test)]
 mod opened;
 #[cfg(test)]

@@ -18,7 +18,7 @@ pub(crate) fn node(rt: &impl Abort, number: u16) -> NodeId {
 }
 
 /// Returns the key a/b/k.
-fn key(rt: &impl Abort, alloc: Global) -> MetaKey {
+pub(crate) fn key(rt: &impl Abort, alloc: Global) -> MetaKey {
     let a = b"a".to_vec(alloc).expect(rt, "memory");
     let b = b"b".to_vec(alloc).expect(rt, "memory");
     let prefix = FullPrefix::new(a, b).expect(rt, "a prefix");

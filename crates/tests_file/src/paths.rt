@@ -166,7 +166,7 @@ fn what_is_written_is_in_the_file(rt: HostRuntime) {
         .ok()
         .expect(&rt, "a device");
     let file = create(device, node(&rt, 0)).ok().expect(&rt, "a file");
-    // What was made isn't sealed, so it is served as it stands.
+    // What was made has its copy still, so it is served as it stands.
     assert!(rt; lived(&rt, rt.alloc(), file.into_device()) == 0);
     assert!(rt; holds(&rt, path, ONE));
     // It can be read and not written.
@@ -186,14 +186,14 @@ fn what_is_written_is_in_the_file(rt: HostRuntime) {
 }
 
 #[test]
-fn a_sealed_device_reads_nothing_and_ends(rt: HostRuntime) {
-    let path = "a_sealed_file";
+fn a_device_without_its_copy_reads_nothing_and_ends(rt: HostRuntime) {
+    let path = "a_file_without_a_copy";
     let _ = fs::remove_file(&rt, path);
     let opened = FileDevice::open_or_create(&rt, rt.alloc(), path, b"");
     let mut device = opened.ok().expect(&rt, "a device");
     assert!(rt; device.write_at(0, SERVED).is_ok() && device.cut(11).is_ok());
     assert!(rt; device.held() == Some(&SERVED[..11]) && device.len() == 11);
-    device.seal();
+    device.drop_copy();
     assert!(rt; device.held().is_none());
     let mut byte = [0];
     assert!(rt; device.read_at(0, &mut byte).is_err() && device.failures() == 1);

@@ -103,8 +103,8 @@ impl<'g, D: Device, R: Wait> Device for WaitsAt<'g, D, R> {
         self.inner.sync()
     }
 
-    fn seal(&mut self) {
-        self.inner.seal();
+    fn drop_copy(&mut self) {
+        self.inner.drop_copy();
     }
 }
 

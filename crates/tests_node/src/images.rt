@@ -5,9 +5,9 @@ ghost use Rattle.meta_store.specs.Table.{IsHeld};
 
 use crate::parts::{key, node, value};
 use dvvset::Entries;
-use image_list::Images;
 use meta_store::{Source, Store};
 use meta_types::{Actor, MetaKey};
+use node_images::Images;
 use std::alloc::Global;
 use std::mem::replace;
 use std::process::Abort;

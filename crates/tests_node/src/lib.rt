@@ -21,6 +21,8 @@ mod events_again;
 #[cfg(test)]
 mod example;
 #[cfg(test)]
+mod frame_lists;
+#[cfg(test)]
 mod frames;
 #[cfg(test)]
 mod full;

@@ -1,4 +1,4 @@
-//! The tests of `printing`, `streams`, `plumctl_core`, `scenario`, `diagram` and `plumctl_draw`,
+//! The tests of `printing`, `streams`, `plumctl_core`, `scenario` and `plumctl_draw`,
 //! over their public calls, apart from them, since a crate is proved once more with its tests. They
 //! show what no contract says and what one run of a program over standard input and output can't:
 //! readers and writers that fail in mid-stream, when a line is answered, the limit of an input,

@@ -15,6 +15,7 @@ watch 0 a/b 2
 put 0 a/b/k y read 1
 changes 0 1
 keep 0
+keep 0 a/b/k
 images 0
 list 0 a/b
 tick 0
@@ -50,7 +51,8 @@ wrote ctx 0.1:3,1.1:1
 frame 6 GOSSIP 0 1
 missed 0 keys k
 ok
-images 6
+ok
+images 7
 keys k,m
 ok
 ok

@@ -23,8 +23,8 @@ use Rattle.past_model.specs.declared.happening.Happening.{Happening}
 use Rattle.past_model.specs.declared.happening.Happening.TheVariants.{Sent}
 use Rattle.past_model.specs.Sets.{IsSubset}
 use Rattle.past_model.specs.Past.{known, load}
-use Rattle.past_objects.specs.Objects.{held_object, sent_object}
-use Rattle.past_objects.proofs.Deliveries.{stale_exactly}
+use Rattle.past_model.specs.Objects.{held_object, sent_object}
+use Rattle.past_model.proofs.Deliveries.{stale_exactly}
 use Rattle.world_core.specs.declared.answer.Answer.{Answer}
 use Rattle.world_core.specs.declared.event.Event.{Event}
 use Rattle.world_core.specs.declared.event.Event.TheVariants.{Deliver}

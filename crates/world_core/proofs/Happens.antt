@@ -28,10 +28,10 @@ use Rattle.past_model.specs.declared.happening.Happening.TheVariants.{Wrote, Loo
 use Rattle.past_model.specs.History.{Fits, IsHistory, most_restarts}
 use Rattle.past_model.specs.Past.{past}
 use Rattle.past_model.proofs.EachLife.{few_restarts}
-use Rattle.past_objects.specs.Objects.{held_object, object_of_read, seen_object, sent_object}
-use Rattle.past_objects.specs.Objects as objects
-use Rattle.past_objects.proofs.Changes.{after_look}
-use Rattle.past_objects.proofs.Matching.{same_lives}
+use Rattle.past_model.specs.Objects.{held_object, object_of_read, seen_object, sent_object}
+use Rattle.past_model.specs.Objects as objects
+use Rattle.past_model.proofs.Changes.{after_look}
+use Rattle.past_model.proofs.Matching.{same_lives}
 use Rattle.node_images.specs.Keeping.{IsRestorable, Keeping, change_at}
 use Rattle.node_images.proofs.Keepings.{with_image, with_merge}
 use Rattle.node_images.specs.Node.{ImagedNode, arrived, context_read, keeping}
@@ -140,7 +140,7 @@ state_written : (ns : List Keeping) (contexts : List Reading) (sent : List Frame
 state_written ns contexts sent t n k v r context old state w s fits read =
     let o : List Entry = object_after_put old.state.table (writer old.state) k v context in
     let f : FollowsHistory t.history n (keeping old) = subst (FollowsHistory t.history n) (sym w.at) (s.nodes n (keeping old) w.low) in
-    let actor : writer old.state ≡ objects.writer t.history n = ap (λ m. writer_number m old.state.incarnation) w.number ∙ ap (writer_number n) f.life in
+    let actor : writer old.state ≡ objects.next_writer t.history n = ap (λ m. writer_number m old.state.incarnation) w.number ∙ ap (writer_number n) f.life in
     subst (λ node. IsState (slice_set ns n node) contexts sent (tell (Wrote n k v r) t))
     (sym (imaged_keeping old state k (with_object k o old.state.table) w.held w.life))
     (state_write ns contexts sent t n (writer old.state) k v r context (keeping old) actor s w.low w.at w.restorable

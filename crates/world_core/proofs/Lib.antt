@@ -1,3 +1,5 @@
+-- the bytes of frames, by how they are kept
+pub mod Keeping
 -- lists side by side
 pub mod Lists
 -- what accepted events tell

@@ -19,7 +19,7 @@ use Rattle.meta_types.specs.Equal.{key_eq}
 use Rattle.past_model.proofs.Keys.{key_eq-true}
 use Rattle.past_model.specs.declared.happening.Happening.TheVariants.{Wrote, Looked}
 use Rattle.past_model.specs.History.{Fits}
-use Rattle.past_objects.specs.Objects.{object_of_read, seen_object}
+use Rattle.past_model.specs.Objects.{object_of_read, seen_object}
 use Rattle.world_core.specs.declared.event.Event.TheVariants.{Put}
 use Rattle.world_core.specs.Events.{context_of}
 use Rattle.world_core.specs.Numbers.{numbered}

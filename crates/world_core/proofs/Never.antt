@@ -1,7 +1,7 @@
 -- No event is ever refused with 21: what merges in a world shows a value.
 use Rattle.std.proofs.Common.{◌≡◌, ◌≢◌, ◌⊎◌, inl, inr, ℕ, ◌<◌, Bool, true, false, not, cond, eqb, ltb, List, [], ◌∷◌, length, Option, Some, None, refl, sym, ap, subst, ◌∙◌}
 use Rattle.std.specs.Option.{option_map, unwrap_or}
-use Rattle.std.specs.Prelude.{nat_eq, nat_le, ◌||◌, is_none}
+use Rattle.std.specs.Prelude.{nat_eq}
 use Rattle.meta_types.specs.First.{first_that_applies}
 use Rattle.meta_types.specs.Name.{Key}
 use Rattle.meta_types.specs.Value.{ValueParts}
@@ -18,18 +18,20 @@ use Rattle.meta_store.specs.Step.{is_full_for, is_of_another_key, is_spent, merg
 use Rattle.meta_store.specs.declared.fault.StoreFault.{StoreFault}
 use Rattle.meta_store.specs.declared.fault.StoreFault.TheVariants as OfStore
 use Rattle.meta_store.proofs.Sizes.{has_value_from_values}
-use Rattle.node_events.specs.Fault.{of_store}
+use Rattle.node_events.specs.Fault.{of_store, of_watch}
 use Rattle.node_events.specs.declared.event.NodeEvent.{NodeEvent}
 use Rattle.node_events.specs.declared.event.NodeEvent.TheVariants as OfNode
 use Rattle.node_events.specs.declared.fault.StepFault.{StepFault}
 use Rattle.node_events.specs.declared.fault.StepFault.TheVariants as OfStep
-use Rattle.node_parts.specs.Watches.{at_number, is_no_capacity, most_watches}
+use Rattle.subscriptions.specs.Watches.{refusal_of_changes, refusal_of_watch}
+use Rattle.subscriptions.specs.declared.fault.WatchFault.{WatchFault}
+use Rattle.subscriptions.specs.declared.fault.WatchFault.TheVariants as OfWatch
 use Rattle.node_core.specs.Leaving.{carried_object}
 use Rattle.node_core.specs.Node.{NodeParts, present, writer}
 use Rattle.node_core.specs.Rows.{Input, IsInput, Local, Received}
 use Rattle.node_core.specs.Step.{IsNoFrame, IsRefused, refusal_of, refusal_of_event, refusal_of_message}
-use Rattle.past_objects.specs.Objects.{held_object, sent_object}
-use Rattle.past_objects.proofs.Deliveries.{merged_shows}
+use Rattle.past_model.specs.Objects.{held_object, sent_object}
+use Rattle.past_model.proofs.Deliveries.{merged_shows}
 use Rattle.world_core.specs.declared.event.Event.{Event}
 use Rattle.world_core.specs.declared.event.Event.TheVariants.{Put, Get, PutOver, Deliver, Junk, Tick, Join, PeerDown, Exchange, Keep, Watch, Changes, Hello, Leave, Restart}
 use Rattle.world_core.specs.declared.fault.WorldFault.{WorldFault}
@@ -150,6 +152,12 @@ first_never : (b : Bool) (fault : StepFault) → fault ≢ OfStep.Store OfStore.
 first_never true fault other e = other (cc)
 first_never false fault other e = cc
 
+watch_never : (refusal : Option WatchFault) → option_map of_watch refusal ≡ Some (OfStep.Store OfStore.BadEntries) → ⊥
+watch_never None e = cc
+watch_never (Some OfWatch.BadWatch) e = cc
+watch_never (Some OfWatch.NoSuchWatch) e = cc
+watch_never (Some OfWatch.Memory) e = cc
+
 local_never : (s : NodeParts) (event : NodeEvent) → refusal_of_event event s ≡ Some (OfStep.Store OfStore.BadEntries) → ⊥
 local_never s (OfNode.Write k v context) e = put_never s.table (writer s) k v context e
 local_never s (OfNode.PutOver k v) e = put_never s.table (writer s) k v (Some (present k s)) e
@@ -157,8 +165,8 @@ local_never s (OfNode.Join contact word) e = first_never (nat_eq contact s.node)
 local_never s (OfNode.PeerDown peer word) e = first_never (nat_eq peer s.node) OfStep.BadNode (λ is. cc) e
 local_never s (OfNode.Exchange peer) e = first_never (nat_eq peer s.node) OfStep.BadNode (λ is. cc) e
 local_never s (OfNode.Hello peer) e = first_never (nat_eq peer s.node) OfStep.BadNode (λ is. cc) e
-local_never s (OfNode.Watch prefix capacity) e = first_never (is_no_capacity capacity || nat_le most_watches (length s.watches)) OfStep.BadWatch (λ is. cc) e
-local_never s (OfNode.Changes number) e = first_never (is_none (at_number s.watches number)) OfStep.NoSuchWatch (λ is. cc) e
+local_never s (OfNode.Watch prefix capacity) e = watch_never (refusal_of_watch capacity s.watches) e
+local_never s (OfNode.Changes number) e = watch_never (refusal_of_changes number s.watches) e
 local_never s event e = let no : None ≡ Some (OfStep.Store OfStore.BadEntries) = e in cc
 
 -- the step refused it, by its name in the world

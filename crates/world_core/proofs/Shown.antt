@@ -23,8 +23,8 @@ use Rattle.past_model.specs.Shown.{IsObjectOf}
 use Rattle.past_model.proofs.Entries.{one_object}
 use Rattle.past_model.proofs.Placed.{ordered}
 use Rattle.past_model.proofs.Showing.{object_shows}
-use Rattle.past_objects.specs.Objects.{seen_object, sent_object}
-use Rattle.past_objects.proofs.Matching.{matches, same_lives, same_numbers}
+use Rattle.past_model.specs.Objects.{seen_object, sent_object}
+use Rattle.past_model.proofs.Matching.{matches, same_lives, same_numbers}
 use Rattle.node_core.specs.Node.{NodeParts}
 use Rattle.node_images.specs.Images.{Image, holdings}
 use Rattle.node_images.specs.Node.{keeping, new_node}

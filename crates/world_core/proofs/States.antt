@@ -17,10 +17,10 @@ use Rattle.meta_store.specs.Step.{object_after_put}
 use Rattle.past_model.specs.declared.happening.Happening.{Happening}
 use Rattle.past_model.specs.declared.happening.Happening.TheVariants.{Wrote, Looked, Sent, Got, Kept, Restarted}
 use Rattle.past_model.specs.History.{Fits}
-use Rattle.past_objects.specs.Objects.{held_object, object_of_read, seen_object, sent_object, writer}
-use Rattle.past_objects.proofs.Changes.{after_look, after_sending}
-use Rattle.past_objects.proofs.Histories.{history_snoc}
-use Rattle.past_objects.proofs.Standing.{seen_later, sent_later}
+use Rattle.past_model.specs.Objects.{held_object, object_of_read, seen_object, sent_object, next_writer}
+use Rattle.past_model.proofs.Changes.{after_look, after_sending}
+use Rattle.past_model.proofs.Histories.{history_snoc}
+use Rattle.past_model.proofs.Standing.{seen_later, sent_later}
 use Rattle.node_core.specs.Leaving.{AreOfHeld, IsOfHeld, carried_object}
 use Rattle.node_images.specs.Images.{holdings}
 use Rattle.node_images.specs.Keeping.{IsRestorable, Keeping}
@@ -81,7 +81,7 @@ set_node hs nodes n node low here there m d within =
 -- ---- the happenings
 
 pub state_write : (nodes : List Keeping) (contexts : List Reading) (sent : List Frame) (t : Told) (n w : ℕ) (k : Key) (v : ValueParts) (r : Option ℕ) (context : Option Reading) (node : Keeping)
-    → w ≡ writer t.history n → IsState nodes contexts sent t → n < length nodes → node ≡ get_or nodes n node → IsRestorable node
+    → w ≡ next_writer t.history n → IsState nodes contexts sent t → n < length nodes → node ≡ get_or nodes n node → IsRestorable node
     → ((l : Key) → object_at node.table l ≢ [] → object_at (with_object k (object_after_put node.table w k v context) node.table) l ≢ [])
     → Fits t.history (Wrote n k v r) → vector_read context ≡ join (object_of_read t.history k r)
     → IsState (slice_set nodes n (with_write w k v context node)) contexts sent (tell (Wrote n k v r) t)

@@ -26,13 +26,13 @@ use Rattle.node_events.specs.declared.reply.Reply.TheVariants as OfReply
 use Rattle.node_events.specs.declared.reply.Reply.TheVariants.{Done}
 use Rattle.node_core.specs.declared.state.Stepped.{Stepped}
 use Rattle.node_core.specs.Leaving.{AreOfHeld, StepLeaves}
-use Rattle.node_parts.specs.Watches.{at_number, reply_of_changes}
+use Rattle.subscriptions.specs.Watches.{at_number}
 use Rattle.node_core.specs.Node.{NodeParts, opening, present}
-use Rattle.node_core.specs.Step.{IsNodeStep}
+use Rattle.node_core.specs.Step.{IsNodeStep, reply_of_changes}
 use Rattle.past_model.specs.declared.happening.Happening.TheVariants.{Restarted}
 use Rattle.past_model.specs.History.{most_restarts}
 use Rattle.past_model.specs.Past.{past}
-use Rattle.past_objects.proofs.Matching.{same_lives, same_numbers}
+use Rattle.past_model.proofs.Matching.{same_lives, same_numbers}
 use Rattle.node_images.specs.Ahead.{IsPlain, IsReady, object_written, reply_ahead}
 use Rattle.node_images.specs.Images.{Image}
 use Rattle.node_images.specs.Keeping.{IsRestorable, Keeping, change_at, most_incarnation}

@@ -10,7 +10,7 @@ use Rattle.meta_store.specs.Context.{Reading}
 use Rattle.past_model.specs.declared.happening.Happening.{Happening}
 use Rattle.past_model.specs.declared.happening.Happening.TheVariants.{Looked, Sent}
 use Rattle.past_model.specs.History.{IsHistory}
-use Rattle.past_objects.specs.Objects.{seen_object, sent_object}
+use Rattle.past_model.specs.Objects.{seen_object, sent_object}
 use Rattle.node_core.specs.Leaving.{carried_object}
 use Rattle.node_images.specs.Keeping.{Keeping}
 use Rattle.node_images.specs.Node.{ImagedNode, keeping}

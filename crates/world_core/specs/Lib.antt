@@ -38,10 +38,11 @@ pub mod Knowledge
 pub mod Outcome
 -- what need not be believed: what a world always keeps to, by the machine of objects (`Images`
 -- above takes the word `Holding` from it)
-pub use Rattle.past_objects.specs.Objects
+pub use Rattle.past_model.specs.Objects
 pub use Rattle.node_images.specs.Follows
 pub mod Invariant
 -- what the view of a world and private functions cite: the lists of a world
 pub mod Chronicle
--- what private functions alone cite: that what an event names is there
+-- what private functions alone cite: that what an event names is there, and how frames are kept
 pub mod Steps
+pub mod Sharing

@@ -7,9 +7,9 @@ ghost use Rattle.world_core.specs.Outcome.{list_of, read_after};
 ghost use Rattle.world_core.specs.Numbers.{frames_at, numbered};
 ghost use Rattle.world_core.specs.declared.event.Event.TheVariants.{Restart};
 
+use crate::Frames;
 use crate::answer::{Accepted, Answer, FrameNumbers};
 use crate::event::Event;
-use frame_list::Frames;
 use meta_store::Context;
 use meta_types::ByteString;
 use node_events::{Outbox, Reply};

@@ -14,7 +14,9 @@
 //!
 //! Read `event`, `answer`, `fault`, `world`; then `apply`, `step` (events that are steps of a node)
 //! and `restart`; `chronicle` (what is kept of what was accepted), `history` (what that tells), and
-//! `laws`.
+//! `laws`. `frames` is the list of what was sent, which keeps what frames have in common only once:
+//! the frames that the writes of one key send, each with all its siblings, take memory in
+//! proportion to the number of writes.
 #![tactic(auto)]
 
 pub mod answer;
@@ -22,6 +24,7 @@ pub mod apply;
 mod chronicle;
 pub mod event;
 pub mod fault;
+pub mod frames;
 mod history;
 pub mod laws;
 mod restart;
@@ -31,4 +34,5 @@ pub mod world;
 pub use answer::{Accepted, Answer, FrameNumbers};
 pub use event::Event;
 pub use fault::WorldFault;
+pub use frames::Frames;
 pub use world::World;

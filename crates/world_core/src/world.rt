@@ -22,11 +22,10 @@ ghost use Rattle.world_core.specs.declared.fault.WorldFault.TheVariants.{Memory,
 use crate::answer::{Accepted, FrameNumbers};
 use crate::chronicle::Chronicle;
 use crate::fault::WorldFault;
-use image_list::Images;
 use meta_types::node::MAX_NODES;
 use meta_types::{ByteString, NodeId};
 use node_core::NodeState;
-use node_images::ImagedNode;
+use node_images::{ImagedNode, Images};
 use std::alloc::{AllocError, Global};
 use std::marker::Model;
 

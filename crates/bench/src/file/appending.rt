@@ -7,8 +7,7 @@ use crate::samples::refused;
 use devices::FileDevice;
 use dvvset::Entries;
 use meta_store::Store;
-use meta_types::{MetaKey, Value};
-use node_parts::both;
+use meta_types::{MetaKey, Value, both};
 use std::alloc::Global;
 use std::io::{self, Write};
 

@@ -7,7 +7,7 @@ use crate::rows::{actor, key, value};
 use crate::samples::{median, print, rate, refused};
 use devices::{Device, FileDevice, MemoryDevice};
 use meta_store::Store;
-use node_parts::both;
+use meta_types::both;
 use std::alloc::Global;
 use std::fs::{self, File, OpenOptions};
 use std::io::{self, Write};

@@ -3,8 +3,7 @@
 use crate::node::writes::Writes;
 use crate::samples::{median, rate};
 use crate::subject::Subject;
-use meta_types::ByteString;
-use node_parts::both;
+use meta_types::{ByteString, both};
 use std::alloc::Global;
 use std::io;
 use std::time::Instant;

@@ -4,8 +4,7 @@ use crate::rows::{Dice, Rows, actor};
 use crate::samples::refused;
 use hash_tree::{Tree, object_digest, plain_root};
 use meta_store::{Context, Source, Store};
-use meta_types::{Actor, MetaKey, Value};
-use node_parts::both;
+use meta_types::{Actor, MetaKey, Value, both};
 use std::alloc::Global;
 use std::io;
 

@@ -5,10 +5,9 @@ use crate::storm::trouble::Trouble;
 use crate::storm::written::{Mark, count_of, text_of};
 use devices::FileDevice;
 use dvvset::Vector;
-use meta_types::MetaKey;
+use meta_types::{MetaKey, both};
 use node_events::Reply;
 use node_lock::{Acknowledgement, LockFault, Naming, Node, Receipt, WriteSeat};
-use node_parts::both;
 use std::rt::Clock;
 use std::sync::Wait;
 

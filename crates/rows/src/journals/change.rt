@@ -1,9 +1,8 @@
 //! Changes of a journal.
 
-use meta_types::{ByteString, NodeId};
+use meta_types::{ByteString, NodeId, both};
 use node_events::{NodeEvent, Outbox, Reply};
 use node_journal::Entry;
-use node_parts::both;
 use std::alloc::{AllocError, Global};
 use std::mem::replace;
 

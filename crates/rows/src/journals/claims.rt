@@ -5,8 +5,7 @@ use meta_types::ByteString;
 use node_core::NodeState;
 use node_events::{NodeEvent, Reply};
 use node_journal::{Closed, Entry, Receipt};
-use run_order::Place;
-use run_record::RecordFault;
+use run_record::{Place, RecordFault};
 use std::alloc::{AllocError, Global};
 use world_core::World;
 

@@ -9,11 +9,10 @@ ghost use Rattle.scenario_text.specs.Commands.{fault_in};
 use crate::journals::change::{Change, Kind, changed};
 use meta_frame::read_header;
 use meta_store::{Context, Store};
-use meta_types::{ByteString, MetaKey, NodeId, Value};
+use meta_types::{ByteString, MetaKey, NodeId, Value, both};
 use node_core::{NodeState, Stepped};
 use node_events::{NodeEvent, Reply};
 use node_journal::{Closed, Entry, Receipt};
-use node_parts::both;
 use scenario_text::{BytesWord, Command, KeyWord, Script, parse};
 use std::alloc::{AllocError, Global};
 

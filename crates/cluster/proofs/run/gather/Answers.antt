@@ -1,11 +1,11 @@
 use Rattle.std.proofs.Common.{rules, ◌≡◌, ◌∷◌, ◌++◌, [], Ok, length, All, IfErr, OnOk, Result, sym, subst, ap, ◌∙◌}
 use Rattle.std.proofs.lemmas.List.Elements.{All-tail}
-use Rattle.desk_parts.specs.declared.fault.LockFault.{LockFault}
+use Rattle.node_call.specs.declared.fault.LockFault.{LockFault}
 use Rattle.cluster.specs.Run.{IsPutTogether}
-use Rattle.cluster_parts.specs.Worked.{EndsRun}
-use Rattle.cluster_parts.specs.declared.worker.Worked.{Worked}
+use Rattle.cluster_worker.specs.Worked.{EndsRun}
+use Rattle.cluster_worker.specs.declared.worker.Worked.{Worked}
 use Rattle.cluster.proofs.Gathered.{added_more, all_added}
-use Rattle.cluster_parts.proofs.Places.{none_left}
+use Rattle.cluster_worker.proofs.Places.{none_left}
 use Rattle.cluster.proofs.run.gather.Goals as goal
 
 pub loop-outcome-init : goal.loop-outcome-init

@@ -1,5 +1,5 @@
 use Rattle.std.proofs.Common.{All, IfErr}
-use Rattle.cluster_parts.specs.Worked.{EndsRun}
+use Rattle.cluster_worker.specs.Worked.{EndsRun}
 use Rattle.cluster.proofs.Gathered.{AreAdded}
 use Rattle.cluster.proofs.run.gather.Given as goal
 

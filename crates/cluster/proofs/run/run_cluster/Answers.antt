@@ -1,6 +1,6 @@
 use Rattle.std.proofs.Common.{List, IfOk, refl, subst, ◌∙◌, ap, arith}
 use Rattle.cluster.specs.Run.{IsRunOf, RefusesNewRun}
-use Rattle.cluster_parts.specs.Serving.{LifeView, lives_from}
+use Rattle.cluster_worker.specs.Serving.{LifeView, lives_from}
 use Rattle.cluster.proofs.Fresh.{first_on, refused_largest}
 use Rattle.cluster.proofs.Gathered.{err_more}
 use Rattle.cluster.proofs.run.run_cluster.Goals as goal

@@ -1,12 +1,12 @@
 use Rattle.std.proofs.Common.{rules, ◌≡◌, length, map, All, None, vec_len, sym, subst, ap, ◌∙◌, arith}
 use Rattle.std.proofs.lemmas.List.{length-map}
-use Rattle.cluster_parts.specs.Passes.{ArePassesOf}
-use Rattle.cluster_parts.specs.Plan.{refusal_of_run}
+use Rattle.cluster_worker.specs.Passes.{ArePassesOf}
+use Rattle.cluster_worker.specs.Plan.{refusal_of_run}
 use Rattle.cluster.specs.Run.{CanRun, IsRunOf, RefusesGathering, RefusesRun}
-use Rattle.cluster_parts.specs.Serving.{life_of_file, lives_from}
-use Rattle.cluster_parts.specs.Worked.{AreOutcomesOf}
-use Rattle.cluster_parts.specs.declared.serving.ServedFile.{ServedFile}
-use Rattle.cluster_parts.proofs.Made.{each_has_passes}
+use Rattle.cluster_worker.specs.Serving.{life_of_file, lives_from}
+use Rattle.cluster_worker.specs.Worked.{AreOutcomesOf}
+use Rattle.cluster_worker.specs.declared.serving.ServedFile.{ServedFile}
+use Rattle.cluster_worker.proofs.Made.{each_has_passes}
 use Rattle.cluster.proofs.Gathered.{all_jobs, ends_run, err_more, inboxes_within, lives_count, lives_of, ok_more, on_ok, refuses_gathering, refuses_working, run_of}
 use Rattle.cluster.proofs.run.run_cluster_on.Goals as goal
 

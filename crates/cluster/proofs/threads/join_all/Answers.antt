@@ -1,7 +1,7 @@
 use Rattle.std.proofs.Common.{◌≡◌, ◌∷◌, ◌++◌, [], length, map, sym, subst, ap, ◌∙◌, arith}
 use Rattle.std.proofs.lemmas.List.{append_assoc, length_push}
-use Rattle.cluster_parts.specs.Worked.{IsOutcomeOf, AreOutcomesOf}
-use Rattle.cluster_parts.proofs.Places.{places_on}
+use Rattle.cluster_worker.specs.Worked.{IsOutcomeOf, AreOutcomesOf}
+use Rattle.cluster_worker.proofs.Places.{places_on}
 use Rattle.cluster.proofs.threads.join_all.Goals as goal
 
 pub loop-handle-preserved : goal.loop-handle-preserved

@@ -1,6 +1,6 @@
 use Rattle.std.proofs.Common.{◌≡◌, ◌≤◌, ◌+◌, ◌++◌, List, length, map, vec_capacity}
-use Rattle.cluster_parts.specs.Serving.{LifeView}
-use Rattle.cluster_parts.specs.Worked.{AreOutcomesOf}
+use Rattle.cluster_worker.specs.Serving.{LifeView}
+use Rattle.cluster_worker.specs.Worked.{AreOutcomesOf}
 use Rattle.cluster.proofs.threads.join_all.Given as goal
 
 -- those that were joined have worked in the first of the lives

@@ -1,10 +1,10 @@
 use Rattle.std.proofs.Common.{rules, ◌≡◌, ◌∷◌, ◌++◌, [], length, map, All, sym, subst, ap, ◌∙◌, arith}
 use Rattle.std.proofs.lemmas.List.{length_push}
 use Rattle.std.proofs.lemmas.List.Elements.{All-head, All-tail}
-use Rattle.cluster_parts.specs.Serving.{life_of_file}
-use Rattle.cluster_parts.specs.Worked.{IsJob}
-use Rattle.cluster_parts.specs.declared.worker.Job.{Job}
-use Rattle.cluster_parts.proofs.Places.{all_over, goes_over, no_more, none_left}
+use Rattle.cluster_worker.specs.Serving.{life_of_file}
+use Rattle.cluster_worker.specs.Worked.{IsJob}
+use Rattle.cluster_worker.specs.declared.worker.Job.{Job}
+use Rattle.cluster_worker.proofs.Places.{all_over, goes_over, no_more, none_left}
 use Rattle.cluster.proofs.threads.spawn_all.Goals as goal
 
 pub loop-job-init : goal.loop-job-init

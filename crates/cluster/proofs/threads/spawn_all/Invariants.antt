@@ -1,6 +1,6 @@
 use Rattle.std.proofs.Common.{◌≡◌, ◌≤◌, ◌+◌, ◌++◌, length, map, All, vec_capacity}
-use Rattle.cluster_parts.specs.Serving.{life_of_file}
-use Rattle.cluster_parts.specs.Worked.{IsJob}
+use Rattle.cluster_worker.specs.Serving.{life_of_file}
+use Rattle.cluster_worker.specs.Worked.{IsJob}
 use Rattle.cluster.proofs.threads.spawn_all.Given as goal
 
 -- each thread has the life of its job

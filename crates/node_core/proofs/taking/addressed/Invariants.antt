@@ -1,5 +1,5 @@
 use Rattle.std.proofs.Common.{◌≡◌, ◌++◌, map}
-use Rattle.node_parts.specs.Overlay.{envelope}
+use Rattle.node_overlay.specs.Overlay.{envelope}
 use Rattle.node_core.proofs.taking.addressed.Given as goal
 
 abbrev pub invariant-loop-message : goal.invariant-loop-message

@@ -1,7 +1,7 @@
 use Rattle.std.proofs.Common.{◌≡◌, ◌+◌, [], List, length, replicate, refl, sym, ap, ◌∙◌, subst, arith}
 use Rattle.std.proofs.lemmas.List.{length-replicate}
 use Rattle.node_core.specs.Node.{NodeParts}
-use Rattle.node_history.specs.Published.{Published, with_all}
+use Rattle.node_readers.specs.Published.{Published, with_all}
 use Rattle.node_desk.proofs.Kept.{file_within, new_journal}
 use Rattle.node_desk.proofs.starting.desk_of.Goals as goal
 

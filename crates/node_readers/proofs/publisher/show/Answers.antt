@@ -1,5 +1,5 @@
 use Rattle.std.proofs.Common.{◌≡◌, [], ◌∷◌, ◌++◌, drop, sym, subst}
-use Rattle.node_history.specs.Published.{with_all}
+use Rattle.node_readers.specs.Published.{with_all}
 use Rattle.node_readers.specs.Growth.{GrowsBy}
 use Rattle.node_readers.proofs.Moves.{takes_pending}
 use Rattle.node_readers.proofs.publisher.show.Goals as goal

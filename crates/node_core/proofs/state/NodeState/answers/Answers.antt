@@ -2,8 +2,8 @@ use Rattle.std.proofs.Common.{map, subst, ap, ◌∙◌}
 use Rattle.std.proofs.lemmas.List.Elements.{All-same}
 use Rattle.exchange.specs.Answers.{answers_to}
 use Rattle.meta_store.specs.Table.{IsTable}
-use Rattle.node_parts.specs.Outbox.{MaySend}
-use Rattle.node_parts.specs.Overlay.{envelope}
+use Rattle.node_overlay.specs.Outbox.{MaySend}
+use Rattle.node_overlay.specs.Overlay.{envelope}
 use Rattle.node_core.proofs.Answering.{answers_may}
 use Rattle.node_core.proofs.state.NodeState.answers.Goals as goal
 

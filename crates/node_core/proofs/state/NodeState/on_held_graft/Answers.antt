@@ -5,7 +5,7 @@ use Rattle.dvvset.specs.Object.{Entry}
 use Rattle.meta_frame.specs.declared.message.Message.TheVariants.{Gossip}
 use Rattle.meta_store.specs.Table.{object_at}
 use Rattle.plumtree.specs.Broadcast.{TakesGraft}
-use Rattle.node_parts.specs.Overlay.{envelope}
+use Rattle.node_overlay.specs.Overlay.{envelope}
 use Rattle.node_core.proofs.Casting.{after_graft, graft_sent, held_if_stale, told_step}
 use Rattle.node_core.proofs.Making.{own_frames}
 use Rattle.node_core.proofs.state.NodeState.on_held_graft.Goals as goal

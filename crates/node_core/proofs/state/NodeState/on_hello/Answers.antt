@@ -2,7 +2,7 @@ use Rattle.std.proofs.Common.{◌≡◌, ◌<◌, ◌≤◌, ℕ, true, false, m
 use Rattle.std.proofs.lemmas.List.Elements.{All-nil}
 use Rattle.meta_frame.specs.Frame.{spelling}
 use Rattle.node_events.specs.declared.reply.Reply.TheVariants.{Took}
-use Rattle.node_parts.specs.Outbox.{HasSpelling, frames_from}
+use Rattle.node_overlay.specs.Outbox.{HasSpelling, frames_from}
 use Rattle.node_core.specs.Node.{NodeParts}
 use Rattle.node_core.specs.Draft.{NodeDraft}
 use Rattle.node_core.specs.Rows.{drop_neighbour, row_of_hello}

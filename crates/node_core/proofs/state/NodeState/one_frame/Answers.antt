@@ -1,7 +1,7 @@
 use Rattle.std.proofs.Common.{◌≡◌, [], ◌∷◌, ◌++◌, All, ap, subst, ◌∙◌}
 use Rattle.std.proofs.lemmas.Result.{IfOk-weaker}
-use Rattle.node_parts.specs.Outbox.{HasSpelling, frames_from}
-use Rattle.node_parts.specs.Overlay.{envelope}
+use Rattle.node_overlay.specs.Outbox.{HasSpelling, frames_from}
+use Rattle.node_overlay.specs.Overlay.{envelope}
 use Rattle.node_core.proofs.state.NodeState.one_frame.Goals as goal
 
 pub returns-clause-lawful : goal.returns-clause-lawful

@@ -1,5 +1,5 @@
 use Rattle.std.proofs.Common.{ap, ◌∙◌}
-use Rattle.node_parts.specs.Overlay.{Overlay, overlay_after_view, sent_by_view}
+use Rattle.node_overlay.specs.Overlay.{Overlay, overlay_after_view, sent_by_view}
 use Rattle.node_core.specs.Node.{NodeParts, parts, with_overlay}
 use Rattle.node_core.proofs.Making.{own_frames}
 use Rattle.node_core.proofs.Viewing.{IsInLife-same, views_of_node}

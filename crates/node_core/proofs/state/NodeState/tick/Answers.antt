@@ -1,9 +1,9 @@
 use Rattle.std.proofs.Common.{◌≡◌, ℕ, None, refl, sym, ap, subst, ◌∙◌}
 use Rattle.node_events.specs.declared.reply.Reply.TheVariants.{Done}
-use Rattle.node_parts.specs.Origin.{overlay_after_tick, sent_by_tick}
-use Rattle.node_parts.specs.Outbox.{count_on}
-use Rattle.node_parts.specs.Overlay.{Overlay}
-use Rattle.node_parts.proofs.Naming.{same_frames}
+use Rattle.node_overlay.specs.Origin.{overlay_after_tick, sent_by_tick}
+use Rattle.node_overlay.specs.Outbox.{count_on}
+use Rattle.node_overlay.specs.Overlay.{Overlay}
+use Rattle.node_overlay.proofs.Naming.{same_frames}
 use Rattle.node_core.specs.Node.{NodeParts, parts}
 use Rattle.node_core.specs.Draft.{NodeDraft}
 use Rattle.node_core.specs.Rows.{tick}

@@ -1,10 +1,10 @@
 use Rattle.std.proofs.Common.{All, refl, sym, ap, subst, ◌∙◌}
 use Rattle.std.proofs.lemmas.List.Elements.{All-same}
 use Rattle.plumtree.specs.Lawful.{MayBeSent}
-use Rattle.node_parts.specs.Origin.{HasOtherSender}
-use Rattle.node_parts.specs.Outbox.{IsSpelledVector, MaySend}
+use Rattle.node_overlay.specs.Origin.{HasOtherSender}
+use Rattle.node_overlay.specs.Outbox.{IsSpelledVector, MaySend}
 use Rattle.node_core.specs.Node.{NodeParts}
-use Rattle.node_parts.proofs.Naming.{gossips_may}
+use Rattle.node_overlay.proofs.Naming.{gossips_may}
 use Rattle.node_core.proofs.Spreading.{joined_spells, left_behind, may_spread}
 use Rattle.node_core.proofs.state.NodeState.try_spread.Goals as goal
 

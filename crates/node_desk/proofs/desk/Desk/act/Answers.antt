@@ -1,12 +1,13 @@
 use Rattle.std.proofs.Common.{◌≡◌, ◌++◌, ◌∷◌, [], ℕ, List, length, sym, ap, ◌∙◌, subst, arith, length-append}
 use Rattle.meta_types.specs.Actor.{writer_number}
 use Rattle.meta_store.specs.Table.{Table}
-use Rattle.node_history.specs.Published.{Published}
+use Rattle.node_readers.specs.Published.{Published}
 use Rattle.node_file.specs.File.{file_state}
-use Rattle.desk_parts.specs.Journaled.{TellsOfEntry}
-use Rattle.desk_parts.specs.Ready.{listed}
-use Rattle.desk_parts.specs.Stored.{HasStored, IsStoredOf, LeavesRecord, record_after}
-use Rattle.desk_parts.proofs.Listing.{grows_by}
+use Rattle.node_call.specs.Journaled.{TellsOfEntry}
+use Rattle.node_call.specs.Ready.{listed}
+use Rattle.node_file.specs.Stored.{HasStored, LeavesRecord}
+use Rattle.node_call.specs.Stored.{IsStoredOf, record_after}
+use Rattle.node_call.proofs.Listing.{grows_by}
 use Rattle.node_core.specs.Step.{IsNodeStep}
 use Rattle.node_journal.specs.Entry.{stepped_of}
 use Rattle.node_desk.specs.Acting.{IsFull, RefusesKeeping}
@@ -20,7 +21,7 @@ store_and_show-done-requires-clause-within g c =
     let s = c.self.inside in
     let r = c.in_ok-ready.ensures.ready in
     let w = (c.self.invariant.9 c.if-self.false).within in
-    subst (λ (t : Table). IsStoredOf t (file_state (g.D.Device.content s.file.device)).contents.table) (sym c.store.ensures)
+    subst (λ (t : Table). IsStoredOf t (file_state (g.D.Device.content s.outlets.file.device)).contents.table) (sym c.store.ensures)
     (kept_within s.state.table c.prepare.new.spare.table _ r.known.keeps w)
 
 pub store_and_show-done-requires-clause-grows : goal.store_and_show-done-requires-clause-grows
@@ -28,7 +29,7 @@ store_and_show-done-requires-clause-grows g c =
     let s = c.self.inside in
     let r = c.in_ok-ready.ensures.ready in
     let e = c.in_ok-ready.ready.entry in
-    grows_by g.J.Naming.opening s.publisher.list e.event e.reply s.state.table c.prepare.new.spare.table c.in_ok-ready.ready.change c.self.invariant.6 r.known.grows.changes r.known.lawful r.known.grows.descends r.change
+    grows_by g.J.Naming.opening s.outlets.publisher.list e.event e.reply s.state.table c.prepare.new.spare.table c.in_ok-ready.ready.change c.self.invariant.6 r.known.grows.changes r.known.lawful r.known.grows.descends r.change
 
 pub invariant_of-self-in-Err : goal.invariant_of-self-in-Err
 invariant_of-self-in-Err g c =
@@ -57,9 +58,9 @@ returns-in-Err-clause-refused g c =
     let e = c.in_ok-ready.ready.entry in
     let change = c.in_ok-ready.ready.change in
     let s = c.self.inside in
-    let refused = subst (λ (t : Table). RefusesKeeping s.file.gate (record_after e.event t) change (g.D.Device.failed s.file.device) (g.D.Device.failed c.store_and_show-done.new.file.device) c.store_and_show-done.new.is_stopped c.in-Err.fault) c.store.ensures c.in-Err.ensures.refused in
+    let refused = subst (λ (t : Table). RefusesKeeping s.outlets.file.gate (record_after e.event t) change (g.D.Device.failed s.outlets.file.device) (g.D.Device.failed c.store_and_show-done.new.self.file.device) c.store_and_show-done.new.self.is_stopped c.in-Err.fault) c.store.ensures c.in-Err.ensures.refused in
     let step = subst (λ (v : DeskView g.row.D.Denot). IsNodeStep v.state e.event c.prepare.new.spare (stepped_of e)) c.self.view_is r.known.step in
-    let kept = subst (λ (v : DeskView g.row.D.Denot). RefusesKeeping v.file.gate (record_after e.event c.prepare.new.spare.table) change (g.D.Device.failed v.file.device) (g.D.Device.failed c.store_and_show-done.new.file.device) c.store_and_show-done.new.is_stopped c.in-Err.fault) c.self.view_is refused in
+    let kept = subst (λ (v : DeskView g.row.D.Denot). RefusesKeeping v.file.gate (record_after e.event c.prepare.new.spare.table) change (g.D.Device.failed v.file.device) (g.D.Device.failed c.store_and_show-done.new.self.file.device) c.store_and_show-done.new.self.is_stopped c.in-Err.fault) c.self.view_is refused in
     let room = subst (λ (v : DeskView g.row.D.Denot). IsFull v → ⊥) c.self.view_is (not_full s.limit (length s.journal.items) s.state.steps c.in_ok-ready.ensures.few) in
     call_refused g.D.Device.failed c.args.self.now _ c.args.event c.prepare.new.spare e change c.in-Err.fault r.is_event step room r.change kept
 
@@ -69,8 +70,8 @@ returns-in-Err-clause-any_moment g c = λ _.
     let r = c.in_ok-ready.ensures.ready in
     let e = c.in_ok-ready.ready.entry in
     let d = g.D.Device in
-    let left = subst (λ (t : Table). LeavesOnly d.moment d.left_since s.file.device c.store_and_show-done.new.file.device (LeavesRecord (d.content s.file.device) (record_after e.event t))) c.store.ensures c.store_and_show-done.ensures.any_moment in
-    rw (← c.self.view_is) (leaves_of d.content d.moment d.left_since s.file.device c.store_and_show-done.new.file.device s.state c.prepare.new.spare c.args.event e r.is_event r.known.step left)
+    let left = subst (λ (t : Table). LeavesOnly d.moment d.left_since s.outlets.file.device c.store_and_show-done.new.self.file.device (LeavesRecord (d.content s.outlets.file.device) (record_after e.event t))) c.store.ensures c.store_and_show-done.ensures.any_moment in
+    rw (← c.self.view_is) (leaves_of d.content d.moment d.left_since s.outlets.file.device c.store_and_show-done.new.self.file.device s.state c.prepare.new.spare c.args.event e r.is_event r.known.step left)
 
 pub of-requires : goal.of-requires
 of-requires g c =
@@ -82,7 +83,7 @@ of-requires g c =
     let copy = c.into_entries-entry.ensures.1 ∙ (c.store_and_show-done.ensures.entries.1 ∙ r.copy) in
     let list = c.again.ensures ∙ (c.revision.ensures ∙ c.in_default.ensures.list) in
     subst (λ (l : List Published). TellsOfEntry (writer_number n.node n.incarnation) c.into_entries-entry.result.1 l) (sym list)
-    (told n.node n.incarnation s.state c.prepare.new.spare e c.into_entries-entry.result.1 s.publisher.list change c.self.invariant.2 r.known r.change copy)
+    (told n.node n.incarnation s.state c.prepare.new.spare e c.into_entries-entry.result.1 s.outlets.publisher.list change c.self.invariant.2 r.known r.change copy)
 
 pub invariant_of-self-2 : goal.invariant_of-self-2
 invariant_of-self-2 g c =
@@ -93,9 +94,9 @@ invariant_of-self-2 g c =
     let e = c.in_ok-ready.ready.entry in
     let new = c.prepare.new.spare in
     let n = g.J.Naming in
-    let go = goes_on s.base s.state new n.opening s.journal.items s.publisher.list (listed c.in_ok-ready.ready.change) e i.0 i.6 r.known r.change in
+    let go = goes_on s.base s.state new n.opening s.journal.items s.outlets.publisher.list (listed c.in_ok-ready.ready.change) e i.0 i.6 r.known r.change in
     let steps = one_more s.state new (length e.outbox) r.known.counts c.in_ok-ready.ensures.few.1 in
-    let stored = subst (λ (t : Table). HasStored g.D.Device.content g.D.Device.may_leave (record_after e.event t) s.file c.store_and_show-done.new.file) c.store.ensures c.in_default.ensures.stored in
+    let stored = subst (λ (t : Table). HasStored g.D.Device.content g.D.Device.may_leave (record_after e.event t) s.outlets.file c.store_and_show-done.new.self.file) c.store.ensures c.in_default.ensures.stored in
     rw (c.swap.ensures.x_after, c.push_reserved.ensures.items, c.into_entries-entry.ensures.0, c.store_and_show-done.ensures.entries.0, c.prepare.ensures.same, c.in_default.ensures.list) (
       go.journaled,
       i.1,
@@ -109,7 +110,7 @@ invariant_of-self-2 g c =
       (λ _. record {
         file = c.in_default.ensures.going.0;
         publisher = c.in_default.ensures.going.1 w.publisher;
-        within = stored_within e.event s.state.table new.table (file_state (g.D.Device.content s.file.device)) (file_state (g.D.Device.content c.store_and_show-done.new.file.device)) r.known.keeps w.within stored.tells;
+        within = stored_within e.event s.state.table new.table (file_state (g.D.Device.content s.outlets.file.device)) (file_state (g.D.Device.content c.store_and_show-done.new.self.file.device)) r.known.keeps w.within stored.tells;
       }),
     )
 
@@ -119,29 +120,29 @@ returns-clause-any_moment g c = λ _.
     let r = c.in_ok-ready.ensures.ready in
     let e = c.in_ok-ready.ready.entry in
     let d = g.D.Device in
-    let left = subst (λ (t : Table). LeavesOnly d.moment d.left_since s.file.device c.store_and_show-done.new.file.device (LeavesRecord (d.content s.file.device) (record_after e.event t))) c.store.ensures c.store_and_show-done.ensures.any_moment in
-    rw (← c.self.view_is) (leaves_of d.content d.moment d.left_since s.file.device c.store_and_show-done.new.file.device s.state c.prepare.new.spare c.args.event e r.is_event r.known.step left)
+    let left = subst (λ (t : Table). LeavesOnly d.moment d.left_since s.outlets.file.device c.store_and_show-done.new.self.file.device (LeavesRecord (d.content s.outlets.file.device) (record_after e.event t))) c.store.ensures c.store_and_show-done.ensures.any_moment in
+    rw (← c.self.view_is) (leaves_of d.content d.moment d.left_since s.outlets.file.device c.store_and_show-done.new.self.file.device s.state c.prepare.new.spare c.args.event e r.is_event r.known.step left)
 
 pub returns-then-self-clause-began : goal.returns-then-self-clause-began
 returns-then-self-clause-began g c =
     let s = c.self.inside in
     let n = g.J.Naming in
-    rw (← c.self.view_is) (began_on n.node n.incarnation n.opening s.base s.state s.journal.items s.publisher.list c.self.invariant.1 c.self.invariant.0)
+    rw (← c.self.view_is) (began_on n.node n.incarnation n.opening s.base s.state s.journal.items s.outlets.publisher.list c.self.invariant.1 c.self.invariant.0)
 
 pub returns-in_err-ready-clause-began : goal.returns-in_err-ready-clause-began
 returns-in_err-ready-clause-began g c =
     let s = c.self.inside in
     let n = g.J.Naming in
-    rw (← c.self.view_is) (began_on n.node n.incarnation n.opening s.base s.state s.journal.items s.publisher.list c.self.invariant.1 c.self.invariant.0)
+    rw (← c.self.view_is) (began_on n.node n.incarnation n.opening s.base s.state s.journal.items s.outlets.publisher.list c.self.invariant.1 c.self.invariant.0)
 
 pub returns-in-Err-clause-began : goal.returns-in-Err-clause-began
 returns-in-Err-clause-began g c =
     let s = c.self.inside in
     let n = g.J.Naming in
-    rw (← c.self.view_is) (began_on n.node n.incarnation n.opening s.base s.state s.journal.items s.publisher.list c.self.invariant.1 c.self.invariant.0)
+    rw (← c.self.view_is) (began_on n.node n.incarnation n.opening s.base s.state s.journal.items s.outlets.publisher.list c.self.invariant.1 c.self.invariant.0)
 
 pub returns-clause-began : goal.returns-clause-began
 returns-clause-began g c =
     let s = c.self.inside in
     let n = g.J.Naming in
-    rw (← c.self.view_is) (began_on n.node n.incarnation n.opening s.base s.state s.journal.items s.publisher.list c.self.invariant.1 c.self.invariant.0)
+    rw (← c.self.view_is) (began_on n.node n.incarnation n.opening s.base s.state s.journal.items s.outlets.publisher.list c.self.invariant.1 c.self.invariant.0)

@@ -1,6 +1,6 @@
 use Rattle.std.proofs.Common.{rules, ◌≡◌, List, All, true, false, refl, sym, ap, subst, ◌∙◌}
-use Rattle.node_history.specs.Published.{Published}
-use Rattle.desk_parts.proofs.Runs.{run_of}
+use Rattle.node_readers.specs.Published.{Published}
+use Rattle.node_call.proofs.Runs.{run_of}
 use Rattle.node_desk.specs.Closing.{EndsWithTable, IsWithin}
 use Rattle.node_desk.proofs.desk.Desk.close.Goals as goal
 

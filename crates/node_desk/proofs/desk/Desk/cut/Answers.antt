@@ -1,5 +1,5 @@
 use Rattle.std.proofs.Common.{◌≡◌, ◌+◌, [], length, arith}
-use Rattle.desk_parts.proofs.Runs.{journaled_cut}
+use Rattle.node_call.proofs.Runs.{journaled_cut}
 use Rattle.node_desk.proofs.Kept.{began_on}
 use Rattle.node_desk.proofs.desk.Desk.cut.Goals as goal
 
@@ -9,8 +9,8 @@ invariant_of-self g c =
     let i = c.self.invariant in
     let n = g.J.Naming in
     rw (c.replace.ensures.after, c.in_ok-state.ensures, c.clear.ensures.items) (
-      journaled_cut s.base s.state s.journal.items s.publisher.list i.4 i.0,
-      began_on n.node n.incarnation n.opening s.base s.state s.journal.items s.publisher.list i.1 i.0,
+      journaled_cut s.base s.state s.journal.items s.outlets.publisher.list i.4 i.0,
+      began_on n.node n.incarnation n.opening s.base s.state s.journal.items s.outlets.publisher.list i.1 i.0,
       i.2,
       i.3,
       omega arith,

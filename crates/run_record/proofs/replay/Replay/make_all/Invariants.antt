@@ -1,5 +1,5 @@
 use Rattle.std.proofs.Common.{drop}
-use Rattle.run_order.specs.Order.{IsOrderFrom}
+use Rattle.run_record.specs.Order.{IsOrderFrom}
 use Rattle.run_record.specs.Replay.{IsReplay}
 use Rattle.run_record.proofs.replay.Replay.make_all.Given as goal
 

@@ -1,7 +1,7 @@
 use Rattle.std.proofs.Common.{◌≡◌, ℕ, Option, Some, IsSome, refl, sym, subst, ap, ◌∙◌}
 use Rattle.node_events.specs.declared.event.NodeEvent.TheVariants.{Write}
-use Rattle.run_order.specs.declared.giving.Giver.{Giver}
-use Rattle.run_order.specs.Order.{IsGivenBy, IsPassedGiver}
+use Rattle.run_record.specs.declared.giving.Giver.{Giver}
+use Rattle.run_record.specs.Order.{IsGivenBy, IsPassedGiver}
 use Rattle.world_core.specs.Numbers.{numbered}
 use Rattle.run_record.specs.Replay.{mark_at}
 use Rattle.run_record.proofs.Naming.{named_read}

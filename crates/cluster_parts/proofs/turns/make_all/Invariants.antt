@@ -1,8 +1,0 @@
-use Rattle.cluster_parts.specs.Serving.{life_of}
-use Rattle.cluster_parts.specs.Turns.{IsWorkerOf}
-use Rattle.cluster_parts.proofs.turns.make_all.Given as goal
-
-abbrev pub invariant-loop-turn : goal.invariant-loop-turn
-invariant-loop-turn g l =
-    let n = g.J.Naming in
-    IsWorkerOf l.shared.inboxes.now (life_of n.node n.incarnation n.opening) l.seat l.worker

@@ -1,0 +1,8 @@
+use Rattle.cluster_worker.specs.Serving.{life_of}
+use Rattle.cluster_worker.specs.Turns.{IsWorkerOf}
+use Rattle.cluster_worker.proofs.turns.make_all.Given as goal
+
+abbrev pub invariant-loop-turn : goal.invariant-loop-turn
+invariant-loop-turn g l =
+    let n = g.J.Naming in
+    IsWorkerOf l.shared.inboxes.now (life_of n.node n.incarnation n.opening) l.seat l.worker

@@ -1,0 +1,48 @@
+//! Sending the frames of a call.
+
+ghost use Rattle.std.specs.Prelude.{◌≤◌, length, IfOk};
+ghost use Rattle.cluster_worker.specs.Passes.{ArePassesInto};
+
+use inbox::{Inbox, PutPass};
+use meta_types::ByteString;
+use std::alloc::AllocError;
+use std::sync::Wait;
+
+/// Returns the number of the addressee that a frame names; `None` if it is too short to name one.
+fn addressee(frame: &[u8]) -> Option<usize> {
+    let high = frame.get(6)?;
+    let low = frame.get(7)?;
+    Some(usize::from(u16::from_be_bytes([*high, *low])))
+}
+
+/// Puts a frame into the inbox of its addressee, and returns whether it is there. It isn't if that
+/// inbox is full, or if there is no such node.
+fn send<R: Wait>(rt: &R, inboxes: &[Inbox], puts: &mut Vec<PutPass>, frame: ByteString) -> bool
+    requires passes { ArePassesInto inboxes.now puts.old.items }
+    ensures passes { ArePassesInto inboxes.now puts.new.items }
+{
+    match addressee(frame.as_slice()) {
+        Some(node) if node < puts.len() => inboxes[node].put(rt, &mut puts[node], frame).is_ok(),
+        _ => false,
+    }
+}
+
+/// Sends the frames in their order, and returns how many of them are lost.
+pub(crate) fn send_all<R: Wait>(
+    rt: &R,
+    inboxes: &[Inbox],
+    puts: &mut Vec<PutPass>,
+    frames: &[ByteString],
+) -> Result<u64, AllocError>
+    requires passes { ArePassesInto inboxes.now puts.old.items }
+    ensures passes { ArePassesInto inboxes.now puts.new.items }
+    ensures lost { IfOk result (λ lost. lost ≤ length frames.now) }
+{
+    let mut lost = 0u64;
+    for frame in frames {
+        if !send(rt, inboxes, puts, frame.copy()?) {
+            lost = lost.saturating_add(1);
+        }
+    }
+    Ok(lost)
+}

@@ -1,0 +1,225 @@
+//! The turns of a node, in the thread of its worker.
+
+ghost use Rattle.std.specs.Prelude.{◌≡◌, ◌≤◌, [], IfErr, IfOk};
+ghost use Rattle.cluster_worker.specs.Call.{IsAfterRefusal, IsAsked, IsOfTurn, event_of};
+ghost use Rattle.node_call.specs.declared.fault.LockFault.TheVariants.{Memory};
+ghost use Rattle.cluster_worker.specs.Passes.{ArePassesOf};
+ghost use Rattle.cluster_worker.specs.Serving.{life_of};
+ghost use Rattle.cluster_worker.specs.Turns.{EndsTurns, IsWorkerOf};
+ghost use Rattle.cluster_worker.specs.declared.turns.Ending.TheVariants.{Failed};
+
+use crate::call::{Call, write_of};
+use crate::passes::Passes;
+use crate::plan::ClusterPlan;
+use crate::sending::send_all;
+use crate::turn_hook::TurnHook;
+use devices::Device;
+use inbox::Inbox;
+use meta_types::NodeId;
+use node_lock::{LockFault, Naming, Node, Receipt, WriteSeat};
+use rand_core::{Rng, SeedableRng};
+use rand_pcg::Pcg64;
+use std::alloc::{AllocError, AllocFailed, Global};
+use std::sync::Wait;
+
+/// What all workers share.
+#[derive(Drop)]
+pub struct Shared<'c, R, G> {
+    pub rt: &'c R,
+    pub alloc: Global,
+    pub plan: ClusterPlan,
+    /// How many entries a journal may have, 1 to 1,048,576.
+    pub journal: usize,
+    /// The inboxes of all nodes, in the order of their numbers.
+    pub inboxes: &'c [Inbox],
+    pub gate: &'c G,
+    ghost some: { 1 ≤ journal },
+    ghost few: { journal ≤ 1048576 },
+}
+
+/// What a worker has besides its node: its passes, the source of its random words, and what it
+/// keeps of its calls.
+#[derive(Drop)]
+pub(crate) struct Worker {
+    pub node: NodeId,
+    pub passes: Passes,
+    pub words: Pcg64,
+    /// The receipts of the accepted calls, in order.
+    pub receipts: Vec<Receipt>,
+    /// How many of the frames that were sent are lost.
+    pub lost: u64,
+}
+
+impl Worker {
+    /// Makes a worker before its first call.
+    pub(crate) fn new(alloc: Global, node: NodeId, passes: Passes, seed: u64) -> Self
+        ensures passes { result.passes ≡ passes }
+        ensures node { result.node ≡ node }
+        ensures nothing { (result.receipts.items ≡ []) × (result.lost ≡ 0) }
+    {
+        let seed = seed.wrapping_add(u64::from(node.number()));
+        Worker {
+            node,
+            passes,
+            words: Pcg64::seed_from_u64(seed),
+            receipts: Vec::new(alloc),
+            lost: 0,
+        }
+    }
+}
+
+/// Why a worker makes no more turns.
+#[derive(Drop)]
+pub(crate) enum Ending {
+    /// Its node is stopped: its device failed.
+    Stopped,
+    /// It ends the whole run.
+    Failed(LockFault),
+}
+
+impl From<AllocError> for Ending {
+    ghost from_gives = { λ _ ending. ending ≡ Failed Memory };
+
+    fn from(_error: AllocError) -> Self {
+        Ending::Failed(LockFault::Memory)
+    }
+}
+
+impl<T: Drop> From<AllocFailed<T>> for Ending {
+    ghost from_gives = { λ _ ending. ending ≡ Failed Memory };
+
+    fn from(_error: AllocFailed<T>) -> Self {
+        Ending::Failed(LockFault::Memory)
+    }
+}
+
+/// Returns what a refusal ends: 30 and 34 end the turns of the node, 52 and 99 the run; any other
+/// costs the turn.
+fn after_refusal(fault: LockFault) -> Result<(), Ending>
+    ensures { IsAfterRefusal fault result }
+{
+    match fault {
+        LockFault::Device | LockFault::Stopped => Err(Ending::Stopped),
+        LockFault::NoSeat | LockFault::Memory => Err(Ending::Failed(fault)),
+        _ => Ok(()),
+    }
+}
+
+/// Makes a call of the node, keeps its receipt and sends its frames.
+fn make<D: Device + Drop, J: Naming, H: Wait + Drop, R: Wait, G>(
+    shared: &Shared<R, G>,
+    node: &Node<D, J, H>,
+    seat: &mut WriteSeat<J>,
+    worker: &mut Worker,
+    call: &Call,
+) -> Result<(), Ending>
+    requires asked { IsAsked (event_of call.now) }
+    requires worker { IsWorkerOf shared.now.inboxes.now
+        (life_of J.node J.incarnation J.opening) seat.old worker.old }
+    ensures worker { IsWorkerOf shared.now.inboxes.now
+        (life_of J.node J.incarnation J.opening) seat.new worker.new }
+    ensures ending { IfErr result EndsTurns }
+{
+    worker.receipts.reserve(1)?;
+    match call.make_at_last(shared.rt, node, seat) {
+        Ok(done) => {
+            let receipt = done.into_receipt();
+            let frames = receipt.entry.outbox.as_slice();
+            let lost = send_all(shared.rt, shared.inboxes, &mut worker.passes.puts, frames);
+            worker.receipts.push_reserved(receipt);
+            worker.lost = worker.lost.saturating_add(lost?);
+            Ok(())
+        }
+        Err(fault) => after_refusal(fault),
+    }
+}
+
+/// Returns the call of a turn. In each fourth turn that is a write; otherwise the oldest frame of
+/// the inbox is taken, or, if there is none, time goes on.
+fn call_of<R: Wait, G>(
+    shared: &Shared<R, G>,
+    passes: &mut Passes,
+    words: &mut Pcg64,
+    turn: u64,
+) -> Result<Call, AllocError>
+    requires passes { ArePassesOf shared.now.inboxes.now passes.old }
+    ensures passes { ArePassesOf shared.now.inboxes.now passes.new }
+    ensures asked { IfOk result (λ call. IsOfTurn turn (event_of call)) }
+{
+    if turn % 4 == 0 {
+        return write_of(shared.alloc, turn);
+    }
+    let inbox = &shared.inboxes[passes.own];
+    let parcel = inbox.take(shared.rt, &mut passes.takes);
+    let word = words.next_u64();
+    match parcel {
+        Some(parcel) => Ok(Call::Take {
+            frame: parcel.frame,
+            word,
+        }),
+        None => Ok(Call::Tick { word }),
+    }
+}
+
+fn make_turn<D: Device + Drop, J: Naming, H: Wait + Drop, R: Wait, G>(
+    shared: &Shared<R, G>,
+    node: &Node<D, J, H>,
+    seat: &mut WriteSeat<J>,
+    worker: &mut Worker,
+    turn: u64,
+) -> Result<(), Ending>
+    requires worker { IsWorkerOf shared.now.inboxes.now
+        (life_of J.node J.incarnation J.opening) seat.old worker.old }
+    ensures worker { IsWorkerOf shared.now.inboxes.now
+        (life_of J.node J.incarnation J.opening) seat.new worker.new }
+    ensures ending { IfErr result EndsTurns }
+{
+    let call = call_of(shared, &mut worker.passes, &mut worker.words, turn)?;
+    make(shared, node, seat, worker, &call)
+}
+
+/// Joins through node 0, unless the node is node 0 itself.
+fn join_first<D: Device + Drop, J: Naming, H: Wait + Drop, R: Wait, G>(
+    shared: &Shared<R, G>,
+    node: &Node<D, J, H>,
+    seat: &mut WriteSeat<J>,
+    worker: &mut Worker,
+) -> Result<(), Ending>
+    requires worker { IsWorkerOf shared.now.inboxes.now
+        (life_of J.node J.incarnation J.opening) seat.old worker.old }
+    ensures worker { IsWorkerOf shared.now.inboxes.now
+        (life_of J.node J.incarnation J.opening) seat.new worker.new }
+    ensures ending { IfErr result EndsTurns }
+{
+    if worker.node.number() == 0 {
+        return Ok(());
+    }
+    let call = Call::Join {
+        contact: NodeId::new(0).unwrap(),
+        word: worker.words.next_u64(),
+    };
+    make(shared, node, seat, worker, &call)
+}
+
+/// Joins, and makes all turns.
+pub(crate) fn make_all<D: Device + Drop, J: Naming, H: Wait + Drop, R: Wait, G: TurnHook>(
+    shared: &Shared<R, G>,
+    node: &Node<D, J, H>,
+    seat: &mut WriteSeat<J>,
+    worker: &mut Worker,
+) -> Result<(), Ending>
+    requires worker { IsWorkerOf shared.now.inboxes.now
+        (life_of J.node J.incarnation J.opening) seat.old worker.old }
+    ensures worker { IsWorkerOf shared.now.inboxes.now
+        (life_of J.node J.incarnation J.opening) seat.new worker.new }
+    ensures ending { IfErr result EndsTurns }
+{
+    join_first(shared, node, seat, worker)?;
+    for turn in 1..=shared.plan.turns {
+        shared.gate.before(worker.node, turn);
+        let made = make_turn(shared, node, seat, worker, turn);
+        shared.gate.after(worker.node, turn);
+        made?;
+    }
+    Ok(())
+}

@@ -1,5 +1,0 @@
-pub mod Runs
-pub mod Listing
-pub mod Within
-pub mod Files
-pub mod Carried

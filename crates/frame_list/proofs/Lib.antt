@@ -1,2 +1,0 @@
--- the bytes of frames, by how they are kept
-pub mod Keeping

@@ -1,5 +1,0 @@
-use Rattle.hosted_node.proofs.Serving.{served_again}
-use Rattle.hosted_node.proofs.laws.a_file_can_be_served_again.Goals as goal
-
-pub returns : goal.returns
-returns c = served_again

@@ -1,5 +1,0 @@
-use Rattle.hosted_node.proofs.Lasting.{life_is_new}
-use Rattle.hosted_node.proofs.laws.each_life_is_a_new_one.Goals as goal
-
-pub returns : goal.returns
-returns c = life_is_new

@@ -1,5 +1,0 @@
-use Rattle.hosted_node.proofs.Histories.{goes_on}
-use Rattle.hosted_node.proofs.laws.later_calls_go_on_from_the_sync.Goals as goal
-
-pub returns : goal.returns
-returns c = λ failures file crash n later left. goes_on failures file crash n.gate n.to_store later left

@@ -1,4 +1,0 @@
--- logs that grow, and what entries show of them
-pub mod Growing
--- the places of values in logs
-pub mod Placing

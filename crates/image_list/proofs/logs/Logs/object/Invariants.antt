@@ -1,6 +1,0 @@
-use Rattle.std.proofs.Common.{◌≡◌, take}
-use Rattle.image_list.specs.Logs.{whole_object}
-use Rattle.image_list.proofs.logs.Logs.object.Given as goal
-
-abbrev pub invariant-loop-entry : goal.invariant-loop-entry
-invariant-loop-entry l = l.object.items ≡ whole_object l.self (take l.entry-index l.entries)

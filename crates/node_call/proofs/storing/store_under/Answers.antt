@@ -1,0 +1,17 @@
+use Rattle.std.proofs.Common.{◌≡◌, Some, None, T, sym, ap, ◌∙◌, subst}
+use Rattle.std.specs.FinMap.{find}
+use Rattle.std.specs.Option.{option_copied}
+use Rattle.meta_types.specs.Order.{key_cmp}
+use Rattle.node_core.proofs.Within.{room_within}
+use Rattle.node_file.specs.File.{file_state}
+use Rattle.node_call.proofs.storing.store_under.Goals as goal
+
+pub append-requires-clause-room : goal.append-requires-clause-room
+append-requires-clause-room g c going =
+    let held : Some c.in-Some.object.now ≡ find key_cmp c.args.key.now c.args.store.now =
+    ap option_copied (sym c.in-Some.is) ∙ c.object.ensures.value in
+    let within = c.requires.within in
+    room_within (file_state (g.D.Device.content c.args.file.now.device)).contents.table
+    c.args.store.now c.args.key.now
+    (subst T (sym within.rising) tt) c.len.ensures.is_table within.keys
+    (λ none. let clash : Some c.in-Some.object.now ≡ None = held ∙ none in absurd (cc))

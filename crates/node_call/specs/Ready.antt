@@ -1,0 +1,102 @@
+-- What private functions say of what is made ready before an entry is kept.
+use Rattle.std.specs.Prelude.{◌≡◌, ◌≢◌, ◌≤◌, ◌⊎◌, ◌-◌, ◌^◌, ℕ, List, [], ◌∷◌, length, Option, Some, None, option_map, Result, Ok, Err}
+use Rattle.std.specs.FinMap.{find}
+use Rattle.meta_types.specs.Name.{Key}
+use Rattle.meta_types.specs.Order.{key_cmp}
+use Rattle.meta_store.specs.Table.{IsTable, Table}
+use Rattle.node_events.specs.declared.event.NodeEvent.{NodeEvent}
+use Rattle.node_events.specs.declared.fault.StepFault.TheVariants as OfStep
+use Rattle.node_events.specs.declared.reply.Reply.{Reply}
+use Rattle.node_core.specs.declared.state.Stepped.{Stepped}
+use Rattle.meta_frame.specs.declared.fault.FrameFault.{FrameFault}
+use Rattle.meta_frame.specs.declared.fault.FrameFault.TheVariants as OfFrame
+use Rattle.meta_frame.specs.declared.message.Frame.{Frame}
+use Rattle.node_core.specs.Growing.{CarriesUnder, IsKeyChanged, KeepsKeys, StepGrows}
+use Rattle.node_core.specs.Leaving.{carried_object}
+use Rattle.node_core.specs.Node.{NodeParts}
+use Rattle.node_core.specs.Run.{CountsOn}
+use Rattle.node_core.specs.Step.{CanComeOf, IsNodeStep}
+use Rattle.node_journal.specs.declared.entry.Entry.{Entry}
+use Rattle.node_journal.specs.Entry.{stepped_of}
+use Rattle.node_readers.specs.Published.{Published}
+use Rattle.node_call.specs.declared.fault.LockFault.{LockFault}
+use Rattle.node_call.specs.declared.fault.LockFault.TheVariants.{Step, JournalFull, Memory}
+use Rattle.node_call.specs.declared.ready.Made.{Made}
+use Rattle.node_call.specs.Journaled.{IsPublishedBy}
+
+-- a journal of this limit and `count` entries takes no more; nor does a life whose steps are
+-- counted as far as they can be
+abbrev pub IsFullFor : ℕ → ℕ → ℕ → Type 0
+IsFullFor limit count steps = (limit ≤ count) ⊎ (2 ^ 64 - 1 ≤ steps)
+
+-- what is ready: the entry, a copy of it to be handed out, and what it publishes
+pub record ReadyView : Type 0 where
+  pub entry : Entry
+  pub copy : Entry
+  pub change : Option Published
+
+-- the change, if there is one, as a list
+abbrev pub listed : Option Published → List Published
+listed None = []
+listed (Some change) = change ∷ []
+
+-- the key under which the event changed what is held, if it changed anything
+abbrev pub IsChangedKey : NodeEvent → Reply → Option Key → Type 0
+IsChangedKey event reply None = (key : Key) → IsKeyChanged event reply key → ⊥
+IsChangedKey event reply (Some key) = IsKeyChanged event reply key
+
+-- the key of the object that the bytes carry as a frame, if they carry one
+abbrev pub IsCarriedKey : List ℕ → Option Key → Type 0
+IsCarriedKey bytes None = (key : Key) → CarriesUnder key bytes → ⊥
+IsCarriedKey bytes (Some key) = CarriesUnder key bytes
+
+-- what was decoded carries an object under this key, or none
+abbrev pub IsKeyOf : Result Frame FrameFault → Option Key → Type 0
+IsKeyOf (Ok frame) found = found ≡ option_map (λ came. came.0) (carried_object frame.message)
+IsKeyOf (Err fault) found = (found ≡ None) × (fault ≢ OfFrame.Memory)
+
+-- what the event changed is held
+abbrev pub HoldsChanged : NodeEvent → Reply → Table → Type 0
+HoldsChanged event reply held =
+    (key : Key) → IsKeyChanged event reply key → find key_cmp key held ≢ None
+
+abbrev pub entry_made : NodeEvent → Stepped → Entry
+entry_made event s = record { event = event; reply = s.reply; outbox = s.outbox }
+
+-- a step, with what the laws of steps say of it
+pub record IsKnownStep (old : NodeParts) (event : NodeEvent) (new : NodeParts) (s : Stepped)
+    : Type 0 where
+  pub step : IsNodeStep old event new s
+  pub grows : StepGrows old event new s
+  pub lawful : IsTable new.table
+  pub keeps : KeepsKeys old.table new.table
+  pub counts : CountsOn 1 (length s.outbox) old new
+
+-- what a step that was tried gives, with the copies that are handed out
+pub record IsMade (old : NodeParts) (event : NodeEvent) (new : NodeParts) (made : Made)
+    : Type 0 where
+  pub known : IsKnownStep old event new made.stepped
+  pub copy : made.copy ≡ entry_made event made.stepped
+  pub change : IsPublishedBy event made.stepped.reply new.table (listed made.change)
+
+-- what is ready: the entry of the step that was tried, its copy, and what it publishes
+pub record IsReady (old : NodeParts) (event : NodeEvent) (new : NodeParts) (ready : ReadyView)
+    : Type 0 where
+  pub is_event : ready.entry.event ≡ event
+  pub known : IsKnownStep old ready.entry.event new (stepped_of ready.entry)
+  pub copy : ready.copy ≡ ready.entry
+  pub change : IsPublishedBy ready.entry.event ready.entry.reply new.table (listed ready.change)
+
+-- the step is one that the node can make
+pub record CanStep (old : NodeParts) (event : NodeEvent) : Type 0 where
+  pub new : NodeParts
+  pub stepped : Stepped
+  pub step : IsNodeStep old event new stepped
+
+-- why nothing is made ready: the step is refused, or it can be made and there is no room in the
+-- journal, of this limit and length
+abbrev pub Prevents : NodeParts → NodeEvent → ℕ → ℕ → LockFault → Type 0
+Prevents old event limit count (Step fault) = (fault ≢ OfStep.Memory) × CanComeOf old event fault
+Prevents old event limit count JournalFull = CanStep old event × IsFullFor limit count old.steps
+Prevents old event limit count Memory = Unit {0}
+Prevents old event limit count fault = ⊥

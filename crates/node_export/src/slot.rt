@@ -1,0 +1,109 @@
+//! A hosted node as a value that crosses to C: a pointer that Rust and C hold and never look into.
+
+ghost use Rattle.std.specs.Prelude.{◌≡◌, Option, Some, None, IsSome, MatchOption, is_some};
+ghost use Rattle.node_hosted.specs.Hosting.{HostedParts};
+ghost use Rattle.node_export.specs.Held.{held_owns};
+
+use crate::parts::Parts;
+use node_hosted::HostedNode;
+use std::alloc::Global;
+use std::marker::Model;
+use std::mem::replace;
+use std::ptr::null_mut;
+
+/// A node on the heap, or nothing. It may be dropped only if it owns nothing.
+#[repr(C)]
+#[derive(Drop)]
+pub struct Handle {
+    ptr: *mut u8,
+    alloc: Global,
+    pub ghost held: { Option HostedParts },
+}
+
+impl Model for Handle {
+    ghost also_owns = { λ h. held_owns h.alloc h.ptr h.held };
+}
+
+impl Handle {
+    fn empty(alloc: Global) -> Handle
+        ensures { result.held ≡ None }
+    {
+        Handle {
+            ptr: null_mut(),
+            alloc,
+        }
+    }
+
+    fn of_parts(parts: Parts<HostedNode, Global>) -> Handle
+        ensures { result.held ≡ Some parts.value }
+    {
+        let Parts { ptr, alloc } = parts;
+        Handle {
+            ptr: ptr as *mut u8,
+            alloc,
+        }
+    }
+
+    fn into_parts(self) -> Parts<HostedNode, Global>
+        requires { IsSome self.held }
+        ensures { Some result.value ≡ self.held }
+    {
+        let Handle { ptr, alloc } = self;
+        Parts {
+            ptr: ptr as *mut HostedNode,
+            alloc,
+        }
+    }
+}
+
+/// A place for one node, which the host keeps and never looks into. It begins as zeros: `full` is
+/// false.
+#[repr(C)]
+pub struct Slot {
+    full: bool,
+    pub handle: Handle,
+    ghost fits: { full ≡ is_some handle.held },
+}
+
+impl Slot {
+    /// Takes the node out, if there is one.
+    pub fn take(&mut self, alloc: Global) -> Option<Box<HostedNode>>
+        ensures taken { MatchOption result (self.old.handle.held ≡ None)
+            (λ b. self.old.handle.held ≡ Some b.value) }
+        ensures left { self.new.handle.held ≡ None }
+    {
+        let blank = Slot {
+            full: false,
+            handle: Handle::empty(alloc),
+        };
+        replace(self, blank).into_box()
+    }
+
+    fn into_box(self) -> Option<Box<HostedNode>>
+        ensures { MatchOption result (self.handle.held ≡ None)
+            (λ b. self.handle.held ≡ Some b.value) }
+    {
+        let Slot { full, handle } = self;
+        if full {
+            Some(handle.into_parts().into_box())
+        } else {
+            None
+        }
+    }
+
+    /// Puts a node in, and frees the one that was there.
+    pub fn put(&mut self, node: Box<HostedNode>)
+        ensures { self.new.handle.held ≡ Some node.value }
+    {
+        *self = Slot {
+            full: true,
+            handle: Handle::of_parts(Parts::of(node)),
+        };
+    }
+}
+
+impl Drop for Slot {
+    fn drop(self) {
+        drop(self.into_box());
+    }
+}

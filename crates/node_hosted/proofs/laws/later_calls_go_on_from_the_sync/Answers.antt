@@ -1,0 +1,5 @@
+use Rattle.node_hosted.proofs.Histories.{goes_on}
+use Rattle.node_hosted.proofs.laws.later_calls_go_on_from_the_sync.Goals as goal
+
+pub returns : goal.returns
+returns c = λ failures file crash n later left. goes_on failures file crash n.gate n.to_store later left

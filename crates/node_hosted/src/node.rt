@@ -1,0 +1,132 @@
+//! A hosted node, and how it begins.
+
+ghost use Rattle.std.specs.Prelude.{◌≡◌, ◌⊎◌, ◌≤◌, [], None, Some, IfOk, IfErr};
+ghost use Rattle.node_core.specs.Node.{opening};
+ghost use Rattle.node_file.specs.Refusal.{refusal_of_serve};
+ghost use Rattle.node_file.specs.declared.fault.FileFault.TheVariants as OfFile;
+ghost use Rattle.node_hosted.specs.Hosting.{FitsInFile, Serves, beginning, bytes_of};
+
+use meta_store::Context;
+use meta_types::{ByteString, NodeId};
+use node_core::NodeState;
+use node_events::Reply;
+use node_file::{FileFault, Served, serve_bytes};
+use std::alloc::{AllocError, Global};
+use std::marker::Model;
+
+/// A node in one of its lives, with what it still has to hand out.
+///
+/// The host keeps its file, if there is one, as `node_file` says: `record` is what he has to store,
+/// and until he says that he did, neither the reply nor a frame is handed out.
+#[derive(Drop)]
+pub struct HostedNode {
+    pub(crate) alloc: Global,
+    pub(crate) state: NodeState,
+    /// The offset of the closed gate of the host's file.
+    pub(crate) gate: Option<usize>,
+    pub(crate) to_store: Option<Vec<u8>>,
+    pub(crate) reply: Option<Reply>,
+    pub(crate) outbox: Vec<ByteString>,
+    /// How many frames of the outbox the host has sent.
+    pub(crate) sent: usize,
+    pub(crate) contexts: Vec<Option<Context>>,
+    pub(crate) is_stopped: bool,
+}
+
+impl Model for HostedNode {
+    ghost use Rattle.node_hosted.specs.Hosting.{FitsInFile, HostedParts, bytes_of};
+
+    ghost Value = { HostedParts };
+
+    ghost view = { λ n. record {
+      state = n.state;
+      gate = n.gate;
+      to_store = bytes_of n.to_store;
+      reply = n.reply;
+      outbox = n.outbox.items;
+      sent = n.sent;
+      contexts = n.contexts.items;
+      stopped = n.is_stopped;
+    } };
+
+    ghost invariant = { λ n. FitsInFile n.gate (bytes_of n.to_store) };
+}
+
+impl HostedNode {
+    /// Makes a node without a file that holds nothing and knows nobody, in the life of this number.
+    /// Fails only when memory runs out.
+    pub fn new(alloc: Global, node: NodeId, life: u32) -> Result<HostedNode, AllocError>
+        requires { 1 ≤ life }
+        ensures { IfOk result (λ n. n ≡ beginning (opening node life []) None None) }
+    {
+        let state = NodeState::new(alloc, node, life)?;
+        Ok(HostedNode::of_state(alloc, state, None, None))
+    }
+
+    /// Serves a node from the bytes of its file, in its next life. The host stores the record of
+    /// the life first: it is the first `record`.
+    ///
+    /// The bytes must be those that the disk holds. After a failed sync the operating system may
+    /// hold others: the host writes what he read to a new file, syncs it, and renames it over the
+    /// old one.
+    ///
+    /// Refused as `node_file::serve_bytes` is: 31 `Damaged`, 32 `OtherNode`, 25 `StoreFull`, 36
+    /// `OldVersion`, 35 `IncarnationSpent`, 33 `FileFull`, or 99 `Memory`. It takes memory for the
+    /// table.
+    pub fn serve(
+        alloc: Global,
+        bytes: &[u8],
+        asked: Option<NodeId>,
+    ) -> Result<HostedNode, FileFault>
+        ensures serves { IfOk result (Serves asked bytes.now) }
+        ensures refused { IfErr result (λ fault. (fault ≡ OfFile.Memory)
+            ⊎ (refusal_of_serve asked bytes.now ≡ Some fault)) }
+    {
+        let Served {
+            node,
+            table,
+            life,
+            gate,
+            record,
+        } = serve_bytes(alloc, bytes, asked)?;
+        let state = NodeState::from_store(alloc, node, life, table)?;
+        Ok(HostedNode::of_state(alloc, state, Some(gate), Some(record)))
+    }
+
+    /// Makes a node with nothing to hand out but this record.
+    fn of_state(
+        alloc: Global,
+        state: NodeState,
+        gate: Option<usize>,
+        to_store: Option<Vec<u8>>,
+    ) -> HostedNode
+        requires fits { FitsInFile gate (bytes_of to_store) }
+        ensures { result ≡ beginning state gate (bytes_of to_store) }
+    {
+        HostedNode {
+            alloc,
+            state,
+            gate,
+            to_store,
+            reply: None,
+            outbox: Vec::new(alloc),
+            sent: 0,
+            contexts: Vec::new(alloc),
+            is_stopped: false,
+        }
+    }
+
+    /// Returns the node as it is now. What it holds may not be stored yet.
+    pub fn state(&self) -> &NodeState
+        ensures { result.now ≡ self.now.state }
+    {
+        &self.state
+    }
+
+    /// Returns whether the host failed to store a record, or a step could not be handed out.
+    pub fn is_stopped(&self) -> bool
+        ensures { result ≡ self.now.stopped }
+    {
+        self.is_stopped
+    }
+}

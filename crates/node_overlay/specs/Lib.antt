@@ -1,0 +1,7 @@
+-- What must be believed of whom a node talks to, in the order in which to read it.
+-- whom it talks to, and what always holds of that
+pub mod Overlay
+-- the frames of its messages
+pub mod Outbox
+-- which call of the broadcast a change makes, and what it gives out
+pub mod Origin

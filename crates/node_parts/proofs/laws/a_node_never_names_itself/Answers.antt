@@ -1,5 +1,0 @@
-use Rattle.node_parts.proofs.Naming.{names_others_on}
-use Rattle.node_parts.proofs.laws.a_node_never_names_itself.Goals as goal
-
-pub returns : goal.returns
-returns c = names_others_on

@@ -1,5 +1,0 @@
-use Rattle.node_parts.proofs.Peering.{stay_peers}
-use Rattle.node_parts.proofs.laws.peers_are_the_active_view.Goals as goal
-
-pub returns : goal.returns
-returns c = stay_peers

@@ -1,7 +1,0 @@
-use Rattle.std.proofs.Common.{◌≡◌, ◌++◌, map}
-use Rattle.node_parts.specs.Origin.{envelope_with}
-use Rattle.node_parts.proofs.messages.gossips.Given as goal
-
-abbrev pub invariant-loop-out : goal.invariant-loop-out
-invariant-loop-out l =
-    l.sent.items ++ map (envelope_with l.object) l.out-iterator.rest.items ≡ map (envelope_with l.object) l.fn.outs.items

@@ -1,6 +1,0 @@
-use Rattle.node_parts.proofs.Naming.{told_on}
-use Rattle.node_parts.proofs.overlay.Overlay.on_bare_graft.Goals as goal
-
-pub invariant_of-self-2 : goal.invariant_of-self-2
-invariant_of-self-2 c =
-    told_on c.self.view_is c.self.invariant c.in_ok-on_graft.ensures.row tt c.requires

@@ -1,7 +1,0 @@
-use Rattle.node_parts.proofs.Naming.{announced, told_on}
-use Rattle.node_parts.proofs.overlay.Overlay.on_ihave.Goals as goal
-
-pub invariant_of-self-2 : goal.invariant_of-self-2
-invariant_of-self-2 c =
-    let may = announced c.args.key.now c.args.vector.now c.requires.another c.ranges.round.fits c.key.ensures.in_range c.requires.spelled in
-    told_on c.self.view_is c.self.invariant c.in_ok-on_ihave.ensures.row tt may

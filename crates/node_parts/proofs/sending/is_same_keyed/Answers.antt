@@ -1,6 +1,0 @@
-use Rattle.node_parts.proofs.Respelling.{same_key}
-use Rattle.node_parts.proofs.sending.is_same_keyed.Goals as goal
-
-pub returns-then-round-other_round-clause-key : goal.returns-then-round-other_round-clause-key
-returns-then-round-other_round-clause-key c =
-    same_key c.eq.result c.args.key.now c.args.other_key.now c.eq.ensures

@@ -1,9 +1,0 @@
-use Rattle.std.proofs.Common.{◌≡◌, ◌≤◌, ◌+◌, drop}
-use Rattle.node_parts.specs.Watches.{hearing_count}
-use Rattle.node_parts.proofs.watches.hearing_count.Given as goal
-
-abbrev pub invariant-loop-watch : goal.invariant-loop-watch
-invariant-loop-watch l = record {
-  few : l.count ≤ l.watch-index;
-  counted : l.count + hearing_count l.key (drop l.watch-index l.watches) ≡ hearing_count l.key l.watches;
-}

@@ -1,5 +1,0 @@
-use Rattle.run_order.proofs.Stuckness.{stuck_has_none}
-use Rattle.run_order.proofs.laws.a_stuck_run_has_no_order.Goals as goal
-
-pub returns : goal.returns
-returns c = stuck_has_none

@@ -1,6 +1,0 @@
-use Rattle.std.proofs.Common.{rules}
-use Rattle.run_order.proofs.Ending.{zeros_more}
-use Rattle.run_order.proofs.walk.first_places.Goals as goal
-
-pub loop-node-preserved : goal.loop-node-preserved
-loop-node-preserved c = search (rules, zeros_more)

@@ -1,2 +1,0 @@
--- words that are near, and verbs one after the other
-pub mod Words

@@ -1,2 +1,0 @@
--- what is printed about a line that breaks a rule
-pub mod Hint
