@@ -1,6 +1,6 @@
 //! What tests look at in a run, and the devices and plans that it is made on.
 
-ghost use Rattle.std.specs.Prelude.{All};
+ghost use Rattle.std.specs.Prelude.{All, ◌≡◌};
 ghost use Rattle.devices.specs.Device.{IsDurable};
 
 use cluster::{ClusterFault, ClusterPlan, ClusterRun};
@@ -12,7 +12,9 @@ use std::alloc::Global;
 use std::process::Abort;
 
 /// Returns a plan of `nodes` nodes, each with `turns` turns.
-pub(crate) fn plan(nodes: u64, turns: u64, seed: u64) -> ClusterPlan {
+pub(crate) fn plan(nodes: u64, turns: u64, seed: u64) -> ClusterPlan
+    ensures { result.nodes ≡ nodes }
+{
     ClusterPlan { nodes, turns, seed }
 }
 
