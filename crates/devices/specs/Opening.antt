@@ -3,7 +3,7 @@ use Rattle.std.specs.Prelude.{Result, Ok, Err}
 use Rattle.std.specs.IoError.{error_kind}
 use Rattle.std.specs.declared.io.Error.{Error}
 use Rattle.std.specs.declared.io.ErrorKind.{ErrorKind}
-use Rattle.std.specs.declared.io.ErrorKind.TheVariants.{OutOfMemory, NotFound, AlreadyExists}
+use Rattle.std.specs.declared.io.ErrorKind.TheVariants.{OutOfMemory, NotFound, NotADirectory, AlreadyExists}
 use Rattle.devices.specs.declared.opening.OpenFault.{OpenFault}
 use Rattle.devices.specs.declared.opening.OpenFault.TheVariants.{Memory, Missing, Exists, Failed}
 
@@ -11,6 +11,7 @@ use Rattle.devices.specs.declared.opening.OpenFault.TheVariants.{Memory, Missing
 abbrev pub fault_of_kind : ErrorKind → OpenFault
 fault_of_kind OutOfMemory = Memory
 fault_of_kind NotFound = Missing
+fault_of_kind NotADirectory = Missing
 fault_of_kind AlreadyExists = Exists
 fault_of_kind kind = Failed
 

@@ -115,6 +115,7 @@ impl Device for FileDevice {
         ensures first { TellsFirst FailedCall.Read result self.old self.new }
         ensures ended { CallsNoMore result self.old self.new }
         ensures reads { IsOk result ↔ (IsNone (first_failed self.old) × HasCopy self.old) }
+        ensures no_call { self.new.raw.noted.calls ≡ self.old.raw.noted.calls }
         ensures copy { HasCopy self.new ↔ HasCopy self.old }
     {
         if self.failures.first().is_none() {
@@ -143,6 +144,7 @@ impl Device for FileDevice {
         ensures first { TellsFirst FailedCall.Write result self.old self.new }
         ensures ended { CallsNoMore result self.old self.new }
         ensures copy { OnOk result (HasCopy self.new ↔ HasCopy self.old) }
+        ensures copy_kept { IsErrOf result Memory → HasCopy self.new ↔ HasCopy self.old }
     {
         let Some(end) = at.checked_add(bytes.len()) else {
             return Err(self.failures.add(FailedCall::Write));

@@ -122,7 +122,8 @@ impl NewName {
 
     /// Syncs the file that was made for the name, gives it the name, and syncs the folder. Refused
     /// with `Exists` if something has the name by now, `Missing` if the folder has another name,
-    /// `Failed` or `Memory`; the new file is removed then.
+    /// `Failed` or `Memory`. The new file is removed then, unless it has replaced another and the
+    /// folder couldn't be synced: it has the name, which a crash may take back.
     pub fn put(self, rt: &HostRuntime, device: FileDevice) -> Result<FileDevice, OpenFault>
         ensures same { IfOk result (λ d. ⟦<FileDevice as Device>⟧.content d
             ≡ ⟦<FileDevice as Device>⟧.content device) }

@@ -49,7 +49,7 @@ impl From<io::Error> for OpenFault {
     fn from(error: io::Error) -> Self {
         match error.kind() {
             ErrorKind::OutOfMemory => OpenFault::Memory,
-            ErrorKind::NotFound => OpenFault::Missing,
+            ErrorKind::NotFound | ErrorKind::NotADirectory => OpenFault::Missing,
             ErrorKind::AlreadyExists => OpenFault::Exists,
             _ => OpenFault::Failed,
         }

@@ -49,6 +49,16 @@ fn what_is_no_file_is_not_opened(rt: HostRuntime) {
 }
 
 #[test]
+fn a_file_is_no_folder(rt: HostRuntime) {
+    let file = "a_file_in_the_way";
+    let _ = fs::remove_file(&rt, file);
+    assert!(rt; making_refusal(&rt, file).is_none());
+    assert!(rt; refusal(&rt, "a_file_in_the_way/below") == Some(OpenFault::Missing));
+    assert!(rt; making_refusal(&rt, "a_file_in_the_way/below") == Some(OpenFault::Missing));
+    let _ = fs::remove_file(&rt, file);
+}
+
+#[test]
 fn a_path_is_held_by_one_and_read_by_all(rt: HostRuntime) {
     let path = "a_held_file";
     let _ = fs::remove_file(&rt, path);
