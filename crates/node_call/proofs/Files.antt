@@ -22,8 +22,8 @@ use Rattle.node_file.specs.Fault.{IsOfDevice}
 use Rattle.node_file.specs.File.{FileState, OpensLike, opened}
 use Rattle.node_file.specs.Refusal.{has_spelling, is_too_long_with, refusal_of_append}
 use Rattle.node_file.specs.View.{FileView}
-use Rattle.node_file.specs.Stored.{RefusesStoring, object_record, record_under, with_stored}
-use Rattle.node_call.specs.Stored.{record_after}
+use Rattle.node_file.specs.Stored.{object_record, record_under, with_stored}
+use Rattle.node_call.specs.Stored.{RefusesStoring, record_after}
 
 kept_under : (key : Key) (held : Table) (found : Option (List Entry)) → find key_cmp key held ≡ found
     → (file : FileState) → KeepsKeys file.contents.table held

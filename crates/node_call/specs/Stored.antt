@@ -1,17 +1,21 @@
--- What an event stores in a node's file.
-use Rattle.std.specs.Prelude.{◌≡◌, ◌⊎◌, ℕ, List, Option, true}
+-- What an event stores in a node's file, what the file is afterwards, and why it isn't stored.
+use Rattle.std.specs.Prelude.{◌≡◌, ◌≢◌, ◌⊎◌, ℕ, List, Option, None, false, true}
 use Rattle.std.specs.FinMap.{is_sorted}
 use Rattle.meta_types.specs.Order.{key_cmp}
 use Rattle.meta_store.specs.Table.{Table}
+use Rattle.devices.specs.Device.{HasFailed}
 use Rattle.node_events.specs.Event.{stored_key}
 use Rattle.node_events.specs.declared.event.NodeEvent.{NodeEvent}
 use Rattle.node_core.specs.declared.state.Stepped.{Stepped}
 use Rattle.node_core.specs.Growing.{KeepsKeys}
 use Rattle.node_core.specs.Node.{NodeParts}
 use Rattle.node_core.specs.Step.{IsNodeStep}
+use Rattle.node_file.specs.declared.fault.FileFault.{FileFault}
+use Rattle.node_file.specs.declared.fault.FileFault.TheVariants.{FileFull, Device, Memory}
 use Rattle.node_file.specs.declared.record.Record.{Record}
-use Rattle.node_file.specs.File.{OpensLike}
-use Rattle.node_file.specs.Stored.{LeavesRecord, record_under}
+use Rattle.node_file.specs.File.{OpensLike, file_state}
+use Rattle.node_file.specs.Stored.{IsTooLong, LeavesRecord, record_under, with_stored}
+use Rattle.node_file.specs.View.{FileView, IsSettled}
 
 -- the record that an event stores, after which this is held: the object that is held under its key,
 -- if it stores one and something is held there
@@ -22,6 +26,27 @@ record_after event held = record_under (stored_key event) held
 pub record IsStoredOf (held stored : Table) : Type 0 where
   pub rising : is_sorted key_cmp stored ≡ true
   pub keys : KeepsKeys stored held
+
+-- ---- the file afterwards
+
+-- the file has the record, if there is one, besides all that it had, and every crash leaves that
+pub record HasStored {D : Type 0} (content : D → List ℕ) (may_leave : D → List ℕ → Type 0)
+    (stored : Option Record) (old new : FileView D) : Type 0 where
+  pub tells : file_state (content new.device)
+      ≡ with_stored stored (file_state (content old.device))
+  pub settled : IsSettled content may_leave new
+
+-- unless the file is stopped, it holds what it held, and every crash leaves that
+abbrev pub IsStillWhole : {D : Type 0} → (D → List ℕ) → (D → List ℕ → Type 0)
+    → FileView D → FileView D → Type 0
+IsStillWhole content may_leave old new = new.is_stopped ≡ false
+    → (content new.device ≡ content old.device) × IsSettled content may_leave new
+
+-- it is the file of the same node in the same life
+pub record IsOfSameLife {D : Type 0} (old new : FileView D) : Type 0 where
+  pub node : new.node ≡ old.node
+  pub life : new.life ≡ old.life
+  pub served : new.is_served ≡ old.is_served
 
 -- ---- what a crash leaves on the way
 
@@ -35,3 +60,16 @@ pub record LeavesStep (old : NodeParts) (event : NodeEvent) (content bytes : Lis
 abbrev pub LeavesOfEvent : NodeParts → NodeEvent → List ℕ → List ℕ → Type 0
 LeavesOfEvent old event content bytes =
     OpensLike content bytes ⊎ LeavesStep old event content bytes
+
+-- ---- why it isn't stored
+
+-- something was to be stored, and a file of this closed gate is full; or its device, whose count of
+-- failures was `before` and is `now`, failed, which stops the file; or memory ran out
+abbrev pub RefusesStoring : {D : Type 0} → ℕ → Option Record → ℕ → ℕ → FileView D → FileFault
+    → Type 0
+RefusesStoring gate stored before now new FileFull =
+    IsTooLong gate stored × (new.is_stopped ≡ false)
+RefusesStoring gate stored before now new Device =
+    (stored ≢ None) × (HasFailed before now × (new.is_stopped ≡ true))
+RefusesStoring gate stored before now new Memory = stored ≢ None
+RefusesStoring gate stored before now new fault = ⊥

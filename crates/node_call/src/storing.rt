@@ -7,8 +7,8 @@ ghost use Rattle.devices.specs.Device.{HasFailed, LeavesOnly};
 ghost use Rattle.node_events.specs.Event.{stored_key};
 ghost use Rattle.node_file.specs.File.{file_state};
 ghost use Rattle.node_file.specs.View.{IsSettled};
-ghost use Rattle.node_file.specs.Stored.{HasStored, IsOfSameLife, IsStillWhole, LeavesRecord, RefusesStoring, record_under};
-ghost use Rattle.node_call.specs.Stored.{IsStoredOf, record_after};
+ghost use Rattle.node_file.specs.Stored.{LeavesRecord, record_under};
+ghost use Rattle.node_call.specs.Stored.{HasStored, IsOfSameLife, IsStillWhole, IsStoredOf, RefusesStoring, record_after};
 
 use devices::Device;
 use meta_store::Store;

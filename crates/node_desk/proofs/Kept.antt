@@ -33,8 +33,8 @@ use Rattle.node_call.specs.declared.fault.LockFault.TheVariants.{Step, FileFull,
 use Rattle.node_call.specs.Fault.{of_append}
 use Rattle.node_call.specs.Journaled.{IsJournaled, IsPublishedBy, TellsOfEntry}
 use Rattle.node_call.specs.Ready.{IsFullFor, IsKnownStep, Prevents, listed}
-use Rattle.node_file.specs.Stored.{LeavesRecord, RefusesStoring, object_record, record_under, with_stored}
-use Rattle.node_call.specs.Stored.{IsStoredOf, LeavesOfEvent, record_after}
+use Rattle.node_file.specs.Stored.{LeavesRecord, object_record, record_under, with_stored}
+use Rattle.node_call.specs.Stored.{IsStoredOf, LeavesOfEvent, RefusesStoring, record_after}
 use Rattle.node_call.proofs.Files.{within_stored}
 use Rattle.node_call.proofs.Listing.{ends_on, list_on}
 use Rattle.node_call.proofs.Runs.{journaled_on, run_of}

@@ -6,8 +6,7 @@ ghost use Rattle.node_core.specs.Step.{IsNodeStep};
 ghost use Rattle.node_journal.specs.Entry.{stepped_of};
 ghost use Rattle.node_desk.specs.Acting.{IsFull, ListsChange, Refuses};
 ghost use Rattle.node_desk.specs.Desk.{BeganWith, IsReceiptOf, KeepsAll, KeepsSeats};
-ghost use Rattle.node_file.specs.Stored.{HasStored, IsStillWhole};
-ghost use Rattle.node_call.specs.Stored.{LeavesOfEvent, record_after};
+ghost use Rattle.node_call.specs.Stored.{HasStored, IsStillWhole, LeavesOfEvent, record_after};
 ghost use Rattle.node_call.specs.declared.fault.LockFault.TheVariants.{Memory, Stopped};
 
 use crate::desk::Desk;

@@ -3,12 +3,12 @@
 ghost use Rattle.std.specs.Prelude.{◌≡◌, ◌++◌, true, false, IfErr, IfSome, OnOk, OnErr};
 ghost use Rattle.devices.specs.Device.{LeavesOnly};
 ghost use Rattle.node_file.specs.File.{file_state};
-ghost use Rattle.node_file.specs.Stored.{HasStored, IsOfSameLife, IsStillWhole, LeavesRecord};
+ghost use Rattle.node_file.specs.Stored.{LeavesRecord};
 ghost use Rattle.node_readers.specs.Published.{with_all};
 ghost use Rattle.node_readers.specs.Growth.{GrowsBy};
 ghost use Rattle.node_call.specs.Fault.{of_append};
 ghost use Rattle.node_call.specs.Ready.{listed};
-ghost use Rattle.node_call.specs.Stored.{IsStoredOf, record_after};
+ghost use Rattle.node_call.specs.Stored.{HasStored, IsOfSameLife, IsStillWhole, IsStoredOf, record_after};
 ghost use Rattle.node_desk.specs.Acting.{RefusesKeeping};
 
 use devices::Device;

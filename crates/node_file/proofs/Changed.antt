@@ -53,21 +53,22 @@ or_true : (a : Bool) → (a || true) ≡ true
 or_true true = refl
 or_true false = refl
 
-shows_by_rest : (gate : ℕ) (rest : List Record) → (gate ≡ 0 → rest ≢ []) → (not (gate == 0) || goes_on 2 (behind_gates rest)) ≡ true
+shows_by_rest : (gate : ℕ) (rest : List Record) (tail : List ℕ) → (gate ≡ 0 → rest ≢ []) → (not (gate == 0) || goes_on 2 (behind_gates rest ++ tail)) ≡ true
 unfolding behind_gates
-shows_by_rest gate [] hides = ap (λ (t : Bool). not t || goes_on 2 (0 ∷ [])) (unequal gate 0 (λ is. hides is refl))
-shows_by_rest gate (record_ ∷ rest) hides = or_true (not (gate == 0))
+shows_by_rest gate [] tail hides = ap (λ (t : Bool). not t || goes_on 2 (0 ∷ tail)) (unequal gate 0 (λ is. hides is refl))
+shows_by_rest gate (record_ ∷ rest) tail hides = or_true (not (gate == 0))
 
-shows_lost : (gate : ℕ) (hidden : Record) (rest : List Record) → IsRecord hidden → gate ≢ 1 → (gate ≡ 0 → rest ≢ []) → shows_changed_gate 2 (gate ∷ (record_bytes (payload hidden) ++ behind_gates rest)) ≡ true
+shows_lost : (gate : ℕ) (hidden : Record) (rest : List Record) (tail : List ℕ) → IsRecord hidden → gate ≢ 1 → (gate ≡ 0 → rest ≢ []) → shows_changed_gate 2 (gate ∷ (record_bytes (payload hidden) ++ (behind_gates rest ++ tail))) ≡ true
 unfolding shows_changed_gate
-shows_lost gate hidden rest lawful shut hides =
+shows_lost gate hidden rest tail lawful shut hides =
     let m = payload hidden in
-    let b = record_bytes m ++ behind_gates rest in
-    let read : size_in 2 b ≡ Some (36 + length m) = ap size_read (read_again hidden (behind_gates rest) lawful) in
+    let behind = behind_gates rest ++ tail in
+    let b = record_bytes m ++ behind in
+    let read : size_in 2 b ≡ Some (36 + length m) = ap size_read (read_again hidden behind lawful) in
     ap (λ (t : Bool). not t && shows_behind 2 gate b (size_in 2 b)) (unequal gate 1 shut)
     ∙ ap (shows_behind 2 gate b) read
-    ∙ ap (λ (l : List ℕ). not (gate == 0) || goes_on 2 l) (drop_at (record_bytes m) (behind_gates rest) (36 + length m) (length-record m))
-    ∙ shows_by_rest gate rest hides
+    ∙ ap (λ (l : List ℕ). not (gate == 0) || goes_on 2 l) (drop_at (record_bytes m) behind (36 + length m) (length-record m))
+    ∙ shows_by_rest gate rest tail hides
 
 -- ---- in a whole file
 
@@ -83,17 +84,18 @@ front_size node before =
     let two : length (to_be_bytes w16 node) ≡ 2 = refl in
     omega (arith, length-append magic (to_be_bytes w16 node ++ open_records before), length-append (to_be_bytes w16 node) (open_records before), eight, two)
 
-told_of : (node gate : ℕ) (before : List Record) (hidden : Record) (rest : List Record) → node < 16 → All IsRecord before → IsRecord hidden → gate ≢ 1 → (gate ≡ 0 → rest ≢ [])
-    → changed_gate (magic ++ (to_be_bytes w16 node ++ (open_records before ++ gate ∷ (record_bytes (payload hidden) ++ behind_gates rest)))) ≡ Some (10 + length (open_records before))
+told_of : (node gate : ℕ) (before : List Record) (hidden : Record) (rest : List Record) (tail : List ℕ) → node < 16 → All IsRecord before → IsRecord hidden → gate ≢ 1 → (gate ≡ 0 → rest ≢ [])
+    → changed_gate (magic ++ (to_be_bytes w16 node ++ (open_records before ++ gate ∷ (record_bytes (payload hidden) ++ (behind_gates rest ++ tail))))) ≡ Some (10 + length (open_records before))
 unfolding changed_gate end_of_records
-told_of node gate before hidden rest lt lawful is shut hides =
-    let lost = gate ∷ (record_bytes (payload hidden) ++ behind_gates rest) in
+told_of node gate before hidden rest tail lt lawful is shut hides =
+    let behind = record_bytes (payload hidden) ++ (behind_gates rest ++ tail) in
+    let lost = gate ∷ behind in
     let place = 10 + length (open_records before) in
     let file = magic ++ (to_be_bytes w16 node ++ (open_records before ++ lost)) in
     ap (λ r. changed_at file r (end_of_records file)) (front_read node (open_records before ++ lost) lt)
-    ∙ ap (changed_at file (Ok (2, node))) (walks before 10 gate (record_bytes (payload hidden) ++ behind_gates rest) lawful shut)
+    ∙ ap (changed_at file (Ok (2, node))) (walks before 10 gate behind lawful shut)
     ∙ ap (λ (l : List ℕ). cond (shows_changed_gate 2 l) (Some place) None) (drop_at (magic ++ (to_be_bytes w16 node ++ open_records before)) lost place (front_size node before))
-    ∙ ap (λ (t : Bool). cond t (Some place) None) (shows_lost gate hidden rest is shut hides)
+    ∙ ap (λ (t : Bool). cond t (Some place) None) (shows_lost gate hidden rest tail is shut hides)
 
 place_is : (node : ℕ) (before : List Record) → length (file_of node before) - 1 ≡ 10 + length (open_records before)
 unfolding file_of behind_gates
@@ -101,20 +103,32 @@ place_is node before =
     let closed : behind_gates before ≡ open_records before ++ 0 ∷ [] = ap behind_gates (sym (append-nil before)) ∙ behind_both before [] in
     omega (arith, ap length closed, length-append (open_records before) (0 ∷ []))
 
-changed_so : (node byte : ℕ) (before : List Record) (hidden : Record) (rest : List Record)
-    → set (file_of node (before ++ hidden ∷ rest)) (10 + length (open_records before)) byte ≡ magic ++ (to_be_bytes w16 node ++ (open_records before ++ byte ∷ (record_bytes (payload hidden) ++ behind_gates rest)))
+with_tail : (node : ℕ) (before : List Record) (hidden : Record) (rest : List Record) (tail : List ℕ)
+    → file_of node (before ++ hidden ∷ rest) ++ tail ≡ magic ++ (to_be_bytes w16 node ++ (open_records before ++ 1 ∷ (record_bytes (payload hidden) ++ (behind_gates rest ++ tail))))
 unfolding file_of behind_gates
-changed_so node byte before hidden rest =
-    let behind = record_bytes (payload hidden) ++ behind_gates rest in
+with_tail node before hidden rest tail =
+    let two = to_be_bytes w16 node in
+    let all = behind_gates (before ++ hidden ∷ rest) in
+    let first = record_bytes (payload hidden) in
+    append_assoc magic (two ++ all) tail
+    ∙ ap (λ (l : List ℕ). magic ++ l) (append_assoc two all tail)
+    ∙ ap (λ (l : List ℕ). magic ++ (two ++ (l ++ tail))) (behind_both before (hidden ∷ rest))
+    ∙ ap (λ (l : List ℕ). magic ++ (two ++ l)) (append_assoc (open_records before) (1 ∷ (first ++ behind_gates rest)) tail)
+    ∙ ap (λ (l : List ℕ). magic ++ (two ++ (open_records before ++ 1 ∷ l))) (append_assoc first (behind_gates rest) tail)
+
+changed_so : (node byte : ℕ) (before : List Record) (hidden : Record) (rest : List Record) (tail : List ℕ)
+    → set (file_of node (before ++ hidden ∷ rest) ++ tail) (10 + length (open_records before)) byte ≡ magic ++ (to_be_bytes w16 node ++ (open_records before ++ byte ∷ (record_bytes (payload hidden) ++ (behind_gates rest ++ tail))))
+changed_so node byte before hidden rest tail =
+    let behind = record_bytes (payload hidden) ++ (behind_gates rest ++ tail) in
     let front = magic ++ (to_be_bytes w16 node ++ open_records before) in
-    ap (λ (l : List ℕ). set (magic ++ (to_be_bytes w16 node ++ l)) (10 + length (open_records before)) byte) (behind_both before (hidden ∷ rest))
+    ap (λ (l : List ℕ). set l (10 + length (open_records before)) byte) (with_tail node before hidden rest tail)
     ∙ ap (λ (n : ℕ). set (magic ++ (to_be_bytes w16 node ++ (open_records before ++ 1 ∷ behind))) n byte) (sym (front_size node before))
     ∙ set-append_seam front 1 behind byte
 
-pub told : (node byte : ℕ) (before : List Record) (hidden : Record) (rest : List Record) → node < 16 → All IsRecord before → IsRecord hidden → byte ≢ 1 → (byte ≡ 0 → rest ≢ [])
-    → changed_gate (set (file_of node (before ++ hidden ∷ rest)) (length (file_of node before) - 1) byte) ≡ Some (length (file_of node before) - 1)
-told node byte before hidden rest lt lawful is shut hides =
-    ap (λ (n : ℕ). changed_gate (set (file_of node (before ++ hidden ∷ rest)) n byte)) (place_is node before)
-    ∙ ap changed_gate (changed_so node byte before hidden rest)
-    ∙ told_of node byte before hidden rest lt lawful is shut hides
+pub told : (node byte : ℕ) (before : List Record) (hidden : Record) (rest : List Record) (tail : List ℕ) → node < 16 → All IsRecord before → IsRecord hidden → byte ≢ 1 → (byte ≡ 0 → rest ≢ [])
+    → changed_gate (set (file_of node (before ++ hidden ∷ rest) ++ tail) (length (file_of node before) - 1) byte) ≡ Some (length (file_of node before) - 1)
+told node byte before hidden rest tail lt lawful is shut hides =
+    ap (λ (n : ℕ). changed_gate (set (file_of node (before ++ hidden ∷ rest) ++ tail) n byte)) (place_is node before)
+    ∙ ap changed_gate (changed_so node byte before hidden rest tail)
+    ∙ told_of node byte before hidden rest tail lt lawful is shut hides
     ∙ ap (λ (n : ℕ). Some n) (sym (place_is node before))

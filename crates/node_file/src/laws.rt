@@ -57,13 +57,16 @@ pub fn a_changed_gate_is_seen_close_behind_it()
 
 /// If the open gate in front of a record of a file is changed to another byte, so that this record
 /// and those behind it are hidden, [`changed_gate`](crate::changed_gate) tells its offset. The one
-/// exception is a change to 0 in front of the last record, since a crash leaves the same.
+/// exception is a change to 0 in front of the last record, since a crash leaves the same. Bytes
+/// behind the last gate make no difference.
 pub fn a_changed_gate_is_told()
     ensures { (node byte : ℕ) (before : List Record) (hidden : Record) (behind : List Record)
+        (rest : List ℕ)
         → node < 16 → All IsRecord before → IsRecord hidden
         → byte ≢ 1 → (byte ≡ 0 → behind ≢ [])
         → let gate = length (file_of node before) - 1 in
-        changed_gate (set (file_of node (before ++ hidden ∷ behind)) gate byte) ≡ Some gate }
+        changed_gate (set (file_of node (before ++ hidden ∷ behind) ++ rest) gate byte)
+        ≡ Some gate }
 {}
 
 /// A record that was written is read again from the front of its bytes, whatever follows them.

@@ -5,8 +5,8 @@ use Rattle.node_readers.specs.Published.{Published}
 use Rattle.node_file.specs.File.{file_state}
 use Rattle.node_call.specs.Journaled.{TellsOfEntry}
 use Rattle.node_call.specs.Ready.{listed}
-use Rattle.node_file.specs.Stored.{HasStored, LeavesRecord}
-use Rattle.node_call.specs.Stored.{IsStoredOf, record_after}
+use Rattle.node_file.specs.Stored.{LeavesRecord}
+use Rattle.node_call.specs.Stored.{HasStored, IsStoredOf, record_after}
 use Rattle.node_call.proofs.Listing.{grows_by}
 use Rattle.node_core.specs.Step.{IsNodeStep}
 use Rattle.node_journal.specs.Entry.{stepped_of}
