@@ -1,4 +1,3 @@
 pub mod Runs
 pub mod Listing
 pub mod Files
-pub mod Carried

@@ -18,13 +18,13 @@ use Rattle.node_events.specs.declared.event.NodeEvent.{NodeEvent}
 use Rattle.node_events.specs.declared.event.NodeEvent.TheVariants.{Write, PutOver}
 use Rattle.node_events.specs.declared.reply.Reply.{Reply}
 use Rattle.node_events.specs.declared.reply.Reply.TheVariants.{Wrote}
-use Rattle.node_core.specs.Growing.{ChangesUnder, Descends, IsKeyChanged, TellsOf, TellsWrite, newest}
+use Rattle.node_core.specs.Growing.{ChangesUnder, Descends, IsKeyChanged, TellsKeyChanged, TellsOf, TellsWrite, newest}
 use Rattle.node_readers.specs.Published.{Published, with_all, with_published}
 use Rattle.node_readers.proofs.Beginnings.{prefix_trans}
 use Rattle.node_readers.specs.Growth.{GrowsBy}
 use Rattle.node_call.specs.Acknowledged.{LearntWritesAreKnown}
 use Rattle.node_call.specs.Journaled.{EndsWith, EndsWithWrite, IsPublishedBy}
-use Rattle.node_call.specs.Ready.{listed}
+use Rattle.node_call.specs.Ready.{HoldsChanged, IsHeldUnder, listed}
 
 -- the change put into the old table gives the new one
 pub put_in : (event : NodeEvent) (reply : Reply) (old new : Table) (change : Published)
@@ -106,6 +106,23 @@ holds_changed event reply old new under key changed none =
     ap (find key_cmp key) (under.there key changed) ∙ found_put key object old in
     let clash : Some object ≡ None = sym found ∙ none in
     absurd (cc)
+
+-- the key that is told is held
+pub is_held : (event : NodeEvent) (reply : Reply) (held : Table) (key : Option Key)
+    → TellsKeyChanged event reply key → HoldsChanged event reply held
+    → IfSome key (λ k. find key_cmp k held ≢ None)
+is_held event reply held None told holds = tt
+is_held event reply held (Some key) told holds = holds key told
+
+-- what is held under the key that is told is what is published
+pub published_under : (event : NodeEvent) (reply : Reply) (held : Table) (key : Option Key)
+    (change : Option Published) → TellsKeyChanged event reply key → IsHeldUnder key held change
+    → IsPublishedBy event reply held (listed change)
+published_under event reply held None None told is = told
+published_under event reply held None (Some change) told is = absurd (cc)
+published_under event reply held (Some key) None told is = absurd is
+published_under event reply held (Some key) (Some change) told is =
+    (subst (IsKeyChanged event reply) (sym is.0) told, is.1 ∙ ap (object_at held) (sym is.0))
 
 -- what is published makes a table that only grew
 pub grows_by : (opening : Table) (list : List Published) (event : NodeEvent) (reply : Reply)

@@ -1,18 +1,14 @@
 -- What private functions say of what is made ready before an entry is kept.
-use Rattle.std.specs.Prelude.{◌≡◌, ◌≢◌, ◌≤◌, ◌⊎◌, ◌-◌, ◌^◌, ℕ, List, [], ◌∷◌, length, Option, Some, None, option_map, Result, Ok, Err}
+use Rattle.std.specs.Prelude.{◌≡◌, ◌≢◌, ◌≤◌, ◌⊎◌, ◌-◌, ◌^◌, ℕ, List, [], ◌∷◌, length, Option, Some, None}
 use Rattle.std.specs.FinMap.{find}
 use Rattle.meta_types.specs.Name.{Key}
 use Rattle.meta_types.specs.Order.{key_cmp}
-use Rattle.meta_store.specs.Table.{IsTable, Table}
+use Rattle.meta_store.specs.Table.{IsTable, Table, object_at}
 use Rattle.node_events.specs.declared.event.NodeEvent.{NodeEvent}
 use Rattle.node_events.specs.declared.fault.StepFault.TheVariants as OfStep
 use Rattle.node_events.specs.declared.reply.Reply.{Reply}
 use Rattle.node_core.specs.declared.state.Stepped.{Stepped}
-use Rattle.meta_frame.specs.declared.fault.FrameFault.{FrameFault}
-use Rattle.meta_frame.specs.declared.fault.FrameFault.TheVariants as OfFrame
-use Rattle.meta_frame.specs.declared.message.Frame.{Frame}
-use Rattle.node_core.specs.Growing.{CarriesUnder, IsKeyChanged, KeepsKeys, StepGrows}
-use Rattle.node_core.specs.Leaving.{carried_object}
+use Rattle.node_core.specs.Growing.{IsKeyChanged, KeepsKeys, StepGrows}
 use Rattle.node_core.specs.Node.{NodeParts}
 use Rattle.node_core.specs.Run.{CountsOn}
 use Rattle.node_core.specs.Step.{CanComeOf, IsNodeStep}
@@ -40,20 +36,12 @@ abbrev pub listed : Option Published → List Published
 listed None = []
 listed (Some change) = change ∷ []
 
--- the key under which the event changed what is held, if it changed anything
-abbrev pub IsChangedKey : NodeEvent → Reply → Option Key → Type 0
-IsChangedKey event reply None = (key : Key) → IsKeyChanged event reply key → ⊥
-IsChangedKey event reply (Some key) = IsKeyChanged event reply key
-
--- the key of the object that the bytes carry as a frame, if they carry one
-abbrev pub IsCarriedKey : List ℕ → Option Key → Type 0
-IsCarriedKey bytes None = (key : Key) → CarriesUnder key bytes → ⊥
-IsCarriedKey bytes (Some key) = CarriesUnder key bytes
-
--- what was decoded carries an object under this key, or none
-abbrev pub IsKeyOf : Result Frame FrameFault → Option Key → Type 0
-IsKeyOf (Ok frame) found = found ≡ option_map (λ came. came.0) (carried_object frame.message)
-IsKeyOf (Err fault) found = (found ≡ None) × (fault ≢ OfFrame.Memory)
+-- what is held under the key, if there is a key
+abbrev pub IsHeldUnder : Option Key → Table → Option Published → Type 0
+IsHeldUnder None held change = change ≡ None
+IsHeldUnder (Some key) held None = ⊥
+IsHeldUnder (Some key) held (Some change) =
+    (change.key ≡ key) × (change.object ≡ object_at held key)
 
 -- what the event changed is held
 abbrev pub HoldsChanged : NodeEvent → Reply → Table → Type 0

@@ -1,27 +1,25 @@
 //! What is made ready for an entry, so that keeping it can't fail.
 
-ghost use Rattle.std.specs.Prelude.{◌≡◌, ◌≢◌, ◌<◌, ◌^◌, ◌-◌, ◌⊎◌, true, IsErrOf, IfOk, IfErr, OnOk, None, option_map, length, vec_len, vec_capacity};
+ghost use Rattle.std.specs.Prelude.{◌≡◌, ◌≢◌, ◌<◌, ◌^◌, ◌-◌, ◌⊎◌, true, IsErrOf, IfOk, IfErr, IfSome, OnOk, None, length, vec_len, vec_capacity};
 ghost use Rattle.std.specs.FinMap.{find};
-ghost use Rattle.meta_types.specs.Name.{Key};
 ghost use Rattle.meta_types.specs.Order.{key_cmp};
 ghost use Rattle.meta_store.specs.Table.{IsTable, object_at};
+ghost use Rattle.node_core.specs.Growing.{TellsKeyChanged};
 ghost use Rattle.node_core.specs.Step.{CanComeOf};
 ghost use Rattle.node_call.specs.Journaled.{IsPublishedBy};
-ghost use Rattle.node_core.specs.Leaving.{carried_object};
-ghost use Rattle.node_call.specs.Ready.{CanStep, HoldsChanged, IsFullFor, IsCarriedKey, IsChangedKey, IsKeyOf, IsKnownStep, IsMade, IsReady, Prevents, entry_made, listed};
+ghost use Rattle.node_call.specs.Ready.{CanStep, HoldsChanged, IsFullFor, IsHeldUnder, IsKnownStep, IsMade, IsReady, Prevents, entry_made, listed};
 ghost use Rattle.node_call.specs.declared.fault.LockFault.TheVariants.{JournalFull, Memory};
 
 use crate::fault::LockFault;
 use crate::trying::try_step;
-use meta_frame::{Frame, FrameFault, Message, decode};
 use meta_store::Store;
-use meta_types::{ByteString, MetaKey, both};
+use meta_types::{MetaKey, both};
 use node_core::laws::{each_step_counts, each_step_grows, what_is_held_is_kept};
 use node_core::{NodeState, Stepped};
-use node_events::{NodeEvent, Reply, StepFault};
+use node_events::{NodeEvent, StepFault};
 use node_journal::Entry;
 use node_readers::Published;
-use std::alloc::{AllocError, Global};
+use std::alloc::AllocError;
 use std::marker::Model;
 
 /// What is ready: the entry of the step that was tried, a copy of it, and what it publishes.
@@ -79,7 +77,6 @@ pub(crate) struct Made {
 /// Refused in this order: as `NodeState::step` is; 51 `JournalFull`. 99 `Memory` may come at any
 /// time.
 pub fn prepare(
-    alloc: Global,
     state: &NodeState,
     spare: &mut NodeState,
     is_even: &mut bool,
@@ -97,7 +94,7 @@ pub fn prepare(
     ensures refused { IfErr result
         (Prevents state.now event limit (length journal.old.items)) }
 {
-    let made = try_all(alloc, state, spare, is_even, journal, limit, &event);
+    let made = try_all(state, spare, is_even, journal, limit, &event);
     let (event, made) = both(Ok(event), made)?;
     let Made {
         stepped,
@@ -116,7 +113,6 @@ pub fn prepare(
 }
 
 fn try_all(
-    alloc: Global,
     state: &NodeState,
     spare: &mut NodeState,
     is_even: &mut bool,
@@ -134,9 +130,10 @@ fn try_all(
     ensures refused { IfErr result
         (Prevents state.now event.now limit (length journal.old.items)) }
 {
-    let stepped = try_known(state, spare, is_even, event)?;
-    make_room(journal, limit, state.steps())?;
-    Ok(make(alloc, event, stepped, spare.store())?)
+    let known = try_known(state, spare, is_even, event)?;
+    let (tried, ()) = both(Ok(known), make_room(journal, limit, state.steps()))?;
+    let (stepped, key) = tried;
+    Ok(make(event, stepped, key, spare.store())?)
 }
 
 /// Makes the step. Its contract also says what the laws of steps say of it.
@@ -145,9 +142,10 @@ fn try_known(
     spare: &mut NodeState,
     is_even: &mut bool,
     event: &NodeEvent,
-) -> Result<Stepped, StepFault>
+) -> Result<(Stepped, Option<MetaKey>), StepFault>
     requires { is_even.old ≡ true → spare.old ≡ state.now }
-    ensures known { IfOk result (IsKnownStep state.now event.now spare.new) }
+    ensures known { IfOk result (λ tried. IsKnownStep state.now event.now spare.new tried.0) }
+    ensures key { IfOk result (λ tried. TellsKeyChanged event.now tried.0.reply tried.1) }
     ensures can { OnOk result (CanStep state.now event.now) }
     ensures refused { IfErr result (CanComeOf state.now event.now) }
     ensures even { is_even.new ≡ true → spare.new ≡ state.now }
@@ -155,11 +153,11 @@ fn try_known(
     each_step_counts();
     each_step_grows(event);
     what_is_held_is_kept();
-    let stepped = try_step(state, spare, is_even, event);
+    let tried = try_step(state, spare, is_even, event);
     // (for its type)
     let _ = state.store().len();
     let _ = spare.store().len();
-    stepped
+    tried
 }
 
 fn make_room(journal: &mut Vec<Entry>, limit: usize, steps: u64) -> Result<(), LockFault>
@@ -189,19 +187,20 @@ fn copy_of(event: &NodeEvent, stepped: &Stepped) -> Result<Entry, AllocError>
 }
 
 fn make(
-    alloc: Global,
     event: &NodeEvent,
     stepped: Stepped,
+    key: Option<MetaKey>,
     store: &Store,
 ) -> Result<Made, AllocError>
-    requires { HoldsChanged event.now stepped.reply store.now }
+    requires changed { TellsKeyChanged event.now stepped.reply key }
+    requires held { HoldsChanged event.now stepped.reply store.now }
     ensures stepped { IfOk result (λ made. made.stepped ≡ stepped) }
     ensures copy { IfOk result (λ made. made.copy ≡ entry_made event.now stepped) }
     ensures change { IfOk result (λ made.
         IsPublishedBy event.now stepped.reply store.now (listed made.change)) }
 {
     let copy = copy_of(event, &stepped);
-    let change = change_of(alloc, event, &stepped.reply, store);
+    let change = held_under(key, store);
     let (stepped, (copy, change)) = both(Ok(stepped), both(copy, change))?;
     Ok(Made {
         stepped,
@@ -210,76 +209,16 @@ fn make(
     })
 }
 
-/// Returns a copy of what the event publishes, out of what the store now holds.
-fn change_of(
-    alloc: Global,
-    event: &NodeEvent,
-    reply: &Reply,
-    store: &Store,
-) -> Result<Option<Published>, AllocError>
-    requires { HoldsChanged event.now reply.now store.now }
-    ensures { IfOk result (λ change. IsPublishedBy event.now reply.now store.now (listed change)) }
+/// Returns a copy of what the store holds under the key, if there is a key.
+fn held_under(key: Option<MetaKey>, store: &Store) -> Result<Option<Published>, AllocError>
+    requires { IfSome key (λ key. find key_cmp key store.now ≢ None) }
+    ensures { IfOk result (IsHeldUnder key store.now) }
 {
-    match changed_key(alloc, event, reply)? {
-        Some(key) => Ok(Some(held_under(key, store)?)),
-        None => Ok(None),
-    }
-}
-
-/// Returns a copy of the key under which the event changed what is held.
-fn changed_key(
-    alloc: Global,
-    event: &NodeEvent,
-    reply: &Reply,
-) -> Result<Option<MetaKey>, AllocError>
-    ensures { IfOk result (IsChangedKey event.now reply.now) }
-{
-    match (event, reply) {
-        (NodeEvent::Write { key, .. }, _) => Ok(Some(key.copy()?)),
-        (NodeEvent::PutOver { key, .. }, _) => Ok(Some(key.copy()?)),
-        (NodeEvent::Take { frame, .. }, Reply::TookFresh) => carried_key(alloc, frame),
-        _ => Ok(None),
-    }
-}
-
-/// Returns the key of the object that the frame carries. It decodes the frame once more, and is
-/// called only for a fresh one.
-fn carried_key(alloc: Global, bytes: &ByteString) -> Result<Option<MetaKey>, AllocError>
-    ensures { IfOk result (IsCarriedKey bytes.now) }
-{
-    let decoded = decode(alloc, bytes.as_slice());
-    let key = key_of_frame(&decoded);
-    drop(decoded);
-    key
-}
-
-fn key_of_frame(decoded: &Result<Frame, FrameFault>) -> Result<Option<MetaKey>, AllocError>
-    ensures { IfOk result (IsKeyOf decoded.now) }
-{
-    match decoded {
-        Ok(frame) => key_of_message(&frame.message),
-        Err(fault) if *fault == FrameFault::Memory => Err(AllocError),
-        Err(_) => Ok(None),
-    }
-}
-
-fn key_of_message(message: &Message) -> Result<Option<MetaKey>, AllocError>
-    ensures { IfOk result (λ key. key ≡ option_map (λ came. came.0) (carried_object message.now)) }
-{
-    match message {
-        Message::Gossip { key, .. } | Message::XObject { key, .. } => Ok(Some(key.copy()?)),
-        _ => Ok(None),
-    }
-}
-
-/// Returns the change to a copy of what the store holds under the key.
-fn held_under(key: MetaKey, store: &Store) -> Result<Published, AllocError>
-    requires { find key_cmp key store.now ≢ None }
-    ensures { IfOk result (λ change. (change.key ≡ key)
-        × (change.object ≡ object_at store.now key)) }
-{
+    let Some(key) = key else {
+        return Ok(None);
+    };
     match store.object(&key) {
-        Some(object) => Ok(Published::new(key, object.copy()?)),
+        Some(object) => Ok(Some(Published::new(key, object.copy()?))),
         None => unreachable!(),
     }
 }

@@ -67,7 +67,6 @@ impl<D: Device + Drop, J: Naming, H: Wait + Drop> Desk<D, J, H> {
         // (for its type)
         let _ = self.outlets.file.device();
         let ready = prepare(
-            self.alloc,
             &self.state,
             &mut self.spare,
             &mut self.is_even,
