@@ -17,6 +17,7 @@ use Rattle.node_events.specs.Event.{stored_key}
 use Rattle.node_events.specs.declared.event.NodeEvent.{NodeEvent}
 use Rattle.node_events.specs.declared.event.NodeEvent.TheVariants.{PutOver, Write}
 use Rattle.node_core.specs.Growing.{EachStepGrows}
+use Rattle.node_core.specs.Handling.{key_of_write}
 use Rattle.node_core.specs.Node.{NodeParts, present, writer}
 use Rattle.node_core.specs.Step.{IsNodeStep}
 use Rattle.node_core.specs.declared.state.Stepped.{Stepped}
@@ -37,7 +38,7 @@ use Rattle.node_file.specs.Stored.{object_record, record_under}
 use Rattle.node_hosted.specs.declared.fault.HostFault.{HostFault}
 use Rattle.node_hosted.specs.declared.fault.HostFault.TheVariants.{Step, FileFull, Stopped, Pending, Memory}
 use Rattle.node_hosted.specs.Hosting.{Acts, HostedParts, KeepsAllButContexts, MayStep, RefusesActing, Serves, StopsAfter, Stores, after_sending, after_storing, gate_after, next_frame, sent_by, spelled_for}
-use Rattle.node_hosted.specs.HostFile.{HasObjectOf, HasRecordOf, IsFileOf, IsKnownTo, IsNextRecord, IsRecordOf, IsStoredIn, IsUpToDate, calls_to_store, host_calls, written_key}
+use Rattle.node_hosted.specs.HostFile.{HasObjectOf, HasRecordOf, IsFileOf, IsKnownTo, IsNextRecord, IsRecordOf, IsStoredIn, IsUpToDate, calls_to_store, host_calls}
 use Rattle.node_hosted.proofs.Histories.{leave_without, left_without, read_without}
 use Rattle.node_hosted.proofs.Knowing.{put_known}
 
@@ -342,7 +343,7 @@ put_there : (table new : Table) (key : Key) (o : List Entry) → new ≡ with_ob
 put_there table new key o is = ap (find key_cmp key) is ∙ found_here key o table
 
 pub recorded : (old : HostedParts) (event : NodeEvent) (new : HostedParts) (key : Key) (gate : ℕ) → Acts old event new
-    → written_key event ≡ Some key → old.gate ≡ Some gate → HasRecordOf key new
+    → key_of_write event ≡ Some key → old.gate ≡ Some gate → HasRecordOf key new
 recorded old (Write k value context) new key gate acts its_key its_gate =
     let same : k ≡ key = cc in
     let held = (each_step_leaves old.state (Write k value context) new.state acts.stepped acts.step).held in

@@ -13,6 +13,7 @@ use Rattle.meta_store.proofs.Tables.{found_row, object_at-here, table_put}
 use Rattle.node_events.specs.Event.{stored_key}
 use Rattle.node_events.specs.declared.event.NodeEvent.{NodeEvent}
 use Rattle.node_core.specs.Growing.{Descends}
+use Rattle.node_core.specs.Handling.{key_of_write}
 use Rattle.node_core.proofs.Growing.{descends_itself, held_is_kept, step_grows}
 use Rattle.devices.specs.Calls.{CrashLeftSince, DeviceCall, content_after}
 use Rattle.node_file.specs.declared.record.Record.{Record}
@@ -24,7 +25,7 @@ use Rattle.node_file.proofs.Made.{stands_so}
 use Rattle.node_hosted.specs.declared.fault.HostFault.{HostFault}
 use Rattle.node_hosted.specs.declared.fault.HostFault.TheVariants.{Step, FileFull, Stopped as IsStopped, Pending, Memory}
 use Rattle.node_hosted.specs.Hosting.{HostedParts, MayStep, RefusesActing, handed_reply, next_frame, sent_by}
-use Rattle.node_hosted.specs.HostFile.{HasRecordOf, IsFileOf, IsKnownTo, IsNextRecord, IsRecordOf, IsUpToDate, calls_to_store, host_calls, written_key}
+use Rattle.node_hosted.specs.HostFile.{HasRecordOf, IsFileOf, IsKnownTo, IsNextRecord, IsRecordOf, IsUpToDate, calls_to_store, host_calls}
 use Rattle.node_hosted.specs.Lasting.{FailsMidway, Follow, GoesOn, Happens, HappensOrRestarts, HasAllOf, IsAcknowledged, IsLeft, Knows, Later, Moment, OpensWithOrWithout, Restarts, Stepped, Refused, Sent, Contexts, Stored, GaveUp}
 use Rattle.node_hosted.proofs.Filing.{calls_are, kept, when_stopped, nothing_to_store, recorded, refused, sending, served, stepped, stored, stored_there, with_contexts}
 use Rattle.node_hosted.proofs.Histories.{failed_midway, left_without, read_left, read_left_since}
@@ -309,7 +310,7 @@ pub acknowledged_stays : (key : Key) (object : List Entry) (now last : Moment) �
 acknowledged_stays key object now last is later =
     let begun = is.its_file in
     let has : HasRecordOf key is.wrote =
-    ⊎_elim (λ (writes : written_key is.event ≡ Some key). recorded is.old.node is.event is.wrote key begun.gate is.acts writes begun.its_gate)
+    ⊎_elim (λ (writes : key_of_write is.event ≡ Some key). recorded is.old.node is.event is.wrote key begun.gate is.acts writes begun.its_gate)
     (λ keeps. kept is.old.node is.wrote is.event key begun.gate is.acts (ap stored_key keeps.0) begun.its_gate keeps.1) is.its_key in
     let o : List Entry = has.object in
     let same : object ≡ o = is.its_object ∙ ap (λ (found : Option (List Entry)). unwrap_or found []) has.held in

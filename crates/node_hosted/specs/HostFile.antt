@@ -6,8 +6,6 @@ use Rattle.meta_types.specs.Name.{Key}
 use Rattle.meta_types.specs.Order.{key_cmp}
 use Rattle.dvvset.specs.Object.{Entry}
 use Rattle.meta_store.specs.Table.{IsTable, Table}
-use Rattle.node_events.specs.declared.event.NodeEvent.{NodeEvent}
-use Rattle.node_events.specs.declared.event.NodeEvent.TheVariants.{PutOver, Write}
 use Rattle.node_core.specs.Growing.{Descends, KeepsKeys}
 use Rattle.node_core.specs.Node.{NodeParts}
 use Rattle.devices.specs.Calls.{CrashLeaves, CrashLeftSince, DeviceCall, content_after, failed_to_write, synced, wrote}
@@ -82,12 +80,6 @@ abbrev pub host_calls : ℕ → HostedParts → List DeviceCall
 host_calls failures n = calls_to_store n.gate n.to_store ++ failed_writes failures n.gate n.to_store
 
 -- ---- what there is to store
-
--- the key of a write
-abbrev pub written_key : NodeEvent → Option Key
-written_key (Write key value context) = Some key
-written_key (PutOver key value) = Some key
-written_key event = None
 
 -- the record that is to be stored is that of the object that the node holds under the key
 pub record HasRecordOf (key : Key) (n : HostedParts) : Type 0 where

@@ -11,6 +11,7 @@ use Rattle.meta_store.specs.Table.{IsTable, Table, object_at}
 use Rattle.node_events.specs.declared.event.NodeEvent.{NodeEvent}
 use Rattle.node_events.specs.declared.event.NodeEvent.TheVariants.{Keep}
 use Rattle.node_core.specs.Growing.{Descends, KeepsKeys, context_of_write}
+use Rattle.node_core.specs.Handling.{key_of_write}
 use Rattle.devices.specs.Calls.{CrashLeftSince, DeviceCall, content_after, cut_to, failed_to_cut, failed_to_write, wrote}
 use Rattle.node_file.specs.declared.fault.FileFault.TheVariants.{FileFull, IncarnationSpent}
 use Rattle.node_file.specs.declared.record.Record.{Record}
@@ -19,7 +20,7 @@ use Rattle.node_file.specs.Refusal.{refusal_of_serve}
 use Rattle.node_file.specs.Stored.{LeavesRecord}
 use Rattle.node_hosted.specs.declared.fault.HostFault.{HostFault}
 use Rattle.node_hosted.specs.Hosting.{Acts, HostedParts, KeepsAllButContexts, RefusesActing, Serves, Stores, after_sending, handed_reply, next_frame}
-use Rattle.node_hosted.specs.HostFile.{IsFileOf, host_calls, written_key}
+use Rattle.node_hosted.specs.HostFile.{IsFileOf, host_calls}
 
 -- ---- what is left if the host's calls break off
 
@@ -127,7 +128,7 @@ pub record GoesOn (first last : Moment) : Type 0 where
 
 -- the event writes the key, or keeps the object that is held under it
 abbrev pub StoresKey : Key → NodeEvent → Table → Type 0
-StoresKey key event held = (written_key event ≡ Some key)
+StoresKey key event held = (key_of_write event ≡ Some key)
     ⊎ ((event ≡ Keep key) × (find key_cmp key held ≢ None))
 
 -- a node with this file made a step that wrote or kept the key, which left the object there, and

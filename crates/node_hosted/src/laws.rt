@@ -10,8 +10,9 @@ ghost use Rattle.dvvset.specs.Object.{Entry};
 ghost use Rattle.devices.specs.Calls.{CrashLeaves, CrashLeftSince, DeviceCall, content_after};
 ghost use Rattle.node_events.specs.Event.{stored_key};
 ghost use Rattle.node_events.specs.declared.event.NodeEvent.{NodeEvent};
+ghost use Rattle.node_core.specs.Handling.{key_of_write};
 ghost use Rattle.node_file.specs.File.{file_state};
-ghost use Rattle.node_hosted.specs.HostFile.{HasObjectOf, HasRecordOf, IsFileOf, IsStoredIn, host_calls, written_key};
+ghost use Rattle.node_hosted.specs.HostFile.{HasObjectOf, HasRecordOf, IsFileOf, IsStoredIn, host_calls};
 ghost use Rattle.node_hosted.specs.Hosting.{Acts, HostedParts, KeepsAllButContexts, RefusesActing, Serves, Stores, after_sending};
 ghost use Rattle.node_hosted.specs.Lasting.{CanBeServed, GoesOn, HasAllOf, IsAcknowledged, IsLeft, Knows, Later, Moment, OpensWithOrWithout, Restarts};
 ghost use Rattle.node_hosted.specs.declared.fault.HostFault.{HostFault};
@@ -58,7 +59,7 @@ pub fn sending_and_contexts_keep_the_file()
 /// does a step that keeps a key under which something is held.
 pub fn a_write_has_its_record()
     ensures writes { (old new : HostedParts) (event : NodeEvent) (key : Key) (gate : ℕ)
-        → Acts old event new → written_key event ≡ Some key → old.gate ≡ Some gate
+        → Acts old event new → key_of_write event ≡ Some key → old.gate ≡ Some gate
         → HasRecordOf key new }
     ensures keeps { (old new : HostedParts) (event : NodeEvent) (key : Key) (gate : ℕ)
         → Acts old event new → stored_key event ≡ Some key → old.gate ≡ Some gate
