@@ -23,7 +23,7 @@ fn add_record(rt: &impl Abort, alloc: Global, file: &mut Vec<u8>, number: u16) {
 }
 
 /// Returns a file with records of `count` keys, and no gate after them.
-fn with_keys(rt: &impl Abort, alloc: Global, count: u16) -> Vec<u8> {
+pub(crate) fn with_keys(rt: &impl Abort, alloc: Global, count: u16) -> Vec<u8> {
     let mut file = b"PMNODE02\0\0".to_vec(alloc).expect(rt, "memory");
     for number in 0..count {
         add_record(rt, alloc, &mut file, number);

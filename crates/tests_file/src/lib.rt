@@ -30,6 +30,8 @@ mod parts;
 #[cfg(test)]
 mod paths;
 #[cfg(test)]
+mod pieces;
+#[cfg(test)]
 mod refused_memory;
 #[cfg(test)]
 mod stops;

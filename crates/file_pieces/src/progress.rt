@@ -1,0 +1,177 @@
+//! What was read of a file: its front, and the records behind it.
+
+ghost use Rattle.std.specs.Prelude.{◌≡◌, ◌≢◌, ◌⊎◌, ◌≤◌, ◌++◌, true, false, ℕ, List, [], length, Err, IfOk, IfErr};
+ghost use Rattle.meta_store.specs.Table.{most_keys};
+ghost use Rattle.node_file.specs.declared.fault.FileFault.{FileFault};
+ghost use Rattle.node_file.specs.Fold.{may_follow_life};
+ghost use Rattle.node_file.specs.File.{opened};
+ghost use Rattle.file_pieces.specs.Alone.{MayBeHeld};
+ghost use Rattle.file_pieces.specs.Framing.{IsFramed};
+ghost use Rattle.file_pieces.specs.Progress.{HasTaken, told_of, with_said};
+
+use crate::alone::{open_alone, read_alone};
+use meta_store::{Store, StoreFault};
+use meta_types::NodeId;
+use node_file::{FileFault, MIN_FILE_LEN, Record};
+use std::alloc::{AllocError, Global};
+use std::marker::Model;
+
+/// How many bytes stand in front of the first gate.
+pub(crate) const FRONT_LEN: usize = MIN_FILE_LEN - 1;
+
+/// What a file stands for.
+#[derive(Drop)]
+pub struct FileContents {
+    pub node: NodeId,
+    /// The number of the last life, 0 for none.
+    pub life: u32,
+    pub table: Store,
+    /// The offset of the closed gate.
+    pub gate: usize,
+}
+
+/// What was read of a file.
+#[derive(Drop)]
+pub(crate) struct Progress {
+    front: Vec<u8>,
+    node: NodeId,
+    life: u32,
+    table: Store,
+    /// There were more keys than a store holds. The table doesn't count any more.
+    has_too_many: bool,
+    /// How many bytes were read.
+    at: usize,
+}
+
+impl Model for Progress {
+    ghost use Rattle.std.specs.Prelude.{◌≡◌};
+    ghost use Rattle.file_pieces.specs.Alone.{IsFront, node_in, version_in};
+    ghost use Rattle.file_pieces.specs.Progress.{ReadSoFar};
+
+    ghost Value = { ReadSoFar };
+
+    ghost view = { λ p. record {
+      version = version_in p.front.items;
+      node = p.node;
+      contents = record { life = p.life; table = p.table };
+      has_too_many = p.has_too_many;
+      at = p.at;
+    } };
+
+    ghost invariant = { λ p. IsFront p.front.items × (p.node ≡ node_in p.front.items) };
+}
+
+impl Progress {
+    /// Reads the first ten bytes of a file. Refused as a file that begins so is.
+    pub(crate) fn begin(
+        alloc: Global,
+        front: &[u8],
+        asked: Option<NodeId>,
+    ) -> Result<Progress, FileFault>
+        requires ten { length front.now ≡ 10 }
+        ensures begun { IfOk result (λ p. (rest : List ℕ) → rest ≢ []
+            → opened asked (front.now ++ rest) ≡ told_of p rest) }
+        ensures refused { IfErr result (λ fault. (fault ≡ FileFault.Memory)
+            ⊎ ((rest : List ℕ) → rest ≢ [] → opened asked (front.now ++ rest) ≡ Err fault)) }
+    {
+        let opened = match open_alone(alloc, front, &[], asked) {
+            Ok(opened) => opened,
+            Err(fault) => return Err(fault),
+        };
+        let front = front.to_vec(alloc)?;
+        Ok(Progress {
+            front,
+            node: opened.node,
+            life: 0,
+            table: Store::new(alloc),
+            has_too_many: false,
+            at: FRONT_LEN,
+        })
+    }
+
+    /// Returns how many bytes were read.
+    pub(crate) fn at(&self) -> usize
+        ensures { result ≡ self.now.at }
+    {
+        self.at
+    }
+
+    /// Returns whether there are more keys than a store holds; if not, the table is one.
+    pub(crate) fn has_too_many(&self) -> bool
+        ensures value { result ≡ self.now.has_too_many }
+        ensures few { length self.now.contents.table ≤ most_keys }
+    {
+        // (for its type)
+        let _ = self.table.len();
+        self.has_too_many
+    }
+
+    /// Returns what the file stands for if its records end here.
+    pub(crate) fn into_contents(self) -> FileContents
+        ensures { result ≡ record {
+          node = self.node;
+          life = self.contents.life;
+          table = self.contents.table;
+          gate = self.at;
+        } }
+    {
+        FileContents {
+            node: self.node,
+            life: self.life,
+            table: self.table,
+            gate: self.at,
+        }
+    }
+
+    /// Reads the bytes of a record with its gate, and returns whether it is whole and may follow.
+    /// Fails only when memory runs out.
+    pub(crate) fn take(&mut self, alloc: Global, bytes: &[u8]) -> Result<bool, FileFault>
+        requires framed { IsFramed bytes.now }
+        ensures taken { IfOk result (λ taken. HasTaken bytes.now self.old self.new taken) }
+        ensures memory { IfErr result (λ fault. fault ≡ FileFault.Memory) }
+    {
+        // (for its type)
+        let _ = self.table.len();
+        let Some(at) = self.at.checked_add(bytes.len()) else {
+            return Err(FileFault::Memory);
+        };
+        let Some(said) = read_alone(alloc, &self.front, bytes)? else {
+            return Ok(false);
+        };
+        if !self.take_in(said)? {
+            return Ok(false);
+        }
+        self.at = at;
+        Ok(true)
+    }
+
+    /// Takes in what a record says, and returns whether it may follow.
+    fn take_in(&mut self, said: Record) -> Result<bool, AllocError>
+        requires held { MayBeHeld said }
+        ensures follows { IfOk result (λ taken. taken
+            ≡ may_follow_life self.old.contents.life said) }
+        ensures taken { IfOk result (λ taken. taken ≡ true → self.new ≡ with_said self.old said) }
+        ensures same { IfOk result (λ taken. taken ≡ false → self.new ≡ self.old) }
+    {
+        match said {
+            Record::Life(life) => {
+                if life <= self.life {
+                    return Ok(false);
+                }
+                self.life = life;
+                Ok(true)
+            }
+            Record::Object(key, object) => {
+                if self.has_too_many {
+                    return Ok(true);
+                }
+                if self.table.has_room_for(&key) {
+                    self.table.hold(key, object)?;
+                } else {
+                    self.has_too_many = true;
+                }
+                Ok(true)
+            }
+        }
+    }
+}
