@@ -1,6 +1,8 @@
 -- What must be believed of the exports, in the order in which to read it.
 -- what a handle owns: a box of a hosted node, or nothing
 pub mod Held
+-- what a call does with the node that a slot lends it
+pub mod Lending
 -- the bytes of a reply and of a list of keys
 pub mod Spelling
 -- what each export does with the node in the slot, and what it returns and hands out

@@ -14,17 +14,13 @@ pub extern "C" fn zomtagi_keep_context(alloc: Global, slot: &mut Slot, number: &
     ensures kept { InSlot (KeepsAs number.new) slot.old.handle.held slot.new.handle.held result }
     ensures number { result ≢ OK → number.new ≡ number.old }
 {
-    let Some(mut node) = slot.take(alloc) else {
-        return NO_NODE;
-    };
-    let kept = node.keep_context();
-    slot.put(node);
-    match kept {
-        Ok(kept) => {
+    match slot.with(alloc, |node| node.keep_context()) {
+        Some(Ok(kept)) => {
             *number = kept;
             OK
         }
-        Err(fault) => fault.code(),
+        Some(Err(fault)) => fault.code(),
+        None => NO_NODE,
     }
 }
 
@@ -33,10 +29,6 @@ pub extern "C" fn zomtagi_keep_context(alloc: Global, slot: &mut Slot, number: &
 pub extern "C" fn zomtagi_forget_context(alloc: Global, slot: &mut Slot, number: u64) -> u16
     ensures { InSlot (Forgets number) slot.old.handle.held slot.new.handle.held result }
 {
-    let Some(mut node) = slot.take(alloc) else {
-        return NO_NODE;
-    };
-    node.forget_context(number);
-    slot.put(node);
-    OK
+    let forgotten = slot.with(alloc, |node| node.forget_context(number));
+    forgotten.map_or(NO_NODE, |()| OK)
 }

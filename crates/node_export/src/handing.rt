@@ -50,16 +50,17 @@ pub extern "C" fn zomtagi_record(
         → IfSome slot.old.handle.held (λ n. n.gate ≡ Some gate.new) }
     ensures gate_kept { result ≢ OK → gate.new ≡ gate.old }
 {
-    let Some(node) = slot.take(alloc) else {
-        return NO_NODE;
-    };
-    let number = copy_out(node.record(), buffer, len);
-    let at = node.gate().unwrap_or(0);
-    slot.put(node);
-    if number == OK {
-        *gate = at;
-    }
-    number
+    let number = slot.show(
+        alloc,
+        &mut |node| {
+            let number = copy_out(node.record(), buffer, len);
+            if number == OK {
+                *gate = node.gate().unwrap_or(0);
+            }
+            number
+        },
+    );
+    number.unwrap_or(NO_NODE)
 }
 
 /// Takes note that the program stored the record, or that it failed to: then `is_stored` is 0, and
@@ -69,12 +70,8 @@ pub extern "C" fn zomtagi_stored(alloc: Global, slot: &mut Slot, is_stored: u8) 
     ensures { InSlot (AnswersAs (Stores (not (nat_eq is_stored 0))))
         slot.old.handle.held slot.new.handle.held result }
 {
-    let Some(mut node) = slot.take(alloc) else {
-        return NO_NODE;
-    };
-    let stored = node.stored(is_stored != 0);
-    slot.put(node);
-    answer_of(stored)
+    let stored = slot.with(alloc, |node| answer_of(node.stored(is_stored != 0)));
+    stored.unwrap_or(NO_NODE)
 }
 
 /// Hands out what the last step replied, as bytes: see `bindings/c/zomtagi.h`. Refused with 80
@@ -90,12 +87,8 @@ pub extern "C" fn zomtagi_reply(
     ensures hands { HandsFrom slot.old.handle.held HandsReply buffer.old buffer.new len.old
         len.new result }
 {
-    let Some(node) = slot.take(alloc) else {
-        return NO_NODE;
-    };
-    let number = copy_reply(alloc, &node, buffer, len);
-    slot.put(node);
-    number
+    let number = slot.show(alloc, &mut |node| copy_reply(alloc, node, buffer, len));
+    number.unwrap_or(NO_NODE)
 }
 
 fn copy_reply(alloc: Global, node: &HostedNode, buffer: &mut [u8], len: &mut usize) -> u16
@@ -123,15 +116,17 @@ pub extern "C" fn zomtagi_frame(
     ensures hands { HandsFrom slot.old.handle.held (HandsOf next_frame) buffer.old buffer.new
         len.old len.new result }
 {
-    let Some(node) = slot.take(alloc) else {
-        return NO_NODE;
-    };
-    let number = match node.frame() {
+    let number = slot.show(alloc, &mut |node| copy_frame(node, buffer, len));
+    number.unwrap_or(NO_NODE)
+}
+
+fn copy_frame(node: &HostedNode, buffer: &mut [u8], len: &mut usize) -> u16
+    ensures { HandsOf next_frame node.now buffer.old buffer.new len.old len.new result }
+{
+    match node.frame() {
         Some(frame) => copy_out(Some(frame.as_slice()), buffer, len),
         None => copy_out(None, buffer, len),
-    };
-    slot.put(node);
-    number
+    }
 }
 
 /// Takes note that the program has the next frame, if there is one. Refused with 80 `NoNode`.
@@ -139,10 +134,6 @@ pub extern "C" fn zomtagi_frame(
 pub extern "C" fn zomtagi_sent(alloc: Global, slot: &mut Slot) -> u16
     ensures { InSlot Sends slot.old.handle.held slot.new.handle.held result }
 {
-    let Some(mut node) = slot.take(alloc) else {
-        return NO_NODE;
-    };
-    node.sent();
-    slot.put(node);
-    OK
+    let sent = slot.with(alloc, |node| node.sent());
+    sent.map_or(NO_NODE, |()| OK)
 }

@@ -32,12 +32,11 @@ pub extern "C" fn zomtagi_list(
         (HandsList (key_named prefix.now sub.now []).prefix)
         buffer.old buffer.new len.old len.new result }
 {
-    let Some(node) = slot.take(alloc) else {
-        return NO_NODE;
-    };
-    let number = list_of(alloc, &node, (prefix, sub), buffer, len);
-    slot.put(node);
-    number
+    let number = slot.show(
+        alloc,
+        &mut |node| list_of(alloc, node, (prefix, sub), buffer, len),
+    );
+    number.unwrap_or(NO_NODE)
 }
 
 fn list_of(
@@ -106,13 +105,16 @@ pub extern "C" fn zomtagi_root(
         (HandsOf (λ n. Some (tree_root (rows_of n.state.table))))
         buffer.old buffer.new len.old len.new result }
 {
-    let Some(node) = slot.take(alloc) else {
-        return NO_NODE;
-    };
+    let number = slot.show(alloc, &mut |node| copy_root(node, buffer, len));
+    number.unwrap_or(NO_NODE)
+}
+
+fn copy_root(node: &HostedNode, buffer: &mut [u8], len: &mut usize) -> u16
+    ensures { HandsOf (λ n. Some (tree_root (rows_of n.state.table))) node.now
+        buffer.old buffer.new len.old len.new result }
+{
     let root = node.state().tree().root();
-    let number = copy_out(Some(root.bytes()), buffer, len);
-    slot.put(node);
-    number
+    copy_out(Some(root.bytes()), buffer, len)
 }
 
 /// Says the node's number, the number of its life, and whether it is stopped. Refused with 80
@@ -134,12 +136,19 @@ pub extern "C" fn zomtagi_about(
     ensures kept { result ≢ OK → (number.new ≡ number.old) × (life.new ≡ life.old)
         × (is_stopped.new ≡ is_stopped.old) }
 {
-    let Some(node) = slot.take(alloc) else {
-        return NO_NODE;
-    };
+    let told = slot.show(
+        alloc,
+        &mut |node| tell_about(node, number, life, is_stopped),
+    );
+    told.map_or(NO_NODE, |()| OK)
+}
+
+fn tell_about(node: &HostedNode, number: &mut u16, life: &mut u32, is_stopped: &mut u8)
+    ensures number { number.new ≡ node.now.state.node }
+    ensures life { life.new ≡ node.now.state.incarnation }
+    ensures stopped { is_stopped.new ≡ (if node.now.stopped then 1 else 0) }
+{
     *number = node.state().node().number();
     *life = node.state().incarnation();
     *is_stopped = if node.is_stopped() { 1 } else { 0 };
-    slot.put(node);
-    OK
 }

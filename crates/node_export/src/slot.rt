@@ -3,6 +3,7 @@
 ghost use Rattle.std.specs.Prelude.{◌≡◌, Option, Some, None, IsSome, MatchOption, is_some};
 ghost use Rattle.node_hosted.specs.Hosting.{HostedParts};
 ghost use Rattle.node_export.specs.Held.{held_owns};
+ghost use Rattle.node_export.specs.Lending.{LendsTo, ShowsTo};
 
 use crate::parts::Parts;
 use node_hosted::HostedNode;
@@ -89,6 +90,42 @@ impl Slot {
         } else {
             None
         }
+    }
+
+    /// Lends the node to a call that may change it, if there is one, and returns what that answers.
+    ///
+    /// No contract tells what the call writes to variables that it borrows: let it answer that.
+    pub(crate) fn with<R, F: FnOnce(&mut HostedNode) -> R>(
+        &mut self,
+        alloc: Global,
+        does: F,
+    ) -> Option<R>
+        requires { F.IsAlwaysCallable does }
+        ensures { LendsTo F.FnOnce does self.old.handle.held result self.new.handle.held }
+    {
+        let mut node = self.take(alloc)?;
+        let answer = does(&mut node);
+        self.put(node);
+        Some(answer)
+    }
+
+    /// Shows the node to a call, if there is one, and returns what that answers.
+    ///
+    /// The call is by reference: only so the contract tells what it writes to variables that it
+    /// borrows, such as the program's buffer.
+    pub(crate) fn show<R, F: FnMut(&HostedNode) -> R>(
+        &mut self,
+        alloc: Global,
+        tells: &mut F,
+    ) -> Option<R>
+        requires { F.IsAlwaysCallable tells.old }
+        ensures same { self.new.handle.held ≡ self.old.handle.held }
+        ensures shows { ShowsTo F.FnMut tells.old self.old.handle.held result tells.new }
+    {
+        let node = self.take(alloc)?;
+        let answer = tells(&node);
+        self.put(node);
+        Some(answer)
     }
 
     /// Puts a node in, and frees the one that was there.

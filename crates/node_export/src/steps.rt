@@ -6,35 +6,36 @@ ghost use Rattle.meta_types.specs.Name.{IsFullPrefix, IsKey};
 ghost use Rattle.meta_types.specs.Fault.{code_of};
 ghost use Rattle.meta_types.specs.declared.fault.TypeFault.{TypeFault};
 ghost use Rattle.node_events.specs.declared.event.NodeEvent.TheVariants.{Changes, Exchange, Hello, Join, Keep, Leave, PeerDown, Read, Take, Tick, Watch};
-ghost use Rattle.node_export.specs.Exports.{Answers, AnswersCopied, AnswersNamed, AnswersPeer, Declines, InSlot, key_named};
+ghost use Rattle.node_export.specs.Exports.{Answers, AnswersCopied, AnswersNamed, AnswersPeer, Declines, InSlot, StepsOrRefuses, key_named};
 
 use crate::numbers::{NO_NODE, answer_of};
 use crate::slot::Slot;
 use meta_types::{ByteString, FullPrefix, MetaKey, NodeId, TypeFault};
 use node_events::NodeEvent;
+use node_hosted::{HostFault, HostedNode};
 use std::alloc::Global;
 
 /// Has the node in the slot make the step of an event.
 pub(crate) fn act_in(alloc: Global, slot: &mut Slot, event: NodeEvent) -> u16
     ensures { Answers slot.old.handle.held event slot.new.handle.held result }
 {
-    let Some(mut node) = slot.take(alloc) else {
-        return NO_NODE;
-    };
-    let acted = node.act(event);
-    slot.put(node);
-    answer_of(acted)
+    let acted = slot.with(alloc, |node| answer_of(act_on(node, event)));
+    acted.unwrap_or(NO_NODE)
+}
+
+/// Makes the step as `HostedNode::act` does, by one clause, as that of a write.
+fn act_on(node: &mut HostedNode, event: NodeEvent) -> Result<(), HostFault>
+    ensures { StepsOrRefuses event node.old result node.new }
+{
+    node.act(event)
 }
 
 /// Refuses what was asked for, if there is a node in the slot.
 fn refuse_in(alloc: Global, slot: &mut Slot, fault: TypeFault) -> u16
     ensures { InSlot (Declines (code_of fault)) slot.old.handle.held slot.new.handle.held result }
 {
-    let Some(node) = slot.take(alloc) else {
-        return NO_NODE;
-    };
-    slot.put(node);
-    fault.code()
+    let refused = slot.show(alloc, &mut |_| fault.code());
+    refused.unwrap_or(NO_NODE)
 }
 
 pub(crate) fn key_of(

@@ -83,47 +83,6 @@ fn write_over_on(
     node.act(NodeEvent::PutOver { key, value })
 }
 
-fn write_in(
-    alloc: Global,
-    slot: &mut Slot,
-    names: (&[u8], &[u8], &[u8]),
-    body: Option<&[u8]>,
-    stamp: u64,
-    context: u64,
-) -> u16
-    ensures { InSlot (AnswersAs (Writes context
-        (key_named names.entry.0.now names.entry.1.now names.entry.2.now)
-        (record { stamp = stamp; body = option_copied body.entry })))
-        slot.old.handle.held slot.new.handle.held result }
-{
-    let Some(mut node) = slot.take(alloc) else {
-        return NO_NODE;
-    };
-    let written = write_on(alloc, &mut node, names, body, stamp, context);
-    slot.put(node);
-    answer_of(written)
-}
-
-fn write_over_in(
-    alloc: Global,
-    slot: &mut Slot,
-    names: (&[u8], &[u8], &[u8]),
-    body: Option<&[u8]>,
-    stamp: u64,
-) -> u16
-    ensures { InSlot (AnswersAs (WritesOver
-        (key_named names.entry.0.now names.entry.1.now names.entry.2.now)
-        (record { stamp = stamp; body = option_copied body.entry })))
-        slot.old.handle.held slot.new.handle.held result }
-{
-    let Some(mut node) = slot.take(alloc) else {
-        return NO_NODE;
-    };
-    let written = write_over_on(alloc, &mut node, names, body, stamp);
-    slot.put(node);
-    answer_of(written)
-}
-
 /// Writes a value, having read what the context of this number says, or nothing for 0. Refused with
 /// 80 `NoNode`; 43 `NoSuchRead`; 1 `BadName`, 2 `ValueTooLong`; then as `HostedNode::act` is. 99
 /// `Memory` of a copy may come in place of 34 and 37 too.
@@ -142,7 +101,11 @@ pub extern "C" fn zomtagi_write(
         (record { stamp = stamp; body = Some body.now })))
         slot.old.handle.held slot.new.handle.held result }
 {
-    write_in(alloc, slot, (prefix, sub, key), Some(body), stamp, context)
+    let written = slot.with(
+        alloc,
+        |node| answer_of(write_on(alloc, node, (prefix, sub, key), Some(body), stamp, context)),
+    );
+    written.unwrap_or(NO_NODE)
 }
 
 /// Writes a tombstone, as `zomtagi_write` writes a value. Refused as `zomtagi_write` is, except for
@@ -160,7 +123,11 @@ pub extern "C" fn zomtagi_delete(
     ensures { InSlot (AnswersAs (Writes context (key_named prefix.now sub.now key.now)
         (record { stamp = stamp; body = None }))) slot.old.handle.held slot.new.handle.held result }
 {
-    write_in(alloc, slot, (prefix, sub, key), None, stamp, context)
+    let written = slot.with(
+        alloc,
+        |node| answer_of(write_on(alloc, node, (prefix, sub, key), None, stamp, context)),
+    );
+    written.unwrap_or(NO_NODE)
 }
 
 /// Writes a value over all that the node shows. Refused as `zomtagi_write` is, except for 43.
@@ -178,7 +145,11 @@ pub extern "C" fn zomtagi_write_over(
         (record { stamp = stamp; body = Some body.now })))
         slot.old.handle.held slot.new.handle.held result }
 {
-    write_over_in(alloc, slot, (prefix, sub, key), Some(body), stamp)
+    let written = slot.with(
+        alloc,
+        |node| answer_of(write_over_on(alloc, node, (prefix, sub, key), Some(body), stamp)),
+    );
+    written.unwrap_or(NO_NODE)
 }
 
 /// Writes a tombstone over all that the node shows. Refused as `zomtagi_write` is, except for 43
@@ -195,5 +166,9 @@ pub extern "C" fn zomtagi_delete_over(
     ensures { InSlot (AnswersAs (WritesOver (key_named prefix.now sub.now key.now)
         (record { stamp = stamp; body = None }))) slot.old.handle.held slot.new.handle.held result }
 {
-    write_over_in(alloc, slot, (prefix, sub, key), None, stamp)
+    let written = slot.with(
+        alloc,
+        |node| answer_of(write_over_on(alloc, node, (prefix, sub, key), None, stamp)),
+    );
+    written.unwrap_or(NO_NODE)
 }
