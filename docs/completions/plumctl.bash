@@ -22,7 +22,7 @@ _plumctl() {
   case $command in
     '') words="frame run draw file live help $unproved -h --help -V --version" ;;
     help) [ "$before" = help ] && words='frame run draw file live help' ;;
-    frame) words='-h --help' files=1 ;;
+    frame) words='--key -h --help' files=1 ;;
     run) words='--explain -h --help' files=1 ;;
     draw) words='--from --to --fold -h --help' files=1 ;;
     file) words='--rewrite --compact -h --help' files=1 ;;
@@ -32,7 +32,7 @@ _plumctl() {
       ;;
   esac
   case $before in
-    --rewrite | --record) words='' ;;
+    --key | --rewrite | --record) words='' ;;
     --from | --to) return ;;
     --files)
       compopt -o filenames 2>/dev/null

@@ -16,6 +16,7 @@ complete -c plumctl -n $is_first -a file -d 'Print what the file of a node holds
 complete -c plumctl -n $is_first -a live -d 'Run a cluster of threads, and judge what they did'
 complete -c plumctl -n $is_first -a help -d 'Print help'
 complete -c plumctl -n '__fish_seen_subcommand_from frame run draw file; and not __fish_seen_subcommand_from help' -F
+complete -c plumctl -n '__fish_seen_subcommand_from frame' -l key -r -F -d 'Open each frame, which is sealed under a key in this file'
 complete -c plumctl -n '__fish_seen_subcommand_from run' -l explain -d 'After each command, print more'
 complete -c plumctl -n '__fish_seen_subcommand_from draw' -l from -x -d 'Draw no command of an earlier line'
 complete -c plumctl -n '__fish_seen_subcommand_from draw' -l to -x -d 'Draw no command of a later line'

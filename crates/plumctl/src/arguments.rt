@@ -20,6 +20,8 @@ pub enum Asked<'a> {
     /// The frames that lines of digits spell, in the file of this path or standard input.
     Frame {
         file: Option<&'a str>,
+        /// The path of the keys under which the frames are sealed, if they are.
+        key: Option<&'a str>,
     },
     /// A run of the scenario in the file of this path or standard input.
     Run {
@@ -72,8 +74,13 @@ prints
 A refusal prints as its number and name, as `error 10 Short`; `error 15 BadBody at 39` says where in
 the frame the field at fault begins. No line number is printed: line N of the output is for line N.
 
+With --key each line is a sealed frame, as nodes with keys send it, and prints as the frame in front
+of its seal, or as `error 17 BadSeal` if the seal is right under no key. KEYS has the 32 bytes of the
+key, or 64: behind the current key the previous one. Any other file is `error 18 BadKey`.
+
 Exit status: 0 each line was a frame, 1 a line was refused or the input is longer than
-67,108,864 bytes, 2 wrong arguments, 3 reading or writing failed, 4 memory ran out.";
+67,108,864 bytes, 2 wrong arguments, 3 reading or writing failed, or KEYS has no keys, 4 memory ran
+out.";
 
 const RUN_HELP: &str =
     "The first command says how many nodes there are, as `nodes 2`; each other is one of
@@ -186,6 +193,8 @@ ran out.";
 /// The names of the arguments.
 const FILE: &str = "FILE";
 
+const KEY: &str = "key";
+
 const EXPLAIN: &str = "explain";
 
 const FROM: &str = "from";
@@ -257,7 +266,9 @@ fn number<'a>(alloc: Global, name: &'a str, help: &'a str, least: u64, most: u64
 fn frame_command<'a>(alloc: Global) -> Result<Command<'a>, AllocError> {
     let about = "Print the frames that lines of hexadecimal digits spell";
     let help = "The lines; standard input if there is none, or for -";
-    command_of(alloc, "frame", about, FRAME_HELP).arg(input(alloc, help))
+    let command = command_of(alloc, "frame", about, FRAME_HELP).arg(input(alloc, help));
+    let help = "Open each frame, which is sealed under a key in this file";
+    with_argument(command, option(alloc, KEY, "KEYS", help))
 }
 
 fn run_command<'a>(alloc: Global) -> Result<Command<'a>, AllocError> {
@@ -402,6 +413,7 @@ fn asked_of<'a>(name: &str, matches: &ArgMatches<'a>) -> Asked<'a> {
     match name {
         "frame" => Asked::Frame {
             file: path(matches.get_str(FILE)),
+            key: matches.get_str(KEY),
         },
         "run" => Asked::Run {
             file: path(matches.get_str(FILE)),

@@ -1,11 +1,12 @@
 //! The commands, over the streams of the process.
 
-ghost use Rattle.std.specs.Prelude.{◌≢◌};
+ghost use Rattle.std.specs.Prelude.{◌≢◌, IfErr};
 ghost use Rattle.plumctl_draw.specs.Asked.{EndsDrawing};
 
 use crate::progress::{Known, Place, told};
-use plumctl_core::{NoProgress, Progress, run_frame, run_scenario, tell, tell_unopened};
+use plumctl_core::{NoProgress, Progress, read_keys, run_frame, run_scenario, tell, tell_unopened};
 use plumctl_draw::{Excerpt, draw_scenario};
+use sealed_frames::Keys;
 use std::fs::{self, File};
 use std::io::{BufWriter, ErrorKind, IsTerminal};
 use std::sync::Wait;
@@ -24,19 +25,24 @@ enum Input {
 /// Opens the file at a path to be read, or takes standard input if there is no path. A folder is
 /// refused, since no read of it would succeed.
 fn open(rt: &HostRuntime, file: Option<&str>) -> Result<Input, ErrorKind> {
-    let Some(path) = file else {
-        return match fs::metadata(rt, "/dev/stdin") {
+    match file {
+        Some(path) => open_file(rt, path).map(Input::File),
+        None => match fs::metadata(rt, "/dev/stdin") {
             Ok(found) if found.is_dir() => Err(ErrorKind::IsADirectory),
             _ => Ok(Input::Standard),
-        };
-    };
+        },
+    }
+}
+
+/// Opens the file at a path to be read.
+fn open_file(rt: &HostRuntime, path: &str) -> Result<File, ErrorKind> {
     let file = match fs::open(rt, path) {
         Ok(file) => file,
         Err(error) => return Err(error.kind()),
     };
     match file.metadata() {
         Ok(found) if found.is_dir() => Err(ErrorKind::IsADirectory),
-        _ => Ok(Input::File(file)),
+        _ => Ok(file),
     }
 }
 
@@ -49,27 +55,57 @@ fn unopened(rt: &HostRuntime, file: Option<&str>, kind: ErrorKind) -> u8
     tell_unopened(&mut MayFail(rt.stderr()), name, kind)
 }
 
-/// Does `frame` for the file of this path, or for standard input, to standard output. Returns the
-/// exit status, which is never 2.
-pub fn frame(rt: &HostRuntime, file: Option<&str>) -> u8
+/// Does `frame` for the file of this path, or for standard input, to standard output. If there is
+/// a path of keys, the frames are sealed under them. Returns the exit status, which is never 2.
+pub fn frame(rt: &HostRuntime, file: Option<&str>, key: Option<&str>) -> u8
+    ensures { result ≢ 2 }
+{
+    let Some(path) = key else {
+        return frame_under(rt, None, file);
+    };
+    match keys_at(rt, path) {
+        Ok(keys) => frame_under(rt, Some(&keys), file),
+        Err(status) => status,
+    }
+}
+
+/// Returns the keys in the file of this path. If it gives none, prints why, and returns the exit
+/// status, which is never 2.
+fn keys_at(rt: &HostRuntime, path: &str) -> Result<Keys, u8>
+    ensures { IfErr result (λ status. status ≢ 2) }
+{
+    match open_file(rt, path) {
+        Ok(file) => read_keys(&mut MayFail(file), path, &mut MayFail(rt.stderr())),
+        Err(kind) => Err(unopened(rt, Some(path), kind)),
+    }
+}
+
+/// Prints the frames of the file of this path, or of standard input.
+fn frame_under(rt: &HostRuntime, keys: Option<&Keys>, file: Option<&str>) -> u8
     ensures { result ≢ 2 }
 {
     match open(rt, file) {
-        Ok(Input::File(file)) => frame_from(rt, &mut MayFail(file)),
-        Ok(Input::Standard) => frame_from(rt, &mut MayFail(rt.stdin())),
+        Ok(Input::File(file)) => frame_from(rt, keys, &mut MayFail(file)),
+        Ok(Input::Standard) => frame_from(rt, keys, &mut MayFail(rt.stdin())),
         Err(kind) => unopened(rt, file, kind),
     }
 }
 
 /// Prints the frames of a reader to standard output.
-fn frame_from<R: Source>(rt: &HostRuntime, reader: &mut R) -> u8
+fn frame_from<R: Source>(rt: &HostRuntime, keys: Option<&Keys>, reader: &mut R) -> u8
     ensures { result ≢ 2 }
 {
     let mut errors = MayFail(rt.stderr());
     let Ok(buffered) = BufWriter::with_capacity(rt.alloc(), OUTPUT_LEN, rt.stdout()) else {
         return tell(&mut errors, StreamFault::Memory);
     };
-    run_frame(rt.alloc(), reader, &mut MayFail(buffered), &mut errors)
+    run_frame(
+        rt.alloc(),
+        keys,
+        reader,
+        &mut MayFail(buffered),
+        &mut errors,
+    )
 }
 
 /// Returns whether a scenario is typed: it isn't in a file, and standard input is a terminal. If

@@ -30,7 +30,7 @@ fn run<R: Threads + Wait + Sync>(rt: &HostRuntime, handle: &R) -> Result<u8, Str
         return Ok(USAGE);
     };
     Ok(match read_arguments(rt, words.as_slice())? {
-        Asked::Frame { file } => command::frame(rt, file),
+        Asked::Frame { file, key } => command::frame(rt, file, key),
         Asked::Run { file, explain } => command::run(rt, handle, file, explain),
         Asked::Draw { file, part } => command::draw(rt, handle, file, part),
         Asked::File { path, copied } => file::file(rt, handle, path, copied),

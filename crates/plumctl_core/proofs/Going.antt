@@ -14,6 +14,7 @@ use Rattle.streams.specs.Line.{input_limit, lines_of, Pending, TakesLine, StopsR
 use Rattle.streams.proofs.Failing.{FailsNoMore-self, writer_fault_then, write_fault_then}
 use Rattle.streams.proofs.Sent.{Appends-nil, Appends-then, Appends-kept}
 use Rattle.streams.proofs.Pieces.{Consumes-nil, Consumes-then}
+use Rattle.sealed_frames.specs.declared.key.Keys.{Keys}
 use Rattle.plumctl_core.specs.declared.frame.Ended.{Ended}
 use Rattle.plumctl_core.specs.declared.frame.Ended.TheVariants.{AllPrinted, SomeRefused}
 use Rattle.plumctl_core.specs.Output.{IsTextOfAll, IsFrameLine, IsFrameOutput}
@@ -26,9 +27,9 @@ Keeps-self None = tt
 Keeps-self (Some xs) = refl
 
 -- nothing of the line was written
-pub stopped_before : (line : List ℕ) (w : SinkAt) (fault : StreamFault) → fault ≡ Memory → StopsLine line w w fault
-stopped_before line w fault e =
-    let text = text_of_line line in
+pub stopped_before : (keys : Option Keys) (line : List ℕ) (w : SinkAt) (fault : StreamFault) → fault ≡ Memory → StopsLine keys line w w fault
+stopped_before keys line w fault e =
+    let text = text_of_line keys line in
     record {
       text = text.0;
       text_is = text.1;
@@ -37,7 +38,7 @@ stopped_before line w fault e =
     }
 
 -- whole lines were read, and the output for them was written
-pub record Going (r s : SourceAt) (w v : SinkAt) (now : Pending) (all : Bool) : Type 0 where
+pub record Going (keys : Option Keys) (r s : SourceAt) (w v : SinkAt) (now : Pending) (all : Bool) : Type 0 where
   pub read : List ℕ
   pub consumed : Consumes r.remaining s.remaining read
   pub counted : 67108864 ≡ now.left + length read
@@ -45,13 +46,13 @@ pub record Going (r s : SourceAt) (w v : SinkAt) (now : Pending) (all : Bool) : 
   pub parts : read ≡ done ++ now.bytes
   pub ends : EndsAtLine done
   pub output : List ℕ
-  pub output_is : IsFrameOutput done output
+  pub output_is : IsFrameOutput keys done output
   pub appended : Appends w.contents v.contents output
-  pub frames : IsTrue all ↔ All IsFrameLine (lines_of done)
+  pub frames : IsTrue all ↔ All (IsFrameLine keys) (lines_of done)
 
-pub going_none : (r : SourceAt) (w : SinkAt) → Going r r w w (record { bytes = []; left = 67108864 }) true
+pub going_none : (keys : Option Keys) (r : SourceAt) (w : SinkAt) → Going keys r r w w (record { bytes = []; left = 67108864 }) true
 unfolding lines_of
-going_none r w = record {
+going_none keys r w = record {
   read = [];
   consumed = Consumes-nil r.remaining;
   counted = omega arith;
@@ -61,22 +62,22 @@ going_none r w = record {
   output = [];
   output_is = refl;
   appended = Appends-nil w.contents;
-  frames = (λ yes. All-nil IsFrameLine, λ frames. refl);
+  frames = (λ yes. All-nil (IsFrameLine keys), λ frames. refl);
 }
 
-All-before : (xs ys : List (List ℕ)) → All IsFrameLine (xs ++ ys) → All IsFrameLine xs
-All-before [] ys h = All-nil IsFrameLine
-All-before (x ∷ xs) ys h = All-cons IsFrameLine x xs (All-head IsFrameLine x (xs ++ ys) h) (All-before xs ys (All-tail IsFrameLine x (xs ++ ys) h))
+All-before : (keys : Option Keys) (xs ys : List (List ℕ)) → All (IsFrameLine keys) (xs ++ ys) → All (IsFrameLine keys) xs
+All-before keys [] ys h = All-nil (IsFrameLine keys)
+All-before keys (x ∷ xs) ys h = All-cons (IsFrameLine keys) x xs (All-head (IsFrameLine keys) x (xs ++ ys) h) (All-before keys xs ys (All-tail (IsFrameLine keys) x (xs ++ ys) h))
 
-All-behind : (xs ys : List (List ℕ)) → All IsFrameLine (xs ++ ys) → All IsFrameLine ys
-All-behind [] ys h = h
-All-behind (x ∷ xs) ys h = All-behind xs ys (All-tail IsFrameLine x (xs ++ ys) h)
+All-behind : (keys : Option Keys) (xs ys : List (List ℕ)) → All (IsFrameLine keys) (xs ++ ys) → All (IsFrameLine keys) ys
+All-behind keys [] ys h = h
+All-behind keys (x ∷ xs) ys h = All-behind keys xs ys (All-tail (IsFrameLine keys) x (xs ++ ys) h)
 
 -- both are true, and so are all of both
-both_all : (a b : Bool) (lines : List (List ℕ)) (line : List ℕ) → (IsTrue a ↔ All IsFrameLine lines) → (IsTrue b ↔ IsFrameLine line) → IsTrue (a && b) ↔ All IsFrameLine (lines ++ line ∷ [])
-both_all true true lines line p q = (λ yes. All-append IsFrameLine lines (line ∷ []) (p.0 refl) (All-cons IsFrameLine line [] (q.0 refl) (All-nil IsFrameLine)), λ frames. refl)
-both_all true false lines line p q = (λ yes. cc yes, λ frames. q.1 (All-head IsFrameLine line [] (All-behind lines (line ∷ []) frames)))
-both_all false b lines line p q = (λ yes. cc yes, λ frames. p.1 (All-before lines (line ∷ []) frames))
+both_all : (keys : Option Keys) (a b : Bool) (lines : List (List ℕ)) (line : List ℕ) → (IsTrue a ↔ All (IsFrameLine keys) lines) → (IsTrue b ↔ IsFrameLine keys line) → IsTrue (a && b) ↔ All (IsFrameLine keys) (lines ++ line ∷ [])
+both_all keys true true lines line p q = (λ yes. All-append (IsFrameLine keys) lines (line ∷ []) (p.0 refl) (All-cons (IsFrameLine keys) line [] (q.0 refl) (All-nil (IsFrameLine keys))), λ frames. refl)
+both_all keys true false lines line p q = (λ yes. cc yes, λ frames. q.1 (All-head (IsFrameLine keys) line [] (All-behind keys lines (line ∷ []) frames)))
+both_all keys false b lines line p q = (λ yes. cc yes, λ frames. p.1 (All-before keys lines (line ∷ []) frames))
 
 abbrev text_written : List ℕ → List ℕ
 text_written text = text ++ 10 ∷ []
@@ -94,9 +95,9 @@ read_rest read done pending more line parts answer =
     ∙ ap (λ (bytes : List ℕ). done ++ bytes) answer ∙ sym (append-nil (done ++ line))
 
 -- a line was taken and written
-pub going_line : (r s t : SourceAt) (w v u : SinkAt) (now new : Pending) (all is : Bool) (line : List ℕ)
-    → Going r s w v now all → TakesLine now new s.remaining t.remaining line true → WritesLine line v u is → Going r t w u new (all && is)
-going_line r s t w v u now new all is line so_far takes writes =
+pub going_line : (keys : Option Keys) (r s t : SourceAt) (w v u : SinkAt) (now new : Pending) (all is : Bool) (line : List ℕ)
+    → Going keys r s w v now all → TakesLine now new s.remaining t.remaining line true → WritesLine keys line v u is → Going keys r t w u new (all && is)
+going_line keys r s t w v u now new all is line so_far takes writes =
     let more = takes.reads.bytes in
     record {
       read = so_far.read ++ more;
@@ -107,17 +108,17 @@ going_line r s t w v u now new all is line so_far takes writes =
       ends = ends_more so_far.done line so_far.ends takes.one_line;
       output = so_far.output ++ text_written writes.text;
       output_is =
-          subst (λ lines. IsTextOfAll lines (so_far.output ++ text_written writes.text)) (sym (lines_more so_far.done line so_far.ends takes.one_line))
-          (text_more (lines_of so_far.done) line so_far.output writes.text so_far.output_is writes.text_is);
+          subst (λ lines. IsTextOfAll keys lines (so_far.output ++ text_written writes.text)) (sym (lines_more so_far.done line so_far.ends takes.one_line))
+          (text_more keys (lines_of so_far.done) line so_far.output writes.text so_far.output_is writes.text_is);
       appended = Appends-then w.contents v.contents u.contents so_far.output (text_written writes.text) so_far.appended writes.appended;
       frames =
-          subst (λ lines. IsTrue (all && is) ↔ All IsFrameLine lines) (sym (lines_more so_far.done line so_far.ends takes.one_line))
-          (both_all all is (lines_of so_far.done) line so_far.frames writes.frame);
+          subst (λ lines. IsTrue (all && is) ↔ All (IsFrameLine keys) lines) (sym (lines_more so_far.done line so_far.ends takes.one_line))
+          (both_all keys all is (lines_of so_far.done) line so_far.frames writes.frame);
     }
 
 -- what was held back was passed on
-pub going_flushed : (r s : SourceAt) (w v u : SinkAt) (now : Pending) (all : Bool) → Going r s w v now all → Keeps v.contents u.contents → Going r s w u now all
-going_flushed r s w v u now all so_far keeps = record {
+pub going_flushed : (keys : Option Keys) (r s : SourceAt) (w v u : SinkAt) (now : Pending) (all : Bool) → Going keys r s w v now all → Keeps v.contents u.contents → Going keys r s w u now all
+going_flushed keys r s w v u now all so_far keeps = record {
   read = so_far.read;
   consumed = so_far.consumed;
   counted = so_far.counted;
@@ -146,9 +147,9 @@ ended_is true ended e = (λ same. refl, λ yes. e)
 ended_is false ended e = (λ same. cc (sym e ∙ same), λ yes. cc yes)
 
 -- the input ended after a line feed
-prints_all : (r s t : SourceAt) (w v u : SinkAt) (now new : Pending) (all : Bool) (line : List ℕ) (ended : Ended)
-    → Going r s w v now all → TakesLine now new s.remaining t.remaining line false → line ≡ [] → Keeps v.contents u.contents → ended ≡ (if all then AllPrinted else SomeRefused) → u.passed_on → PrintsFrames r t w u ended
-prints_all r s t w v u now new all line ended so_far takes none keeps e on =
+prints_all : (keys : Option Keys) (r s t : SourceAt) (w v u : SinkAt) (now new : Pending) (all : Bool) (line : List ℕ) (ended : Ended)
+    → Going keys r s w v now all → TakesLine now new s.remaining t.remaining line false → line ≡ [] → Keeps v.contents u.contents → ended ≡ (if all then AllPrinted else SomeRefused) → u.passed_on → PrintsFrames keys r t w u ended
+prints_all keys r s t w v u now new all line ended so_far takes none keeps e on =
     let more = takes.reads.bytes in
     let done : so_far.read ++ more ≡ so_far.done =
     ap (λ (bytes : List ℕ). bytes ++ more) so_far.parts ∙ append_assoc so_far.done now.bytes more
@@ -159,18 +160,18 @@ prints_all r s t w v u now new all line ended so_far takes none keeps e on =
       end = takes.answer.2;
       within = let a = so_far.counted in let b = takes.reads.counted in omega (arith, length-append so_far.read more);
       output = so_far.output;
-      output_is = subst (λ input. IsFrameOutput input so_far.output) (sym done) so_far.output_is;
+      output_is = subst (λ input. IsFrameOutput keys input so_far.output) (sym done) so_far.output_is;
       appended = Appends-kept w.contents v.contents u.contents so_far.output so_far.appended keeps;
       passed = on;
       all =
           let is = ended_is all ended e in
-          subst (λ input. (ended ≡ AllPrinted) ↔ All IsFrameLine (lines_of input)) (sym done) (λ same. so_far.frames.0 (is.0 same), λ frames. is.1 (so_far.frames.1 frames));
+          subst (λ input. (ended ≡ AllPrinted) ↔ All (IsFrameLine keys) (lines_of input)) (sym done) (λ same. so_far.frames.0 (is.0 same), λ frames. is.1 (so_far.frames.1 frames));
     }
 
 -- the input ended without a line feed after its last line
-prints_last : (r s t : SourceAt) (w v u x : SinkAt) (now new : Pending) (all is : Bool) (line : List ℕ) (ended : Ended)
-    → Going r s w v now all → TakesLine now new s.remaining t.remaining line false → 0 < length line → WritesLine line v u is → Keeps u.contents x.contents → ended ≡ (if all && is then AllPrinted else SomeRefused) → x.passed_on → PrintsFrames r t w x ended
-prints_last r s t w v u x now new all is line ended so_far takes some writes keeps e on =
+prints_last : (keys : Option Keys) (r s t : SourceAt) (w v u x : SinkAt) (now new : Pending) (all is : Bool) (line : List ℕ) (ended : Ended)
+    → Going keys r s w v now all → TakesLine now new s.remaining t.remaining line false → 0 < length line → WritesLine keys line v u is → Keeps u.contents x.contents → ended ≡ (if all && is then AllPrinted else SomeRefused) → x.passed_on → PrintsFrames keys r t w x ended
+prints_last keys r s t w v u x now new all is line ended so_far takes some writes keeps e on =
     let more = takes.reads.bytes in
     let done : so_far.read ++ more ≡ so_far.done ++ line =
     ap (λ (bytes : List ℕ). bytes ++ more) so_far.parts ∙ append_assoc so_far.done now.bytes more
@@ -183,21 +184,21 @@ prints_last r s t w v u x now new all is line ended so_far takes some writes kee
       within = let a = so_far.counted in let b = takes.reads.counted in omega (arith, length-append so_far.read more);
       output = so_far.output ++ text_written writes.text;
       output_is =
-          subst (λ ls. IsTextOfAll ls (so_far.output ++ text_written writes.text)) (sym lines)
-          (text_more (lines_of so_far.done) line so_far.output writes.text so_far.output_is writes.text_is);
+          subst (λ ls. IsTextOfAll keys ls (so_far.output ++ text_written writes.text)) (sym lines)
+          (text_more keys (lines_of so_far.done) line so_far.output writes.text so_far.output_is writes.text_is);
       appended = Appends-kept w.contents u.contents x.contents (so_far.output ++ text_written writes.text) (Appends-then w.contents v.contents u.contents so_far.output (text_written writes.text) so_far.appended writes.appended) keeps;
       passed = on;
       all =
           let is_true = ended_is (all && is) ended e in
-          let both = both_all all is (lines_of so_far.done) line so_far.frames writes.frame in
-          subst (λ ls. (ended ≡ AllPrinted) ↔ All IsFrameLine ls) (sym lines) (λ same. both.0 (is_true.0 same), λ frames. is_true.1 (both.1 frames));
+          let both = both_all keys all is (lines_of so_far.done) line so_far.frames writes.frame in
+          subst (λ ls. (ended ≡ AllPrinted) ↔ All (IsFrameLine keys) ls) (sym lines) (λ same. both.0 (is_true.0 same), λ frames. is_true.1 (both.1 frames));
     }
 
 -- ---- faults
 
-no_text : IsTextOfAll (lines_of []) []
+no_text : (keys : Option Keys) → IsTextOfAll keys (lines_of []) []
 unfolding lines_of
-no_text = refl
+no_text keys = refl
 
 cause_of_writing : (read_failed too_long memory : Type 0) (old new : Failed) (fault : StreamFault) → memory → IsWriteFault old new fault → HasCause read_failed too_long memory old new fault
 cause_of_writing read_failed too_long memory old new Read lacks cause = absurd cause
@@ -254,9 +255,9 @@ front_all : (w v u : Option (List ℕ)) (output : List ℕ) → Appends w v outp
 front_all w v u output appended keeps = record { front = output; rest = []; parts = sym (append-nil output); appended = Appends-kept w v u output appended keeps }
 
 -- the reader failed, or gave too much, or memory for a line was refused
-pub stops_reading : (r s t : SourceAt) (w v : SinkAt) (now : Pending) (all : Bool) (fault : StreamFault)
-    → Going r s w v now all → (s.failed → r.failed) → FailsNoMore w.failed v.failed → StopsReading t.failed (t.failed → s.failed) now s.remaining t.remaining fault → Stops r t w v fault
-stops_reading r s t w v now all fault so_far reads kept stop =
+pub stops_reading : (keys : Option Keys) (r s t : SourceAt) (w v : SinkAt) (now : Pending) (all : Bool) (fault : StreamFault)
+    → Going keys r s w v now all → (s.failed → r.failed) → FailsNoMore w.failed v.failed → StopsReading t.failed (t.failed → s.failed) now s.remaining t.remaining fault → Stops keys r t w v fault
+stops_reading keys r s t w v now all fault so_far reads kept stop =
     let read : so_far.read ++ stop.bytes ≡ so_far.done ++ (now.bytes ++ stop.bytes) =
     ap (λ (bytes : List ℕ). bytes ++ stop.bytes) so_far.parts ∙ append_assoc so_far.done now.bytes stop.bytes in
     let count = length (so_far.done ++ (now.bytes ++ stop.bytes)) in
@@ -277,9 +278,9 @@ stops_reading r s t w v now all fault so_far reads kept stop =
     }
 
 -- passing on failed between lines
-pub stops_flushing : (r s : SourceAt) (w v u : SinkAt) (now : Pending) (all : Bool) (fault : StreamFault)
-    → Going r s w v now all → (s.failed → r.failed) → FailsNoMore w.failed v.failed → Keeps v.contents u.contents → IsWriterFault v.failed u.failed fault → Stops r s w u fault
-stops_flushing r s w v u now all fault so_far reads kept keeps cause = record {
+pub stops_flushing : (keys : Option Keys) (r s : SourceAt) (w v u : SinkAt) (now : Pending) (all : Bool) (fault : StreamFault)
+    → Going keys r s w v now all → (s.failed → r.failed) → FailsNoMore w.failed v.failed → Keeps v.contents u.contents → IsWriterFault v.failed u.failed fault → Stops keys r s w u fault
+stops_flushing keys r s w v u now all fault so_far reads kept keeps cause = record {
   lines = so_far.done;
   begun = now.bytes;
   consumed = subst (Consumes r.remaining s.remaining) so_far.parts so_far.consumed;
@@ -293,18 +294,18 @@ stops_flushing r s w v u now all fault so_far reads kept keeps cause = record {
 }
 
 -- what was read with a line is within the limit
-within_limit : (r s t : SourceAt) (w v : SinkAt) (now new : Pending) (all is : Bool) (line lines begun : List ℕ) (so_far : Going r s w v now all) (takes : TakesLine now new s.remaining t.remaining line is)
+within_limit : (keys : Option Keys) (r s t : SourceAt) (w v : SinkAt) (now new : Pending) (all is : Bool) (line lines begun : List ℕ) (so_far : Going keys r s w v now all) (takes : TakesLine now new s.remaining t.remaining line is)
     → so_far.read ++ takes.reads.bytes ≡ lines ++ begun → length (lines ++ begun) ≤ input_limit
-within_limit r s t w v now new all is line lines begun so_far takes read =
+within_limit keys r s t w v now new all is line lines begun so_far takes read =
     let a = so_far.counted in
     let b = takes.reads.counted in
     let same = ap length read in
     omega (arith, length-append so_far.read takes.reads.bytes)
 
 -- the writer failed within a line, or memory for its text was refused
-pub stops_line : (r s t : SourceAt) (w v u : SinkAt) (now new : Pending) (all : Bool) (line : List ℕ) (fault : StreamFault)
-    → Going r s w v now all → (t.failed → r.failed) → FailsNoMore w.failed v.failed → TakesLine now new s.remaining t.remaining line true → StopsLine line v u fault → Stops r t w u fault
-stops_line r s t w v u now new all line fault so_far reads kept takes stop =
+pub stops_line : (keys : Option Keys) (r s t : SourceAt) (w v u : SinkAt) (now new : Pending) (all : Bool) (line : List ℕ) (fault : StreamFault)
+    → Going keys r s w v now all → (t.failed → r.failed) → FailsNoMore w.failed v.failed → TakesLine now new s.remaining t.remaining line true → StopsLine keys line v u fault → Stops keys r t w u fault
+stops_line keys r s t w v u now new all line fault so_far reads kept takes stop =
     let more = takes.reads.bytes in
     let lines = so_far.done ++ (line ++ 10 ∷ []) in
     let read : so_far.read ++ more ≡ lines ++ new.bytes = read_line so_far.read so_far.done now.bytes more line new.bytes so_far.parts takes.answer in
@@ -315,18 +316,18 @@ stops_line r s t w v u now new all line fault so_far reads kept takes stop =
       ended = inl (ends_more so_far.done line so_far.ends takes.one_line);
       output = so_far.output ++ text_written stop.text;
       output_is =
-          subst (λ ls. IsTextOfAll ls (so_far.output ++ text_written stop.text)) (sym (lines_more so_far.done line so_far.ends takes.one_line))
-          (text_more (lines_of so_far.done) line so_far.output stop.text so_far.output_is stop.text_is);
+          subst (λ ls. IsTextOfAll keys ls (so_far.output ++ text_written stop.text)) (sym (lines_more so_far.done line so_far.ends takes.one_line))
+          (text_more keys (lines_of so_far.done) line so_far.output stop.text so_far.output_is stop.text_is);
       appended = front_more w.contents v.contents u.contents so_far.output (text_written stop.text) so_far.appended stop.appended;
       cause =
           cause_of_run r.failed t.failed w.failed v.failed u.failed (length (lines ++ new.bytes)) fault reads
-          (within_limit r s t w v now new all true line lines new.bytes so_far takes read) kept stop.cause;
+          (within_limit keys r s t w v now new all true line lines new.bytes so_far takes read) kept stop.cause;
     }
 
 -- so it did within the last line, which lacks its line feed
-stops_last : (r s t : SourceAt) (w v u : SinkAt) (now new : Pending) (all : Bool) (line : List ℕ) (fault : StreamFault)
-    → Going r s w v now all → (t.failed → r.failed) → FailsNoMore w.failed v.failed → TakesLine now new s.remaining t.remaining line false → 0 < length line → StopsLine line v u fault → Stops r t w u fault
-stops_last r s t w v u now new all line fault so_far reads kept takes some stop =
+stops_last : (keys : Option Keys) (r s t : SourceAt) (w v u : SinkAt) (now new : Pending) (all : Bool) (line : List ℕ) (fault : StreamFault)
+    → Going keys r s w v now all → (t.failed → r.failed) → FailsNoMore w.failed v.failed → TakesLine now new s.remaining t.remaining line false → 0 < length line → StopsLine keys line v u fault → Stops keys r t w u fault
+stops_last keys r s t w v u now new all line fault so_far reads kept takes some stop =
     let more = takes.reads.bytes in
     let lines = so_far.done ++ line in
     let read : so_far.read ++ more ≡ lines ++ [] = read_rest so_far.read so_far.done now.bytes more line so_far.parts takes.answer.0 in
@@ -337,18 +338,18 @@ stops_last r s t w v u now new all line fault so_far reads kept takes some stop 
       ended = inr (refl, takes.answer.2);
       output = so_far.output ++ text_written stop.text;
       output_is =
-          subst (λ ls. IsTextOfAll ls (so_far.output ++ text_written stop.text)) (sym (lines_last so_far.done line so_far.ends takes.one_line some))
-          (text_more (lines_of so_far.done) line so_far.output stop.text so_far.output_is stop.text_is);
+          subst (λ ls. IsTextOfAll keys ls (so_far.output ++ text_written stop.text)) (sym (lines_last so_far.done line so_far.ends takes.one_line some))
+          (text_more keys (lines_of so_far.done) line so_far.output stop.text so_far.output_is stop.text_is);
       appended = front_more w.contents v.contents u.contents so_far.output (text_written stop.text) so_far.appended stop.appended;
       cause =
           cause_of_run r.failed t.failed w.failed v.failed u.failed (length (lines ++ [])) fault reads
-          (within_limit r s t w v now new all false line lines [] so_far takes read) kept stop.cause;
+          (within_limit keys r s t w v now new all false line lines [] so_far takes read) kept stop.cause;
     }
 
 -- the last line was written, and a writer that fails then had all of it
-stops_behind : (line : List ℕ) (v u x : SinkAt) (is : Bool) (fault : StreamFault)
-    → WritesLine line v u is → FailsNoMore v.failed u.failed → Keeps u.contents x.contents → IsWriterFault u.failed x.failed fault → StopsLine line v x fault
-stops_behind line v u x is fault writes kept keeps cause = record {
+stops_behind : (keys : Option Keys) (line : List ℕ) (v u x : SinkAt) (is : Bool) (fault : StreamFault)
+    → WritesLine keys line v u is → FailsNoMore v.failed u.failed → Keeps u.contents x.contents → IsWriterFault u.failed x.failed fault → StopsLine keys line v x fault
+stops_behind keys line v u x is fault writes kept keeps cause = record {
   text = writes.text;
   text_is = writes.text_is;
   appended = front_all v.contents u.contents x.contents (text_written writes.text) writes.appended keeps;
@@ -356,10 +357,10 @@ stops_behind line v u x is fault writes kept keeps cause = record {
 }
 
 -- passing on failed at the end
-stops_at_end : (r s t : SourceAt) (w v u : SinkAt) (now new : Pending) (all : Bool) (line : List ℕ) (fault : StreamFault)
-    → Going r s w v now all → (t.failed → r.failed) → FailsNoMore w.failed v.failed → TakesLine now new s.remaining t.remaining line false → line ≡ [] → Keeps v.contents u.contents → IsWriterFault v.failed u.failed fault
-    → Stops r t w u fault
-stops_at_end r s t w v u now new all line fault so_far reads kept takes none keeps cause =
+stops_at_end : (keys : Option Keys) (r s t : SourceAt) (w v u : SinkAt) (now new : Pending) (all : Bool) (line : List ℕ) (fault : StreamFault)
+    → Going keys r s w v now all → (t.failed → r.failed) → FailsNoMore w.failed v.failed → TakesLine now new s.remaining t.remaining line false → line ≡ [] → Keeps v.contents u.contents → IsWriterFault v.failed u.failed fault
+    → Stops keys r t w u fault
+stops_at_end keys r s t w v u now new all line fault so_far reads kept takes none keeps cause =
     let more = takes.reads.bytes in
     let read : so_far.read ++ more ≡ so_far.done ++ [] =
     read_rest so_far.read so_far.done now.bytes more [] so_far.parts (takes.answer.0 ∙ none) ∙ ap (λ (bytes : List ℕ). bytes ++ []) (append-nil so_far.done) in
@@ -373,12 +374,12 @@ stops_at_end r s t w v u now new all line fault so_far reads kept takes none kee
       appended = front_all w.contents v.contents u.contents so_far.output so_far.appended keeps;
       cause =
           cause_of_run r.failed t.failed w.failed v.failed u.failed (length (so_far.done ++ [])) fault reads
-          (within_limit r s t w v now new all false line so_far.done [] so_far takes read) kept (cause_of_writer v.failed u.failed fault cause);
+          (within_limit keys r s t w v now new all false line so_far.done [] so_far takes read) kept (cause_of_writer v.failed u.failed fault cause);
     }
 
 -- nothing was read
-pub stops_none : (r : SourceAt) (w : SinkAt) (fault : StreamFault) → fault ≡ Memory → Stops r r w w fault
-stops_none r w fault e =
+pub stops_none : (keys : Option Keys) (r : SourceAt) (w : SinkAt) (fault : StreamFault) → fault ≡ Memory → Stops keys r r w w fault
+stops_none keys r w fault e =
     let count = length {A = ℕ} [] in
     record {
       lines = [];
@@ -386,7 +387,7 @@ stops_none r w fault e =
       consumed = Consumes-nil r.remaining;
       ended = inl ends_none;
       output = [];
-      output_is = no_text;
+      output_is = no_text keys;
       appended = front_all w.contents w.contents w.contents [] (Appends-nil w.contents) (Keeps-self w.contents);
       cause =
           let within : count ≤ input_limit = omega arith in
@@ -406,27 +407,27 @@ and_is false is e = refl
 and_is true false e = cc e
 
 -- the last line was written, if there is one, and what was held back was passed on
-pub prints_over : (r s t : SourceAt) (w v u x : SinkAt) (now new : Pending) (all is : Bool) (line : List ℕ) (ended : Ended)
-    → Going r s w v now all → TakesLine now new s.remaining t.remaining line false → WritesLast line v u is → Keeps u.contents x.contents → ended ≡ (if all && is then AllPrinted else SomeRefused) → x.passed_on → PrintsFrames r t w x ended
-prints_over r s t w v u x now new all is line ended so_far takes last keeps e on = elim last [
-  | inl none ↦ prints_all r s t w v x now new all line ended so_far takes none.0 (Keeps-then v.contents u.contents x.contents none.1 keeps) (e ∙ ap (λ b. if b then AllPrinted else SomeRefused) (and_is all is none.2)) on
-  | inr some ↦ prints_last r s t w v u x now new all is line ended so_far takes some.0 some.1 keeps e on
+pub prints_over : (keys : Option Keys) (r s t : SourceAt) (w v u x : SinkAt) (now new : Pending) (all is : Bool) (line : List ℕ) (ended : Ended)
+    → Going keys r s w v now all → TakesLine now new s.remaining t.remaining line false → WritesLast keys line v u is → Keeps u.contents x.contents → ended ≡ (if all && is then AllPrinted else SomeRefused) → x.passed_on → PrintsFrames keys r t w x ended
+prints_over keys r s t w v u x now new all is line ended so_far takes last keeps e on = elim last [
+  | inl none ↦ prints_all keys r s t w v x now new all line ended so_far takes none.0 (Keeps-then v.contents u.contents x.contents none.1 keeps) (e ∙ ap (λ b. if b then AllPrinted else SomeRefused) (and_is all is none.2)) on
+  | inr some ↦ prints_last keys r s t w v u x now new all is line ended so_far takes some.0 some.1 keeps e on
 ]
 
-pub stops_over : (r s t : SourceAt) (w v u : SinkAt) (now new : Pending) (all : Bool) (line : List ℕ) (fault : StreamFault)
-    → Going r s w v now all → (t.failed → r.failed) → FailsNoMore w.failed v.failed → TakesLine now new s.remaining t.remaining line false → StopsLast line v u fault → Stops r t w u fault
-stops_over r s t w v u now new all line fault so_far reads kept takes stop =
-    stops_last r s t w v u now new all line fault so_far reads kept takes stop.0 stop.1
+pub stops_over : (keys : Option Keys) (r s t : SourceAt) (w v u : SinkAt) (now new : Pending) (all : Bool) (line : List ℕ) (fault : StreamFault)
+    → Going keys r s w v now all → (t.failed → r.failed) → FailsNoMore w.failed v.failed → TakesLine now new s.remaining t.remaining line false → StopsLast keys line v u fault → Stops keys r t w u fault
+stops_over keys r s t w v u now new all line fault so_far reads kept takes stop =
+    stops_last keys r s t w v u now new all line fault so_far reads kept takes stop.0 stop.1
 
 -- the last line was written by a writer that failed no more, from `v` to `u`, and passing on failed
-pub stops_passing : (r s t : SourceAt) (w v u x : SinkAt) (now new : Pending) (all is : Bool) (line : List ℕ) (fault : StreamFault)
-    → Going r s w v now all → (t.failed → r.failed) → FailsNoMore w.failed v.failed → TakesLine now new s.remaining t.remaining line false → WritesLast line v u is → FailsNoMore v.failed u.failed
-    → Keeps u.contents x.contents → IsWriterFault u.failed x.failed fault → Stops r t w x fault
-stops_passing r s t w v u x now new all is line fault so_far reads kept takes last wrote keeps cause = elim last [
+pub stops_passing : (keys : Option Keys) (r s t : SourceAt) (w v u x : SinkAt) (now new : Pending) (all is : Bool) (line : List ℕ) (fault : StreamFault)
+    → Going keys r s w v now all → (t.failed → r.failed) → FailsNoMore w.failed v.failed → TakesLine now new s.remaining t.remaining line false → WritesLast keys line v u is → FailsNoMore v.failed u.failed
+    → Keeps u.contents x.contents → IsWriterFault u.failed x.failed fault → Stops keys r t w x fault
+stops_passing keys r s t w v u x now new all is line fault so_far reads kept takes last wrote keeps cause = elim last [
   | inl none ↦
-      stops_at_end r s t w v x now new all line fault so_far reads kept takes none.0 (Keeps-then v.contents u.contents x.contents none.1 keeps)
+      stops_at_end keys r s t w v x now new all line fault so_far reads kept takes none.0 (Keeps-then v.contents u.contents x.contents none.1 keeps)
       (writer_fault_then v.failed u.failed x.failed fault wrote cause)
   | inr some ↦
-      stops_last r s t w v x now new all line fault so_far reads kept takes some.0
-      (stops_behind line v u x is fault some.1 wrote keeps cause)
+      stops_last keys r s t w v x now new all line fault so_far reads kept takes some.0
+      (stops_behind keys line v u x is fault some.1 wrote keeps cause)
 ]

@@ -3,13 +3,14 @@
 --
 -- The statuses: 0 done, 1 a line was refused or the input is too long, 3 a fault of reading or
 -- writing, 4 memory ran out. Wrong arguments, with status 2, start no run.
-use Rattle.std.specs.Prelude.{◌≡◌, ◌⊎◌, ℕ, List, [], ◌∷◌, ◌++◌, codes}
+use Rattle.std.specs.Prelude.{◌≡◌, ◌⊎◌, ℕ, List, [], ◌∷◌, ◌++◌, Option, codes}
 use Rattle.std.specs.Io.KnownBytes.{Appends, Keeps}
 use Rattle.streams.specs.declared.fault.StreamFault.{StreamFault}
 use Rattle.streams.specs.declared.fault.StreamFault.TheVariants.{Read, InputTooLong, Write, BrokenPipe, Memory}
 use Rattle.streams.specs.Fault.{FailsNoMore, IsWriterFault}
 use Rattle.streams.specs.Moment.{SinkAt, SourceAt}
 use Rattle.streams.specs.Written.{AppendsFront}
+use Rattle.sealed_frames.specs.declared.key.Keys.{Keys}
 use Rattle.plumctl_core.specs.declared.frame.Ended.{Ended}
 use Rattle.plumctl_core.specs.declared.frame.Ended.TheVariants.{AllPrinted, SomeRefused}
 use Rattle.plumctl_core.specs.Run.{PrintsFrames, Stops}
@@ -47,26 +48,26 @@ TellsFault errors_old errors_new fault =
 
 -- a run of `frame` printed its whole input, over a reader and a writer that have not failed anew,
 -- and nothing was printed at standard error
-pub record FinishesFrames (reader_old reader_new : SourceAt)
+pub record FinishesFrames (keys : Option Keys) (reader_old reader_new : SourceAt)
     (writer_old writer_new errors_old errors_new : SinkAt) (status : ℕ) : Type 0 where
   pub ended : Ended
   pub status_is : status ≡ status_of_end ended
   pub kept : Keeps errors_old.contents errors_new.contents
   pub read_sound : reader_new.failed → reader_old.failed
   pub write_sound : FailsNoMore writer_old.failed writer_new.failed
-  pub prints : PrintsFrames reader_old reader_new writer_old writer_new ended
+  pub prints : PrintsFrames keys reader_old reader_new writer_old writer_new ended
 
 -- or a fault stopped it, which was reported
-pub record StopsFrames (reader_old reader_new : SourceAt)
+pub record StopsFrames (keys : Option Keys) (reader_old reader_new : SourceAt)
     (writer_old writer_new errors_old errors_new : SinkAt) (status : ℕ) : Type 0 where
   pub fault : StreamFault
   pub status_is : status ≡ status_of_fault fault
   pub told : TellsFault errors_old errors_new fault
-  pub stops : Stops reader_old reader_new writer_old writer_new fault
+  pub stops : Stops keys reader_old reader_new writer_old writer_new fault
 
 -- how a run of `frame` ends
-abbrev pub EndsFrames : (reader_old reader_new : SourceAt)
+abbrev pub EndsFrames : Option Keys → (reader_old reader_new : SourceAt)
     → (writer_old writer_new errors_old errors_new : SinkAt) → (status : ℕ) → Type 0
-EndsFrames reader_old reader_new writer_old writer_new errors_old errors_new status =
-    FinishesFrames reader_old reader_new writer_old writer_new errors_old errors_new status
-    ⊎ StopsFrames reader_old reader_new writer_old writer_new errors_old errors_new status
+EndsFrames keys reader_old reader_new writer_old writer_new errors_old errors_new status =
+    FinishesFrames keys reader_old reader_new writer_old writer_new errors_old errors_new status
+    ⊎ StopsFrames keys reader_old reader_new writer_old writer_new errors_old errors_new status

@@ -1,18 +1,20 @@
 //! Laws of what is printed, and of how that ends. The contract of a function is the law; its body
 //! does nothing, or compares.
 
-ghost use Rattle.std.specs.Prelude.{◌≡◌, ◌↔◌, ℕ, List, IsTrue, codes};
+ghost use Rattle.std.specs.Prelude.{◌≡◌, ◌↔◌, ℕ, List, Option, IsTrue, codes};
 ghost use Rattle.resolvers.specs.Greatest.{by_body, by_stamp, first_greatest};
+ghost use Rattle.sealed_frames.specs.declared.key.Keys.{Keys};
 ghost use Rattle.plumctl_core.specs.Output.{IsFrameOutput};
 ghost use Rattle.plumctl_core.specs.Scenario.{NamesChoice};
 
 use crate::frame::Ended;
 
-/// An input has one output.
+/// An input has one output, under the same keys or without keys.
 pub fn one_output_for_an_input()
-    ensures some { (input : List ℕ) → (output : List ℕ) × IsFrameOutput input output }
-    ensures one { (input output other : List ℕ) → IsFrameOutput input output
-        → IsFrameOutput input other → output ≡ other }
+    ensures some { (keys : Option Keys) (input : List ℕ)
+        → (output : List ℕ) × IsFrameOutput keys input output }
+    ensures one { (keys : Option Keys) (input output other : List ℕ)
+        → IsFrameOutput keys input output → IsFrameOutput keys input other → output ≡ other }
 {}
 
 /// Ends are equal exactly if they are the same.

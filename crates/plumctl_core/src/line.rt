@@ -1,16 +1,17 @@
 //! One line of digits, and what is printed for it.
 
-ghost use Rattle.std.specs.Prelude.{◌≡◌, ◌⊎◌, ◌↔◌, Ok, Err, OnOk, IfOk, IfErr, IsTrue};
+ghost use Rattle.std.specs.Prelude.{◌≡◌, ◌⊎◌, ◌↔◌, Ok, Err, OnOk, IfOk, IfErr, IsTrue, option_copied};
 ghost use Rattle.hex.specs.Hex.{decode_of};
 ghost use Rattle.hex.specs.declared.error.FromHexError.TheVariants.{OutOfMemory};
 ghost use Rattle.meta_frame.specs.declared.message.Frame.{Frame};
 ghost use Rattle.meta_frame.specs.Frame.{Spells};
-ghost use Rattle.plumctl_core.specs.Output.{without_spaces, IsTextOf, PrintsText, IsFrameLine};
+ghost use Rattle.plumctl_core.specs.Output.{without_spaces, IsTextOf, PrintsText, PrintsTextUnder, IsFrameLine, SpellsUnder};
 
 use hex::FromHexError;
 use memchr::memchr;
 use meta_frame::{FrameFault, decode};
 use printing::{print_frame, print_frame_fault};
+use sealed_frames::{Keys, open};
 use std::alloc::{AllocError, Global};
 
 /// The bytes of a line without its spaces.
@@ -59,15 +60,61 @@ fn print_text_of_bytes(alloc: Global, bytes: &[u8], text: &mut Vec<u8>) -> Resul
     }
 }
 
+/// Adds what is printed for sealed bytes, and returns whether they spell a frame.
+fn print_text_of_sealed(
+    alloc: Global,
+    keys: &Keys,
+    bytes: &[u8],
+    text: &mut Vec<u8>,
+) -> Result<bool, AllocError>
+    ensures text { OnOk result (PrintsTextUnder (Some keys.now) bytes.now text.old.items
+        text.new.items) }
+    ensures frame { IfOk result (λ is. IsTrue is ↔ ((frame : Frame)
+        × SpellsUnder (Some keys.now) frame bytes.now)) }
+{
+    match open(keys, bytes) {
+        Ok(frame) => print_text_of_bytes(alloc, frame, text),
+        Err(_) => {
+            text.extend_from_slice(b"error 17 BadSeal")?;
+            Ok(false)
+        }
+    }
+}
+
+/// Adds what is printed for bytes, which are sealed if there are keys, and returns whether they
+/// spell a frame.
+fn print_text_under(
+    alloc: Global,
+    keys: Option<&Keys>,
+    bytes: &[u8],
+    text: &mut Vec<u8>,
+) -> Result<bool, AllocError>
+    ensures text { OnOk result (PrintsTextUnder (option_copied keys.entry) bytes.now
+        text.old.items text.new.items) }
+    ensures frame { IfOk result (λ is. IsTrue is ↔ ((frame : Frame)
+        × SpellsUnder (option_copied keys.entry) frame bytes.now)) }
+{
+    match keys {
+        Some(keys) => print_text_of_sealed(alloc, keys, bytes, text),
+        None => print_text_of_bytes(alloc, bytes, text),
+    }
+}
+
 /// Puts what is printed for a line into `text`, without a line feed, and returns whether the line
-/// stands for a frame.
-pub(crate) fn print_line(alloc: Global, line: &[u8], text: &mut Vec<u8>) -> Result<bool, AllocError>
-    ensures text { OnOk result (IsTextOf line.now text.new.items) }
-    ensures frame { IfOk result (λ is. IsTrue is ↔ IsFrameLine line.now) }
+/// stands for a frame, which is sealed if there are keys.
+pub(crate) fn print_line(
+    alloc: Global,
+    keys: Option<&Keys>,
+    line: &[u8],
+    text: &mut Vec<u8>,
+) -> Result<bool, AllocError>
+    ensures text { OnOk result (IsTextOf (option_copied keys.entry) line.now text.new.items) }
+    ensures frame { IfOk result (λ is. IsTrue is
+        ↔ IsFrameLine (option_copied keys.entry) line.now) }
 {
     text.clear();
     match bytes_of(alloc, line) {
-        Ok(bytes) => print_text_of_bytes(alloc, bytes.as_slice(), text),
+        Ok(bytes) => print_text_under(alloc, keys, bytes.as_slice(), text),
         Err(FromHexError::OutOfMemory) => Err(AllocError),
         Err(_) => {
             text.extend_from_slice(b"error 9 BadHex")?;

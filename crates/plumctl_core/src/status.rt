@@ -1,10 +1,11 @@
 //! How a run ends for who started the program: the exit status, and what is printed at standard
 //! error.
 
-ghost use Rattle.std.specs.Prelude.{◌≡◌, ◌≢◌};
+ghost use Rattle.std.specs.Prelude.{◌≡◌, ◌≢◌, option_copied};
 ghost use Rattle.plumctl_core.specs.Status.{status_of_end, status_of_fault, line_of_fault, EndsFrames, TellsFault};
 
 use crate::frame::{Ended, frame_lines};
+use sealed_frames::Keys;
 use std::alloc::Global;
 use streams::{Sink, Source, StreamFault, write_whole};
 
@@ -63,15 +64,16 @@ pub fn tell<E: Sink>(errors: &mut E, fault: StreamFault) -> u8
 /// or writing failed, 4 if memory was refused.
 pub fn run_frame<R: Source, W: Sink, E: Sink>(
     alloc: Global,
+    keys: Option<&Keys>,
     reader: &mut R,
     writer: &mut W,
     errors: &mut E,
 ) -> u8
     ensures run { result ≢ 2 }
-    ensures ends { EndsFrames (R.at reader.old) (R.at reader.new) (W.at writer.old)
-        (W.at writer.new) (E.at errors.old) (E.at errors.new) result }
+    ensures ends { EndsFrames (option_copied keys.entry) (R.at reader.old) (R.at reader.new)
+        (W.at writer.old) (W.at writer.new) (E.at errors.old) (E.at errors.new) result }
 {
-    match frame_lines(alloc, reader, writer) {
+    match frame_lines(alloc, keys, reader, writer) {
         Ok(ended) => ended.status(),
         Err(fault) => tell(errors, fault),
     }

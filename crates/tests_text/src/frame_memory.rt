@@ -15,7 +15,7 @@ const TEXT: &[u8] =
 /// Returns how a run ends, and how many bytes of the output were not written.
 fn run(alloc: Global) -> (Result<Ended, StreamFault>, usize) {
     let mut writer = MayFail(Device::new(TEXT));
-    let done = frame_lines(alloc, &mut MayFail(Feed::new(INPUT)), &mut writer);
+    let done = frame_lines(alloc, None, &mut MayFail(Feed::new(INPUT)), &mut writer);
     let left = if writer.0.is_right {
         writer.0.wanted.len()
     } else {

@@ -1,8 +1,10 @@
-//! Runs of `frame` over readers and writers that give and take little at a time, or fail.
+//! Runs of `frame` over readers and writers that give and take little at a time, or fail; and of
+//! sealed frames.
 
 use crate::devices::{Device, End, Feed, Lines};
-use plumctl_core::{Ended, frame_lines, run_frame, tell};
-use std::alloc::Global;
+use plumctl_core::{Ended, frame_lines, read_keys, run_frame, tell};
+use sealed_frames::Keys;
+use std::alloc::{AllocError, Global};
 use std::io::ErrorKind;
 use streams::{MayFail, StreamFault};
 
@@ -23,7 +25,7 @@ type Done = Result<Ended, StreamFault>;
 /// device.
 fn run(alloc: Global, feed: Feed, device: Device) -> (Done, Device) {
     let mut writer = MayFail(device);
-    let done = frame_lines(alloc, &mut MayFail(feed), &mut writer);
+    let done = frame_lines(alloc, None, &mut MayFail(feed), &mut writer);
     (done, writer.0)
 }
 
@@ -171,7 +173,7 @@ fn a_writer_that_can_not_be_flushed_has_failed(rt: HostRuntime) {
 /// Returns how a run over `left` bytes ends, in long lines that are not all digits.
 fn run_of_lines(alloc: Global, left: usize) -> Done {
     let mut writer = MayFail(Device::new(b""));
-    frame_lines(alloc, &mut MayFail(Lines { left }), &mut writer)
+    frame_lines(alloc, None, &mut MayFail(Lines { left }), &mut writer)
 }
 
 #[test]
@@ -198,7 +200,13 @@ fn exit(
         ..Feed::new(text)
     };
     let mut errors = MayFail(Device::new(told));
-    let status = run_frame(alloc, &mut MayFail(feed), &mut MayFail(device), &mut errors);
+    let status = run_frame(
+        alloc,
+        None,
+        &mut MayFail(feed),
+        &mut MayFail(device),
+        &mut errors,
+    );
     is_told(errors.0).then_some(status)
 }
 
@@ -244,6 +252,7 @@ fn exit_after(alloc: Global, left: usize, told: &'static [u8]) -> Option<u8> {
     let mut writer = MayFail(Device::new(b""));
     let status = run_frame(
         alloc,
+        None,
         &mut MayFail(Lines { left }),
         &mut writer,
         &mut errors,
@@ -268,4 +277,140 @@ fn status_of(fault: StreamFault, told: &'static [u8]) -> Option<u8> {
 fn a_fault_is_told_by_its_number_and_name(rt: HostRuntime) {
     assert!(rt; status_of(StreamFault::InputTooLong, b"error 8 InputTooLong\n") == Some(1));
     assert!(rt; status_of(StreamFault::Memory, b"error 99 Memory\n") == Some(4));
+}
+
+// The key of the bytes 0 to 31, behind one of the byte 7, which is the current one of the two.
+const KEYS: &[u8] = b"\
+    \x07\x07\x07\x07\x07\x07\x07\x07\x07\x07\x07\x07\x07\x07\x07\x07\
+    \x07\x07\x07\x07\x07\x07\x07\x07\x07\x07\x07\x07\x07\x07\x07\x07\
+    \x00\x01\x02\x03\x04\x05\x06\x07\x08\x09\x0a\x0b\x0c\x0d\x0e\x0f\
+    \x10\x11\x12\x13\x14\x15\x16\x17\x18\x19\x1a\x1b\x1c\x1d\x1e\x1f";
+
+// The frame of `INPUT`, and behind it its seal under the key of the bytes 0 to 31, by Python's
+// `hmac`.
+const SEALED: &[u8] = b"5054020400010000000000000000000500000000881408dd1a3e216b75c32aab9d9f1530";
+
+/// Returns whether a line prints as a text under the keys that these bytes are.
+fn prints_under(alloc: Global, keys: &[u8], line: &[u8], text: &[u8]) -> bool {
+    match Keys::from_slice(keys) {
+        Ok(keys) => prints_as(alloc, Some(&keys), line, text),
+        Err(_) => false,
+    }
+}
+
+/// Returns whether a line prints as a text.
+fn prints_as(alloc: Global, keys: Option<&Keys>, line: &[u8], text: &[u8]) -> bool {
+    let mut reader = line;
+    let mut writer = Vec::new(alloc);
+    let done = frame_lines(alloc, keys, &mut reader, &mut writer);
+    done.is_ok() && writer.as_slice() == text
+}
+
+#[test]
+fn a_sealed_line_prints_as_its_frame(rt: HostRuntime) {
+    let frame = &TEXT[..27];
+    assert!(rt; prints_under(rt.alloc(), &KEYS[32..], SEALED, frame));
+    assert!(rt; prints_under(rt.alloc(), KEYS, SEALED, frame));
+    assert!(rt; prints_under(rt.alloc(), &KEYS[..32], SEALED, b"error 17 BadSeal\n"));
+}
+
+#[test]
+fn a_line_says_why_it_does_not_open(rt: HostRuntime) {
+    let table: [(&[u8], &[u8]); 5] = [
+        (&SEALED[..40], b"error 17 BadSeal\n"),
+        (&SEALED[40..], b"error 17 BadSeal\n"),
+        (b"\n", b"error 17 BadSeal\n"),
+        (b"5g", b"error 9 BadHex\n"),
+        // No byte, and the seal of that, by Python's `hmac`.
+        (b"d38b42096d80f45f826b44a9d5607de7", b"error 10 Short\n"),
+    ];
+    for (line, text) in table {
+        assert!(rt; prints_under(rt.alloc(), KEYS, line, text), "{line:?}");
+    }
+}
+
+#[test]
+fn without_a_key_a_sealed_line_has_bytes_left_over(rt: HostRuntime) {
+    assert!(rt; prints_as(rt.alloc(), None, SEALED, b"error 16 LeftOver\n"));
+}
+
+/// Returns the digit whose last bit is another one.
+fn other_digit(digit: u8) -> u8 {
+    match digit {
+        b'a' | b'c' | b'e' => digit + 1,
+        b'b' | b'd' | b'f' => digit - 1,
+        _ => digit ^ 1,
+    }
+}
+
+/// Returns the sealed line with a bit flipped in the digit at this place.
+fn flipped(alloc: Global, place: usize) -> Result<Vec<u8>, AllocError> {
+    let mut line = Vec::from_slice(alloc, SEALED)?;
+    if let Some(digit) = line.get_mut(place) {
+        *digit = other_digit(*digit);
+    }
+    Ok(line)
+}
+
+#[test]
+fn a_flipped_bit_is_refused(rt: HostRuntime) {
+    for place in 0..72 {
+        let is_refused = match flipped(rt.alloc(), place) {
+            Ok(line) => prints_under(rt.alloc(), KEYS, line.as_slice(), b"error 17 BadSeal\n"),
+            Err(_) => false,
+        };
+        assert!(rt; is_refused, "digit {place}");
+    }
+}
+
+/// Reads a file of keys that gives these bytes, at most `most` at a time, and goes on so. Returns
+/// the keys, or the exit status; `None` if something else is printed at standard error.
+fn keys_of(
+    bytes: &'static [u8],
+    most: usize,
+    end: End,
+    told: &'static [u8],
+) -> Option<Result<Keys, u8>> {
+    let feed = Feed {
+        most,
+        end,
+        ..Feed::new(bytes)
+    };
+    let mut errors = MayFail(Device::new(told));
+    let keys = read_keys(&mut MayFail(feed), "key", &mut errors);
+    is_told(errors.0).then_some(keys)
+}
+
+#[test]
+fn keys_are_read_in_pieces(rt: HostRuntime) {
+    for most in [1, 31, 32, 63, 64, 100] {
+        let opens = match keys_of(KEYS, most, End::Over, b"") {
+            Some(Ok(keys)) => prints_as(rt.alloc(), Some(&keys), SEALED, &TEXT[..27]),
+            _ => false,
+        };
+        assert!(rt; opens, "{most} bytes at a time");
+    }
+    assert!(rt; matches!(keys_of(&KEYS[..32], 100, End::Over, b""), Some(Ok(_))));
+}
+
+#[test]
+fn a_file_of_another_length_has_no_keys(rt: HostRuntime) {
+    let told = b"error 18 BadKey\ncause: key: has neither 32 bytes nor 64\n";
+    for len in [0, 1, 31, 33, 63] {
+        let keys = keys_of(&KEYS[..len], 100, End::Over, told);
+        assert!(rt; matches!(keys, Some(Err(3))), "{len} bytes");
+    }
+    for most in [1, 64, 65, 100] {
+        let keys = keys_of(SEALED, most, End::Over, told);
+        assert!(rt; matches!(keys, Some(Err(3))), "{most} bytes at a time");
+    }
+}
+
+#[test]
+fn a_file_that_fails_has_no_keys(rt: HostRuntime) {
+    let told = b"error 7 Read\ncause: key: could not be read\n";
+    for len in [0, 32, 64] {
+        let keys = keys_of(&KEYS[..len], 100, INTERRUPTED, told);
+        assert!(rt; matches!(keys, Some(Err(3))), "{len} bytes");
+    }
 }
