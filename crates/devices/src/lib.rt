@@ -28,4 +28,4 @@ pub use failures::FailedCall;
 pub use file::FileDevice;
 pub use memory::{Call, MemoryDevice};
 pub use naming::NewName;
-pub use opening::{OpenFault, ReadLock, read_front};
+pub use opening::{OpenFault, ReadLock};

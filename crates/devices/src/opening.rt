@@ -214,19 +214,6 @@ fn filled(
     }
 }
 
-/// Reads the first bytes of the file at the path into the buffer, as many as fit or as there are,
-/// and returns how many. It takes no memory. Refused as `open_to_read` is, except with `Memory`.
-pub fn read_front(rt: &HostRuntime, path: &str, buffer: &mut [u8]) -> Result<usize, OpenFault>
-    ensures within { IfOk result (λ n. n ≤ length buffer.old) }
-    ensures len { length buffer.new ≡ length buffer.old }
-{
-    refuse_other_kinds(rt, path)?;
-    let file = OpenOptions::new().read(true).open(rt, path)?;
-    let len = buffer.len().min(file.metadata()?.len() as usize);
-    file.read_exact_at(&mut buffer[..len], 0)?;
-    Ok(len)
-}
-
 /// Refuses what is no regular file, before it is opened: opening a pipe would wait for its other
 /// end, and opening some devices has effects.
 fn refuse_other_kinds(rt: &HostRuntime, path: &str) -> Result<(), OpenFault> {

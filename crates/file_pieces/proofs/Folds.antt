@@ -1,5 +1,5 @@
 -- Records one after the other, by what stands in front of them.
-use Rattle.std.proofs.Common.{◌≡◌, ◌≢◌, ℕ, zero, suc, ◌+◌, ◌<◌, ◌≤◌, List, [], ◌∷◌, ◌++◌, length, drop, Option, Some, None, Bool, true, false, cond, Result, Ok, Err, refl, sym, ◌∙◌, ap, subst, arith, length-append}
+use Rattle.std.proofs.Common.{◌≡◌, ◌≢◌, ℕ, zero, suc, ◌+◌, ◌<◌, ◌≤◌, List, [], ◌∷◌, ◌++◌, length, drop, Option, Some, None, Bool, true, false, cond, ◌==◌, Result, Ok, Err, refl, sym, ◌∙◌, ap, subst, arith, length-append}
 use Rattle.std.proofs.lemmas.Bool.Decides.{nat_tests}
 use Rattle.std.proofs.lemmas.List.{drop_at}
 use Rattle.node_file.specs.declared.record.Record.{Record}
@@ -8,6 +8,23 @@ use Rattle.node_file.specs.Record.{record_in}
 use Rattle.node_file.specs.Fold.{fold_records, after_record}
 use Rattle.file_pieces.specs.Framing.{IsFramed, IsUnfinished, IsShut, IsOverlong}
 use Rattle.file_pieces.proofs.Framing.{none_of_long, none_of_short, said_more, same_behind, whole_size}
+
+-- so many bytes are left at the end, or fewer
+abbrev pub LeftWithin : {S : Type 0} → ℕ → Result (S × ℕ) ℕ → Type 0
+LeftWithin n (Ok read) = read.1 ≤ n
+LeftWithin n (Err left) = Unit {0}
+
+within_test : {S : Type 0} (t : Bool) (n left : ℕ) (r : Result (S × ℕ) ℕ) → LeftWithin n r → LeftWithin n (cond t r (Err left))
+within_test true n left r within = within
+within_test false n left r within = tt
+
+within_gate : {S : Type 0} (t : Bool) (n left : ℕ) (s : S) (r : Result (S × ℕ) ℕ) → left ≤ n → LeftWithin n r → LeftWithin n (cond t r (Ok (s, left)))
+within_gate true n left s r here within = within
+within_gate false n left s r here within = here
+
+within_more : {S : Type 0} (n m : ℕ) (r : Result (S × ℕ) ℕ) → n ≤ m → LeftWithin n r → LeftWithin m r
+within_more n m (Ok read) le within = omega (arith, le, within)
+within_more n m (Err left) le within = tt
 
 module _ {S : Type 0} (may : S → Record → Bool) (next : S → Record → S) (version : ℕ) where
   skips : (s : S) (n : ℕ) (b : List ℕ) → n ≤ length b → fold_records may next version s n b ≡ fold_records may next version s 0 (drop n b)
@@ -84,3 +101,19 @@ module _ {S : Type 0} (may : S → Record → Bool) (next : S → Record → S) 
       let whole : length b ≡ 36 + length_said b = omega (arith, framed.size) in
       one_more (length (b ++ x)) (length (g ∷ (b ++ x))) (omega arith) (fold_records may next version s 0 (g ∷ (b ++ x)))
       (open_gate s g (b ++ x) framed.gate ∙ fails s (b ++ x) (λ said size is. strays said size (sym (same_behind version b x whole framed.fits) ∙ is)))
+
+  within_record : (s : S) (n left : ℕ) (read : Option (Record × ℕ)) (more : S → ℕ → Result (S × ℕ) ℕ) → ((t : S) (skip : ℕ) → LeftWithin n (more t skip)) → LeftWithin n (after_record may next s left read more)
+  within_record s n left None more within = tt
+  within_record s n left (Some read) more within = within_test (may s read.0) n left (more (next s read.0) read.1) (within (next s read.0) read.1)
+
+  -- no more are left than there were
+  pub left_within : (b : List ℕ) (s : S) (skip : ℕ) → LeftWithin (length b) (fold_records may next version s skip b)
+  unfolding fold_records
+  left_within [] s zero = tt
+  left_within [] s (suc skip) = tt
+  left_within (x ∷ b) s (suc skip) = within_more (length b) (length (x ∷ b)) (fold_records may next version s skip b) (omega arith) (left_within b s skip)
+  left_within (gate ∷ b) s zero =
+      within_gate (gate == 1) (length (gate ∷ b)) (length b + 1) s
+      (after_record may next s (length b + 1) (record_in version b) (λ t skip. fold_records may next version t skip b)) (omega arith)
+      (within_record s (length (gate ∷ b)) (length b + 1) (record_in version b) (λ t skip. fold_records may next version t skip b)
+      (λ t skip. within_more (length b) (length (gate ∷ b)) (fold_records may next version t skip b) (omega arith) (left_within b t skip)))

@@ -6,6 +6,8 @@ mod Folds
 mod Full
 -- what is told, one record after the other
 mod Turns
+-- what a closed gate shows
+mod Warned
 -- a table of one row
 mod Rows
 -- a file of one record, or of none

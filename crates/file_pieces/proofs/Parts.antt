@@ -1,9 +1,9 @@
 -- Bytes that were read, and those behind them.
-use Rattle.std.proofs.Common.{◌≡◌, ◌≢◌, ℕ, ◌+◌, ◌<◌, ◌≤◌, List, [], ◌∷◌, ◌++◌, length, take, drop, Option, Some, None, Bool, true, false, cond, Err, refl, sym, ◌∙◌, ap, subst, arith, append_assoc, append-nil, length-append}
-use Rattle.std.proofs.lemmas.Bool.{false≢true}
-use Rattle.std.proofs.lemmas.List.{drop-drop, drop_all, drop_at}
+use Rattle.std.proofs.Common.{◌≡◌, ◌≢◌, ℕ, ◌+◌, ◌-◌, ◌<◌, ◌≤◌, List, [], ◌∷◌, ◌++◌, length, take, drop, Option, Some, None, Bool, true, false, cond, Err, refl, sym, ◌∙◌, ap, subst, arith, append_assoc, append-nil, length-append}
+use Rattle.std.proofs.lemmas.List.{drop-drop, drop_at}
 use Rattle.node_file.specs.declared.fault.FileFault.{FileFault}
-use Rattle.node_file.specs.declared.fault.FileFault.TheVariants.{Damaged}
+use Rattle.node_file.specs.declared.fault.FileFault.TheVariants.{Damaged, Store}
+use Rattle.meta_store.specs.declared.fault.StoreFault.TheVariants.{StoreFull}
 use Rattle.node_file.specs.declared.record.Record.{Record}
 use Rattle.node_file.specs.declared.record.Record.TheVariants.{Life, Object}
 use Rattle.node_file.specs.Record.{record_in}
@@ -14,13 +14,14 @@ use Rattle.dvvset.specs.Object.{Entry}
 use Rattle.meta_store.specs.Table.{IsTable, Table}
 use Rattle.meta_store.specs.Step.{is_full_for}
 use Rattle.file_pieces.specs.declared.stage.Stage.{Stage}
-use Rattle.file_pieces.specs.declared.stage.Stage.TheVariants.{Front, Records, Refused}
+use Rattle.file_pieces.specs.declared.stage.Stage.TheVariants.{Ended, Front, Records, Refused}
 use Rattle.file_pieces.specs.Alone.{IsSaid, version_in}
-use Rattle.file_pieces.specs.Framing.{IsFramed, IsUnfinished, IsOverlong}
+use Rattle.file_pieces.specs.Framing.{IsFramed, IsUnfinished, IsShut, IsOverlong}
 use Rattle.file_pieces.specs.Progress.{HasTaken, ReadSoFar, told_of, with_said}
-use Rattle.file_pieces.specs.Told.{Came, HasRead, IsWaiting, is_known, tells, told}
+use Rattle.file_pieces.specs.Told.{Came, HasRead, IsWaiting, tells, told, warned, warning}
 use Rattle.file_pieces.proofs.Framing.{below, not_below}
-use Rattle.file_pieces.proofs.Turns.{fails_framed, fails_long, fails_short, takes_said, with_by}
+use Rattle.file_pieces.proofs.Turns.{ends_full, ends_well, fails_framed, fails_long, fails_short, takes_said, with_by}
+use Rattle.file_pieces.proofs.Warned.{warns_none, warns_on}
 
 -- ---- one record
 
@@ -68,26 +69,28 @@ took_said p new bytes front table at read said taken version some framed says fo
     ∙ ap (λ (n : ℕ). told_of (at_with (with_said p said) n) rest) (sum ∙ ap (λ (n : ℕ). n + length bytes) (sym (at_said p said)))
     ∙ takes_said p bytes rest said is.0 framed here (sym follows ∙ is_so) held.rising
 
--- ---- bytes behind which all is told
+-- ---- a file that is refused
 
-known_waits : (s : Stage) (bytes : List ℕ) → is_known s ≡ true → IsWaiting s bytes
-known_waits s bytes known = record {
-  front = λ asked e. absurd (false≢true (sym (ap is_known e) ∙ known));
-  records = λ p e. absurd (false≢true (sym (ap is_known e) ∙ known));
+refused_waits : (stage : Stage) (bytes : List ℕ) (fault : FileFault) → stage ≡ Refused fault → IsWaiting stage bytes
+refused_waits stage bytes fault is = record {
+  front = λ asked e. absurd cc;
+  records = λ p e. absurd cc;
+  ended = λ p e. absurd cc;
 }
 
-pub reads_all : (old new : Stage) (bytes : List ℕ) → is_known new ≡ true → ((following : List ℕ) → told new following ≡ told old (bytes ++ following)) → HasRead old new (length bytes) bytes
-reads_all old new bytes known same = record {
+pub reads_refused : (old new : Stage) (bytes : List ℕ) (fault : FileFault) → new ≡ Refused fault → ((following : List ℕ) → told old (bytes ++ following) ≡ Err fault) → HasRead old new (length bytes) bytes
+reads_refused old new bytes fault is fails = record {
   within = omega arith;
-  tells = λ following. ap (λ (l : List ℕ). told new (l ++ following)) (drop_all (length bytes) bytes (omega arith)) ∙ same following;
-  waits = known_waits new (drop (length bytes) bytes) known;
+  tells = λ following. ap (λ (s : Stage). told s (drop (length bytes) bytes ++ following)) is ∙ sym (fails following);
+  warns = λ following. ap (λ (s : Stage). warned s (drop (length bytes) bytes ++ following)) is ∙ sym (warns_none old (bytes ++ following) fault (fails following));
+  waits = refused_waits new (drop (length bytes) bytes) fault is;
 }
 
 abbrev GoesOnAs : ReadSoFar → List ℕ → ReadSoFar → List ℕ → Type 0
 GoesOnAs p rest begun bytes = (following : List ℕ) → told_of p (rest ++ following) ≡ told_of begun (bytes ++ following)
 
 refuses : (begun p : ReadSoFar) (bytes rest : List ℕ) (stage : Stage) (fault : FileFault) → stage ≡ Refused fault → ((following : List ℕ) → told_of p (rest ++ following) ≡ Err fault) → GoesOnAs p rest begun bytes → HasRead (Records begun) stage (length bytes) bytes
-refuses begun p bytes rest stage fault is fails so_far = reads_all (Records begun) stage bytes (ap is_known is) (λ following. ap (λ (s : Stage). told s following) is ∙ sym (fails following) ∙ so_far following)
+refuses begun p bytes rest stage fault is fails so_far = reads_refused (Records begun) stage bytes fault is (λ following. sym (so_far following) ∙ fails following)
 
 pub was_too_long : (begun p : ReadSoFar) (bytes rest : List ℕ) (stage : Stage) (at : ℕ) → IsOverlong rest → stage ≡ Refused (Damaged at) → at ≡ p.at → GoesOnAs p rest begun bytes → HasRead (Records begun) stage (length bytes) bytes
 was_too_long begun p bytes rest stage at long is here so_far = refuses begun p bytes rest stage (Damaged p.at) (is ∙ ap (λ (n : ℕ). Refused (Damaged n)) here) (λ following. fails_long p rest following long) so_far
@@ -98,13 +101,63 @@ was_refused begun p new bytes rest record_ behind stage at taken parts isnt took
     refuses begun p bytes rest stage (Damaged p.at) (is ∙ ap (λ (n : ℕ). Refused (Damaged n)) (here ∙ ap (λ (q : ReadSoFar). q.at) failed.0))
     (λ following. ap (λ (l : List ℕ). told_of p (l ++ following)) parts ∙ ap (told_of p) (append_assoc record_ behind following) ∙ failed.1 (behind ++ following)) so_far
 
-pub went_on : (begun p new : ReadSoFar) (bytes before rest record_ behind : List ℕ) (taken : Bool) → bytes ≡ before ++ rest → rest ≡ record_ ++ behind → taken ≡ true → HasTaken record_ p new taken → GoesOnAs p rest begun bytes → (further : List ℕ) × (bytes ≡ further ++ behind) × GoesOnAs new behind begun bytes
-went_on begun p new bytes before rest record_ behind taken split parts is took so_far =
+-- ---- one record more, or none
+
+-- the records in front of the rest were read
+abbrev pub IsReadUpTo : ReadSoFar → ReadSoFar → List ℕ → List ℕ → Type 0
+IsReadUpTo begun p bytes rest = (before : List ℕ) × (bytes ≡ before ++ rest) × (p.at ≡ begun.at + length before) × GoesOnAs p rest begun bytes
+
+pub went_on : (begun p new : ReadSoFar) (bytes rest record_ behind : List ℕ) (taken : Bool) → rest ≡ record_ ++ behind → taken ≡ true → HasTaken record_ p new taken → IsReadUpTo begun p bytes rest → IsReadUpTo begun new bytes behind
+went_on begun p new bytes rest record_ behind taken parts is took so_far =
+    let before = so_far.0 in
     let goes : HasTaken record_ p new true = subst (HasTaken record_ p new) is took in (
       before ++ record_,
-      split ∙ ap (λ (l : List ℕ). before ++ l) parts ∙ sym (append_assoc before record_ behind),
-      λ following. goes (behind ++ following) ∙ ap (told_of p) (sym (append_assoc record_ behind following)) ∙ ap (λ (l : List ℕ). told_of p (l ++ following)) (sym parts) ∙ so_far following,
+      so_far.1 ∙ ap (λ (l : List ℕ). before ++ l) parts ∙ sym (append_assoc before record_ behind),
+      omega (arith, goes.0, so_far.2, length-append before record_),
+      λ following. goes.1 (behind ++ following) ∙ ap (told_of p) (sym (append_assoc record_ behind following)) ∙ ap (λ (l : List ℕ). told_of p (l ++ following)) (sym parts) ∙ so_far.3 following,
     )
+
+-- what was read of the rest was read of them all
+pub read_up_to : (begun p : ReadSoFar) (bytes rest : List ℕ) (new : Stage) (read : ℕ) → read ≡ length bytes - length rest → HasRead (Records p) new 0 rest → IsReadUpTo begun p bytes rest → HasRead (Records begun) new read bytes
+read_up_to begun p bytes rest new read count has so_far =
+    let before = so_far.0 in
+    let size : length bytes ≡ length before + length rest = ap length so_far.1 ∙ length-append before rest in
+    let here : read ≡ length before = omega (arith, count, size) in
+    let left : drop read bytes ≡ rest = ap (λ (n : ℕ). drop n bytes) here ∙ ap (drop (length before)) so_far.1 ∙ drop_at before rest (length before) refl in
+    record {
+      within = omega (arith, here, size);
+      tells = λ following. ap (λ (l : List ℕ). told new (l ++ following)) left ∙ has.tells following ∙ so_far.3 following;
+      warns = λ following. ap (λ (l : List ℕ). warned new (l ++ following)) left
+          ∙ has.warns following
+          ∙ warns_on p before (rest ++ following) begun.at (told_of begun (bytes ++ following)) so_far.2 (so_far.3 following)
+          ∙ ap (λ (l : List ℕ). warning begun.at l (told_of begun (bytes ++ following))) (sym (append_assoc before rest following) ∙ ap (λ (l : List ℕ). l ++ following) (sym so_far.1));
+      waits = subst (IsWaiting new) (sym left) has.waits;
+    }
+
+pub waits_for_more : (p : ReadSoFar) (rest : List ℕ) → IsUnfinished rest → HasRead (Records p) (Records p) 0 rest
+waits_for_more p rest short = record {
+  within = omega arith;
+  tells = λ following. refl;
+  warns = λ following. refl;
+  waits = record { front = λ asked e. absurd cc; records = λ q e. short; ended = λ q e. absurd cc };
+}
+
+-- at the gate that ends the records
+pub stops_full : (p : ReadSoFar) (bytes : List ℕ) → IsShut bytes → p.has_too_many ≡ true → HasRead (Records p) (Refused (Store StoreFull)) 0 bytes
+stops_full p bytes shut flag = record {
+  within = omega arith;
+  tells = λ following. sym (ends_full p bytes following shut flag);
+  warns = λ following. sym (warns_none (Records p) (bytes ++ following) (Store StoreFull) (ends_full p bytes following shut flag));
+  waits = refused_waits (Refused (Store StoreFull)) bytes (Store StoreFull) refl;
+}
+
+pub stops_well : (p : ReadSoFar) (bytes : List ℕ) → IsShut bytes → p.has_too_many ≡ false → length p.contents.table ≤ 8192 → HasRead (Records p) (Ended p) 0 bytes
+stops_well p bytes shut flag few = record {
+  within = omega arith;
+  tells = λ following. sym (ends_well p bytes following shut flag few);
+  warns = λ following. sym (ap (warning p.at (bytes ++ following)) (ends_well p bytes following shut flag few));
+  waits = record { front = λ asked e. absurd cc; records = λ q e. absurd cc; ended = λ q e. shut };
+}
 
 -- ---- behind the front
 
@@ -115,8 +168,8 @@ no_empty (x ∷ a) b some e = cc
 drops : (a b : List ℕ) (n m : ℕ) → length a ≡ m → drop (m + n) (a ++ b) ≡ drop n b
 drops a b n m is = sym (drop-drop n m (a ++ b)) ∙ ap (drop n) (drop_at a b m is)
 
-pub behind_front : (asked : Option ℕ) (p : ReadSoFar) (new : Stage) (read : ℕ) (front behind bytes : List ℕ) → bytes ≡ front ++ behind → length front ≡ 10 → 1 ≤ length behind → ((rest : List ℕ) → rest ≢ [] → opened asked (front ++ rest) ≡ told_of p rest) → HasRead (Records p) new read behind → HasRead (Front asked) new (10 + read) bytes
-behind_front asked p new read front behind bytes split ten some begun has =
+pub behind_front : (asked : Option ℕ) (p : ReadSoFar) (new : Stage) (read : ℕ) (front behind bytes : List ℕ) → bytes ≡ front ++ behind → length front ≡ 10 → 1 ≤ length behind → p.at ≡ 10 → ((rest : List ℕ) → rest ≢ [] → opened asked (front ++ rest) ≡ told_of p rest) → HasRead (Records p) new read behind → HasRead (Front asked) new (10 + read) bytes
+behind_front asked p new read front behind bytes split ten some at begun has =
     let left : drop (10 + read) bytes ≡ drop read behind = ap (drop (10 + read)) split ∙ drops front behind read 10 ten in
     record {
       within = omega (arith, has.within, ap length split, length-append front behind, ten);
@@ -125,6 +178,10 @@ behind_front asked p new read front behind bytes split ten some begun has =
           ∙ sym (begun (behind ++ following) (no_empty behind following some))
           ∙ ap (opened asked) (sym (append_assoc front behind following))
           ∙ ap (λ (l : List ℕ). opened asked (l ++ following)) (sym split);
+      warns = λ following. ap (λ (l : List ℕ). warned new (l ++ following)) left
+          ∙ has.warns following
+          ∙ warns_on p front (behind ++ following) 0 (opened asked (front ++ (behind ++ following))) (omega (arith, at, ten)) (sym (begun (behind ++ following) (no_empty behind following some)))
+          ∙ ap (warned (Front asked)) (sym (append_assoc front behind following) ∙ ap (λ (l : List ℕ). l ++ following) (sym split));
       waits = subst (IsWaiting new) (sym left) has.waits;
     }
 

@@ -7,17 +7,18 @@ use Rattle.dvvset.specs.Object.{Entry}
 use Rattle.meta_store.specs.Table.{with_object}
 use Rattle.meta_store.specs.Step.{is_full_for}
 use Rattle.meta_store.specs.declared.fault.StoreFault.TheVariants.{StoreFull}
+use Rattle.node_file.specs.declared.fault.FileFault.{FileFault}
 use Rattle.node_file.specs.declared.fault.FileFault.TheVariants.{Damaged, Store}
 use Rattle.node_file.specs.declared.record.Record.{Record}
 use Rattle.node_file.specs.declared.record.Record.TheVariants.{Life, Object}
 use Rattle.node_file.specs.Record.{record_in}
 use Rattle.node_file.specs.Fold.{Contents, contents_from, fold_records, life_from, life_with, may_follow, may_follow_life, with_record}
-use Rattle.node_file.specs.File.{ended}
+use Rattle.node_file.specs.File.{FileState, ended}
 use Rattle.file_pieces.specs.Framing.{IsFramed, IsUnfinished, IsShut, IsOverlong}
 use Rattle.file_pieces.specs.Progress.{ReadSoFar, ended_full, moved_on, told_of, with_life, with_said, with_too_many}
 use Rattle.file_pieces.specs.Told.{state_of}
 use Rattle.file_pieces.proofs.Framing.{not_below}
-use Rattle.file_pieces.proofs.Folds.{framed_fails, framed_goes_on, long_fails, short_fails, shut_ends}
+use Rattle.file_pieces.proofs.Folds.{LeftWithin, framed_fails, framed_goes_on, left_within, long_fails, short_fails, shut_ends}
 use Rattle.file_pieces.proofs.Full.{ended_many, many_end, tells, too_many_with}
 
 -- ---- what is told, by the records
@@ -55,6 +56,37 @@ pub ends_full : (p : ReadSoFar) (bytes x : List ℕ) → IsShut bytes → p.has_
 ends_full p bytes x shut flag =
     told_by p (bytes ++ x) true flag
     ∙ ap (ended_full (p.at + length (bytes ++ x))) (shut_ends may_follow_life life_with p.version p.contents.life bytes x shut)
+
+never_full : (total : ℕ) (read : Result (ℕ × ℕ) ℕ) (file : FileState × ℕ) → ended_full total read ≡ Ok file → ⊥
+never_full total (Err left) file e = cc
+never_full total (Ok read) file e = cc
+
+abbrev file_ok : FileState × ℕ → Result (FileState × ℕ) FileFault
+file_ok file = Ok file
+
+ok_is : (x y : FileState × ℕ) → file_ok x ≡ file_ok y → x ≡ y
+ok_is x y e = cc
+
+with_room : (full : Bool) (x y : FileState × ℕ) → cond full (Err (Store StoreFull)) (file_ok x) ≡ file_ok y → x ≡ y
+with_room true x y e = absurd cc
+with_room false x y e = ok_is x y e
+
+ended_behind : (at n : ℕ) (front : ℕ × ℕ) (read : Result (Contents × ℕ) ℕ) (s : FileState) (gate : ℕ) → LeftWithin n read → ended (at + n) front read ≡ Ok (s, gate) → at ≤ gate
+ended_behind at n front (Err left) s gate within e = absurd cc
+ended_behind at n front (Ok read) s gate within e =
+    let file : FileState × ℕ = (record { version = front.0; node = front.1; contents = read.0 }, (at + n) - read.1) in
+    let same : file ≡ (s, gate) = with_room (nat_lt 8192 (length read.0.table)) file (s, gate) e in
+    omega (arith, within, ap (λ (x : FileState × ℕ). x.1) same)
+
+behind_by : (p : ReadSoFar) (bytes : List ℕ) (flag : Bool) (s : FileState) (gate : ℕ) → p.has_too_many ≡ flag → told_of p bytes ≡ Ok (s, gate) → p.at ≤ gate
+behind_by p bytes true s gate flag e = absurd (never_full (p.at + length bytes) (of_lives p bytes) (s, gate) (sym (told_by p bytes true flag) ∙ e))
+behind_by p bytes false s gate flag e =
+    ended_behind p.at (length bytes) (p.version, p.node) (of_contents p bytes) s gate
+    (left_within may_follow with_record p.version bytes p.contents 0) (sym (told_by p bytes false flag) ∙ e)
+
+-- it stands behind what was read
+pub gate_behind : (p : ReadSoFar) (bytes : List ℕ) (s : FileState) (gate : ℕ) → told_of p bytes ≡ Ok (s, gate) → p.at ≤ gate
+gate_behind p bytes s gate e = behind_by p bytes p.has_too_many s gate refl e
 
 -- ---- what isn't a record that may follow
 

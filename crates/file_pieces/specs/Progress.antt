@@ -81,9 +81,11 @@ moved_on p n = record {
   at = p.at + n;
 }
 
--- what the bytes of a record leave: what is told then by the bytes behind it is what was told by it
--- and them before; or all that follow are refused at its gate
+-- what the bytes of a record leave: they are counted, and what is told then by the bytes behind it
+-- is what was told by it and them before; or all that follow are refused at its gate
 abbrev pub HasTaken : List ℕ → ReadSoFar → ReadSoFar → Bool → Type 0
-HasTaken bytes old new true = (rest : List ℕ) → told_of new rest ≡ told_of old (bytes ++ rest)
+HasTaken bytes old new true =
+    (new.at ≡ old.at + length bytes)
+    × ((rest : List ℕ) → told_of new rest ≡ told_of old (bytes ++ rest))
 HasTaken bytes old new false =
     (new ≡ old) × ((rest : List ℕ) → told_of old (bytes ++ rest) ≡ Err (Damaged old.at))

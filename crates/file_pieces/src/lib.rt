@@ -1,11 +1,12 @@
-//! Reading a node's file piece by piece, in memory for its table and its largest record.
+//! Reading a node's file piece by piece, in memory for its table, its largest record, and what is
+//! looked at behind its closed gate.
 //!
 //! ```
 //! let mut reading = Reading::new(alloc, None);
 //! while let Some(piece) = pieces.next() {
 //!     reading.push(piece)?;
 //! }
-//! // as `node_file::open_node` tells of all pieces in one
+//! // as `node_file::open_node` and `node_file::changed_gate` tell of all pieces in one
 //! let contents = reading.finish()?;
 //! ```
 //!

@@ -1,18 +1,21 @@
 //! What was read of a file: its front, and the records behind it.
 
-ghost use Rattle.std.specs.Prelude.{◌≡◌, ◌≢◌, ◌⊎◌, ◌≤◌, ◌++◌, true, false, ℕ, List, [], length, Err, IfOk, IfErr};
+ghost use Rattle.std.specs.Prelude.{◌≡◌, ◌≢◌, ◌⊎◌, ◌≤◌, ◌++◌, true, false, ℕ, List, [], length, Err, IfOk, IfErr, IsTrue};
 ghost use Rattle.meta_store.specs.Table.{most_keys};
 ghost use Rattle.node_file.specs.declared.fault.FileFault.{FileFault};
 ghost use Rattle.node_file.specs.Fold.{may_follow_life};
 ghost use Rattle.node_file.specs.File.{opened};
+ghost use Rattle.node_file.specs.Gates.{shows_changed_gate};
 ghost use Rattle.file_pieces.specs.Alone.{MayBeHeld};
-ghost use Rattle.file_pieces.specs.Framing.{IsFramed};
+ghost use Rattle.file_pieces.specs.Framing.{IsFramed, IsShut};
 ghost use Rattle.file_pieces.specs.Progress.{HasTaken, told_of, with_said};
+ghost use Rattle.file_pieces.specs.Told.{gate_if_changed};
 
 use crate::alone::{open_alone, read_alone};
 use meta_store::{Store, StoreFault};
 use meta_types::NodeId;
-use node_file::{FileFault, MIN_FILE_LEN, Record};
+use node_file::laws::a_changed_gate_is_seen_close_behind_it;
+use node_file::{FileFault, MAX_LOOKED_AT, MIN_FILE_LEN, Record, changed_gate};
 use std::alloc::{AllocError, Global};
 use std::marker::Model;
 
@@ -28,6 +31,9 @@ pub struct FileContents {
     pub table: Store,
     /// The offset of the closed gate.
     pub gate: usize,
+    /// The offset of the closed gate, if what stands there shows that it was changed on the disk,
+    /// as [`node_file::changed_gate`] tells.
+    pub changed_gate: Option<usize>,
 }
 
 /// What was read of a file.
@@ -69,6 +75,7 @@ impl Progress {
         asked: Option<NodeId>,
     ) -> Result<Progress, FileFault>
         requires ten { length front.now ≡ 10 }
+        ensures at { IfOk result (λ p. p.at ≡ 10) }
         ensures begun { IfOk result (λ p. (rest : List ℕ) → rest ≢ []
             → opened asked (front.now ++ rest) ≡ told_of p rest) }
         ensures refused { IfErr result (λ fault. (fault ≡ FileFault.Memory)
@@ -106,13 +113,51 @@ impl Progress {
         self.has_too_many
     }
 
-    /// Returns what the file stands for if its records end here.
-    pub(crate) fn into_contents(self) -> FileContents
+    /// Returns whether so many bytes from the closed gate on tell what it shows: no byte that
+    /// follows them counts.
+    pub(crate) fn is_seen_in(&self, from_gate: &[u8]) -> bool
+        requires shut { IsShut from_gate.now }
+        ensures { IsTrue result → (following : List ℕ)
+            → shows_changed_gate self.now.version (from_gate.now ++ following)
+            ≡ shows_changed_gate self.now.version from_gate.now }
+    {
+        a_changed_gate_is_seen_close_behind_it();
+        // (for its type)
+        let _ = self.front.len();
+        from_gate.len() >= MAX_LOOKED_AT
+    }
+
+    /// Returns the offset of the closed gate if the bytes from it on show that it was changed.
+    ///
+    /// Refused with 99 `Memory`.
+    pub(crate) fn changed_gate(
+        &self,
+        alloc: Global,
+        from_gate: &[u8],
+    ) -> Result<Option<usize>, FileFault>
+        requires shut { IsShut from_gate.now }
+        ensures value { IfOk result (λ gate. gate
+            ≡ gate_if_changed self.now.version self.now.at from_gate.now) }
+        ensures memory { IfErr result (λ fault. fault ≡ FileFault.Memory) }
+    {
+        let mut bytes = Vec::with_capacity(alloc, FRONT_LEN + from_gate.len())?;
+        bytes.extend_from_slice(&self.front)?;
+        bytes.extend_from_slice(from_gate)?;
+        // (without the records, the gate stands right behind the front)
+        match changed_gate(alloc, &bytes)? {
+            Some(_) => Ok(Some(self.at)),
+            None => Ok(None),
+        }
+    }
+
+    /// Returns what the file stands for if its records end here, with what its closed gate shows.
+    pub(crate) fn into_contents(self, changed_gate: Option<usize>) -> FileContents
         ensures { result ≡ record {
           node = self.node;
           life = self.contents.life;
           table = self.contents.table;
           gate = self.at;
+          changed_gate = changed_gate;
         } }
     {
         FileContents {
@@ -120,6 +165,7 @@ impl Progress {
             life: self.life,
             table: self.table,
             gate: self.at,
+            changed_gate,
         }
     }
 

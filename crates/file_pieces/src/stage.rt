@@ -1,11 +1,11 @@
 //! How far the reading of a file has come.
 
-ghost use Rattle.std.specs.Prelude.{◌≡◌, ◌≢◌, ◌++◌, true, ℕ, List, IfOk, IfErr};
+ghost use Rattle.std.specs.Prelude.{◌≡◌, ◌≢◌, List, ℕ, IfOk, IfErr};
 ghost use Rattle.node_file.specs.declared.fault.FileFault.{FileFault};
-ghost use Rattle.file_pieces.specs.declared.stage.Stage.TheVariants.{Front, Records, Refused};
+ghost use Rattle.file_pieces.specs.declared.stage.Stage.TheVariants.{Ended, Front, Records, Refused};
 ghost use Rattle.file_pieces.specs.Framing.{IsShut};
-ghost use Rattle.file_pieces.specs.Progress.{told_of};
-ghost use Rattle.file_pieces.specs.Told.{HasRead, is_known, told};
+ghost use Rattle.file_pieces.specs.Progress.{ReadSoFar};
+ghost use Rattle.file_pieces.specs.Told.{HasRead};
 
 use crate::first::{First, first_in};
 use crate::progress::{FRONT_LEN, Progress};
@@ -21,7 +21,7 @@ pub(crate) enum Stage {
     Front(Option<NodeId>),
     /// The front was read, and records behind it.
     Records(Progress),
-    /// So was the gate that ends them.
+    /// So were they all. The closed gate that ends them follows.
     Ended(Progress),
     /// The file is refused, whatever follows.
     Refused(FileFault),
@@ -33,13 +33,14 @@ pub(crate) fn read_on(
     stage: Stage,
     bytes: &[u8],
 ) -> Result<(Stage, usize), FileFault>
+    requires shut { (p : ReadSoFar) → stage ≡ Ended p → IsShut bytes.now }
     ensures read { IfOk result (λ r. HasRead stage r.0 r.1 bytes.now) }
     ensures memory { IfErr result (λ fault. fault ≡ FileFault.Memory) }
 {
     match stage {
         Stage::Front(asked) => read_front(alloc, asked, bytes),
         Stage::Records(progress) => read_records(alloc, progress, bytes),
-        Stage::Ended(progress) => Ok((Stage::Ended(progress), bytes.len())),
+        Stage::Ended(progress) => Ok((Stage::Ended(progress), 0)),
         Stage::Refused(fault) => Ok((Stage::Refused(fault), bytes.len())),
     }
 }
@@ -65,7 +66,7 @@ fn read_front(
     Ok((stage, FRONT_LEN + read))
 }
 
-/// Reads whole records, and the gate that ends them.
+/// Reads whole records, up to the gate that ends them.
 fn read_records(alloc: Global, begun: Progress, bytes: &[u8]) -> Result<(Stage, usize), FileFault>
     ensures read { IfOk result (λ r. HasRead (Records begun) r.0 r.1 bytes.now) }
     ensures memory { IfErr result (λ fault. fault ≡ FileFault.Memory) }
@@ -75,7 +76,7 @@ fn read_records(alloc: Global, begun: Progress, bytes: &[u8]) -> Result<(Stage, 
     loop {
         match first_in(rest) {
             First::Unfinished => return Ok((Stage::Records(progress), bytes.len() - rest.len())),
-            First::Shut => return Ok((ended(progress), bytes.len())),
+            First::Shut => return Ok((ended(progress), bytes.len() - rest.len())),
             First::Overlong => return Ok((damaged(progress.at()), bytes.len())),
             First::Framed(len) => {
                 let (record, behind) = rest.split_at(len);
@@ -88,11 +89,9 @@ fn read_records(alloc: Global, begun: Progress, bytes: &[u8]) -> Result<(Stage, 
     }
 }
 
-/// Returns the stage behind the gate that ends the records.
+/// Returns the stage at the gate that ends the records.
 fn ended(progress: Progress) -> Stage
-    ensures known { is_known result ≡ true }
-    ensures tells { (bytes behind following : List ℕ) → IsShut bytes
-        → told result following ≡ told_of progress (bytes ++ behind) }
+    ensures read { (bytes : List ℕ) → IsShut bytes → HasRead (Records progress) result 0 bytes }
 {
     if progress.has_too_many() {
         Stage::Refused(FileFault::Store(StoreFault::StoreFull))

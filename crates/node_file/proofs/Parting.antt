@@ -1,5 +1,5 @@
 -- The parts of a file that stands for something: whole records, a closed gate, and whatever is behind it.
-use Rattle.std.proofs.Common.{◌≡◌, ◌≢◌, inl, inr, ℕ, zero, suc, ◌+◌, ◌-◌, ◌≤◌, List, [], ◌∷◌, ◌++◌, length, take, drop, Option, Some, None, Result, Ok, Err, Bool, true, false, cond, nat_lt, is_err, refl, sym, ◌∙◌, ap, subst, arith, append_assoc, length-append, length-take, length-drop, take-append-drop}
+use Rattle.std.proofs.Common.{◌≡◌, ◌≢◌, inl, inr, ℕ, zero, suc, ◌+◌, ◌-◌, ◌≤◌, List, [], ◌∷◌, ◌++◌, length, take, drop, Option, Some, None, Result, Ok, Err, Bool, true, false, cond, nat_lt, refl, sym, ◌∙◌, ap, subst, arith, append_assoc, length-append, length-take, length-drop, take-append-drop}
 use Rattle.std.specs.Int.{w32, from_be_bytes}
 use Rattle.std.proofs.lemmas.Bool.{cases_eq}
 use Rattle.std.proofs.lemmas.Bool.Decides.{nat_tests}
@@ -216,22 +216,6 @@ unfolded bytes le = rw (not_below (length bytes) 11 le) refl
 pub long_enough : (bytes : List ℕ) (o : FileState × ℕ) → opened None bytes ≡ Ok o → 11 ≤ length bytes
 unfolding opened
 long_enough bytes o e = at_least (length bytes) 11 (guard_ok _ _ _ o e).0
-
--- ---- a front that is none
-
-of_fault : (total behind : ℕ × List ℕ) (r : Result (ℕ × ℕ) FileFault) → is_err r ≡ true → for_node None total.0 total.1 r ≡ for_node None behind.0 behind.1 r
-of_fault total behind (Ok front) e = absurd cc
-of_fault total behind (Err fault) e = refl
-
--- what stands behind it is nothing
-pub refused_front : (front rest : List ℕ) → 11 ≤ length front → is_err (front_in (take 10 front)) ≡ true → opened None (front ++ rest) ≡ opened None front
-refused_front front rest long e =
-    let longer : 11 ≤ length (front ++ rest) = omega (arith, long, length-append front rest) in
-    let same : take 10 (front ++ rest) ≡ take 10 front = take-append-le 10 front rest (omega (arith, long)) in
-    unfolded (front ++ rest) longer
-    ∙ ap (λ (ten : List ℕ). for_node None (length (front ++ rest)) (drop 10 (front ++ rest)) (front_in ten)) same
-    ∙ of_fault (length (front ++ rest), drop 10 (front ++ rest)) (length front, drop 10 front) (front_in (take 10 front)) e
-    ∙ sym (unfolded front long)
 
 pub walked : (version : ℕ) (c : Contents) (skip : ℕ) (b : List ℕ) → contents_from version c skip b ≡ fold_records may_follow with_record version c skip b
 unfolding contents_from

@@ -1,5 +1,5 @@
 -- A whole file: what it stands for, or its first fault. The rule is our own.
-use Rattle.std.specs.Prelude.{◌≡◌, ◌⊎◌, ℕ, ◌+◌, ◌-◌, List, [], ◌∷◌, ◌++◌, length, take, drop, Option, Some, None, Result, Ok, Err, Bool, false, true, ◌&&◌, nat_le, nat_lt, is_err, ◌==◌, if◌then◌else◌}
+use Rattle.std.specs.Prelude.{◌≡◌, ◌⊎◌, ℕ, ◌+◌, ◌-◌, List, [], ◌∷◌, ◌++◌, length, take, drop, Option, Some, None, Result, Ok, Err, Bool, false, true, nat_lt, ◌==◌, if◌then◌else◌}
 use Rattle.std.specs.Int.{w16, from_be_bytes, to_be_bytes}
 use Rattle.std.specs.Str.{bytes_eq}
 use Rattle.meta_store.specs.Table.{Table, most_keys}
@@ -42,10 +42,6 @@ front_of (Some version) node = if nat_lt 15 node then Err (Damaged 8) else Ok (v
 -- the version and the node of a file's first ten bytes
 unfoldable pub front_in : List ℕ → Result (ℕ × ℕ) FileFault
 front_in bytes = front_of (version_of (take 8 bytes)) (from_be_bytes w16 (drop 8 bytes))
-
--- there are enough bytes for a front and a gate, and the front is none
-abbrev pub is_refused_by_front : List ℕ → Bool
-is_refused_by_front bytes = nat_le 11 (length bytes) && is_err (front_in (take 10 bytes))
 
 -- ---- the first fault
 

@@ -1,7 +1,7 @@
 //! What the bytes of a file stand for.
 
-ghost use Rattle.std.specs.Prelude.{◌≡◌, ◌≢◌, ◌++◌, ℕ, List, length, None, Ok, IfOk, IsTrue};
-ghost use Rattle.node_file.specs.File.{front_in, is_refused_by_front, opened};
+ghost use Rattle.std.specs.Prelude.{◌≡◌, ◌≢◌, length, None, Ok, IfOk};
+ghost use Rattle.node_file.specs.File.{front_in, opened};
 ghost use Rattle.node_file.specs.Reads.{OpensAs};
 ghost use Rattle.node_file.specs.Refusal.{refusal_of_life};
 ghost use Rattle.meta_types.specs.Node.{IsNode};
@@ -81,17 +81,6 @@ pub(crate) fn read_front(bytes: &[u8]) -> Result<(u8, NodeId), FileFault>
         Ok(node) => Ok((version, node)),
         Err(_) => Err(FileFault::Damaged { at: 8 }),
     }
-}
-
-/// Returns whether a file that begins with these bytes is refused for its front: its magic, or the
-/// number of its node. Opening it then returns what opening these bytes alone does, so that no more
-/// need be read. Returns `false` for fewer than `MIN_FILE_LEN` bytes.
-pub fn is_refused_by_front(front: &[u8]) -> bool
-    ensures value { result ≡ is_refused_by_front front.now }
-    ensures whatever_follows { IsTrue result → (rest : List ℕ)
-        → opened None (front.now ++ rest) ≡ opened None front.now }
-{
-    front.len() >= MIN_FILE_LEN && read_front(&front[..FRONT_LEN]).is_err()
 }
 
 /// Returns what the bytes of a file stand for.

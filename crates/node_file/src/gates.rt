@@ -1,17 +1,13 @@
 //! Gates that were changed on the disk.
 
-ghost use Rattle.std.specs.Prelude.{◌≡◌, ◌<◌, ◌≤◌, length, IfOk, IfErr, IfSome, OnOk};
-ghost use Rattle.devices.specs.Device.{IsDurable, LeavesOnly};
-ghost use Rattle.node_file.specs.Fault.{IsOfDevice};
+ghost use Rattle.std.specs.Prelude.{◌≡◌, ◌<◌, ◌≤◌, length, IfOk, IfErr, IfSome};
 ghost use Rattle.node_file.specs.Gates.{changed_gate, end_of_records, goes_on, shows_changed_gate, size_in};
 ghost use Rattle.node_file.specs.declared.fault.FileFault.{FileFault};
 
 use crate::fault::FileFault;
 use crate::found::{FRONT_LEN, read_front};
-use crate::opening::read_all;
 use crate::reading::{LENGTH_AND_DIGEST, read_record};
 use crate::record::{CLOSED_GATE, MAX_PAYLOAD_LEN, OPEN_GATE};
-use devices::Device;
 use std::alloc::Global;
 
 /// Of how many bytes from the end of the records on `changed_gate` looks at the first: of two
@@ -123,25 +119,4 @@ pub fn changed_gate(alloc: Global, bytes: &[u8]) -> Result<Option<usize>, FileFa
     } else {
         Ok(None)
     }
-}
-
-/// Returns what [`changed_gate`] returns of the bytes of a device, which stays as it is. Refused
-/// with 30 `Device` and 99 `Memory`. It takes memory for two records, and for the bytes of a device
-/// that doesn't hold them.
-pub fn changed_gate_of<D: Device>(alloc: Global, device: &mut D) -> Result<Option<usize>, FileFault>
-    requires pending { IsDurable (D.content device.old) (D.may_leave device.old) }
-    ensures value { IfOk result (λ gate. gate ≡ changed_gate (D.content device.old)) }
-    ensures refused { IfErr result (λ fault.
-        IsOfDevice fault (D.failed device.old) (D.failed device.new)) }
-    ensures same { D.content device.new ≡ D.content device.old }
-    ensures durable { IsDurable (D.content device.new) (D.may_leave device.new) }
-    ensures any_moment { LeavesOnly D.moment D.left_since device.old device.new
-        (λ c. c ≡ D.content device.old) }
-    ensures still { OnOk result (D.failed device.new ≡ D.failed device.old) }
-{
-    if let Some(bytes) = device.held() {
-        return changed_gate(alloc, bytes);
-    }
-    let bytes = read_all(alloc, device)?;
-    changed_gate(alloc, &bytes)
 }

@@ -75,7 +75,7 @@ pub fn serve_bytes(alloc: Global, bytes: &[u8], asked: Option<NodeId>) -> Result
 }
 
 /// Returns the bytes of a clean copy of a file: of the same node, last life and table, with one
-/// record for each key, as [`NodeFile::rewrite`](crate::NodeFile::rewrite) writes them.
+/// record for each key, as [`rewrite`](crate::rewrite) writes them.
 ///
 /// Refused as [`open_node`](crate::open_node) is, except with 30 `Device`. It takes memory for the
 /// table, and for the copy three times.

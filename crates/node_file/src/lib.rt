@@ -28,9 +28,11 @@ mod record;
 mod rewriting;
 
 pub use fault::FileFault;
-pub use found::{MAX_FILE_LEN, MIN_FILE_LEN, is_refused_by_front};
-pub use gates::{MAX_LOOKED_AT, changed_gate, changed_gate_of, end_of_records};
+pub use found::{MAX_FILE_LEN, MIN_FILE_LEN};
+pub use gates::{MAX_LOOKED_AT, changed_gate, end_of_records};
 pub use hosted::{Served, clean_copy, serve_bytes, spell_append};
 pub use node_file::NodeFile;
 pub use opening::{create, empty_file, open_node, serve};
+pub use reading::read_record;
 pub use record::Record;
+pub use rewriting::rewrite;

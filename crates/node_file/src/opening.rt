@@ -240,7 +240,7 @@ pub(crate) fn stands_for(
 }
 
 /// Returns all the bytes of a device.
-pub(crate) fn read_all<D: Device>(alloc: Global, device: &mut D) -> Result<Vec<u8>, DeviceFault>
+fn read_all<D: Device>(alloc: Global, device: &mut D) -> Result<Vec<u8>, DeviceFault>
     ensures value { IfOk result (λ bytes. bytes.items ≡ D.content device.old) }
     ensures same { D.content device.new ≡ D.content device.old }
     ensures crash { LeavesNoMore (D.may_leave device.old) (D.may_leave device.new) }

@@ -75,9 +75,11 @@ fn read_payload(alloc: Global, version: u8, bytes: &[u8]) -> Result<Record, Fiel
 }
 
 /// Reads the first record of these bytes, which begin after its gate. Returns what it says, and how
-/// many bytes it takes; `None` if it isn't whole. Fails only when memory runs out.
+/// many bytes it takes; `None` if it isn't whole.
+///
+/// Refused with 99 `Memory` alone. It takes memory for the key and the object.
 #[tactic(auto, unfolding(crate::specs::Record::record_in, crate::specs::Record::record_of_length))]
-pub(crate) fn read_record(
+pub fn read_record(
     alloc: Global,
     version: u8,
     bytes: &[u8],

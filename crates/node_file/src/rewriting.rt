@@ -16,7 +16,6 @@ ghost use Rattle.node_file.specs.declared.record.Record.TheVariants.{Object};
 
 use crate::fault::FileFault;
 use crate::found::FRONT_LEN;
-use crate::node_file::NodeFile;
 use crate::opening::write_front;
 use crate::record::{NewRecord, spell_record};
 use devices::Device;
@@ -25,37 +24,32 @@ use meta_store::{Rows, Store};
 use meta_types::{FullPrefix, MetaKey, NodeId};
 use std::alloc::Global;
 
-impl<D: Device> NodeFile<D> {
-    /// Makes the target a file of the same node with this table and this last life, 0 for none:
-    /// one record for the life, unless it is 0, and one for each key, in order. After `Ok` it is
-    /// durable.
-    ///
-    /// Refused with 30 `Device` and 99 `Memory`; the target may hold anything then, and has to be
-    /// made again. It takes memory for one record at a time, and makes one write for each.
-    pub fn rewrite<E: Device>(
-        &self,
-        alloc: Global,
-        table: &Store,
-        life: u32,
-        target: &mut E,
-    ) -> Result<(), FileFault>
-        ensures stands { OnOk result
-            (StandsFor (new_state self.now.node life table.now) (E.content target.new)) }
-        ensures bytes { OnOk result
-            (E.content target.new ≡ clean_bytes self.now.node life table.now) }
-        ensures durable { OnOk result
-            (IsDurable (E.content target.new) (E.may_leave target.new)) }
-        ensures refused { IfErr result (λ fault.
-            IsOfDevice fault (E.failed target.old) (E.failed target.new)) }
-        ensures still { OnOk result (E.failed target.new ≡ E.failed target.old) }
-    {
-        // What it holds isn't needed any more.
-        target.drop_copy();
-        write_file(alloc, self.node(), table, life, target)
-    }
+/// Makes the target a file of the node with this table and this last life, 0 for none: one record
+/// for the life, unless it is 0, and one for each key, in order. After `Ok` it is durable.
+///
+/// Refused with 30 `Device` and 99 `Memory`; the target may hold anything then, and has to be made
+/// again. It takes memory for one record at a time, and makes one write for each.
+pub fn rewrite<E: Device>(
+    alloc: Global,
+    node: NodeId,
+    table: &Store,
+    life: u32,
+    target: &mut E,
+) -> Result<(), FileFault>
+    ensures stands { OnOk result
+        (StandsFor (new_state node life table.now) (E.content target.new)) }
+    ensures bytes { OnOk result (E.content target.new ≡ clean_bytes node life table.now) }
+    ensures durable { OnOk result (IsDurable (E.content target.new) (E.may_leave target.new)) }
+    ensures refused { IfErr result (λ fault.
+        IsOfDevice fault (E.failed target.old) (E.failed target.new)) }
+    ensures still { OnOk result (E.failed target.new ≡ E.failed target.old) }
+{
+    // What it holds isn't needed any more.
+    target.drop_copy();
+    write_file(alloc, node, table, life, target)
 }
 
-/// Makes the target a file of the node, as `NodeFile::rewrite` does.
+/// Makes the target a file of the node, as `rewrite` does.
 pub(crate) fn write_file<E: Device>(
     alloc: Global,
     node: NodeId,

@@ -5,7 +5,7 @@ ghost use Rattle.std.specs.Prelude.{◌≢◌};
 use crate::command::OUTPUT_LEN;
 use crate::progress::{Known, told};
 use plumctl_core::tell;
-use plumctl_file::{Purpose, Reported, compact_path, copy_to_path, report_path};
+use plumctl_file::{Purpose, compact_path, copy_to_path, report_path};
 use std::io::BufWriter;
 use std::sync::Wait;
 use std::thread::Threads;
@@ -45,8 +45,8 @@ fn report(rt: &HostRuntime, path: &str, copied: Option<Copied<'_>>) -> u8
         Some(_) => Purpose::Copy,
         None => Purpose::Report,
     };
-    let (status, reported) = report_path(rt, path, purpose, &mut writer, &mut errors);
-    let Some(Reported::Shown(shown)) = reported else {
+    let (status, shown) = report_path(rt, path, purpose, &mut writer, &mut errors);
+    let Some(shown) = shown else {
         return status;
     };
     match copied {

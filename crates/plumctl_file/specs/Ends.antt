@@ -2,10 +2,9 @@
 -- error.
 --
 -- The statuses: 0 done, 1 the bytes are no file, or one with too many keys, or one whose closed
--- gate shows that it was changed, 3 a path couldn't be
--- opened, or a device or a writer failed, 4 memory ran out. Wrong arguments, with status 2, start
--- nothing.
-use Rattle.std.specs.Prelude.{◌≡◌, ◌⊎◌, ℕ, nat_eq, if◌then◌else◌, List, [], ◌∷◌, Option, Some, None, Result, Ok, Err, Bool, true, false, MatchBool, codes}
+-- gate shows that it was changed, 3 a path couldn't be opened, or reading or writing failed, 4
+-- memory ran out. Wrong arguments, with status 2, start nothing.
+use Rattle.std.specs.Prelude.{◌≡◌, ◌⊎◌, ℕ, nat_eq, if◌then◌else◌, List, [], ◌∷◌, Result, Ok, Err, MatchBool, codes}
 use Rattle.devices.specs.Device.{HasFailed, IsDurable}
 use Rattle.devices.specs.declared.opening.OpenFault.{OpenFault}
 use Rattle.devices.specs.declared.opening.OpenFault.TheVariants as opening
@@ -15,15 +14,15 @@ use Rattle.node_file.specs.Clean.{clean_bytes}
 use Rattle.node_file.specs.File.{StandsFor, new_state}
 use Rattle.streams.specs.declared.fault.StreamFault.{StreamFault}
 use Rattle.streams.specs.declared.fault.StreamFault.TheVariants as streams
-use Rattle.streams.specs.Moment.{SinkAt}
+use Rattle.streams.specs.Moment.{SinkAt, SourceAt}
 use Rattle.scenario_stage.specs.Printed.{line}
 use Rattle.plumctl_core.specs.Opening.{TellsText, cause_line}
 use Rattle.plumctl_core.specs.Status.{TellsFault, status_of_fault}
-use Rattle.plumctl_file.specs.declared.report.ShownFile.{ShownFile}
+use Rattle.file_pieces.specs.declared.progress.FileContents.{FileContents}
 use Rattle.plumctl_file.specs.declared.report.Reported.{Reported}
 use Rattle.plumctl_file.specs.declared.report.Reported.TheVariants.{Shown, Refused, Stopped}
-use Rattle.plumctl_file.specs.Report.{refusal_line}
-use Rattle.plumctl_file.specs.Reported.{IsQuiet, IsShown, WritesOut, WritesFront, PrintsReport, IfShown, device_of}
+use Rattle.plumctl_file.specs.Report.{refusal_line, warning_of}
+use Rattle.plumctl_file.specs.Reported.{IsQuiet, WritesOut, WritesFront, PrintsReport, is_memory}
 
 -- standard output and standard error at a moment
 pub record Outputs : Type 1 where
@@ -56,7 +55,7 @@ cause_of_unmade opening.Failed = codes "may not be made or locked, or the disk f
 abbrev pub write_failed : List ℕ
 write_failed = codes "could not be written"
 
--- why bytes are refused: of a device that failed; and of bytes that are damaged at 0, which are
+-- why bytes are refused: of a reader that failed; and of bytes that are damaged at 0, which are
 -- those that `begins_otherwise` (`laws::damage_at_0_is_another_beginning`)
 abbrev pub cause_of : FileFault → List ℕ
 cause_of files.Device = codes "could not be read"
@@ -118,40 +117,31 @@ TellsWarning (byte ∷ bytes) old new status = (status ≡ 1) × TellsText old n
 
 -- the status of a report, and what is printed at standard error: the warning of a file that was
 -- shown, the cause of a refusal, and a fault that stopped the report
-abbrev pub TellsReport : {D : Type 0} → (name : List ℕ) → (old new : SinkAt) → Reported D → ℕ
-    → Type 0
-TellsReport name old new (Shown shown) status = TellsWarning shown.warning.items old new status
-TellsReport name old new (Refused back fault) status =
+abbrev pub TellsReport : (name : List ℕ) → (old new : SinkAt) → Reported → ℕ → Type 0
+TellsReport name old new (Shown file) status =
+    TellsWarning (warning_of file.changed_gate) old new status
+TellsReport name old new (Refused fault) status =
     TellsRefusal name (cause_of fault) (status_of_refusal fault) old new status
-TellsReport name old new (Stopped back fault) status =
+TellsReport name old new (Stopped fault) status =
     (status ≡ status_of_fault fault) × TellsFault old new fault
 
--- how `file` ends, by how the path of this name was opened
-abbrev pub EndsFile : {D : Type 0} → (name : List ℕ) → (D → List ℕ) → (D → ℕ)
-    → Result D OpenFault → (old new : Outputs) → ℕ → Option (Reported D) → Type 0
-EndsFile name content failed (Ok device) old new status (Some reported) =
-    PrintsReport content failed device old.writer new.writer reported
-    × TellsReport name old.errors new.errors reported status
-EndsFile name content failed (Err fault) old new status None =
-    EndsUnopened cause_of_path name fault old new status
-EndsFile name content failed found old new status reported = ⊥
+-- how `file` ends, of what a reader gave that stands at the path of this name
+pub record EndsFile (name : List ℕ) (reader_old reader_new : SourceAt) (old new : Outputs)
+    (status : ℕ) (reported : Reported) : Type 0 where
+  pub printed : PrintsReport reader_old reader_new old.writer new.writer reported
+  pub told : TellsReport name old.errors new.errors reported status
 
 -- ---- `file --rewrite`, of a file that was shown
 
 -- the target is the clean copy of the file that was shown, and every crash leaves it
-pub record FinishesRewrite {D T : Type 0} (content : T → List ℕ)
-    (may_leave : T → List ℕ → Type 0) (shown : ShownFile D) (target : T) (old new : Outputs)
-    (status : ℕ) : Type 0 where
+pub record FinishesRewrite (bytes : List ℕ) (may_leave : List ℕ → Type 0) (file : FileContents)
+    (old new : Outputs) (status : ℕ) : Type 0 where
   pub status_is : status ≡ 0
-  pub stands : StandsFor (new_state shown.file.node shown.file.life shown.table) (content target)
-  pub spelled : content target ≡ clean_bytes shown.file.node shown.file.life shown.table
-  pub durable : IsDurable (content target) (may_leave target)
+  pub stands : StandsFor (new_state file.node file.life file.table) bytes
+  pub spelled : bytes ≡ clean_bytes file.node file.life file.table
+  pub durable : IsDurable bytes may_leave
   pub unprinted : IsQuiet old.writer new.writer
   pub quiet : IsQuiet old.errors new.errors
-
-abbrev pub is_memory : FileFault → Bool
-is_memory files.Memory = true
-is_memory fault = false
 
 -- what is printed about the copy at the path `out`, by how making it ended
 abbrev pub EndsCopy : (out : List ℕ) → Result Unit FileFault → (old new : Outputs) → ℕ → Type 0
@@ -176,28 +166,10 @@ pub record RefusesCopy (old new : Outputs) (status : ℕ) : Type 0 where
   pub unprinted : IsQuiet old.writer new.writer
   pub told : TellsText old.errors new.errors no_copy
 
--- how it ends, by how its target was opened, and what has become of the target
-abbrev pub EndsRewrite : {D T : Type 0} → (out : List ℕ) → (T → List ℕ)
-    → (T → List ℕ → Type 0) → (T → ℕ) → ShownFile D → Result T OpenFault → Option T
-    → (old new : Outputs) → ℕ → Type 0
-EndsRewrite out content may_leave failed shown (Ok target) (Some now) old new status =
-    FinishesRewrite content may_leave shown now old new status
-    ⊎ FailsRewrite out (failed target) (failed now) old new status
-EndsRewrite out content may_leave failed shown (Err fault) None old new status =
-    EndsUnopened cause_of_unmade out fault old new status
-EndsRewrite out content may_leave failed shown found now old new status = ⊥
-
--- ---- what `file` hands out
-
--- a file that was shown is the one that the device holds
-abbrev pub HandsOutShown : {D : Type 0} → (D → List ℕ) → (D → List ℕ → Type 0)
-    → Result D OpenFault → Option (Reported D) → Type 0
-HandsOutShown content may_leave (Ok device) (Some reported) =
-    IfShown reported (IsShown content may_leave device)
-HandsOutShown content may_leave found reported = Unit {0}
-
--- the device comes back, and holds what it held
-abbrev pub HandsBack : {D : Type 0} → (D → D → Type 0) → Result D OpenFault
-    → Option (Reported D) → Type 0
-HandsBack untouched (Ok device) (Some reported) = untouched device (device_of reported)
-HandsBack untouched found reported = Unit {0}
+-- how it ends, by what its target then holds, what a crash may leave of it, and how often it had
+-- failed before and has now
+abbrev pub EndsRewrite : (out : List ℕ) → FileContents → List ℕ → (List ℕ → Type 0)
+    → (before now : ℕ) → (old new : Outputs) → ℕ → Type 0
+EndsRewrite out file bytes may_leave before now old new status =
+    FinishesRewrite bytes may_leave file old new status
+    ⊎ FailsRewrite out before now old new status

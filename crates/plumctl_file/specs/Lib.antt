@@ -1,6 +1,8 @@
 -- the lines of a report
 pub mod Report
--- what a report says of a device, and how it stops
+-- what a reader gave of a file
+pub mod Read
+-- what was printed of it, and how that stops
 pub mod Reported
 -- how the program ends
 pub mod Ends

@@ -1,5 +1,5 @@
 -- What `plumctl file` prints of a node's file: a rule of this project.
-use Rattle.std.specs.Prelude.{ℕ, Bool, nat_eq, nat_lt, if◌then◌else◌, List, [], ◌++◌, length, take, is_none, Option, Some, None, Result, Ok, Err, codes, decimal}
+use Rattle.std.specs.Prelude.{ℕ, Bool, nat_eq, nat_lt, if◌then◌else◌, List, [], ◌++◌, length, take, is_none, Option, Some, None, codes, decimal}
 use Rattle.std.specs.List.{flat_map}
 use Rattle.dvvset.specs.Object.{Entry}
 use Rattle.meta_types.specs.Name.{Key}
@@ -7,7 +7,7 @@ use Rattle.meta_store.specs.Table.{Table}
 use Rattle.node_file.specs.declared.fault.FileFault.{FileFault}
 use Rattle.node_file.specs.declared.fault.FileFault.TheVariants.{Damaged}
 use Rattle.node_file.specs.Fault.{code_of, fault_name}
-use Rattle.node_file.specs.File.{FileState, version_of}
+use Rattle.node_file.specs.File.{version_of}
 use Rattle.printing.specs.Field.{key_text}
 use Rattle.printing.specs.Object.{object_text}
 use Rattle.scenario_stage.specs.Meaning.{root_text}
@@ -52,9 +52,3 @@ begins_otherwise bytes =
     if nat_lt (length bytes) 11
     then nat_eq (length bytes) 0
     else is_none (version_of (take 8 bytes))
-
--- of what bytes stand for, or why they are no file
-abbrev pub printed_of : Result (FileState × ℕ) FileFault → List ℕ
-printed_of (Ok file) =
-    report_text file.0.node file.0.contents.life file.0.contents.table
-printed_of (Err fault) = refusal_line fault

@@ -2,12 +2,12 @@
 
 ghost use Rattle.std.specs.Prelude.{◌≡◌, ◌≢◌};
 ghost use Rattle.plumctl_core.specs.Opening.{cause_line};
-ghost use Rattle.plumctl_file.specs.Ends.{EndsWithDevice, cause_of_path, cause_of_unmade};
+ghost use Rattle.plumctl_file.specs.Ends.{EndsUnopened, EndsWithDevice, cause_of_path, cause_of_unmade};
 
 use crate::report::print;
 use devices::OpenFault;
 use plumctl_core::{tell, tell_cause};
-use streams::Sink;
+use streams::{Sink, StreamFault};
 
 /// Why a file that was opened is not shown.
 pub(crate) const READ_FAILED: &str = "could not be read";
@@ -68,5 +68,41 @@ pub(crate) fn tell_device<W: Sink, E: Sink>(
             3
         }
         Err(fault) => tell(errors, fault),
+    }
+}
+
+/// Tells that the file at a path couldn't be opened to be read, and returns the exit status.
+pub(crate) fn tell_unread<W: Sink, E: Sink>(
+    writer: &mut W,
+    errors: &mut E,
+    path: &str,
+    fault: OpenFault,
+) -> u8
+    ensures not_usage { result ≢ 2 }
+    ensures ends { EndsUnopened cause_of_path path.now fault
+        (record { writer = W.at writer.old; errors = E.at errors.old })
+        (record { writer = W.at writer.new; errors = E.at errors.new }) result }
+{
+    match fault {
+        OpenFault::Memory => tell(errors, StreamFault::Memory),
+        fault => tell_device(writer, errors, path, cause_of_path(fault)),
+    }
+}
+
+/// Tells that nothing could be made at a path, and returns the exit status.
+pub(crate) fn tell_unmade<W: Sink, E: Sink>(
+    writer: &mut W,
+    errors: &mut E,
+    path: &str,
+    fault: OpenFault,
+) -> u8
+    ensures not_usage { result ≢ 2 }
+    ensures ends { EndsUnopened cause_of_unmade path.now fault
+        (record { writer = W.at writer.old; errors = E.at errors.old })
+        (record { writer = W.at writer.new; errors = E.at errors.new }) result }
+{
+    match fault {
+        OpenFault::Memory => tell(errors, StreamFault::Memory),
+        fault => tell_device(writer, errors, path, cause_of_unmade(fault)),
     }
 }

@@ -1,40 +1,63 @@
-//! Reporting what a device holds.
+//! Reporting what a reader gives of a node's file.
 
-ghost use Rattle.std.specs.Prelude.{◌≡◌, ◌⊎◌, false, None, Ok, Err, OnOk, IfOk, IfErr};
-ghost use Rattle.devices.specs.Device.{IsDurable, LeavesOnly};
-ghost use Rattle.node_file.specs.Fault.{IsOfDevice};
-ghost use Rattle.node_file.specs.File.{file_state, opened};
-ghost use Rattle.node_file.specs.Gates.{changed_gate};
-ghost use Rattle.node_file.specs.View.{IsSettled};
-ghost use Rattle.streams.specs.Fault.{IsWriterFault};
-ghost use Rattle.plumctl_file.specs.Reported.{IfShown, IsShown, IsUntouched, WritesOut, WritesFront, PrintsReport, device_of};
+ghost use Rattle.std.specs.Prelude.{◌≡◌, false, OnOk, IfErr};
+ghost use Rattle.plumctl_file.specs.Report.{refusal_line, warning_of};
+ghost use Rattle.plumctl_file.specs.Reported.{PrintsReport, StopsRefusal, WritesFront, WritesOut, is_memory};
 
+use crate::reading::read_file;
+use crate::run::is_memory;
 use crate::text::{refusal_of, texts_of};
-use devices::Device;
-use meta_store::Store;
-use node_file::{FileFault, NodeFile, changed_gate_of, open_node};
+use file_pieces::FileContents;
+use node_file::FileFault;
 use std::alloc::Global;
-use streams::{Sink, StreamFault, flush, write_whole};
+use std::marker::Model;
+use streams::{Sink, Source, StreamFault, flush, write_whole};
 
-/// A file that was shown, and its table.
+/// A file that was shown.
 #[derive(Drop)]
-pub struct ShownFile<D: Device> {
-    pub file: NodeFile<D>,
-    pub table: Store,
-    /// What is said of it at standard error: nothing, or that its closed gate may have been changed
-    /// on the disk, so that records behind it are lost.
-    pub warning: Vec<u8>,
+pub struct ShownFile {
+    contents: FileContents,
+    warning: Vec<u8>,
 }
 
-/// What was reported of a device.
+impl Model for ShownFile {
+    ghost use Rattle.std.specs.Prelude.{◌≡◌};
+    ghost use Rattle.file_pieces.specs.declared.progress.FileContents.{FileContents};
+    ghost use Rattle.plumctl_file.specs.Report.{warning_of};
+
+    ghost Value = { FileContents };
+
+    ghost view = { λ s. s.contents };
+
+    ghost invariant = { λ s. s.warning.items ≡ warning_of s.contents.changed_gate };
+}
+
+impl ShownFile {
+    /// Returns what the file holds.
+    pub fn contents(&self) -> &FileContents
+        ensures { result.now ≡ self.now }
+    {
+        &self.contents
+    }
+
+    /// Returns what is said of the file at standard error: nothing, or that its closed gate may
+    /// have been changed on the disk, so that records behind it are lost.
+    pub fn warning(&self) -> &[u8]
+        ensures { result.now ≡ warning_of self.now.changed_gate }
+    {
+        &self.warning
+    }
+}
+
+/// What was reported of a reader.
 #[derive(Drop)]
-pub enum Reported<D: Device> {
-    /// It holds the file of a node.
-    Shown(ShownFile<D>),
-    /// It holds none, or failed. The device comes back.
-    Refused(D, FileFault),
-    /// The report could not be written, or memory ran out. The device comes back.
-    Stopped(D, StreamFault),
+pub enum Reported {
+    /// It gave the file of a node.
+    Shown(ShownFile),
+    /// It gave none, or failed.
+    Refused(FileFault),
+    /// The report could not be written, or memory ran out.
+    Stopped(StreamFault),
 }
 
 /// Writes a text and passes it on. Refused as `streams::write_whole` is.
@@ -47,85 +70,52 @@ pub fn print<W: Sink>(writer: &mut W, text: &[u8]) -> Result<(), StreamFault>
     flush(writer)
 }
 
-/// Prints what a device holds that may be the file of any node: a line of the node, its last life
-/// and how many keys there are, a line for each key in order, and a line of the root of the table's
-/// tree; or the line of the refusal, as `error 31 Damaged at 10`. Nothing of the device changes.
-/// Whoever passes the report on says the file's warning too.
+/// Prints what a reader gives from a first byte on, which may be the file of any node: a line of the
+/// node, its last life and how many keys there are, a line for each key in order, and a line of the
+/// root of the table's tree; or the line of the refusal, as `error 31 Damaged at 10`. Whoever passes
+/// the report on says the file's warning too.
 ///
-/// Refused with 31 `Damaged`, 25 `StoreFull` and 30 `Device`, as `open_node` refuses if no node
-/// is asked for. Stopped by 99 `Memory`, which may come at any time before the first byte is
-/// written, and by a fault of the writer. It takes memory for the table, for its tree, and for the
-/// whole text.
-pub fn file_report<D: Device + Drop, W: Sink>(
-    alloc: Global,
-    device: D,
-    writer: &mut W,
-) -> Reported<D>
-    requires pending { IsDurable (D.content device) (D.may_leave device) }
-    ensures printed { PrintsReport D.content D.failed device (W.at writer.old) (W.at writer.new)
+/// Refused with 31 `Damaged`, 25 `StoreFull` and 30 `Device`, as `node_file::open_node` refuses if
+/// no node is asked for; 30 comes at the first error of the reader. Stopped by 99 `Memory`, which
+/// may come at any time before the first byte is written, and by a fault of the writer. It takes
+/// memory for the table, for its tree, and for the whole text, and for one record of the file.
+pub fn file_report<R: Source, W: Sink>(alloc: Global, reader: &mut R, writer: &mut W) -> Reported
+    ensures { PrintsReport (R.at reader.old) (R.at reader.new) (W.at writer.old) (W.at writer.new)
         result }
-    ensures shown { IfShown result (IsShown D.content D.may_leave device) }
-    ensures untouched { IsUntouched D.content D.may_leave D.moment D.left_since device
-        (device_of result) }
 {
-    match open_and_look(alloc, device) {
-        Ok((file, table, life, changed)) => {
-            let Ok((text, warning)) = texts_of(alloc, file.node(), life, &table, changed) else {
-                return Reported::Stopped(file.into_device(), StreamFault::Memory);
+    match read_file(alloc, reader) {
+        Ok(contents) => {
+            let Ok((text, warning)) = texts_of(alloc, &contents) else {
+                return Reported::Stopped(StreamFault::Memory);
             };
             match print(writer, &text) {
-                Ok(()) => Reported::Shown(ShownFile {
-                    file,
-                    table,
-                    warning,
-                }),
-                Err(fault) => Reported::Stopped(file.into_device(), fault),
+                Ok(()) => Reported::Shown(ShownFile { contents, warning }),
+                Err(fault) => Reported::Stopped(fault),
             }
         }
-        Err((device, FileFault::Memory)) => Reported::Stopped(device, StreamFault::Memory),
-        Err((device, fault)) => {
-            let printed = match refusal_of(alloc, &fault) {
-                Ok(text) => print(writer, &text),
-                Err(_) => Err(StreamFault::Memory),
-            };
-            match printed {
-                Ok(()) => Reported::Refused(device, fault),
-                Err(stopped) => Reported::Stopped(device, stopped),
-            }
-        }
+        Err(fault) => match print_refusal(alloc, &fault, writer) {
+            Ok(()) => Reported::Refused(fault),
+            Err(stopped) => Reported::Stopped(stopped),
+        },
     }
 }
 
-/// Opens a file as `open_node` does, and looks whether its closed gate shows that it was changed.
-fn open_and_look<D: Device + Drop>(
+/// Prints the line of a refusal. Refused with 99 `Memory` before anything is written, also if that
+/// is the refusal, and as `print` is.
+fn print_refusal<W: Sink>(
     alloc: Global,
-    device: D,
-) -> Result<(NodeFile<D>, Store, u32, Option<usize>), (D, FileFault)>
-    requires pending { IsDurable (D.content device) (D.may_leave device) }
-    ensures ok { IfOk result (λ r. opened None (D.content device)
-        ≡ Ok (file_state (D.content device), r.0.gate)) }
-    ensures table { IfOk result (λ r. r.1 ≡ (file_state (D.content device)).contents.table) }
-    ensures life { IfOk result (λ r. r.2 ≡ (file_state (D.content device)).contents.life) }
-    ensures changed { IfOk result (λ r. r.3 ≡ changed_gate (D.content device)) }
-    ensures settled { IfOk result (λ r. IsSettled D.content D.may_leave r.0) }
-    ensures unserved { IfOk result (λ r. (r.0.is_stopped ≡ false) × (r.0.is_served ≡ false)) }
-    ensures same { IfOk result (λ r. D.content r.0.device ≡ D.content device) }
-    ensures still { IfOk result (λ r. D.failed r.0.device ≡ D.failed device) }
-    ensures refused { IfErr result (λ e. IsOfDevice e.1 (D.failed device) (D.failed e.0)
-        ⊎ (opened None (D.content device) ≡ Err e.1)) }
-    ensures same_refused { IfErr result (λ e. (D.content e.0 ≡ D.content device)
-        × IsDurable (D.content e.0) (D.may_leave e.0)) }
-    ensures any_moment { IfOk result (λ r. LeavesOnly D.moment D.left_since device r.0.device
-        (λ c. c ≡ D.content device)) }
-    ensures any_moment_refused { IfErr result (λ e. LeavesOnly D.moment D.left_since device e.0
-        (λ c. c ≡ D.content device)) }
+    fault: &FileFault,
+    writer: &mut W,
+) -> Result<(), StreamFault>
+    ensures ok { OnOk result ((is_memory fault.now ≡ false)
+        × WritesOut (W.at writer.old) (W.at writer.new) (refusal_line fault.now)) }
+    ensures err { IfErr result (StopsRefusal fault.now (W.at writer.old) (W.at writer.new)) }
 {
-    let mut device = device;
-    match changed_gate_of(alloc, &mut device) {
-        Err(fault) => Err((device, fault)),
-        Ok(changed) => match open_node(alloc, device, None) {
-            Err((device, fault)) => Err((device, fault)),
-            Ok((file, table, life)) => Ok((file, table, life, changed)),
-        },
+    if is_memory(fault) {
+        return Err(StreamFault::Memory);
     }
+    let Ok(text) = refusal_of(alloc, fault) else {
+        return Err(StreamFault::Memory);
+    };
+    print(writer, &text)
 }

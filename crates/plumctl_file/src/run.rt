@@ -1,20 +1,17 @@
 //! The command `file`.
 
-ghost use Rattle.std.specs.Prelude.{◌≡◌, ◌≢◌, [], IfOk, Some};
-ghost use Rattle.devices.specs.Device.{IsDurable};
-ghost use Rattle.plumctl_file.specs.Ends.{EndsCopy, EndsFile, EndsRewrite, HandsBack, HandsOutShown, RefusesCopy, TellsRefusal, TellsWarning, cause_of, is_memory, no_copy, status_of_refusal};
-ghost use Rattle.plumctl_file.specs.Reported.{IsUntouched};
+ghost use Rattle.std.specs.Prelude.{◌≡◌, ◌≢◌, None};
+ghost use Rattle.plumctl_file.specs.Ends.{EndsCopy, EndsFile, EndsRewrite, RefusesCopy, TellsRefusal, TellsWarning, cause_of, no_copy, status_of_refusal};
+ghost use Rattle.plumctl_file.specs.Reported.{is_memory};
 ghost use Rattle.plumctl_core.specs.Opening.{TellsText};
 
-use crate::cause::{
-    BEGINS_OTHERWISE, READ_FAILED, WRITE_FAILED, cause_of_path, cause_of_unmade, tell_device,
-};
+use crate::cause::{BEGINS_OTHERWISE, READ_FAILED, WRITE_FAILED, tell_device};
 use crate::report::{Reported, ShownFile, file_report};
-use devices::{Device, OpenFault};
-use node_file::FileFault;
+use devices::Device;
+use node_file::{FileFault, rewrite};
 use plumctl_core::{tell, tell_cause, tell_text};
 use std::alloc::Global;
-use streams::{Sink, StreamFault};
+use streams::{Sink, Source, StreamFault};
 
 /// Returns why bytes are refused, if that is said at standard error.
 fn cause_of(fault: &FileFault) -> &'static str
@@ -63,44 +60,31 @@ fn told_warning<E: Sink>(errors: &mut E, warning: &[u8]) -> u8
     1
 }
 
-/// Reports what is at a path, by how it was opened, and returns the exit status with what was
-/// reported, if the path was opened: 0 if a file was shown, 1 if the bytes are no file, or
-/// one with too many keys, or one whose closed gate shows that it was changed, 3 if the path
-/// couldn't be opened, the device failed or the report couldn't be written, 4 if memory was
-/// refused. Prints what `file_report` prints, or `error 30 Device`; and at `errors` the path and
-/// why it couldn't be opened or read, or that its bytes don't begin as a node file does, the
-/// warning of a changed gate, and a fault of the writer, or of memory.
-pub fn run_file<D: Device + Drop, W: Sink, E: Sink>(
+/// Reports what a reader gives of the file at a path, and returns the exit status with what was
+/// reported: 0 if a file was shown, 1 if the bytes are no file, or one with too many keys, or one
+/// whose closed gate shows that it was changed, 3 if the reader failed or the report couldn't be
+/// written, 4 if memory was refused. Prints what `file_report` prints; and at `errors` the path and
+/// that it couldn't be read, or that its bytes don't begin as a node file does, the warning of a
+/// changed gate, and a fault of the writer, or of memory.
+pub fn run_file<R: Source, W: Sink, E: Sink>(
     alloc: Global,
     path: &str,
-    found: Result<D, OpenFault>,
+    reader: &mut R,
     writer: &mut W,
     errors: &mut E,
-) -> (u8, Option<Reported<D>>)
-    requires pending { IfOk found (λ device. IsDurable (D.content device) (D.may_leave device)) }
+) -> (u8, Reported)
     ensures not_usage { result.0 ≢ 2 }
-    ensures ends { EndsFile path.now D.content D.failed found
+    ensures ends { EndsFile path.now (R.at reader.old) (R.at reader.new)
         (record { writer = W.at writer.old; errors = E.at errors.old })
         (record { writer = W.at writer.new; errors = E.at errors.new }) result.0 result.1 }
-    ensures shown { HandsOutShown D.content D.may_leave found result.1 }
-    ensures untouched { HandsBack (IsUntouched D.content D.may_leave D.moment D.left_since)
-        found result.1 }
 {
-    let device = match found {
-        Ok(device) => device,
-        Err(OpenFault::Memory) => return (tell(errors, StreamFault::Memory), None),
-        Err(fault) => {
-            let cause = cause_of_path(fault);
-            return (tell_device(writer, errors, path, cause), None);
-        }
-    };
-    let reported = file_report(alloc, device, writer);
+    let reported = file_report(alloc, reader, writer);
     let status = match &reported {
-        Reported::Shown(shown) => told_warning(errors, &shown.warning),
-        Reported::Refused(_, fault) => refused(errors, path, fault),
-        Reported::Stopped(_, fault) => tell(errors, *fault),
+        Reported::Shown(shown) => told_warning(errors, shown.warning()),
+        Reported::Refused(fault) => refused(errors, path, fault),
+        Reported::Stopped(fault) => tell(errors, *fault),
     };
-    (status, Some(reported))
+    (status, reported)
 }
 
 /// What is said if a copy was asked for of a file with a changed gate.
@@ -116,64 +100,39 @@ pub(crate) fn tell_no_copy<E: Sink>(errors: &mut E) -> u8
     1
 }
 
-/// Writes a clean copy of a file that was shown, with the same node, last life and table, to the
-/// target at the path `out`, by how it was opened. Returns the exit status, with the target where
-/// it was opened: 0 if every crash leaves the copy there, 3 if it couldn't be made or failed,
-/// which prints `error 30 Device`, 4 if memory was refused. After 3 and 4 the target may hold
-/// anything. The report was printed before.
+/// Makes the target, whose path is `out`, a clean copy of a file that was shown, with the same node,
+/// last life and table. Returns the exit status: 0 if every crash leaves the copy there, 3 if the
+/// target failed, which prints `error 30 Device`, 4 if memory was refused. After 3 and 4 the target
+/// may hold anything. The report was printed before.
 ///
 /// Of a file with a warning no copy is made, which would lack the records behind the gate: that is
 /// printed at `errors`, the target stays as it is, and the status is 1.
-pub fn run_rewrite<D: Device, T: Device, W: Sink, E: Sink>(
+pub fn run_rewrite<T: Device, W: Sink, E: Sink>(
     alloc: Global,
-    shown: &ShownFile<D>,
+    shown: &ShownFile,
     out: &str,
-    target: Result<T, OpenFault>,
+    target: &mut T,
     writer: &mut W,
     errors: &mut E,
-) -> (u8, Option<T>)
-    ensures not_usage { result.0 ≢ 2 }
-    ensures warned { shown.now.warning.items ≢ [] → RefusesCopy
+) -> u8
+    ensures not_usage { result ≢ 2 }
+    ensures warned { shown.now.changed_gate ≢ None → RefusesCopy
         (record { writer = W.at writer.old; errors = E.at errors.old })
-        (record { writer = W.at writer.new; errors = E.at errors.new }) result.0 }
-    ensures untouched { shown.now.warning.items ≢ []
-        → IfOk target (λ given. result.1 ≡ Some given) }
-    ensures ends { shown.now.warning.items ≡ []
-        → EndsRewrite out.now T.content T.may_leave T.failed shown.now target result.1
+        (record { writer = W.at writer.new; errors = E.at errors.new }) result }
+    ensures untouched { shown.now.changed_gate ≢ None → target.new ≡ target.old }
+    ensures ends { shown.now.changed_gate ≡ None → EndsRewrite out.now shown.now
+        (T.content target.new) (T.may_leave target.new) (T.failed target.old) (T.failed target.new)
         (record { writer = W.at writer.old; errors = E.at errors.old })
-        (record { writer = W.at writer.new; errors = E.at errors.new }) result.0 }
+        (record { writer = W.at writer.new; errors = E.at errors.new }) result }
 {
-    if shown.warning.is_empty() {
-        return rewrite_shown(alloc, shown, out, target, writer, errors);
-    }
-    (tell_no_copy(errors), target.ok())
-}
-
-/// Does that for a file without a warning.
-fn rewrite_shown<D: Device, T: Device, W: Sink, E: Sink>(
-    alloc: Global,
-    shown: &ShownFile<D>,
-    out: &str,
-    target: Result<T, OpenFault>,
-    writer: &mut W,
-    errors: &mut E,
-) -> (u8, Option<T>)
-    ensures not_usage { result.0 ≢ 2 }
-    ensures ends { EndsRewrite out.now T.content T.may_leave T.failed shown.now target result.1
-        (record { writer = W.at writer.old; errors = E.at errors.old })
-        (record { writer = W.at writer.new; errors = E.at errors.new }) result.0 }
-{
-    let mut target = match target {
-        Ok(target) => target,
-        Err(OpenFault::Memory) => return (tell(errors, StreamFault::Memory), None),
-        Err(fault) => {
-            let cause = cause_of_unmade(fault);
-            return (tell_device(writer, errors, out, cause), None);
+    let file = shown.contents();
+    match file.changed_gate {
+        Some(_) => tell_no_copy(errors),
+        None => {
+            let made = rewrite(alloc, file.node, &file.table, file.life, target);
+            copied(out, made, writer, errors)
         }
-    };
-    let file = &shown.file;
-    let made = file.rewrite(alloc, &shown.table, file.life(), &mut target);
-    (copied(out, made, writer, errors), Some(target))
+    }
 }
 
 /// Prints how the making of a copy ended, if it failed, and returns the exit status.
@@ -200,7 +159,7 @@ fn copied<W: Sink, E: Sink>(
     }
 }
 
-fn is_memory(fault: &FileFault) -> bool
+pub(crate) fn is_memory(fault: &FileFault) -> bool
     ensures { result ≡ is_memory fault.now }
 {
     matches!(fault, FileFault::Memory)

@@ -5,9 +5,11 @@ ghost use Rattle.std.specs.List.{flat_map};
 ghost use Rattle.meta_store.specs.Kept.{rows_under};
 ghost use Rattle.scenario_stage.specs.Meaning.{root_text};
 ghost use Rattle.scenario_stage.specs.Printed.{line};
-ghost use Rattle.plumctl_file.specs.Report.{key_line, node_line, place_text, refusal_line, report_text, warning_of};
+ghost use Rattle.plumctl_file.specs.Report.{key_line, node_line, place_text, refusal_line, warning_of};
+ghost use Rattle.plumctl_file.specs.Reported.{whole_report};
 
 use dvvset::Entries;
+use file_pieces::FileContents;
 use hash_tree::plain_root;
 use meta_store::{Rows, Store};
 use meta_types::{ByteString, FullPrefix, MetaKey, NodeId};
@@ -77,13 +79,14 @@ fn add_root(alloc: Global, text: &mut Vec<u8>, table: &Store) -> Result<(), Allo
     Ok(())
 }
 
-/// The report of a file of this node, with this last life and this table.
+/// The report of a file.
 #[tactic(auto, unfolding(crate::specs::Report::report_text))]
-fn report_of(alloc: Global, node: NodeId, life: u32, table: &Store) -> Result<Vec<u8>, AllocError>
-    ensures { IfOk result (λ text. text.items ≡ report_text node life table.now) }
+fn report_of(alloc: Global, file: &FileContents) -> Result<Vec<u8>, AllocError>
+    ensures { IfOk result (λ text. text.items ≡ whole_report file.now) }
 {
+    let table = &file.table;
     let mut text = Vec::new(alloc);
-    add_node(&mut text, node, life, table.len())?;
+    add_node(&mut text, file.node, file.life, table.len())?;
     add_table(&mut text, table)?;
     add_root(alloc, &mut text, table)?;
     Ok(text)
@@ -117,18 +120,12 @@ fn warning_of(alloc: Global, changed: Option<usize>) -> Result<Vec<u8>, AllocErr
 }
 
 /// The report of a file, and what is said of it at standard error.
-pub(crate) fn texts_of(
-    alloc: Global,
-    node: NodeId,
-    life: u32,
-    table: &Store,
-    changed: Option<usize>,
-) -> Result<(Vec<u8>, Vec<u8>), AllocError>
-    ensures { IfOk result (λ texts. (texts.0.items ≡ report_text node life table.now)
-        × (texts.1.items ≡ warning_of changed)) }
+pub(crate) fn texts_of(alloc: Global, file: &FileContents) -> Result<(Vec<u8>, Vec<u8>), AllocError>
+    ensures { IfOk result (λ texts. (texts.0.items ≡ whole_report file.now)
+        × (texts.1.items ≡ warning_of file.now.changed_gate)) }
 {
-    let report = report_of(alloc, node, life, table)?;
-    Ok((report, warning_of(alloc, changed)?))
+    let report = report_of(alloc, file)?;
+    Ok((report, warning_of(alloc, file.changed_gate)?))
 }
 
 /// The line of a refusal.

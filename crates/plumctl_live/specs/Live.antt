@@ -144,9 +144,9 @@ note_of_stopped (Some counts) = if nat_eq counts.stopped 0 then []
     else line (codes "note: a device failed, and its node made no more turns")
 
 -- what is printed at standard error about what became of a run
-abbrev pub told_of : Option Counts → Result World LiveFault → List ℕ
-told_of counts (Ok w) = note_of_stopped counts
-told_of counts (Err fault) = told_of_fault fault
+abbrev pub told_after : Option Counts → Result World LiveFault → List ℕ
+told_after counts (Ok w) = note_of_stopped counts
+told_after counts (Err fault) = told_of_fault fault
 
 -- beside any verdict but 60 to 63 there are no words; of what they say nothing is said
 abbrev pub MaySayWhy : Result World LiveFault → (words : List ℕ) → Type 0
@@ -165,7 +165,7 @@ pub record PrintsLive (plan : ClusterPlan) (counts : Option Counts)
     : Type 0 where
   pub status_is : status ≡ status_of_verdict judged
   pub prints : WritesOut old.writer new.writer (live_text plan counts judged)
-  pub told : TellsText old.errors new.errors (words_or_line words (told_of counts judged))
+  pub told : TellsText old.errors new.errors (words_or_line words (told_after counts judged))
 
 -- a fault of the writer is printed at standard error where no fault of the run is; the note and the
 -- words aren't printed then

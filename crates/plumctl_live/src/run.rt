@@ -3,7 +3,7 @@
 ghost use Rattle.std.specs.Prelude.{◌≡◌, ◌≢◌, All, IfOk, length};
 ghost use Rattle.devices.specs.Device.{IsDurable};
 ghost use Rattle.run_record.specs.Record.{IsOfARun};
-ghost use Rattle.plumctl_live.specs.Live.{EndsLive, IsJudgedAndTold, IsNewRun, IsRunOn, MaySayWhy, Judges, TellsStop, counts_of, status_of_verdict, told_of, told_of_fault, words_or_line};
+ghost use Rattle.plumctl_live.specs.Live.{EndsLive, IsJudgedAndTold, IsNewRun, IsRunOn, MaySayWhy, Judges, TellsStop, counts_of, status_of_verdict, told_after, told_of_fault, words_or_line};
 
 use crate::counts::Counts;
 use crate::judged::{LiveFault, judge};
@@ -66,8 +66,8 @@ fn told_of_fault(fault: &LiveFault) -> &'static str
 }
 
 /// Returns what is printed at standard error about what became of a run.
-fn told_of(counts: Option<Counts>, judged: &Result<World, LiveFault>) -> &'static str
-    ensures { result.now ≡ told_of counts judged.now }
+fn told_after(counts: Option<Counts>, judged: &Result<World, LiveFault>) -> &'static str
+    ensures { result.now ≡ told_after counts judged.now }
 {
     match judged {
         Ok(_) => match counts {
@@ -122,7 +122,7 @@ fn report<W: Sink, E: Sink>(
     };
     match print(writer, text.as_slice()) {
         Ok(()) => {
-            let told = told_of(counts, judged).as_bytes();
+            let told = told_after(counts, judged).as_bytes();
             let _ = write_whole(errors, words_or_line(words, told));
             status_of_verdict(judged)
         }

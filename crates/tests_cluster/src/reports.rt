@@ -1,12 +1,9 @@
-//! Reports of a node's file, to writers that are full at any byte, and of a device that fails once.
+//! Reports of a node's file, to writers that are full at any byte, and of a reader that fails.
 
-ghost use Rattle.std.specs.Prelude.{◌≡◌};
-ghost use Rattle.devices.specs.Device.{IsDurable};
-
-use devices::{Device, FailsOnce, MemoryDevice};
 use node_file::FileFault;
 use plumctl_file::{Reported, file_report};
 use std::alloc::Global;
+use std::io::{self, ErrorKind, Read};
 use std::process::Abort;
 use streams::{MayFail, StreamFault};
 
@@ -23,30 +20,13 @@ key a/b/k ctx 0.1:1 values x
 root 4368d585cc1af0cf1167149ae68c0ee7ed5714817d2a67e966816308178e4dff
 ";
 
-/// Returns a device in memory that holds the file.
-fn device(rt: &impl Abort, alloc: Global) -> MemoryDevice
-    ensures { IsDurable
-        (⟦<MemoryDevice as Device>⟧.content result) (⟦<MemoryDevice as Device>⟧.may_leave result) }
-{
-    let bytes = FILE.to_vec(alloc).expect(rt, "memory");
-    MemoryDevice::new(alloc, bytes).expect(rt, "memory")
-}
-
-/// Returns whether the report was stopped by the writer, and the device holds what it held.
-fn is_stopped(reported: &Reported<MemoryDevice>) -> bool {
-    match reported {
-        Reported::Stopped(device, StreamFault::Write) => device.content() == FILE,
-        _ => false,
-    }
-}
-
 /// Returns whether a report to a writer with room for `room` bytes is stopped, and a front of it
 /// was written.
-fn has_front(rt: &impl Abort, alloc: Global, room: usize) -> bool {
+fn has_front(alloc: Global, room: usize) -> bool {
     let mut taken = [0u8; 200];
     let mut writer = MayFail(&mut taken[..room.min(200)]);
-    let reported = file_report(alloc, device(rt, alloc), &mut writer);
-    let is_stopped = is_stopped(&reported);
+    let reported = file_report(alloc, &mut &*FILE, &mut writer);
+    let is_stopped = matches!(reported, Reported::Stopped(StreamFault::Write));
     drop(reported);
     is_stopped && REPORT.get(..room) == taken.get(..room)
 }
@@ -54,30 +34,36 @@ fn has_front(rt: &impl Abort, alloc: Global, room: usize) -> bool {
 #[test]
 fn a_report_that_is_stopped_at_any_byte_has_a_front(rt: HostRuntime) {
     for room in 0..REPORT.len() {
-        assert!(&rt; has_front(&rt, rt.alloc(), room), "{room} bytes");
+        assert!(&rt; has_front(rt.alloc(), room), "{room} bytes");
     }
-    assert!(&rt; !has_front(&rt, rt.alloc(), REPORT.len()));
+    assert!(&rt; !has_front(rt.alloc(), REPORT.len()));
 }
 
-/// Returns whether the report of the device that comes back is whole.
-fn is_reported<D: Device + Drop>(alloc: Global, device: D) -> bool
-    requires { IsDurable (D.content device) (D.may_leave device) }
-{
-    let mut printed = Vec::new(alloc);
-    drop(file_report(alloc, device, &mut printed));
-    printed.as_slice() == REPORT
+/// A reader that gives bytes, and then fails.
+#[derive(Drop)]
+struct Torn<'a>(&'a [u8]);
+
+impl Read for Torn<'_> {
+    ghost use Rattle.std.specs.Prelude.{None};
+
+    ghost remaining = { λ _. None };
+
+    fn read(&mut self, piece: &mut [u8]) -> io::Result<usize> {
+        if self.0.is_empty() {
+            return Err(ErrorKind::Other.into());
+        }
+        self.0.read(piece)
+    }
 }
 
 #[test]
-fn a_read_that_fails_is_reported_once(rt: HostRuntime) {
-    let mut printed = Vec::new(rt.alloc());
-    let device = FailsOnce::new(device(&rt, rt.alloc()), 0);
-    let again = match file_report(rt.alloc(), device, &mut printed) {
-        Reported::Refused(device, FileFault::Device) => is_reported(rt.alloc(), device),
-        other => {
-            drop(other);
-            false
-        }
-    };
-    assert!(&rt; again && printed.as_slice() == b"error 30 Device\n".as_slice());
+fn a_read_that_fails_at_any_byte_is_told(rt: HostRuntime) {
+    for len in 0..FILE.len() {
+        let mut printed = Vec::new(rt.alloc());
+        let mut reader = MayFail(Torn(&FILE[..len]));
+        let reported = file_report(rt.alloc(), &mut reader, &mut printed);
+        let is_told = matches!(reported, Reported::Refused(FileFault::Device));
+        drop(reported);
+        assert!(&rt; is_told && printed.as_slice() == b"error 30 Device\n".as_slice());
+    }
 }

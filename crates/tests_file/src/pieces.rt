@@ -1,10 +1,11 @@
-//! Files that come in pieces: what is told of them is what opening all the bytes in one tells.
+//! Files that come in pieces: what is told of them is what opening all the bytes in one tells, and
+//! what `changed_gate` tells of them.
 
-use crate::files::{EMPTY, LIVES, OLD, OLD_TWO, ONE, ROWS, SERVED, TWO};
+use crate::files::{EMPTY, GATES, LIVES, OLD, OLD_TWO, ONE, ROWS, SERVED, TWO};
 use crate::keys::with_keys;
 use crate::parts::{found_in, node, told};
 use file_pieces::Reading;
-use node_file::FileFault;
+use node_file::{FileFault, MAX_LOOKED_AT, changed_gate};
 use std::alloc::Global;
 
 /// Returns what the reading of a file tells that came in these pieces, one after the other, each of
@@ -97,12 +98,74 @@ fn another_node_is_refused_in_pieces(rt: HostRuntime) {
     assert!(rt; reading.finish().err() == Some(FileFault::OtherNode));
 }
 
+/// Returns what the reading of a file tells of its closed gate that came in pieces of `len` bytes.
+fn shown_in_pieces(alloc: Global, bytes: &[u8], len: usize) -> Result<Option<usize>, FileFault> {
+    let mut reading = Reading::new(alloc, None);
+    for piece in bytes.chunks(len.max(1)) {
+        reading.push(piece)?;
+    }
+    let contents = reading.finish()?;
+    Ok(contents.changed_gate)
+}
+
+/// Returns whether the file with this byte at this place shows the same gate in pieces of each
+/// length up to 17 bytes as in one.
+fn is_shown_in_pieces(alloc: Global, file: &[u8], at: usize, byte: u8) -> bool {
+    let Ok(mut bytes) = file.to_vec(alloc) else {
+        return false;
+    };
+    if let Some(place) = bytes.get_mut(at) {
+        *place = byte;
+    }
+    let Ok(wanted) = changed_gate(alloc, &bytes) else {
+        return false;
+    };
+    for len in 1..=17 {
+        if shown_in_pieces(alloc, &bytes, len).ok() != Some(wanted) {
+            return false;
+        }
+    }
+    true
+}
+
 #[test]
-fn a_reading_is_told_with_the_gate(rt: HostRuntime) {
+fn each_changed_gate_is_shown_in_pieces(rt: HostRuntime) {
+    for at in GATES {
+        for byte in [0, 2, 3, 255] {
+            let is_same = is_shown_in_pieces(rt.alloc(), LIVES, *at, byte);
+            assert!(rt; is_same, "gate at {at}, byte {byte}");
+        }
+    }
+    assert!(rt; is_shown_in_pieces(rt.alloc(), OLD_TWO, 10, 0));
+}
+
+#[test]
+fn a_changed_gate_is_shown_with_its_offset(rt: HostRuntime) {
+    let mut bytes = LIVES.to_vec(rt.alloc()).expect(&rt, "memory");
+    for at in [129, 10] {
+        if let Some(gate) = bytes.get_mut(at) {
+            *gate = 0;
+        }
+        assert!(rt; shown_in_pieces(rt.alloc(), &bytes, 5).ok() == Some(Some(at)));
+    }
+}
+
+#[test]
+fn files_as_they_are_written_show_no_changed_gate_in_pieces(rt: HostRuntime) {
+    for bytes in [EMPTY, SERVED, ONE, TWO, LIVES, OLD, OLD_TWO] {
+        assert!(rt; shown_in_pieces(rt.alloc(), bytes, 7).ok() == Some(None));
+    }
+}
+
+#[test]
+fn a_reading_is_told_once_all_that_is_looked_at_has_come(rt: HostRuntime) {
     let mut reading = Reading::new(rt.alloc(), None);
-    let (front, gate) = ONE.split_at(ONE.len() - 1);
-    assert!(rt; reading.push(front).is_ok() && !reading.is_told());
-    assert!(rt; reading.push(gate).is_ok() && reading.is_told());
+    assert!(rt; reading.push(ONE).is_ok() && !reading.is_told());
+    let behind = vec![in rt.alloc(); 0; MAX_LOOKED_AT - 2].expect(&rt, "memory");
+    assert!(rt; reading.push(&behind).is_ok() && !reading.is_told());
+    assert!(rt; reading.push(&[0]).is_ok() && reading.is_told());
+    assert!(rt; reading.push(&[1]).is_ok() && reading.is_told());
+    assert!(rt; reading.finish().is_ok());
 }
 
 /// Returns whether a file with two records is read; `None` if memory is refused.

@@ -7,7 +7,7 @@ use devices::MemoryDevice;
 use dvvset::Entries;
 use meta_store::size::may_be_held;
 use meta_types::MetaKey;
-use node_file::{FileFault, NodeFile, open_node, serve};
+use node_file::{FileFault, NodeFile, open_node, rewrite, serve};
 use std::alloc::Global;
 
 /// Returns whether the bytes open as one of the two: the last life and the number of keys.
@@ -99,7 +99,7 @@ fn is_written_anew(alloc: Global) -> Option<bool> {
         },
     };
     let mut target = device(alloc, b"").ok()?;
-    match file.rewrite(alloc, &table, life, &mut target) {
+    match rewrite(alloc, file.node(), &table, life, &mut target) {
         Ok(()) => Some(target.content() == TWO_ANEW),
         Err(fault) => if fault == FileFault::Memory {
             None

@@ -8,7 +8,7 @@ use crate::files::{TWO, TWO_ANEW};
 use crate::parts::{device, found_in, node, object, write};
 use devices::{Call, Device, FailsAfter, MemoryDevice};
 use meta_store::Store;
-use node_file::{FileFault, NodeFile, create, open_node, serve};
+use node_file::{FileFault, NodeFile, create, open_node, rewrite, serve};
 use std::alloc::Global;
 use std::cmp::Ordering;
 use std::process::Abort;
@@ -214,7 +214,7 @@ fn anew_after(rt: &impl Abort, alloc: Global, passed: u64) -> (u16, MemoryDevice
     let source = device(alloc, TWO).expect(rt, "memory");
     let (file, table, life) = open_node(alloc, source, None).ok().expect(rt, "a file");
     let mut target = FailsAfter::new(device(alloc, b"").expect(rt, "memory"), passed);
-    let code = match file.rewrite(alloc, &table, life, &mut target) {
+    let code = match rewrite(alloc, file.node(), &table, life, &mut target) {
         Ok(()) => 0,
         Err(fault) => fault.code(),
     };

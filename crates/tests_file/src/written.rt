@@ -9,7 +9,7 @@ use crate::files::{
 use crate::parts::{device, node, object, write};
 use devices::{Device, MemoryDevice};
 use meta_store::Store;
-use node_file::{NodeFile, clean_copy, create, open_node, serve};
+use node_file::{NodeFile, clean_copy, create, open_node, rewrite, serve};
 use std::alloc::Global;
 use std::process::Abort;
 
@@ -35,8 +35,7 @@ fn anew(rt: &impl Abort, alloc: Global, bytes: &[u8]) -> MemoryDevice {
     let source = device(alloc, bytes).expect(rt, "memory");
     let (file, table, life) = open_node(alloc, source, None).ok().expect(rt, "a file");
     let mut target = device(alloc, b"something").expect(rt, "memory");
-    file.rewrite(alloc, &table, life, &mut target)
-        .expect(rt, "a file anew");
+    rewrite(alloc, file.node(), &table, life, &mut target).expect(rt, "a file anew");
     target
 }
 

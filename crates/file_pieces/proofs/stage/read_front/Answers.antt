@@ -10,4 +10,4 @@ returns-clause-read c =
     let split : c.args.bytes.now ≡ front ++ behind = grind (arith, common_steps) in
     let ten : length front ≡ 10 = grind (arith, common_steps) in
     let some : 1 ≤ length behind = grind (arith, common_steps) in
-    behind_front c.args.asked c.in-Ok.progress c.in_ok-stage.stage c.in_ok-stage.read front behind c.args.bytes.now split ten some c.in-Ok.ensures.begun c.in_ok-stage.ensures.read
+    behind_front c.args.asked c.in-Ok.progress c.in_ok-stage.stage c.in_ok-stage.read front behind c.args.bytes.now split ten some c.in-Ok.ensures.at c.in-Ok.ensures.begun c.in_ok-stage.ensures.read

@@ -1,5 +1,5 @@
 use Rattle.std.proofs.Common.{◌≡◌, false, sym, ◌∙◌}
-use Rattle.plumctl_file.specs.Ends.{is_memory}
+use Rattle.plumctl_file.specs.Reported.{is_memory}
 use Rattle.plumctl_file.proofs.run.copied.Goals as goal
 
 pub returns-else-is_memory-clause-ends : goal.returns-else-is_memory-clause-ends

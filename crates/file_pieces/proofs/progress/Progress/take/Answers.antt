@@ -20,7 +20,7 @@ returns-then-not-branch-clause-taken c =
     c.in_ok-take_in.ensures.follows c.if-not-branch.true (c.in_ok-take_in.ensures.same c.if-not-branch.true)
 
 pub returns-clause-taken : goal.returns-clause-taken
-returns-clause-taken c = λ rest.
+returns-clause-taken c =
     let p : ReadSoFar = c.args.self.now in
     let new : ReadSoFar = c.take_in.new.self in
     let at : ℕ = c.in-Some.at in
@@ -28,7 +28,9 @@ returns-clause-taken c = λ rest.
     let version : version_in front ≡ p.version = ap version_in c.deref.ensures.value ∙ ap (λ (q : ReadSoFar). q.version) c.self.view_is in
     let here : c.self.inside.at ≡ p.at = ap (λ (q : ReadSoFar). q.at) c.self.view_is in
     let table : c.self.inside.table ≡ p.contents.table = ap (λ (q : ReadSoFar). q.contents.table) c.self.view_is in
-    let sum : at ≡ p.at + length c.args.bytes.now = omega (arith, c.in-Some.ensures, here) in
-    ap (λ (q : ReadSoFar). told_of (at_with q at) rest) c.self-2.view_is
-    ∙ took_said p new c.args.bytes.now front c.self.inside.table at c.in_ok-said.field-0 c.in-Some-2.said c.in_ok-take_in.field-0 version c.in-Some-2.is c.requires.framed c.in_ok-said.ensures.value
-    c.in_ok-take_in.ensures.follows c.if-not-branch.false (c.in_ok-take_in.ensures.taken c.if-not-branch.false) c.len.ensures.is_table table sum rest
+    let sum : at ≡ p.at + length c.args.bytes.now = omega (arith, c.in-Some.ensures, here) in (
+      sum,
+      λ rest. ap (λ (q : ReadSoFar). told_of (at_with q at) rest) c.self-2.view_is
+          ∙ took_said p new c.args.bytes.now front c.self.inside.table at c.in_ok-said.field-0 c.in-Some-2.said c.in_ok-take_in.field-0 version c.in-Some-2.is c.requires.framed c.in_ok-said.ensures.value
+          c.in_ok-take_in.ensures.follows c.if-not-branch.false (c.in_ok-take_in.ensures.taken c.if-not-branch.false) c.len.ensures.is_table table sum rest,
+    )
