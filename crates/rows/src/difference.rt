@@ -1,6 +1,6 @@
 //! Where two texts differ.
 
-use crate::rows::print_line;
+use crate::line::print_line;
 use std::alloc::AllocError;
 
 /// Returns how many lines both texts begin with.

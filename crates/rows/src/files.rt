@@ -2,8 +2,8 @@
 //! what is reported, what would be printed at standard error, and the exit status; and for a file
 //! that was shown, the bytes of its clean copy in digits.
 
-use devices::{FileDevice, MemoryDevice};
-use plumctl_file::{Purpose, Reported, ShownFile, report_path, run_rewrite};
+use devices::MemoryDevice;
+use plumctl_file::{Purpose, ShownFile, report_path, run_rewrite};
 use std::alloc::AllocError;
 use std::io;
 
@@ -28,13 +28,13 @@ fn print_text(rt: &HostRuntime, before: &str, bytes: &[u8]) -> io::Result<()> {
 fn show(rt: &HostRuntime, path: &str) -> io::Result<()> {
     let mut printed = Vec::new(rt.alloc());
     let mut told = Vec::new(rt.alloc());
-    let (status, reported) = report_path(rt, path, Purpose::Report, &mut printed, &mut told);
+    let (status, shown) = report_path(rt, path, Purpose::Report, &mut printed, &mut told);
     print_text(rt, "", &printed)?;
     print_text(rt, "told ", &told)?;
     println!(rt; "status {status}")?;
-    match reported {
-        Some(Reported::Shown(shown)) => print_copy(rt, &shown),
-        _ => Ok(()),
+    match shown {
+        Some(shown) => print_copy(rt, shown.file()),
+        None => Ok(()),
     }
 }
 
@@ -43,22 +43,21 @@ fn new_device(rt: &HostRuntime) -> Result<MemoryDevice, AllocError> {
 }
 
 /// Prints the bytes of a clean copy.
-fn print_copy(rt: &HostRuntime, shown: &ShownFile<FileDevice>) -> io::Result<()> {
+fn print_copy(rt: &HostRuntime, shown: &ShownFile) -> io::Result<()> {
     let mut printed = Vec::new(rt.alloc());
     let mut told = Vec::new(rt.alloc());
-    let target = new_device(rt)?;
-    match run_rewrite(
+    let mut target = new_device(rt)?;
+    let status = run_rewrite(
         rt.alloc(),
         shown,
         "copy",
-        Ok(target),
+        &mut target,
         &mut printed,
         &mut told,
-    ) {
-        (0, Some(target)) => {
-            let digits = hex::encode(rt.alloc(), target.content())?;
-            println!(rt; "anew {digits}")
-        }
-        (status, _) => println!(rt; "no copy, status {status}"),
+    );
+    if status != 0 {
+        return println!(rt; "no copy, status {status}");
     }
+    let digits = hex::encode(rt.alloc(), target.content())?;
+    println!(rt; "anew {digits}")
 }

@@ -5,30 +5,32 @@
 //! - after a line `%% journals`, rows of journals, and what comes of putting them together;
 //! - after a line `%% node files`, paths, and what is reported on each.
 //!
+//! A line is read whole before anything is done. One that is mistyped, or names what isn't there,
+//! is printed with its number. Then the program ends with status 1, and so it does if a row
+//! differs.
+//!
 //! The gate compares what it prints with the stored text, so rows cost no proof.
 //!
-//! Read `rows`, `row` and `report` with `difference`; then `scenarios`, `schedule` and `past`;
-//! `overlay`, `node`, `views`, `broadcast`, `words` and `print` with `fault`; `journals` with its
-//! folder; and `files`.
+//! Read `rows`, `between` and `row`, and `report`, with `line`, `fault` and `difference`; then
+//! `scenarios`; `schedule`, `overlay` and `journals`, each with its folder, and `words`; and
+//! `files`.
 #![tactic(auto)]
 
-mod broadcast;
+mod between;
 mod difference;
 mod fault;
 mod files;
 mod journals;
-mod node;
+mod line;
 mod overlay;
-mod past;
-mod print;
 mod report;
 mod row;
 mod rows;
 mod scenarios;
 mod schedule;
-mod views;
 mod words;
 
+use line::Section;
 use resolvers::{Largest, Lww, Resolver};
 use rows::report_of;
 use std::io::{self, ErrorKind};
@@ -37,7 +39,8 @@ use streams::{MayFail, StreamFault, write_whole};
 
 fn main(rt: HostRuntime) -> ExitCode {
     ExitCode::from(match run(&rt) {
-        Ok(()) => 0,
+        Ok(true) => 0,
+        Ok(false) => 1,
         Err(fault) => told_fault(&rt, fault),
     })
 }
@@ -48,8 +51,8 @@ const JOURNALS: &str = "%% journals\n";
 /// The line that begins the paths of node files.
 const FILES: &str = "%% node files\n";
 
-/// Tries the rows at standard input.
-fn run(rt: &HostRuntime) -> Result<(), StreamFault> {
+/// Tries the rows at standard input. Returns whether each line was done, and no row differs.
+fn run(rt: &HostRuntime) -> Result<bool, StreamFault> {
     let text = read_rows(rt)?;
     let done = try_parts(rt, text.as_str());
     drop(text);
@@ -57,20 +60,25 @@ fn run(rt: &HostRuntime) -> Result<(), StreamFault> {
 }
 
 /// Tries the parts of a text, one after the other.
-fn try_parts(rt: &HostRuntime, text: &str) -> Result<(), StreamFault> {
+fn try_parts(rt: &HostRuntime, text: &str) -> Result<bool, StreamFault> {
     let (rows, rest) = text.split_once(JOURNALS).unwrap_or((text, ""));
     let (journals, paths) = rest.split_once(FILES).unwrap_or((rest, ""));
-    try_rows(rt, rows)?;
-    journals::run(rt, journals).map_err(fault_of)?;
-    files::run(rt, paths).map_err(fault_of)
+    let rows = Section::new(rows, 0);
+    let are_right = try_rows(rt, rows)?;
+    let are_done = journals::run(rt, rows.followed_by(journals)).map_err(fault_of)?;
+    files::run(rt, paths).map_err(fault_of)?;
+    Ok(are_right && are_done)
 }
 
 /// Tries rows that have what is wanted of them, and prints the report.
-fn try_rows(rt: &HostRuntime, rows: &str) -> Result<(), StreamFault> {
+fn try_rows(rt: &HostRuntime, rows: Section<'_>) -> Result<bool, StreamFault> {
     let lww: Box<dyn Resolver> = Box::new(rt.alloc(), Lww)?;
     let largest: Box<dyn Resolver> = Box::new(rt.alloc(), Largest)?;
-    let text = report_of(rt, rows, &[lww, largest])?;
-    write_whole(&mut MayFail(rt.stdout()), text.as_slice())
+    let report = report_of(rt, rows, &[lww, largest])?;
+    let is_right = report.is_right();
+    let text = report.end()?;
+    write_whole(&mut MayFail(rt.stdout()), text.as_slice())?;
+    Ok(is_right)
 }
 
 /// Returns the fault of a part that makes no report, by its error.

@@ -1,86 +1,89 @@
-//! Events of nodes' views and calls of their broadcasts, one on each line, and what they give out.
+//! Rows of the overlay: events of nodes' views and calls of their broadcasts, one on each line, and
+//! what they give out.
+//!
+//! Read `asked`, `parse` with `parse_event` and `parse_call`, then `apply` with `print`.
+
+mod apply;
+mod asked;
+mod parse;
+mod parse_call;
+mod parse_event;
+mod print;
 
 use crate::fault::RowFault;
-use crate::node::Node;
-use crate::row::text_of;
-use crate::rows::print_line;
-use crate::words::{Words, node};
-use meta_types::NodeId;
+use crate::line::{Line, print_line};
+use crate::overlay::apply::Nodes;
+use crate::overlay::parse::parse;
+use crate::report::Report;
+use crate::row::Row;
 use std::alloc::{AllocError, Global};
-use std::collections::BTreeMap;
 
-/// Returns what the lines of a row give out. A line that begins with `#` is copied, and a line that
-/// is no command is printed after `error`.
-pub fn output_of_events(alloc: Global, lines: &[u8]) -> Result<Vec<u8>, AllocError> {
+/// Compares what the lines of a row give out with what the row wants, unless one is mistyped.
+pub fn try_overlay(alloc: Global, row: &Row<'_>, report: &mut Report) -> Result<(), AllocError> {
     let mut text = Vec::new(alloc);
+    if take_all(alloc, row.lines(), &mut text, report)? {
+        report.compare(alloc, row, text.as_slice())?;
+    }
+    Ok(())
+}
+
+/// Adds what lines give out. Returns whether each was done.
+fn take_all(
+    alloc: Global,
+    lines: &[Line<'_>],
+    text: &mut Vec<u8>,
+    report: &mut Report,
+) -> Result<bool, AllocError> {
     let mut nodes = Nodes::new(alloc);
-    let done = nodes.take_all(alloc, text_of(lines), &mut text);
+    let done = take_each(alloc, &mut nodes, lines, text, report);
     drop(nodes);
-    done?;
-    Ok(text)
+    done
 }
 
-/// The nodes of the lines so far, and the node of the next line.
-#[derive(Drop)]
-struct Nodes {
-    by_number: BTreeMap<NodeId, Node>,
-    at: Option<NodeId>,
+fn take_each(
+    alloc: Global,
+    nodes: &mut Nodes,
+    lines: &[Line<'_>],
+    text: &mut Vec<u8>,
+    report: &mut Report,
+) -> Result<bool, AllocError> {
+    let mut are_done = true;
+    for line in lines {
+        if let Err(fault) = take(alloc, nodes, line.text, text) {
+            are_done = false;
+            report.add_error(*line, fault)?;
+        }
+    }
+    Ok(are_done)
 }
 
-impl Nodes {
-    fn new(alloc: Global) -> Self {
-        Nodes {
-            by_number: BTreeMap::new(alloc),
-            at: None,
-        }
+/// Adds what a line gives out. A line that begins with `#` is copied, and `! LINE` prints the line
+/// after `error`, if that is mistyped or names what isn't there.
+fn take(alloc: Global, nodes: &mut Nodes, line: &str, text: &mut Vec<u8>) -> Result<(), RowFault> {
+    if line.starts_with('#') {
+        return Ok(print_line(text, "", line)?);
     }
-
-    /// Adds what each line gives out.
-    fn take_all(
-        &mut self,
-        alloc: Global,
-        lines: &str,
-        text: &mut Vec<u8>,
-    ) -> Result<(), AllocError> {
-        for line in lines.lines() {
-            self.take(alloc, line, text)?;
-        }
-        Ok(())
+    match line.strip_prefix("! ") {
+        Some(wrong) => refuse(alloc, nodes, wrong, text),
+        None => obey(alloc, nodes, line, text),
     }
+}
 
-    /// Adds what a line gives out.
-    fn take(&mut self, alloc: Global, line: &str, text: &mut Vec<u8>) -> Result<(), AllocError> {
-        if line.starts_with('#') {
-            return print_line(text, "", line);
-        }
-        match self.obey(alloc, line, text) {
-            Ok(()) => Ok(()),
-            Err(RowFault::NoCommand) => print_line(text, "error ", line),
-            Err(RowFault::Memory) => Err(AllocError),
-        }
-    }
+/// Does what a line asks.
+fn obey(alloc: Global, nodes: &mut Nodes, line: &str, text: &mut Vec<u8>) -> Result<(), RowFault> {
+    nodes.obey(alloc, parse(alloc, line)?, text)
+}
 
-    /// Does what a line says. A line with words left over is done, but is no command.
-    fn obey(&mut self, alloc: Global, line: &str, text: &mut Vec<u8>) -> Result<(), RowFault> {
-        let mut words = Words::of(alloc, line)?;
-        match words.next()? {
-            "node" => self.begin(alloc, node(words.next()?)?)?,
-            "at" => self.at = Some(node(words.next()?)?),
-            command => self.node()?.obey(command, &mut words, text)?,
-        }
-        words.end()
-    }
-
-    /// Begins a node that knows nobody, in place of one of the same number.
-    fn begin(&mut self, alloc: Global, number: NodeId) -> Result<(), RowFault> {
-        self.by_number.insert(number, Node::new(alloc, number))?;
-        self.at = Some(number);
-        Ok(())
-    }
-
-    /// Returns the node of the line.
-    fn node(&mut self) -> Result<&mut Node, RowFault> {
-        let at = self.at.ok_or(RowFault::NoCommand)?;
-        self.by_number.get_mut(&at).ok_or(RowFault::NoCommand)
+/// Refuses a line that can be done.
+fn refuse(
+    alloc: Global,
+    nodes: &mut Nodes,
+    line: &str,
+    text: &mut Vec<u8>,
+) -> Result<(), RowFault> {
+    match obey(alloc, nodes, line, text) {
+        Ok(()) => Err(RowFault::Mistyped),
+        Err(RowFault::Memory) => Err(RowFault::Memory),
+        Err(RowFault::Mistyped | RowFault::Idle) => Ok(print_line(text, "error ", line)?),
     }
 }

@@ -1,8 +1,9 @@
-//! The report on rows: where they differ, and how many there were.
+//! The report on rows: where they differ, which lines are none, and how many there were.
 
 use crate::difference::print_difference;
-use crate::row::{Row, text_of};
-use crate::rows::print_line;
+use crate::fault::RowFault;
+use crate::line::{Line, joined, print_line, text_of};
+use crate::row::Row;
 use printing::print_number;
 use std::alloc::{AllocError, Global};
 
@@ -13,6 +14,7 @@ pub struct Report {
     rows: u64,
     lines: u64,
     different: u64,
+    is_typed: bool,
 }
 
 impl Report {
@@ -22,7 +24,13 @@ impl Report {
             rows: 0,
             lines: 0,
             different: 0,
+            is_typed: true,
         }
+    }
+
+    /// Returns whether no row differs, and no line was told of by `add_error`.
+    pub fn is_right(&self) -> bool {
+        self.different == 0 && self.is_typed
     }
 
     pub fn count_row(&mut self) {
@@ -34,6 +42,17 @@ impl Report {
         self.lines = self.lines.saturating_add(1);
     }
 
+    /// Adds a line that was not done. Fails if the fault is not the line's.
+    pub fn add_error(&mut self, line: Line<'_>, fault: RowFault) -> Result<(), AllocError> {
+        let why = fault.word()?;
+        self.is_typed = false;
+        self.text.extend_from_slice(b"error in line ")?;
+        print_number(&mut self.text, line.number as u64)?;
+        self.text.extend_from_slice(b", ")?;
+        self.text.extend_from_slice(why.as_bytes())?;
+        print_line(&mut self.text, ": ", line.text)
+    }
+
     /// Adds that `name` differs, and `told` after it.
     pub fn add_different(&mut self, name: &str, told: &[u8]) -> Result<(), AllocError> {
         self.different = self.different.saturating_add(1);
@@ -42,13 +61,19 @@ impl Report {
     }
 
     /// Compares what a row printed with what it wants, and adds where they differ.
-    pub fn compare(&mut self, alloc: Global, row: &Row, output: &[u8]) -> Result<(), AllocError> {
-        if is_wanted(row.wanted(), output) {
+    pub fn compare(
+        &mut self,
+        alloc: Global,
+        row: &Row<'_>,
+        output: &[u8],
+    ) -> Result<(), AllocError> {
+        let wanted = joined(alloc, row.wanted())?;
+        if is_wanted(wanted.as_slice(), output) {
             return Ok(());
         }
         let mut told = Vec::new(alloc);
-        print_difference(&mut told, text_of(row.wanted()), text_of(output))?;
-        self.add_different(text_of(row.name()), told.as_slice())
+        print_difference(&mut told, text_of(wanted.as_slice()), text_of(output))?;
+        self.add_different(row.name(), told.as_slice())
     }
 
     /// Returns the report. Its last line says how many rows and lines there were, and how many
@@ -68,7 +93,10 @@ impl Report {
 /// lines of the output are compared.
 fn is_wanted(wanted: &[u8], output: &[u8]) -> bool {
     match wanted.strip_prefix(b"..\n") {
-        Some(last) => output.ends_with(last),
+        Some(last) => match output.strip_suffix(last) {
+            Some(front) => front.is_empty() || front.ends_with(b"\n"),
+            None => false,
+        },
         None => output == wanted,
     }
 }

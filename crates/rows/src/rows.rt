@@ -1,132 +1,202 @@
 //! A text of rows, and the report on them.
 
-use crate::overlay::output_of_events;
+use crate::between::Between;
+use crate::fault::RowFault;
+use crate::line::{Line, Section};
+use crate::overlay::try_overlay;
 use crate::report::Report;
-use crate::row::{Kind, Row};
+use crate::row::{Row, RowKind};
 use crate::scenarios::{try_explained, try_line, try_scenario};
 use crate::schedule::try_schedule;
 use resolvers::Resolver;
-use std::alloc::AllocError;
+use std::alloc::{AllocError, Global};
 use std::fs;
 use std::io::ErrorKind;
 
-/// Tries the rows of a text. Returns where they print something other than they want, and how many
-/// rows there are.
+/// Tries the rows of a text. Returns where they print something other than they want, which lines
+/// are no part of a row, and how many rows there are.
 pub fn report_of(
     rt: &HostRuntime,
-    rows: &str,
+    rows: Section<'_>,
     resolvers: &[Box<dyn Resolver>],
-) -> Result<Vec<u8>, AllocError> {
+) -> Result<Report, AllocError> {
     let mut report = Report::new(rt.alloc());
     try_rows(rt, rows, resolvers, &mut report)?;
-    report.end()
+    Ok(report)
 }
 
 fn try_rows(
     rt: &HostRuntime,
-    rows: &str,
+    rows: Section<'_>,
     resolvers: &[Box<dyn Resolver>],
     report: &mut Report,
 ) -> Result<(), AllocError> {
     let mut row = Row::new(rt.alloc());
     let mut part = Part::Between;
-    for line in rows.lines() {
-        if row.ends(part, line) {
-            try_row(rt, &row, resolvers, report)?;
-        }
-        if part == Part::Between && is_tried(line) {
-            try_line(rt.alloc(), line, resolvers, report)?;
-        } else {
-            part = take(&mut row, part, line)?;
-        }
+    for (place, text) in rows.text().lines().enumerate() {
+        let line = rows.numbered(place, text);
+        part = match part {
+            Part::Between => take_between(rt.alloc(), &mut row, line, resolvers, report)?,
+            Part::Text => take_text(&mut row, line, report)?,
+            Part::Wanted if line.text.is_empty() => {
+                try_row(rt, &row, resolvers, report)?;
+                Part::Between
+            }
+            Part::Wanted => take_wanted(&mut row, line, report)?,
+        };
     }
-    if part != Part::Between {
-        try_row(rt, &row, resolvers, report)?;
-    }
-    Ok(())
-}
-
-/// Tries a row by its kind.
-fn try_row(
-    rt: &HostRuntime,
-    row: &Row,
-    resolvers: &[Box<dyn Resolver>],
-    report: &mut Report,
-) -> Result<(), AllocError> {
-    let alloc = rt.alloc();
-    report.count_row();
-    match row.kind() {
-        Kind::Plain => try_scenario(alloc, row, row.text(), resolvers, report),
-        Kind::Explained => try_explained(alloc, row, resolvers, report),
-        Kind::Example => try_example(rt, row, resolvers, report),
-        Kind::Schedule => try_schedule(alloc, row, resolvers, report),
-        Kind::Overlay => try_events(rt, row, report),
-    }
-}
-
-/// Tries the scenario in the file of an example.
-fn try_example(
-    rt: &HostRuntime,
-    row: &Row,
-    resolvers: &[Box<dyn Resolver>],
-    report: &mut Report,
-) -> Result<(), AllocError> {
-    match fs::read_to_string(rt, row.file()) {
-        Ok(scenario) => try_scenario(rt.alloc(), row, scenario.as_bytes(), resolvers, report),
-        Err(error) if error.kind() == ErrorKind::OutOfMemory => Err(AllocError),
-        Err(_) => report.add_different(row.file(), b"it can't be read\n"),
-    }
-}
-
-/// Tries events of views and calls of broadcasts.
-fn try_events(rt: &HostRuntime, row: &Row, report: &mut Report) -> Result<(), AllocError> {
-    let output = output_of_events(rt.alloc(), row.text())?;
-    report.compare(rt.alloc(), row, output.as_slice())
+    end(rt, &row, part, resolvers, report)
 }
 
 /// Where a line stands in the text of rows.
-#[derive(Clone, Copy, PartialEq, Eq)]
-pub enum Part {
+#[derive(Clone, Copy)]
+enum Part {
     Between,
     Text,
     Wanted,
 }
 
-/// Returns whether a line between rows is a line of a scenario to be tried.
-fn is_tried(line: &str) -> bool {
-    line.starts_with("! ") || line.starts_with("= ")
+/// Takes a line between rows. Returns where the next one stands.
+fn take_between<'a>(
+    alloc: Global,
+    row: &mut Row<'a>,
+    line: Line<'a>,
+    resolvers: &[Box<dyn Resolver>],
+    report: &mut Report,
+) -> Result<Part, AllocError> {
+    match Between::of(line) {
+        Ok(Between::Skipped) => Ok(Part::Between),
+        Ok(Between::Begins(name)) => {
+            if let Err(fault) = row.begin(line, name) {
+                report.add_error(line, fault)?;
+            }
+            Ok(Part::Text)
+        }
+        Ok(
+            Between::Tried {
+                line: tried,
+                is_bad,
+            },
+        ) => {
+            try_line(alloc, line, tried, is_bad, resolvers, report)?;
+            Ok(Part::Between)
+        }
+        Err(fault) => {
+            report.add_error(line, fault)?;
+            Ok(Part::Between)
+        }
+    }
 }
 
-/// Takes a line. Returns where the next one stands.
-fn take(row: &mut Row, part: Part, line: &str) -> Result<Part, AllocError> {
+/// Takes a line of a row's text. Returns where the next one stands.
+fn take_text<'a>(
+    row: &mut Row<'a>,
+    line: Line<'a>,
+    report: &mut Report,
+) -> Result<Part, AllocError> {
+    if line.text == "--" {
+        return Ok(Part::Wanted);
+    }
+    let added = match refuse_head(line) {
+        Ok(()) => row.add_line(line),
+        Err(fault) => Err(fault),
+    };
+    note(row, line, added, report)?;
+    Ok(Part::Text)
+}
+
+/// Takes a line of what a row wants. Returns where the next one stands.
+fn take_wanted<'a>(
+    row: &mut Row<'a>,
+    line: Line<'a>,
+    report: &mut Report,
+) -> Result<Part, AllocError> {
+    row.add_wanted(line)?;
+    note(row, line, refuse_head(line), report)?;
+    Ok(Part::Wanted)
+}
+
+/// Refuses a line that begins a row: the row before it lacks its `--` or the empty line.
+fn refuse_head(line: Line<'_>) -> Result<(), RowFault> {
+    if line.text.starts_with("== ") {
+        Err(RowFault::Mistyped)
+    } else {
+        Ok(())
+    }
+}
+
+/// Tells of a mistyped line of a row, which then isn't tried.
+fn note(
+    row: &mut Row<'_>,
+    line: Line<'_>,
+    done: Result<(), RowFault>,
+    report: &mut Report,
+) -> Result<(), AllocError> {
+    match done {
+        Ok(()) => Ok(()),
+        Err(fault) => {
+            row.spoil();
+            report.add_error(line, fault)
+        }
+    }
+}
+
+/// Ends the last row, which lacks its empty line.
+fn end(
+    rt: &HostRuntime,
+    row: &Row<'_>,
+    part: Part,
+    resolvers: &[Box<dyn Resolver>],
+    report: &mut Report,
+) -> Result<(), AllocError> {
     match part {
-        Part::Between => between(row, line),
-        Part::Text if line == "--" => Ok(Part::Wanted),
-        Part::Text => {
-            row.add_line(line)?;
-            Ok(Part::Text)
-        }
-        Part::Wanted if line.is_empty() => Ok(Part::Between),
-        Part::Wanted => {
-            row.add_wanted(line)?;
-            Ok(Part::Wanted)
-        }
+        Part::Between => Ok(()),
+        Part::Text => report.add_error(row.head(), RowFault::Mistyped),
+        Part::Wanted => try_row(rt, row, resolvers, report),
     }
 }
 
-/// Takes a line between rows. It begins a row, or is skipped.
-fn between(row: &mut Row, line: &str) -> Result<Part, AllocError> {
-    match line.strip_prefix("== ") {
-        Some(name) => {
-            row.begin(name)?;
-            Ok(Part::Text)
+/// Tries a row by its kind.
+fn try_row(
+    rt: &HostRuntime,
+    row: &Row<'_>,
+    resolvers: &[Box<dyn Resolver>],
+    report: &mut Report,
+) -> Result<(), AllocError> {
+    let alloc = rt.alloc();
+    report.count_row();
+    let Some(kind) = row.kind() else {
+        return Ok(());
+    };
+    if let Err(fault) = row.end() {
+        return report.add_error(row.head(), fault);
+    }
+    match kind {
+        RowKind::Plain => {
+            let scenario = row.scenario(alloc)?;
+            try_scenario(alloc, row, scenario.as_slice(), resolvers, report)
         }
-        None => Ok(Part::Between),
+        RowKind::Explained => try_explained(alloc, row, resolvers, report),
+        RowKind::Example { file } => try_example(rt, row, file, resolvers, report),
+        RowKind::Schedule => try_schedule(alloc, row, resolvers, report),
+        RowKind::Overlay => try_overlay(alloc, row, report),
     }
 }
 
-pub fn print_line(text: &mut Vec<u8>, label: &str, line: &str) -> Result<(), AllocError> {
-    text.extend_from_slice(label.as_bytes())?;
-    text.extend_from_slice(line.as_bytes())?;
-    text.extend_from_slice(b"\n")
+/// Tries the scenario in the file of an example, whose own text is empty.
+fn try_example(
+    rt: &HostRuntime,
+    row: &Row<'_>,
+    file: &str,
+    resolvers: &[Box<dyn Resolver>],
+    report: &mut Report,
+) -> Result<(), AllocError> {
+    if let Some(line) = row.lines().first() {
+        return report.add_error(*line, RowFault::Idle);
+    }
+    match fs::read_to_string(rt, file) {
+        Ok(scenario) => try_scenario(rt.alloc(), row, scenario.as_bytes(), resolvers, report),
+        Err(error) if error.kind() == ErrorKind::OutOfMemory => Err(AllocError),
+        Err(_) => report.add_error(row.head(), RowFault::Idle),
+    }
 }

@@ -1,9 +1,9 @@
 //! Rows that are scenarios, and lines that are tried alone.
 
 use crate::difference::print_difference;
+use crate::line::{Line, print_line, text_of};
 use crate::report::Report;
-use crate::row::{Row, text_of};
-use crate::rows::print_line;
+use crate::row::Row;
 use resolvers::Resolver;
 use scenario::{ScenarioFault, run_over};
 use scenario_explain::explain_over;
@@ -14,7 +14,7 @@ use streams::StreamFault;
 /// what it prints when it is explained.
 pub fn try_scenario(
     alloc: Global,
-    row: &Row,
+    row: &Row<'_>,
     scenario: &[u8],
     resolvers: &[Box<dyn Resolver>],
     report: &mut Report,
@@ -31,11 +31,12 @@ pub fn try_scenario(
 /// Runs a scenario, explained, and compares what it prints with what the row wants.
 pub fn try_explained(
     alloc: Global,
-    row: &Row,
+    row: &Row<'_>,
     resolvers: &[Box<dyn Resolver>],
     report: &mut Report,
 ) -> Result<(), AllocError> {
-    let output = output_of(alloc, row.text(), resolvers, true)?;
+    let scenario = row.scenario(alloc)?;
+    let output = output_of(alloc, scenario.as_slice(), resolvers, true)?;
     report.compare(alloc, row, output.as_slice())
 }
 
@@ -47,7 +48,7 @@ const MAX_EXPLAINED: usize = 4_000;
 /// where they differ.
 fn compare_explained(
     alloc: Global,
-    row: &Row,
+    row: &Row<'_>,
     output: &[u8],
     explained: &[u8],
     report: &mut Report,
@@ -58,7 +59,7 @@ fn compare_explained(
     }
     let mut told = Vec::from_slice(alloc, b"when explained\n")?;
     print_difference(&mut told, text_of(output), text_of(plain.as_slice()))?;
-    report.add_different(text_of(row.name()), told.as_slice())
+    report.add_different(row.name(), told.as_slice())
 }
 
 /// Returns the lines of a text that don't begin with two spaces.
@@ -75,23 +76,23 @@ fn without_indented(alloc: Global, text: &str) -> Result<Vec<u8>, AllocError> {
 /// What is printed if the second line breaks a rule.
 const BAD_LINE: &[u8] = b"error 70 BadLine 2\n";
 
-/// Tries a line after `nodes 2`: a line after `!` should be a bad one, and a line after `=`
-/// shouldn't. Adds the line if that isn't so.
+/// Tries a line after `nodes 2`, which should be a bad one or not. Adds the line if that isn't so.
 pub fn try_line(
     alloc: Global,
+    line: Line<'_>,
     tried: &str,
+    is_bad: bool,
     resolvers: &[Box<dyn Resolver>],
     report: &mut Report,
 ) -> Result<(), AllocError> {
     report.count_line();
     let mut scenario = Vec::from_slice(alloc, b"nodes 2\n")?;
-    print_line(&mut scenario, "", tried.get(2..).unwrap_or(""))?;
+    print_line(&mut scenario, "", tried)?;
     let output = output_of(alloc, scenario.as_slice(), resolvers, false)?;
-    let is_bad = output.as_slice() == BAD_LINE;
-    if is_bad == tried.starts_with('!') {
+    if (output.as_slice() == BAD_LINE) == is_bad {
         return Ok(());
     }
-    report.add_different(tried, b"")
+    report.add_different(line.text, b"")
 }
 
 /// Returns what a scenario prints, explained or not.

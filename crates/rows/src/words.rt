@@ -1,62 +1,61 @@
-//! The words of a row.
+//! The words of a line.
 
 use crate::fault::RowFault;
-use dvvset::{Counter, Vector};
-use frame_fields::Nodes;
-use meta_types::{Actor, FullPrefix, MetaKey, NodeId, both};
-use std::alloc::Global;
+use meta_types::NodeId;
 use std::str::SplitWhitespace;
 
-/// The words of a row that are still to be read, and the random word at its end.
+/// The words of a line that are still to be read.
 #[derive(Drop)]
 pub struct Words<'a> {
-    alloc: Global,
     left: SplitWhitespace<'a>,
-    random: u64,
 }
 
 impl<'a> Words<'a> {
-    /// Takes the words of a row. If it doesn't end with ` word W` the random word is 0.
-    pub fn of(alloc: Global, row: &'a str) -> Result<Self, RowFault> {
-        let (front, random) = match row.split_once(" word ") {
-            Some((front, random)) => (front, number(random)?),
-            None => (row, 0),
-        };
-        let left = front.split_whitespace();
-        Ok(Words {
-            alloc,
-            left,
-            random,
-        })
+    pub fn of(line: &'a str) -> Self {
+        Words {
+            left: line.split_whitespace(),
+        }
     }
 
-    pub fn alloc(&self) -> Global {
-        self.alloc
-    }
-
-    pub fn random(&self) -> u64 {
-        self.random
+    /// Reads a word, if one is left.
+    pub fn next_if_any(&mut self) -> Option<&'a str> {
+        self.left.next()
     }
 
     pub fn next(&mut self) -> Result<&'a str, RowFault> {
-        self.left.next().ok_or(RowFault::NoCommand)
+        self.left.next().ok_or(RowFault::Mistyped)
     }
 
     /// Refuses if a word is left.
     pub fn end(&mut self) -> Result<(), RowFault> {
         match self.left.next() {
-            Some(_) => Err(RowFault::NoCommand),
+            Some(_) => Err(RowFault::Mistyped),
             None => Ok(()),
+        }
+    }
+
+    /// Reads this word.
+    pub fn just(&mut self, word: &str) -> Result<(), RowFault> {
+        if self.next()? == word {
+            Ok(())
+        } else {
+            Err(RowFault::Mistyped)
         }
     }
 
     /// Reads the word after this label.
     pub fn after(&mut self, label: &str) -> Result<&'a str, RowFault> {
-        if self.next()? == label {
-            self.next()
-        } else {
-            Err(RowFault::NoCommand)
-        }
+        self.just(label)?;
+        self.next()
+    }
+
+    /// Reads a node's number or a place in a list.
+    pub fn place(&mut self) -> Result<usize, RowFault> {
+        self.next()?.parse().map_err(|_| RowFault::Mistyped)
+    }
+
+    pub fn node_id(&mut self) -> Result<NodeId, RowFault> {
+        node_of(self.next()?)
     }
 
     /// Returns whether the next word is `one`. Refuses if it is neither `one` nor `other`.
@@ -65,49 +64,25 @@ impl<'a> Words<'a> {
         if word == one || word == other {
             Ok(word == one)
         } else {
-            Err(RowFault::NoCommand)
+            Err(RowFault::Mistyped)
+        }
+    }
+
+    /// Reads ` word W`, or 0 if no word is left.
+    pub fn random(&mut self) -> Result<u64, RowFault> {
+        match self.left.next() {
+            Some("word") => number_of(self.next()?),
+            Some(_) => Err(RowFault::Mistyped),
+            None => Ok(0),
         }
     }
 }
 
-pub fn number(word: &str) -> Result<u64, RowFault> {
-    word.parse().map_err(|_| RowFault::NoCommand)
+pub fn number_of(word: &str) -> Result<u64, RowFault> {
+    word.parse().map_err(|_| RowFault::Mistyped)
 }
 
-pub fn node(word: &str) -> Result<NodeId, RowFault> {
-    let number = word.parse().map_err(|_| RowFault::NoCommand)?;
-    NodeId::new(number).map_err(|_| RowFault::NoCommand)
-}
-
-/// Reads node numbers, as `2,3`, or `-` for none.
-pub fn nodes(alloc: Global, word: &str) -> Result<Nodes, RowFault> {
-    let mut numbers = Vec::new(alloc);
-    if word != "-" {
-        add_nodes(&mut numbers, word)?;
-    }
-    Nodes::from_parts(numbers).ok_or(RowFault::NoCommand)
-}
-
-fn add_nodes(numbers: &mut Vec<NodeId>, word: &str) -> Result<(), RowFault> {
-    for part in word.split(',') {
-        numbers.push(node(part)?)?;
-    }
-    Ok(())
-}
-
-/// Makes a key under the full prefix `a/b`.
-pub fn key(alloc: Global, word: &str) -> Result<MetaKey, RowFault> {
-    let names = both(Vec::from_slice(alloc, b"a"), Vec::from_slice(alloc, b"b"));
-    let (own, (prefix, sub)) = both(Vec::from_slice(alloc, word.as_bytes()), names)?;
-    let prefix = FullPrefix::new(prefix, sub).map_err(|_| RowFault::NoCommand);
-    let (prefix, own) = both(prefix, Ok(own))?;
-    MetaKey::new(prefix, own).map_err(|_| RowFault::NoCommand)
-}
-
-/// Makes the vector of `events` events of node 0 in its first life; at least one.
-pub fn vector(alloc: Global, events: u64) -> Result<Vector, RowFault> {
-    let writer = Actor::new(node("0")?, 1);
-    let mut counters = Vec::new(alloc);
-    counters.push(Counter::new(writer, events))?;
-    Vector::from_parts(counters).map_err(|_| RowFault::NoCommand)
+pub fn node_of(word: &str) -> Result<NodeId, RowFault> {
+    let number = word.parse().map_err(|_| RowFault::Mistyped)?;
+    NodeId::new(number).map_err(|_| RowFault::Mistyped)
 }

@@ -2,8 +2,9 @@
 
 ghost use Rattle.past_model.specs.History.{IsHistory};
 
-use crate::rows::print_line;
+use crate::line::print_line;
 use crate::schedule::NODES;
+use crate::schedule::parse::ALIKE;
 use dvvset::Vector;
 use meta_types::{FullPrefix, MetaKey, NodeId, Value, both};
 use node_core::NodeState;
@@ -134,7 +135,7 @@ pub fn add_alike(world: &World, keys: &[MetaKey], log: &mut Vec<u8>) -> Result<b
                     return Ok(false);
                 }
                 if is_same && !one.store().is_empty() {
-                    print_line(log, "", "alike")?;
+                    print_line(log, "", ALIKE)?;
                 }
             }
         }
