@@ -3,9 +3,9 @@
 
 ghost use Rattle.std.specs.Prelude.{◌≡◌};
 ghost use Rattle.inbox.specs.Opening.{IsFresh};
-ghost use Rattle.tests_threads.specs.Passes.{AreOf};
+ghost use Rattle.tests_codec.specs.Passes.{AreOf};
 
-use crate::parts::{put, take};
+use crate::inbox_parts::{put, take};
 use inbox::{Fresh, Inbox, PutPass, TakePass};
 use std::alloc::Global;
 use std::process::Abort;

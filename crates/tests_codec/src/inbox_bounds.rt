@@ -2,7 +2,7 @@
 
 ghost use Rattle.std.specs.Prelude.{◌≡◌, ◌≤◌};
 
-use crate::parts::{put, take, with_room_for};
+use crate::inbox_parts::{put, take, with_room_for};
 use inbox::{Inbox, InboxFault, PutPass};
 use std::alloc::Global;
 use std::process::Abort;

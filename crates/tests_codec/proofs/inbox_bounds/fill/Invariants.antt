@@ -1,5 +1,5 @@
 use Rattle.std.proofs.Common.{◌≡◌}
-use Rattle.tests_threads.proofs.crowd.put_each.Given as goal
+use Rattle.tests_codec.proofs.inbox_bounds.fill.Given as goal
 
 abbrev pub invariant-loop-number : goal.invariant-loop-number
 invariant-loop-number g l = l.pass.line ≡ l.inbox.line

@@ -1,5 +1,5 @@
 use Rattle.std.proofs.Common.{◌≡◌}
-use Rattle.tests_threads.proofs.crowd.hand_back_all.Given as goal
+use Rattle.tests_codec.proofs.inbox_crowd.hand_back_all.Given as goal
 
 abbrev pub invariant-loop-pass : goal.invariant-loop-pass
 invariant-loop-pass l = (l.takes.line ≡ l.inbox.line)

@@ -1,5 +1,5 @@
 use Rattle.std.proofs.Common.{◌≡◌}
-use Rattle.tests_threads.proofs.crowd.take_each.Given as goal
+use Rattle.tests_codec.proofs.inbox_crowd.put_at_last.Given as goal
 
 abbrev pub invariant-loop : goal.invariant-loop
 invariant-loop g l = l.pass.line ≡ l.inbox.line
