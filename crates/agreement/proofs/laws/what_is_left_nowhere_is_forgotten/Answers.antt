@@ -1,0 +1,5 @@
+use Rattle.agreement.proofs.Forgotten.{forgotten}
+use Rattle.agreement.proofs.laws.what_is_left_nowhere_is_forgotten.Goals as goal
+
+pub returns : goal.returns
+returns c = forgotten

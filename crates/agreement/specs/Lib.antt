@@ -1,0 +1,17 @@
+-- What must be believed of agreement, in the order in which to read it.
+-- the past, of which the laws speak
+pub use Rattle.past_model.specs.Past
+pub use Rattle.past_model.specs.History
+pub use Rattle.past_model.specs.Shown
+-- which sets of writes a node may still learn from
+pub mod Left
+-- histories in which that is so
+pub mod Stories
+-- exchanges of two nodes, rounds of them, and what each node then knows
+pub mod Rounds
+-- rounds for up to sixteen nodes
+pub mod Schedules
+-- a tree of nodes, and the exchanges along it
+pub mod Tree
+-- an exchange of two nodes as happenings of the past
+pub mod Meeting

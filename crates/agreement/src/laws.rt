@@ -1,0 +1,184 @@
+//! The laws of what is forgotten, of rounds and of trees. Each function does nothing: its contract
+//! is the law.
+
+ghost use Rattle.std.specs.Prelude.{◌≡◌, ◌≢◌, ◌↔◌, ◌∷◌, ◌++◌, ◌<◌, ◌≤◌, ◌+◌, ◌*◌, ◌%◌, ◌^◌, ◌||◌, ℕ, [], true, false, List, length, map};
+ghost use Rattle.meta_types.specs.Name.{Key};
+ghost use Rattle.meta_types.specs.Value.{ValueParts};
+ghost use Rattle.dvvset.specs.Object.{Entry};
+ghost use Rattle.dvvset.specs.Clock.{values_of};
+ghost use Rattle.past_model.specs.declared.happening.Happening.{Happening as H};
+ghost use Rattle.past_model.specs.Sets.{Places};
+ghost use Rattle.past_model.specs.Past.{In, Write, known, writes};
+ghost use Rattle.past_model.specs.History.{IsHistory};
+ghost use Rattle.past_model.specs.Arisen.{IsObjectKnown};
+ghost use Rattle.agreement.specs.Left.{ArePlacesOf, HasNone, HasOverwritten, IsShown, OfAllLeft, OfContextsLeft, OfStandingLeft};
+ghost use Rattle.agreement.specs.Stories.{after_deletion, after_keeping, after_loss, deleted, deleted_elsewhere, key, lost, lost_writes};
+ghost use Rattle.agreement.specs.Rounds.{AreOfFirst, AreRounds, Exchange, IsRound, Known, KnowAll, after_all, after_rounds, count_known, exchanges_of, have_met, is_busy, own, takes_part};
+ghost use Rattle.agreement.specs.Schedules.{four_rounds, log_up, rounds_for};
+ghost use Rattle.agreement.specs.Tree.{IsTree, in_and_out, is_in, outwards};
+ghost use Rattle.agreement.specs.Meeting.{meetings};
+
+/// Writes that are left nowhere are forgotten for good: if no node knows any of them, no image from
+/// which a node restarts later has one, no object that was sent before and is got later, and no
+/// context that was read before and is used later, then no node knows any of them at any later
+/// place.
+///
+/// `after` is what happens up to the later place. The writes stand in `before`; a later write isn't
+/// one of them, even of the same value.
+pub fn what_is_left_nowhere_is_forgotten()
+    ensures { (before after : List H) (k : Key) (W : Places) → ArePlacesOf before W
+        → OfAllLeft (HasNone W) before after k
+        → OfContextsLeft (HasNone W) before after k
+        → (n : ℕ) → HasNone W (known (before ++ after) n k) }
+{}
+
+/// An overwritten value doesn't come back: if each node that knows the write also knows one that
+/// had read it, and so do each image from which a node restarts later and each object that was sent
+/// before and is got later, then no node shows its value at any later place.
+///
+/// Contexts need no premise, since a write that is made with one that saw the old write has itself
+/// read it. What a node's images start from does: an image that is made later, for another key, may
+/// otherwise have the old write without the newer one.
+///
+/// So the values of the object that a node then holds are those of other writes. One of them may
+/// have written the same bytes.
+pub fn an_overwritten_write_is_never_shown_again()
+    ensures sibling { (before after : List H) (k : Key) (p : ℕ) → p < length before
+        → OfAllLeft (HasOverwritten (writes before) p) before after k
+        → OfStandingLeft (HasOverwritten (writes before) p) before after k
+        → (n : ℕ) (w : Write) → w.place ≡ p → IsShown (before ++ after) n k w → ⊥ }
+    ensures values { (before after : List H) (k : Key) (p : ℕ) → p < length before
+        → OfAllLeft (HasOverwritten (writes before) p) before after k
+        → OfStandingLeft (HasOverwritten (writes before) p) before after k
+        → (n : ℕ) (object : List Entry) → IsObjectKnown (before ++ after) n k object
+        → (shown : List Write) × ((values_of object ≡ map (λ w. w.value) shown)
+        × ((w : Write) → In w shown → w.place ≢ p)) }
+{}
+
+/// Each law speaks of something: there are histories with a deletion that meet its premises, and go
+/// on with all that the premises name. In the second a node that was told last knows the deleted
+/// value to the end, and yet doesn't show it.
+pub fn there_are_such_histories()
+    ensures forgotten { (v u : ValueParts) → IsHistory (lost v ++ after_loss u)
+        × ArePlacesOf (lost v) lost_writes
+        × OfAllLeft (HasNone lost_writes) (lost v) (after_loss u) key
+        × OfContextsLeft (HasNone lost_writes) (lost v) (after_loss u) key }
+    ensures overwritten { (v u : ValueParts) → IsHistory (deleted v ++ after_deletion u)
+        × OfAllLeft (HasOverwritten (writes (deleted v)) 0) (deleted v) (after_deletion u) key
+        × OfStandingLeft (HasOverwritten (writes (deleted v)) 0)
+        (deleted v) (after_deletion u) key
+        × (known (deleted v ++ after_deletion u) 2 key 0 ≡ true) }
+{}
+
+/// The premise on what images start from is needed: there is a history in which each node, and all
+/// else that is left, has a deleted value only with its deletion, and yet a node shows it later. It
+/// made an image for another key, which starts from an older one, and restarted from that.
+pub fn an_image_may_start_from_less_than_is_known()
+    ensures { (v : ValueParts) → IsHistory (deleted_elsewhere v ++ after_keeping)
+        × OfAllLeft (HasOverwritten (writes (deleted_elsewhere v)) 0)
+        (deleted_elsewhere v) after_keeping key
+        × ((w : Write) × ((w.place ≡ 0) × IsShown (deleted_elsewhere v ++ after_keeping) 0 key w)) }
+{}
+
+/// Sixteen nodes know all after the four rounds of the hypercube, in which each exchanges with the
+/// one whose number differs from its own in one bit.
+pub fn four_rounds_make_sixteen_nodes_know_all()
+    ensures rounds { AreRounds four_rounds }
+    ensures number { length four_rounds ≡ 4 }
+    ensures agree { KnowAll 16 (after_rounds four_rounds) }
+{}
+
+/// A round runs at once: after it two nodes that exchanged know what either knew before the round,
+/// and a node that didn't take part knows what it knew.
+pub fn a_round_runs_at_once()
+    ensures part { (before : Known) (es fs : List Exchange) (e : Exchange)
+        → IsRound (es ++ e ∷ fs) → (n m : ℕ) → takes_part e n ≡ true
+        → after_all before (es ++ e ∷ fs) n m ≡ (before e.one m || before e.other m) }
+    ensures idle { (before : Known) (es : List Exchange) (n m : ℕ) → is_busy es n ≡ false
+        → after_all before es n m ≡ before n m }
+{}
+
+/// What a node knows at most doubles in a round. So rounds after which the first nodes all know
+/// all, or only one of them does, are not fewer than the logarithm of their number, to base 2:
+/// sixteen need four.
+pub fn knowledge_at_most_doubles_in_a_round()
+    ensures doubles { (rounds : List (List Exchange)) → AreRounds rounds → (many n : ℕ)
+        → count_known many (after_rounds rounds n) ≤ 2 ^ length rounds }
+    ensures one { (rounds : List (List Exchange)) → AreRounds rounds
+        → (many n : ℕ) → ((m : ℕ) → m < many → after_rounds rounds n m ≡ true)
+        → many ≤ 2 ^ length rounds }
+    ensures sixteen { (rounds : List (List Exchange)) → AreRounds rounds
+        → KnowAll 16 (after_rounds rounds) → 4 ≤ length rounds }
+{}
+
+/// Any number of nodes from two to sixteen knows all after these rounds, of exchanges among them
+/// alone: as many as the logarithm of their number to base 2, rounded up, and one more if it is
+/// odd. For an even number no rounds suffice that are fewer.
+pub fn some_rounds_make_up_to_sixteen_nodes_know_all()
+    ensures rounds { (many : ℕ) → 2 ≤ many → many ≤ 16 → AreRounds (rounds_for many)
+        × AreOfFirst many (exchanges_of (rounds_for many)) }
+    ensures number { (many : ℕ) → 2 ≤ many → many ≤ 16
+        → length (rounds_for many) ≡ log_up many + many % 2 }
+    ensures agree { (many : ℕ) → 2 ≤ many → many ≤ 16
+        → KnowAll many (after_rounds (rounds_for many)) }
+    ensures fewest { (many : ℕ) → 2 ≤ many → many ≤ 16 → (rounds : List (List Exchange))
+        → AreRounds rounds → KnowAll many (after_rounds rounds)
+        → length (rounds_for many) ≤ length rounds + many % 2 }
+{}
+
+/// Nodes each two of which have met know all, in whatever order they met.
+pub fn nodes_that_have_met_know_all()
+    ensures { (many : ℕ) (es : List Exchange)
+        → ((n m : ℕ) → n < many → m < many → n ≢ m → have_met es n m ≡ true)
+        → KnowAll many (after_all own es) }
+{}
+
+/// Exchanges along a tree, from the leaves to the root and back, make all its nodes know what each
+/// of them knew. Of n nodes, two or more, these are 2n - 3 exchanges.
+pub fn exchanges_along_a_tree_make_all_know_all()
+    ensures agree { (root : ℕ) (edges : List Exchange) → IsTree root edges
+        → (n m : ℕ) → is_in root edges n ≡ true → is_in root edges m ≡ true
+        → after_all own (in_and_out edges) n m ≡ true }
+    ensures number { (root many : ℕ) (e : Exchange) (edges : List Exchange)
+        → IsTree root (e ∷ edges) → ((n : ℕ) → is_in root (e ∷ edges) n ≡ true → n < many)
+        → length (in_and_out (e ∷ edges)) + 3 ≡ 2 * count_known many (is_in root (e ∷ edges)) }
+{}
+
+/// Exchanges along a tree, from the root to the leaves, make all its nodes know what the root knew,
+/// whatever else each knew before. So do those of objects: each node then knows the writes under
+/// the key that the root knew, whatever was lost of them before.
+pub fn exchanges_outwards_repair()
+    ensures sets { (root : ℕ) (edges : List Exchange) → IsTree root edges
+        → (before : Known) (n m : ℕ) → is_in root edges n ≡ true → before root m ≡ true
+        → after_all before (outwards edges) n m ≡ true }
+    ensures writes { (root : ℕ) (edges : List Exchange) → IsTree root edges
+        → (hs : List H) (k : Key) (n p : ℕ) → is_in root edges n ≡ true
+        → known hs root k p ≡ true
+        → known (hs ++ meetings k (length hs) (outwards edges)) n k p ≡ true }
+{}
+
+/// An exchange in which both nodes send what they know under a key, and each gets what the other
+/// sent, is an exchange of knowledge: after a list of them a node knows just the writes that were
+/// known to the nodes of which it then knows. What nodes know under other keys stays. So where all
+/// know all, and no other node knew any of the writes, all know the same, and hold equal objects.
+pub fn exchanges_of_objects_are_exchanges_of_knowledge()
+    ensures history { (hs : List H) → IsHistory hs → (k : Key) (es : List Exchange)
+        → IsHistory (hs ++ meetings k (length hs) es) }
+    ensures known { (hs : List H) (k : Key) (es : List Exchange) (n p : ℕ)
+        → (known (hs ++ meetings k (length hs) es) n k p ≡ true)
+        ↔ ((m : ℕ) × ((after_all own es n m ≡ true) × (known hs m k p ≡ true))) }
+    ensures others { (hs : List H) (k l : Key) (es : List Exchange) (n : ℕ) → l ≢ k
+        → known (hs ++ meetings k (length hs) es) n l ≡ known hs n l }
+    ensures agree { (hs : List H) (k : Key) (many : ℕ) (es : List Exchange)
+        → KnowAll many (after_all own es)
+        → ((m p : ℕ) → known hs m k p ≡ true → m < many)
+        → (n m : ℕ) → n < many → m < many
+        → known (hs ++ meetings k (length hs) es) n k
+        ≡ known (hs ++ meetings k (length hs) es) m k }
+    ensures objects { (hs : List H) (k : Key) (many : ℕ) (es : List Exchange)
+        → KnowAll many (after_all own es)
+        → ((m p : ℕ) → known hs m k p ≡ true → m < many)
+        → (n m : ℕ) → n < many → m < many → (a b : List Entry)
+        → IsObjectKnown (hs ++ meetings k (length hs) es) n k a
+        → IsObjectKnown (hs ++ meetings k (length hs) es) m k b → a ≡ b }
+{}
