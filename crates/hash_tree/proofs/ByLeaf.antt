@@ -1,5 +1,5 @@
 -- The leaves of a full prefix: what is found in them, and what a row put there makes of them.
-use Rattle.std.proofs.Common.{◌≡◌, ℕ, Bool, true, false, cond, T, List, [], ◌∷◌, ◌++◌, map, All, Option, Some, None, Result, Ok, Err, OnOk, OnErr, refl, sym, ap, subst, ◌∙◌, ◌==◌}
+use Rattle.std.proofs.Common.{◌≡◌, ◌≢◌, ℕ, Bool, true, false, cond, not, T, List, [], ◌∷◌, ◌++◌, map, All, Option, Some, None, Result, Ok, Err, OnOk, OnErr, refl, sym, ap, subst, ◌∙◌, ◌==◌}
 use Rattle.std.specs.Bool.{passes}
 use Rattle.std.specs.List.{flat_map}
 use Rattle.std.specs.Option.{unwrap_or}
@@ -12,11 +12,13 @@ use Rattle.std.specs.Map.{lookup}
 use Rattle.std.specs.FinMap.{find, put, is_sorted, nat_cmp-IsAntisymmetric}
 use Rattle.std.specs.FinMap.Entries.{by_order, find_tied, find-put, find-where_key, is_sorted-put, is_sorted-where_key, same_entries}
 use Rattle.std.proofs.lemmas.Bool.{eq-eqb, eqb-true}
-use Rattle.std.proofs.lemmas.List.Elements.{All-cons, All-head, All-tail, All-nil}
+use Rattle.std.proofs.lemmas.List.Folds.{flat_map-map}
+use Rattle.std.proofs.lemmas.List.Elements.{All-cons, All-filter, All-head, All-tail, All-nil}
 use Rattle.meta_types.specs.Name.{IsName}
 use Rattle.meta_types.specs.Order.{bytes_cmp}
 use Rattle.meta_types.proofs.Comparing.{same_bytes}
-use Rattle.meta_store.specs.Kept.{AreRows}
+use Rattle.meta_store.specs.Kept.{AreRows, without_row}
+use Rattle.meta_store.proofs.Forgetting.{none_out, rows_without}
 use Rattle.meta_store.proofs.Kept.{bytes_total, IsNamed}
 use Rattle.meta_store.proofs.Maps.{All-put, below_rest, find_below, is_true, looked_up, rest_sorted}
 use Rattle.sha2.specs.Sha256.{sha256}
@@ -184,7 +186,40 @@ module _ (n : ℕ) (leaves : RowsByLeaf) (are : AreLeaves leaves) where
   unfolding leaf_digest text_of
   digest_absent e = sym (ap (λ xs. sha256 (text_of xs)) (rows_absent e))
 
+-- ---- leaves without a key
+
+pub never_empty : (n : List ℕ) (d : Digest) (rows : OwnRows) → put bytes_cmp n d rows ≢ []
+never_empty n d [] e = cc
+never_empty n d (row ∷ rows) e = elim (bytes_cmp n row.0) as (λ c. by_order c ((n, d) ∷ row ∷ rows) ((row.0, d) ∷ rows) (row ∷ put bytes_cmp n d rows) ≡ [] → ⊥) [
+  | Less ↦ λ is. cc
+  | Equal ↦ λ is. cc
+  | Greater ↦ λ is. cc
+] e
+
+-- the rows of these buckets, in order
+abbrev pub rows_in : List OwnRows → OwnRows
+rows_in buckets = in_order (flat_map (λ bucket. bucket) buckets)
+
+pub rows_in_leaves : (leaves : RowsByLeaf) → rows_in (map (λ leaf. leaf.1) leaves) ≡ joined leaves
+rows_in_leaves leaves = ap in_order (flat_map-map (λ bucket. bucket) (λ (leaf : ℕ × OwnRows). leaf.1) leaves)
+
+pub empty_first : (bucket : OwnRows) (rest : List OwnRows) → bucket ≡ [] → rows_in (bucket ∷ rest) ≡ rows_in rest
+empty_first bucket rest none = ap (λ rows. in_order (rows ++ flat_map (λ x. x) rest)) none
+
+pub some_first : (bucket : OwnRows) (rest : List OwnRows) → bucket ≢ [] → rows_in (bucket ∷ rest) ≢ []
+some_first [] rest some e = some refl
+some_first (row ∷ rows) rest some e = never_empty row.0 row.1 (in_order (rows ++ flat_map (λ x. x) rest)) e
+
 -- ---- what a row put there makes of them
+
+each_put : (n : ℕ) (rows : OwnRows) → IsLeaf (n, rows) → (ls : RowsByLeaf) → All IsLeaf ls → All IsLeaf (put nat_cmp n rows ls)
+each_put n rows is [] each = All-cons IsLeaf (n, rows) [] is (All-nil IsLeaf)
+each_put n rows is (leaf ∷ ls) each =
+    elim (nat_cmp n leaf.0) as (λ r. nat_cmp n leaf.0 ≡ r → All IsLeaf (by_order r ((n, rows) ∷ leaf ∷ ls) ((leaf.0, rows) ∷ ls) (leaf ∷ put nat_cmp n rows ls))) [
+      | Less ↦ λ e. All-cons IsLeaf (n, rows) (leaf ∷ ls) is each
+      | Equal ↦ λ tied. All-cons IsLeaf (leaf.0, rows) ls (subst (λ m. IsLeaf (m, rows)) (nat_cmp-IsAntisymmetric n leaf.0 tied) is) (All-tail IsLeaf leaf ls each)
+      | Greater ↦ λ e. All-cons IsLeaf leaf (put nat_cmp n rows ls) (All-head IsLeaf leaf ls each) (each_put n rows is ls (All-tail IsLeaf leaf ls each))
+    ] refl
 
 pub rows_put : (k : List ℕ) (d : Digest) (rows : OwnRows) → AreRows rows → IsName 256 k → AreRows (put bytes_cmp k d rows)
 rows_put k d rows are named = record {
@@ -208,19 +243,10 @@ module _ (k : List ℕ) (d : Digest) (leaves : RowsByLeaf) (are : AreLeaves leav
         own = All-put bytes_cmp (Stands n) k d (leaf_at n leaves) old.own refl (λ row is. is);
       }
 
-  each_put : (rows : OwnRows) → IsLeaf (leaf_of k, rows) → (ls : RowsByLeaf) → All IsLeaf ls → All IsLeaf (put nat_cmp (leaf_of k) rows ls)
-  each_put rows is [] each = All-cons IsLeaf (leaf_of k, rows) [] is (All-nil IsLeaf)
-  each_put rows is (leaf ∷ ls) each =
-      elim (nat_cmp (leaf_of k) leaf.0) as (λ r. nat_cmp (leaf_of k) leaf.0 ≡ r → All IsLeaf (by_order r ((leaf_of k, rows) ∷ leaf ∷ ls) ((leaf.0, rows) ∷ ls) (leaf ∷ put nat_cmp (leaf_of k) rows ls))) [
-        | Less ↦ λ e. All-cons IsLeaf (leaf_of k, rows) (leaf ∷ ls) is each
-        | Equal ↦ λ tied. All-cons IsLeaf (leaf.0, rows) ls (subst (λ m. IsLeaf (m, rows)) (nat_cmp-IsAntisymmetric (leaf_of k) leaf.0 tied) is) (All-tail IsLeaf leaf ls each)
-        | Greater ↦ λ e. All-cons IsLeaf leaf (put nat_cmp (leaf_of k) rows ls) (All-head IsLeaf leaf ls each) (each_put rows is ls (All-tail IsLeaf leaf ls each))
-      ] refl
-
   pub leaves_put : AreLeaves new_leaves
   leaves_put = record {
     rising = is_true (is_sorted nat_cmp new_leaves) (is_sorted-put nat_cmp nat_cmp_total (leaf_of k) new_leaf leaves (passes (is_sorted nat_cmp leaves) are.rising));
-    each = each_put new_leaf is_new_leaf leaves are.each;
+    each = each_put (leaf_of k) new_leaf is_new_leaf leaves are.each;
   }
 
   found_apart : (q : List ℕ) (r : Ordering) → nat_cmp (leaf_of q) (leaf_of k) ≡ r → is_eq r ≡ false → (c : Ordering) → bytes_cmp q k ≡ c
@@ -258,3 +284,76 @@ module _ (k : List ℕ) (d : Digest) (leaves : RowsByLeaf) (are : AreLeaves leav
 
     pub joined_after : joined new ≡ put bytes_cmp k d (joined leaves)
     joined_after = ap joined are_new ∙ joined_put
+
+-- ---- what is left of them without a row
+
+module _ (k : List ℕ) (leaves : RowsByLeaf) (are : AreLeaves leaves) where
+  abbrev other : List ℕ → Bool
+  other q = not (is_eq (bytes_cmp k q))
+
+  abbrev left_leaf : OwnRows
+  left_leaf = without_row k (leaf_at (leaf_of k) leaves)
+
+  abbrev left_leaves : RowsByLeaf
+  left_leaves = put nat_cmp (leaf_of k) left_leaf leaves
+
+  is_left_leaf : IsLeaf (leaf_of k, left_leaf)
+  is_left_leaf =
+      let n = leaf_of k in
+      let old : IsLeaf (n, leaf_at n leaves) = is_leaf_at n leaves are.each in
+      record {
+        rows = rows_without k (leaf_at n leaves) old.rows;
+        own = All-filter (λ row. other row.0) (Stands n) (leaf_at n leaves) old.own;
+      }
+
+  leaves_left : AreLeaves left_leaves
+  leaves_left = record {
+    rising = is_true (is_sorted nat_cmp left_leaves) (is_sorted-put nat_cmp nat_cmp_total (leaf_of k) left_leaf leaves (passes (is_sorted nat_cmp leaves) are.rising));
+    each = each_put (leaf_of k) left_leaf is_left_leaf leaves are.each;
+  }
+
+  -- what is found without the key
+  find_left : (q : List ℕ) (rows : OwnRows) → find bytes_cmp q (without_row k rows) ≡ cond (other q) (find bytes_cmp q rows) None
+  find_left q rows = find-where_key bytes_cmp other q (λ x tied. ap other (sym (same_bytes q x tied))) rows
+
+  is_other : (q : List ℕ) (r c : Ordering) → nat_cmp (leaf_of q) (leaf_of k) ≡ r → is_eq r ≡ false → bytes_cmp k q ≡ c → not (is_eq c) ≡ true
+  is_other q r Less is differs e = refl
+  is_other q r Equal is differs e = absurd (apart_by (leaf_of q) (leaf_of k) r is differs (sym (ap leaf_of (same_bytes k q e))))
+  is_other q r Greater is differs e = refl
+
+  left_by : (q : List ℕ) (r : Ordering) → nat_cmp (leaf_of q) (leaf_of k) ≡ r
+      → find bytes_cmp q (unwrap_or (cond (is_eq r) (Some left_leaf) (find nat_cmp (leaf_of q) leaves)) []) ≡ cond (other q) (find bytes_cmp q (leaf_at (leaf_of q) leaves)) None
+  left_by q Equal tied =
+      find_left q (leaf_at (leaf_of k) leaves)
+      ∙ ap (λ m. cond (other q) (find bytes_cmp q (leaf_at m leaves)) None) (sym (nat_cmp-IsAntisymmetric (leaf_of q) (leaf_of k) tied))
+  left_by q Less is = ap (λ b. cond b (find bytes_cmp q (leaf_at (leaf_of q) leaves)) None) (sym (is_other q Less (bytes_cmp k q) is refl refl))
+  left_by q Greater is = ap (λ b. cond b (find bytes_cmp q (leaf_at (leaf_of q) leaves)) None) (sym (is_other q Greater (bytes_cmp k q) is refl refl))
+
+  -- the rows of all leaves are those without the row
+  joined_left : joined left_leaves ≡ without_row k (joined leaves)
+  joined_left =
+      same_entries bytes_cmp bytes_total same_bytes (joined left_leaves) (without_row k (joined leaves))
+      (sorted_in_order (rows_of_all left_leaves))
+      (is_sorted-where_key bytes_cmp other (joined leaves) (sorted_in_order (rows_of_all leaves)))
+      (λ q. find_joined q left_leaves leaves_left
+      ∙ ap (λ rows. find bytes_cmp q (unwrap_or rows [])) (find-put nat_cmp nat_cmp_total (leaf_of q) (leaf_of k) left_leaf leaves)
+      ∙ left_by q (nat_cmp (leaf_of q) (leaf_of k)) refl
+      ∙ ap (λ f. cond (other q) f None) (sym (find_joined q leaves are))
+      ∙ sym (find_left q (joined leaves)))
+
+  module _ (leaf : ℕ) (at : leaf ≡ leaf_of k) where
+    module _ (new : RowsByLeaf) (is : new ≡ put nat_cmp leaf (without_row k (leaf_at leaf leaves)) leaves) where
+      are_left : new ≡ left_leaves
+      are_left = is ∙ ap (λ n. put nat_cmp n (without_row k (leaf_at n leaves)) leaves) at
+
+      pub leaves_left_after : AreLeaves new
+      leaves_left_after = subst AreLeaves (sym are_left) leaves_left
+
+      pub joined_left_after : joined new ≡ without_row k (joined leaves)
+      joined_left_after = ap joined are_left ∙ joined_left
+
+    -- a leaf that isn't kept has no row of the key
+    pub none_left_out : None ≡ lookup (is_at (nat_cmp leaf)) leaves → joined leaves ≡ without_row k (joined leaves)
+    none_left_out none =
+        sym (none_out bytes_cmp k (joined leaves)
+        (find_joined k leaves are ∙ ap (λ n. find bytes_cmp k (leaf_at n leaves)) (sym at) ∙ ap (find bytes_cmp k) (leaf_absent leaf leaves none)))

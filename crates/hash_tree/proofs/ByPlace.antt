@@ -1,7 +1,7 @@
 -- The place of a key among the rows of a leaf.
-use Rattle.std.proofs.Common.{◌≡◌, ℕ, zero, suc, ◌+◌, ◌<◌, ◌≤◌, cond, T, List, [], ◌∷◌, ◌++◌, length, map, take, get_or, All, Some, None, refl, sym, ap, ◌∙◌, arith}
+use Rattle.std.proofs.Common.{◌≡◌, ℕ, zero, suc, ◌+◌, ◌<◌, ◌≤◌, cond, not, T, List, [], ◌∷◌, ◌++◌, length, map, take, get_or, All, Some, None, refl, sym, ap, ◌∙◌, arith}
 use Rattle.std.specs.Prelude.{slice_set}
-use Rattle.std.specs.List.{flat_map, insert}
+use Rattle.std.specs.List.{flat_map, insert, remove}
 use Rattle.std.specs.Ordering.{is_eq}
 use Rattle.std.specs.declared.cmp.Ordering.TheVariants.{Less, Equal, Greater}
 use Rattle.std.specs.FinMap.{find, is_sorted, put}
@@ -12,6 +12,8 @@ use Rattle.frame_fields.specs.Field.{key_row_parts, name}
 use Rattle.frame_fields.specs.declared.keys.KeyDigest.{KeyDigest}
 use Rattle.meta_types.specs.Name.{IsName}
 use Rattle.meta_types.specs.Order.{bytes_cmp}
+use Rattle.meta_store.specs.Kept.{without_row}
+use Rattle.meta_store.proofs.Forgetting.{first_only, none_out}
 use Rattle.meta_store.proofs.Kept.{IsNamed, bytes_total}
 use Rattle.meta_store.proofs.Maps.{before_all, find_below, rest_sorted}
 use Rattle.hash_tree.proofs.Steps.{one_more}
@@ -35,12 +37,24 @@ put_over key (x ∷ xs) (suc place) past lt row is tied digest =
     ap (λ r. by_order r ((key, digest) ∷ parts (x ∷ xs)) ((x.key, digest) ∷ parts xs) ((x.key, x.digest) ∷ put bytes_cmp key digest (parts xs))) (past 0 x (omega arith))
     ∙ ap (λ ys. (x.key, x.digest) ∷ ys) (put_over key xs place (λ k d before. past (suc k) d (omega arith)) (omega arith) row is tied digest)
 
-pub at_place : (key : List ℕ) (rows : List KeyDigest) (place : ℕ) (here : KeyDigest) → IsPast key rows place → place < length rows → here ≡ get_or rows place here → bytes_cmp key here.key ≡ Equal → IsAt key rows place
-at_place key rows place here past lt is tied = record {
+left_out : (key : List ℕ) (rows : List KeyDigest) (place : ℕ) → T (is_sorted bytes_cmp (parts rows)) → IsPast key rows place → place < length rows → (row : KeyDigest) → row ≡ get_or rows place row → bytes_cmp key row.key ≡ Equal
+    → without_row key (parts rows) ≡ parts (remove rows place)
+left_out key [] place sorted past lt row is tied = absurd (omega arith)
+left_out key (x ∷ xs) zero sorted past lt row is tied =
+    let here : bytes_cmp key x.key ≡ Equal = ap (λ (y : KeyDigest). bytes_cmp key y.key) (sym is) ∙ tied in
+    ap (λ r. cond (not (is_eq r)) ((x.key, x.digest) ∷ without_row key (parts xs)) (without_row key (parts xs))) here
+    ∙ none_out bytes_cmp key (parts xs) (first_only bytes_cmp bytes_total key (x.key, x.digest) (parts xs) sorted here)
+left_out key (x ∷ xs) (suc place) sorted past lt row is tied =
+    ap (λ r. cond (not (is_eq r)) ((x.key, x.digest) ∷ without_row key (parts xs)) (without_row key (parts xs))) (past 0 x (omega arith))
+    ∙ ap (λ ys. (x.key, x.digest) ∷ ys) (left_out key xs place (rest_sorted bytes_cmp bytes_total (x.key, x.digest) (parts xs) sorted) (λ k d before. past (suc k) d (omega arith)) (omega arith) row is tied)
+
+pub at_place : (key : List ℕ) (rows : List KeyDigest) (place : ℕ) (here : KeyDigest) → T (is_sorted bytes_cmp (parts rows)) → IsPast key rows place → place < length rows → here ≡ get_or rows place here → bytes_cmp key here.key ≡ Equal → IsAt key rows place
+at_place key rows place here sorted past lt is tied = record {
   within = lt;
   replaced = λ row at digest.
       let same : here ≡ row = is ∙ get_or_default rows place here row lt ∙ sym at in
       put_over key rows place past lt row at (ap (λ (y : KeyDigest). bytes_cmp key y.key) (sym same) ∙ tied) digest;
+  removed = left_out key rows place sorted past lt here is tied;
 }
 
 put_between : (key : List ℕ) (rows : List KeyDigest) (place : ℕ) → IsPast key rows place → place ≤ length rows → (place < length rows → (row : KeyDigest) → row ≡ get_or rows place row → bytes_cmp key row.key ≡ Less) → (digest : Digest)

@@ -1,5 +1,5 @@
 -- The parts of a tree by full prefix: what its readers find in them.
-use Rattle.std.proofs.Common.{◌≡◌, ◌≢◌, ℕ, true, false, cond, ◌&&◌, T, List, [], ◌∷◌, ◌++◌, map, All, Some, refl, sym, ap, subst, ◌∙◌}
+use Rattle.std.proofs.Common.{◌≡◌, ◌≢◌, ℕ, true, false, cond, not, ◌&&◌, T, List, [], ◌∷◌, ◌++◌, map, All, Some, refl, sym, ap, subst, ◌∙◌}
 use Rattle.std.specs.Bool.{passes}
 use Rattle.std.specs.List.{flat_map}
 use Rattle.std.specs.Option.{unwrap_or}
@@ -18,14 +18,16 @@ use Rattle.meta_types.specs.Order.{bytes_cmp, key_cmp, prefix_cmp, prefix_eq}
 use Rattle.dvvset.specs.Object.{Entry}
 use Rattle.frame_fields.specs.Field.{prefix, prefix_row_parts}
 use Rattle.frame_fields.specs.declared.prefixes.PrefixDigest.{PrefixDigest}
-use Rattle.meta_store.specs.Table.{IsHeld}
+use Rattle.meta_store.specs.Table.{IsHeld, without_object}
 use Rattle.meta_store.specs.Kept as store
-use Rattle.meta_store.specs.Kept.{PartsOf, RowsOf, rows_at, rows_under, table_of}
+use Rattle.meta_store.specs.Kept.{PartsOf, RowsOf, rows_at, rows_under, table_of, with_rows, without_row}
+use Rattle.meta_store.proofs.Forgetting.{filled_with, rises_with, table_without}
 use Rattle.meta_store.proofs.Kept.{all_prefixes, bytes_total, own_part, prefix_total, put_part, rows_left_out}
 use Rattle.meta_store.proofs.Maps.{All-put, below_rest, filled_up, first, greater_back, is_less, is_true, put_last, rest_sorted, second}
-use Rattle.hash_tree.specs.Tree.{Digest, OwnRows, DigestRows, digest_rows, object_digest, own_rows, prefix_root, prefix_roots, tree_root}
+use Rattle.hash_tree.specs.Tree.{Digest, OwnRows, DigestRows, digest_rows, object_digest, own_rows, prefix_root, prefix_roots, tree_root, without_digest}
 use Rattle.hash_tree.specs.Kept.{AreTreeParts}
 use Rattle.hash_tree.specs.Rising.{do_prefixes_rise}
+use Rattle.hash_tree.proofs.ByLeaf.{never_empty}
 
 abbrev Filled : Prefix × OwnRows → Type 0
 Filled part = part.1 ≢ []
@@ -87,14 +89,6 @@ module _ (parts : Parts) (are : AreTreeParts parts) where
 
 -- ---- a row put there
 
-never_empty : (n : List ℕ) (d : Digest) (rows : OwnRows) → put bytes_cmp n d rows ≢ []
-never_empty n d [] e = cc
-never_empty n d (row ∷ rows) e = elim (bytes_cmp n row.0) as (λ c. by_order c ((n, d) ∷ row ∷ rows) ((row.0, d) ∷ rows) (row ∷ put bytes_cmp n d rows) ≡ [] → ⊥) [
-  | Less ↦ λ is. cc
-  | Equal ↦ λ is. cc
-  | Greater ↦ λ is. cc
-] e
-
 module _ (k : Key) (d : Digest) (parts new : Parts) (are : AreTreeParts parts) (e : new ≡ put prefix_cmp k.prefix (put bytes_cmp k.key d (rows_at k.prefix parts)) parts) where
   pub table_put : table_of new ≡ put key_cmp k d (table_of parts)
   table_put = ap table_of e ∙ put_part k.prefix k.key d parts (passes (is_sorted prefix_cmp parts) are.rising) are.filled
@@ -107,6 +101,21 @@ module _ (k : Key) (d : Digest) (parts new : Parts) (are : AreTreeParts parts) (
         filled = subst (All Filled) (sym e) (All-put prefix_cmp Filled k.prefix rows parts are.filled (never_empty k.key d (rows_at k.prefix parts)) (λ part filled. never_empty k.key d (rows_at k.prefix parts)));
       }
 
+-- ---- a key taken out
+
+module _ (k : Key) (parts new : Parts) (are : AreTreeParts parts) (e : new ≡ with_rows k.prefix (without_row k.key (rows_at k.prefix parts)) parts) where
+  pub table_left : table_of new ≡ without_digest k (table_of parts)
+  table_left = ap table_of e ∙ table_without k.prefix k.key parts (passes (is_sorted prefix_cmp parts) are.rising)
+
+  pub parts_left : AreTreeParts new
+  parts_left =
+      let rows : OwnRows = without_row k.key (rows_at k.prefix parts) in
+      let sorted : T (is_sorted prefix_cmp parts) = passes (is_sorted prefix_cmp parts) are.rising in
+      record {
+        rising = is_true (is_sorted prefix_cmp new) (subst (λ ps. T (is_sorted prefix_cmp ps)) (sym e) (rises_with k.prefix parts sorted rows));
+        filled = subst (All Filled) (sym e) (filled_with k.prefix parts sorted are.filled rows);
+      }
+
 -- ---- the parts of a store
 
 pub digested_put : (k : Key) (o : List Entry) (table : List (Key × List Entry)) → digest_rows (put key_cmp k o table) ≡ put key_cmp k (object_digest o) (digest_rows table)
@@ -117,6 +126,15 @@ digested_put k o (row ∷ rows) =
       | Less ↦ refl
       | Equal ↦ refl
       | Greater ↦ ap (λ xs. (row.0, object_digest row.1) ∷ xs) (digested_put k o rows)
+    ]
+
+pub digested_without : (k : Key) (table : List (Key × List Entry)) → digest_rows (without_object k table) ≡ without_digest k (digest_rows table)
+digested_without k [] = refl
+digested_without k (row ∷ rows) =
+    let later = digested_without k rows in
+    elim (is_eq (key_cmp k row.0)) as (λ b. digest_rows (cond (not b) (row ∷ without_object k rows) (without_object k rows)) ≡ cond (not b) ((row.0, object_digest row.1) ∷ without_digest k (digest_rows rows)) (without_digest k (digest_rows rows))) [
+      | true ↦ later
+      | false ↦ ap (λ xs. (row.0, object_digest row.1) ∷ xs) later
     ]
 
 digested_under : (p : Prefix) (rows : RowsOf (List Entry)) → digest_rows (rows_under p rows) ≡ rows_under p (digest_rows rows)

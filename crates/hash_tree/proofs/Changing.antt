@@ -1,7 +1,8 @@
 -- What a changed key changes of the digests under its full prefix: those of its own leaf and inner node.
-use Rattle.std.proofs.Common.{◌≡◌, ◌≢◌, ℕ, ◌+◌, ◌*◌, ◌/◌, ◌-◌, ◌<◌, ◌≤◌, ◌==◌, zero, suc, true, false, cond, List, [], ◌∷◌, map, take, drop, length, get_or, refl, sym, ap, subst, ◌∙◌, arith}
+use Rattle.std.proofs.Common.{◌≡◌, ◌≢◌, ℕ, ◌+◌, ◌*◌, ◌/◌, ◌-◌, ◌<◌, ◌≤◌, ◌==◌, zero, suc, true, false, cond, not, List, [], ◌∷◌, map, take, drop, length, get_or, refl, sym, ap, ◌∙◌, arith}
 use Rattle.std.specs.List.{concat, range_with_len, slice_set}
 use Rattle.std.specs.List.{drop-map}
+use Rattle.std.specs.Ordering.{is_eq}
 use Rattle.std.specs.declared.cmp.Ordering.TheVariants.{Less, Equal, Greater}
 use Rattle.std.specs.FinMap.{put}
 use Rattle.std.specs.FinMap.Entries.{by_order}
@@ -10,8 +11,9 @@ use Rattle.std.proofs.lemmas.List.{ext_get_or, get_or-set_other, get_or-set_same
 use Rattle.std.proofs.lemmas.List.FromFn.{get_or-map-range_with_len, length-map-range_with_len, take-map-range_with_len}
 use Rattle.sha2.specs.Sha256.{sha256}
 use Rattle.meta_types.specs.Order.{bytes_cmp}
+use Rattle.meta_store.specs.Kept.{without_row}
 use Rattle.hash_tree.specs.Tree.{Digest, OwnRows, in_leaf, inner_digest, inner_digests, leaf_digest, leaf_digests, leaf_of, prefix_root, text_of}
-use Rattle.hash_tree.specs.Kept.{all_leaf_digests, inner_over}
+use Rattle.hash_tree.specs.Kept.{AreDigestsBut, all_leaf_digests, inner_over}
 use Rattle.meta_types.proofs.Comparing.{same_bytes}
 
 module _ (k : List ℕ) (d : Digest) where
@@ -28,9 +30,25 @@ module _ (k : List ℕ) (d : Digest) where
         | Greater ↦ λ is. ap (λ xs. cond (n == leaf_of row.0) (row ∷ xs) xs) (in_leaf_other n rows e)
       ] refl
 
-  leaf_other : (rows : OwnRows) (n : ℕ) → n ≢ leaf_of k → leaf_digest (put bytes_cmp k d rows) n ≡ leaf_digest rows n
-  unfolding leaf_digest
-  leaf_other rows n apart = ap (λ xs. sha256 (text_of xs)) (in_leaf_other n rows (ne_eqb n (leaf_of k) apart))
+  -- with the key put there, or without it
+  pub put_elsewhere : (rows : OwnRows) (n : ℕ) → n ≢ leaf_of k → in_leaf n (put bytes_cmp k d rows) ≡ in_leaf n rows
+  put_elsewhere rows n apart = in_leaf_other n rows (ne_eqb n (leaf_of k) apart)
+
+in_leaf_without : (k : List ℕ) (n : ℕ) (rows : OwnRows) → (n == leaf_of k) ≡ false → in_leaf n (without_row k rows) ≡ in_leaf n rows
+in_leaf_without k n [] e = refl
+in_leaf_without k n (row ∷ rows) e =
+    let rest : OwnRows = in_leaf n rows in
+    let later : in_leaf n (without_row k rows) ≡ rest = in_leaf_without k n rows e in
+    elim (bytes_cmp k row.0) as (λ r. bytes_cmp k row.0 ≡ r → in_leaf n (cond (not (is_eq r)) (row ∷ without_row k rows) (without_row k rows)) ≡ cond (n == leaf_of row.0) (row ∷ rest) rest) [
+      | Less ↦ λ is. ap (λ xs. cond (n == leaf_of row.0) (row ∷ xs) xs) later
+      | Equal ↦ λ tied.
+          let out : (n == leaf_of row.0) ≡ false = ap (λ x. n == leaf_of x) (sym (same_bytes k row.0 tied)) ∙ e in
+          later ∙ sym (ap (λ b. cond b (row ∷ rest) rest) out)
+      | Greater ↦ λ is. ap (λ xs. cond (n == leaf_of row.0) (row ∷ xs) xs) later
+    ] refl
+
+pub left_elsewhere : (k : List ℕ) (rows : OwnRows) (n : ℕ) → n ≢ leaf_of k → in_leaf n (without_row k rows) ≡ in_leaf n rows
+left_elsewhere k rows n apart = in_leaf_without k n rows (ne_eqb n (leaf_of k) apart)
 
 -- lists made of functions of the index that agree there
 alike : {A : Type 0} (f g : ℕ → A) (low n : ℕ) → ((i : ℕ) → low ≤ i → i < low + n → g i ≡ f i) → map g (range_with_len low n) ≡ map f (range_with_len low n)
@@ -79,31 +97,50 @@ pub root_over : (rows : OwnRows) (inner : List Digest) → inner ≡ inner_diges
 unfolding prefix_root
 root_over rows inner is = ap (λ ds. sha256 (concat ds)) is
 
--- ---- a row put there
+-- ---- rows that are the same in every leaf but one
 
-module _ (k : List ℕ) (d : Digest) (rows : OwnRows) (leaf : ℕ) (is : leaf ≡ leaf_of k) (byte : leaf < 256) where
-  abbrev new : OwnRows
-  new = put bytes_cmp k d rows
+module _ (rows new : OwnRows) (leaf : ℕ) (byte : leaf < 256) (same : (n : ℕ) → n ≢ leaf → in_leaf n new ≡ in_leaf n rows) where
+  leaf_other : (n : ℕ) → n ≢ leaf → leaf_digest new n ≡ leaf_digest rows n
+  unfolding leaf_digest
+  leaf_other n apart = ap (λ xs. sha256 (text_of xs)) (same n apart)
 
-  pub leaves_changed : all_leaf_digests new ≡ slice_set (all_leaf_digests rows) leaf (leaf_digest new leaf)
-  leaves_changed = but_one (leaf_digest rows) (leaf_digest new) 256 leaf byte (λ j lt apart. leaf_other k d rows j (λ e. apart (e ∙ sym is)))
+  leaves_changed : all_leaf_digests new ≡ slice_set (all_leaf_digests rows) leaf (leaf_digest new leaf)
+  leaves_changed = but_one (leaf_digest rows) (leaf_digest new) 256 leaf byte (λ j lt apart. leaf_other j apart)
 
   inner_other : (inner : ℕ) → inner ≢ leaf / 16 → inner_digest new inner ≡ inner_digest rows inner
   unfolding inner_digest
   inner_other inner apart =
       ap (λ ds. sha256 (concat ds)) (alike (leaf_digest rows) (leaf_digest new) (16 * inner) 16
-      (λ i a b. leaf_other k d rows i (λ e. let same : i ≡ leaf = e ∙ sym is in apart (omega (arith, a, b, same)))))
+      (λ i a b. leaf_other i (λ is. apart (omega (arith, a, b, is)))))
 
-  pub inner_changed : inner_digests new ≡ slice_set (inner_digests rows) (leaf / 16) (inner_digest new (leaf / 16))
+  inner_changed : inner_digests new ≡ slice_set (inner_digests rows) (leaf / 16) (inner_digest new (leaf / 16))
   inner_changed = but_one (inner_digest rows) (inner_digest new) 16 (leaf / 16) (omega (arith, byte)) (λ j lt apart. inner_other j apart)
 
-module _ (k : List ℕ) (d : Digest) (rows new : OwnRows) (e : new ≡ put bytes_cmp k d rows) (leaf : ℕ) (is : leaf ≡ leaf_of k) (byte : leaf < 256) where
-  pub kept_leaves : (old : List Digest) (x : Digest) → old ≡ all_leaf_digests rows → x ≡ leaf_digest new leaf → slice_set old leaf x ≡ all_leaf_digests new
-  kept_leaves old x was here =
-      (λ i. slice_set (was i) leaf (here i))
-      ∙ sym (subst (λ (xs : OwnRows). all_leaf_digests xs ≡ slice_set (all_leaf_digests rows) leaf (leaf_digest xs leaf)) (sym e) (leaves_changed k d rows leaf is byte))
+  -- only the digests of that leaf and of its inner node are others
+  pub digests_but : (leaf_digests inner : List Digest) → leaf_digests ≡ all_leaf_digests rows → inner ≡ inner_digests rows → AreDigestsBut leaf new leaf_digests inner
+  digests_but leaf_digests inner leaves nodes = record {
+    leaves = ap (λ ds. slice_set ds leaf (leaf_digest new leaf)) leaves ∙ sym leaves_changed;
+    nodes = ap (λ ds. slice_set ds (leaf / 16) (inner_digest new (leaf / 16))) nodes ∙ sym inner_changed;
+  }
 
-  pub kept_inner : (old : List Digest) (x : Digest) → old ≡ inner_digests rows → x ≡ inner_digest new (leaf / 16) → slice_set old (leaf / 16) x ≡ inner_digests new
-  kept_inner old x was here =
-      (λ i. slice_set (was i) (leaf / 16) (here i))
-      ∙ sym (subst (λ (xs : OwnRows). inner_digests xs ≡ slice_set (inner_digests rows) (leaf / 16) (inner_digest xs (leaf / 16))) (sym e) (inner_changed k d rows leaf is byte))
+module _ (k : List ℕ) (rows new : OwnRows) (leaf : ℕ) (at : leaf ≡ leaf_of k) (byte : leaf < 256) where
+  pub digests_but_put : (d : Digest) → new ≡ put bytes_cmp k d rows → (leaf_digests inner : List Digest) → leaf_digests ≡ all_leaf_digests rows → inner ≡ inner_digests rows → AreDigestsBut leaf new leaf_digests inner
+  digests_but_put d is =
+      digests_but rows new leaf byte (λ n apart. ap (in_leaf n) is ∙ put_elsewhere k d rows n (λ e. apart (e ∙ sym at)))
+
+  pub digests_but_left : new ≡ without_row k rows → (leaf_digests inner : List Digest) → leaf_digests ≡ all_leaf_digests rows → inner ≡ inner_digests rows → AreDigestsBut leaf new leaf_digests inner
+  digests_but_left is =
+      digests_but rows new leaf byte (λ n apart. ap (in_leaf n) is ∙ left_elsewhere k rows n (λ e. apart (e ∙ sym at)))
+
+-- ---- digests that are computed anew
+
+module _ (rows : OwnRows) (leaf : ℕ) (leaf_digests inner : List Digest) (but : AreDigestsBut leaf rows leaf_digests inner) where
+  pub all_256 : length leaf_digests ≡ 256
+  all_256 =
+      sym (length-set leaf_digests leaf (leaf_digest rows leaf)) ∙ ap length but.leaves ∙ length-map-range_with_len (leaf_digest rows) 0 256
+
+  pub leaves_renewed : (new : List Digest) (d : Digest) → new ≡ slice_set leaf_digests leaf d → d ≡ leaf_digest rows leaf → new ≡ all_leaf_digests rows
+  leaves_renewed new d is here = is ∙ ap (λ x. slice_set leaf_digests leaf x) here ∙ but.leaves
+
+  pub nodes_renewed : (new : List Digest) (d : Digest) → new ≡ slice_set inner (leaf / 16) d → d ≡ inner_digest rows (leaf / 16) → new ≡ inner_digests rows
+  nodes_renewed new d is here = is ∙ ap (λ x. slice_set inner (leaf / 16) x) here ∙ but.nodes

@@ -2,8 +2,9 @@
 -- 16 inner nodes under a root, and a root over these. Digests are SHA-256 of FIPS 180-4; what is
 -- hashed is in the form of frames. The rule is our own. Each digest is defined from all rows at
 -- once.
-use Rattle.std.specs.Prelude.{ℕ, ◌*◌, ◌==◌, List, ◌++◌, map, slice_index}
+use Rattle.std.specs.Prelude.{ℕ, ◌*◌, ◌==◌, not, List, ◌++◌, map, slice_index}
 use Rattle.std.specs.List.{concat, filter, flat_map, range_with_len}
+use Rattle.std.specs.Ordering.{is_eq}
 use Rattle.std.specs.FinMap.{put}
 use Rattle.sha2.specs.Sha256.{sha256}
 use Rattle.meta_types.specs.Name.{Prefix, Key, most_key_len}
@@ -38,6 +39,10 @@ rows_of table = digest_rows table
 -- the rows with this digest under the key, and all else as before
 abbrev pub with_digest : Key → Digest → DigestRows → DigestRows
 with_digest key digest rows = put key_cmp key digest rows
+
+-- the rows without the key and its digest
+abbrev pub without_digest : Key → DigestRows → DigestRows
+without_digest key rows = filter (λ row. not (is_eq (key_cmp key row.0))) rows
 
 -- ---- under one full prefix
 

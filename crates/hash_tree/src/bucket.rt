@@ -1,11 +1,12 @@
 //! The keys of one leaf.
 
-ghost use Rattle.std.specs.Prelude.{◌≡◌, [], ◌∷◌, map, IfOk, IfErr, OnOk, OnErr, None, true, All};
+ghost use Rattle.std.specs.Prelude.{◌≡◌, ◌↔◌, [], ◌∷◌, map, IfOk, IfErr, OnOk, OnErr, None, true, All, IsTrue};
 ghost use Rattle.std.specs.FinMap.{find, put};
 ghost use Rattle.sha2.specs.Sha256.{sha256};
 ghost use Rattle.frame_fields.specs.Field.{key_row_parts};
 ghost use Rattle.meta_types.specs.Name.{IsName};
 ghost use Rattle.meta_types.specs.Order.{bytes_cmp};
+ghost use Rattle.meta_store.specs.Kept.{without_row};
 ghost use Rattle.hash_tree.specs.Hashing.{Adds};
 ghost use Rattle.hash_tree.specs.Kept.{IsAbsentAt, IsAt};
 ghost use Rattle.hash_tree.specs.Rising.{do_keys_rise};
@@ -67,6 +68,21 @@ impl Bucket {
                 Ok(())
             }
         }
+    }
+
+    /// Takes the key and its digest out. Nothing changes if the key isn't there. It takes no memory.
+    pub(crate) fn forget(&mut self, key: &ByteString)
+        ensures { self.new ≡ without_row key.now self.old }
+    {
+        if let Ok(place) = place_of(self.rows.as_slice(), key) {
+            self.rows.remove(place);
+        }
+    }
+
+    pub(crate) fn is_empty(&self) -> bool
+        ensures { IsTrue result ↔ (self.now ≡ []) }
+    {
+        self.rows.is_empty()
     }
 
     pub(crate) fn digest(&self) -> Digest

@@ -1,11 +1,12 @@
 //! The leaves of one full prefix.
 
-ghost use Rattle.std.specs.Prelude.{◌≡◌, [], true, IfOk, OnOk, OnErr, None};
+ghost use Rattle.std.specs.Prelude.{◌≡◌, ◌↔◌, [], true, IfOk, OnOk, OnErr, None, IsTrue};
 ghost use Rattle.std.specs.FinMap.{find, is_sorted, put};
 ghost use Rattle.std.specs.Ordering.{nat_cmp};
 ghost use Rattle.meta_types.specs.Name.{IsName};
 ghost use Rattle.meta_types.specs.Order.{bytes_cmp};
 ghost use Rattle.sha2.specs.Sha256.{sha256};
+ghost use Rattle.meta_store.specs.Kept.{without_row};
 ghost use Rattle.hash_tree.specs.Tree.{bucket, leaf_digest, leaf_of};
 ghost use Rattle.hash_tree.specs.Rising.{do_keys_rise};
 ghost use Rattle.hash_tree.specs.Kept.{all_leaf_digests, leaf_at};
@@ -66,6 +67,30 @@ impl Leaves {
         ensures same { OnErr result (self.new ≡ self.old) }
     {
         put_leaf(self.alloc, &mut self.by_number, leaf, key, digest)
+    }
+
+    /// Takes the key of this leaf and its digest out. Nothing changes if the key isn't there. It
+    /// takes no memory.
+    pub(crate) fn forget(&mut self, leaf: u8, key: &ByteString)
+        requires { leaf ≡ leaf_of key.now }
+        ensures { self.new ≡ without_row key.now self.old }
+    {
+        let Some(bucket) = self.by_number.get_mut(&leaf) else {
+            return;
+        };
+        bucket.forget(key);
+    }
+
+    /// Returns whether no leaf has a key.
+    pub(crate) fn is_empty(&self) -> bool
+        ensures { IsTrue result ↔ (self.now ≡ []) }
+    {
+        for bucket in self.by_number.values() {
+            if !bucket.is_empty() {
+                return false;
+            }
+        }
+        true
     }
 
     pub(crate) fn digest(&self, leaf: u8) -> Digest

@@ -6,7 +6,7 @@ ghost use Rattle.std.specs.FinMap.{find, is_sorted, put};
 ghost use Rattle.sha2.specs.Sha256.{sha256};
 ghost use Rattle.meta_types.specs.Order.{bytes_cmp, prefix_cmp};
 ghost use Rattle.frame_fields.specs.Field.{prefix};
-ghost use Rattle.meta_store.specs.Kept.{rows_at, table_of};
+ghost use Rattle.meta_store.specs.Kept.{rows_at, table_of, with_rows, without_row};
 ghost use Rattle.hash_tree.specs.Tree.{prefix_root, rows_of};
 ghost use Rattle.hash_tree.specs.Kept.{AreTreeParts};
 
@@ -42,6 +42,21 @@ pub(crate) fn put_part(
     tree.hold(key.own_bytes(), digest)?;
     parts.insert(key.prefix().copy()?, tree)?;
     Ok(())
+}
+
+/// Takes the key and its digest out, and the full prefix with its last key. It takes no memory.
+pub(crate) fn remove_part(parts: &mut BTreeMap<FullPrefix, PrefixTree>, key: &MetaKey)
+    requires rising { is_sorted prefix_cmp parts.old.entries ≡ true }
+    ensures { parts.new.entries ≡ with_rows key.now.prefix
+        (without_row key.now.key (rows_at key.now.prefix parts.old.entries)) parts.old.entries }
+{
+    let Some(tree) = parts.get_mut(key.prefix()) else {
+        return;
+    };
+    tree.forget(key.own_bytes());
+    if tree.is_empty() {
+        parts.remove(key.prefix());
+    }
 }
 
 /// Returns the trees of a store's full prefixes.

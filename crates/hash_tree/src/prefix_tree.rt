@@ -1,14 +1,15 @@
 //! The tree of one full prefix.
 
-ghost use Rattle.std.specs.Prelude.{true, ◌≡◌, ◌<◌, ◌*◌, [], length, take, drop, All};
+ghost use Rattle.std.specs.Prelude.{true, ◌≡◌, ◌↔◌, ◌<◌, ◌*◌, [], length, take, drop, All, IsTrue};
 ghost use Rattle.std.specs.Prelude.{IfOk, OnOk, OnErr, None};
 ghost use Rattle.std.specs.FinMap.{find, put};
 ghost use Rattle.meta_types.specs.Name.{IsName};
 ghost use Rattle.meta_types.specs.Order.{bytes_cmp};
+ghost use Rattle.meta_store.specs.Kept.{without_row};
 ghost use Rattle.meta_store.specs.Table.{IsHeld};
 ghost use Rattle.hash_tree.specs.Tree.{bucket, digest_rows, inner_digests, leaf_digests, prefix_root};
 ghost use Rattle.hash_tree.specs.Rising.{do_keys_rise};
-ghost use Rattle.hash_tree.specs.Kept.{inner_over};
+ghost use Rattle.hash_tree.specs.Kept.{AreDigestsBut, all_leaf_digests, inner_over};
 
 use crate::hashing::{digest_of_all, leaf_of};
 use crate::leaves::Leaves;
@@ -94,11 +95,24 @@ impl PrefixTree {
     {
         let leaf = leaf_of(key.as_slice());
         self.leaves.hold(leaf, key, digest)?;
-        self.leaf_digests[leaf as usize] = self.leaves.digest(leaf);
-        let inner = leaf as usize / FAN;
-        self.inner[inner] = digest_of_all(sixteen(self.leaf_digests.as_slice(), inner));
-        self.root = digest_of_all(&self.inner);
+        self.root = renew(leaf, &self.leaves, &mut self.leaf_digests, &mut self.inner);
         Ok(())
+    }
+
+    /// Takes the key and its digest out; one leaf, one inner node and the root are computed. It
+    /// takes no memory.
+    pub(crate) fn forget(&mut self, key: &ByteString)
+        ensures { self.new ≡ without_row key.now self.old }
+    {
+        let leaf = leaf_of(key.as_slice());
+        self.leaves.forget(leaf, key);
+        self.root = renew(leaf, &self.leaves, &mut self.leaf_digests, &mut self.inner);
+    }
+
+    pub(crate) fn is_empty(&self) -> bool
+        ensures { IsTrue result ↔ (self.now ≡ []) }
+    {
+        self.leaves.is_empty()
     }
 
     pub(crate) fn root(&self) -> Digest
@@ -143,6 +157,25 @@ impl PrefixTree {
             root: self.root,
         })
     }
+}
+
+/// Computes the digests of a leaf and of its inner node, puts them in their places, and returns the
+/// root over them. It takes no memory.
+fn renew(
+    leaf: u8,
+    leaves: &Leaves,
+    leaf_digests: &mut Vec<Digest>,
+    inner: &mut [Digest; 16],
+) -> Digest
+    requires { AreDigestsBut leaf leaves.now leaf_digests.old.items inner.old }
+    ensures leaf_digests { leaf_digests.new.items ≡ all_leaf_digests leaves.now }
+    ensures inner { inner.new ≡ inner_digests leaves.now }
+    ensures root { result ≡ prefix_root leaves.now }
+{
+    leaf_digests[leaf as usize] = leaves.digest(leaf);
+    let node = leaf as usize / FAN;
+    inner[node] = digest_of_all(sixteen(leaf_digests.as_slice(), node));
+    digest_of_all(inner)
 }
 
 fn copied(digests: &Vec<Digest>) -> Result<Vec<Digest>, AllocError>

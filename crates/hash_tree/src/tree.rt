@@ -1,16 +1,16 @@
 //! The tree of all full prefixes.
 
-ghost use Rattle.std.specs.Prelude.{◌≡◌, ◌<◌, [], None, true, IfOk, OnOk, OnErr};
+ghost use Rattle.std.specs.Prelude.{◌≡◌, ◌≢◌, ◌<◌, [], None, true, IfOk, OnOk, OnErr};
 ghost use Rattle.std.specs.FinMap.{find};
 ghost use Rattle.meta_types.specs.Order.{key_cmp};
-ghost use Rattle.hash_tree.specs.Tree.{prefix_roots, rows_of, tree_root, with_digest};
+ghost use Rattle.hash_tree.specs.Tree.{prefix_roots, rows_of, tree_root, with_digest, without_digest};
 ghost use Rattle.hash_tree.specs.Tree.{bucket, inner_digests, leaf_digests, own_rows};
 ghost use Rattle.hash_tree.specs.Rising.{do_keys_rise, do_prefixes_rise};
 
 use crate::bucket::copied;
 use crate::hashing::digest_of_all;
 use crate::leaves::empty_digest;
-use crate::parts::{copy_parts, parts_of, put_part, root_of, roots_of};
+use crate::parts::{copy_parts, parts_of, put_part, remove_part, root_of, roots_of};
 use crate::prefix_tree::PrefixTree;
 use frame_fields::{Digest, KeyDigest, PrefixDigest};
 use meta_store::Store;
@@ -58,6 +58,25 @@ impl Tree {
     {
         put_part(self.alloc, &mut self.parts, key, digest)?;
         Ok(())
+    }
+
+    /// Sets the digest of the object under a key that the tree has. It takes no memory.
+    pub(crate) fn set(&mut self, key: &MetaKey, digest: Digest)
+        requires { find key_cmp key.now self.old ≢ None }
+        ensures { self.new ≡ with_digest key.now digest self.old }
+    {
+        match self.update(key, digest) {
+            Ok(()) => {}
+            Err(_) => unreachable!(),
+        }
+    }
+
+    /// Takes the key and its digest out. Nothing changes if the tree doesn't have the key. It takes
+    /// no memory.
+    pub fn forget(&mut self, key: &MetaKey)
+        ensures { self.new ≡ without_digest key.now self.old }
+    {
+        remove_part(&mut self.parts, key);
     }
 
     /// Returns the root, computed from the roots of all full prefixes. It takes no memory.

@@ -3,22 +3,23 @@ use Rattle.std.proofs.Common.{◌≡◌, ◌≢◌, ℕ, ◌+◌, ◌≤◌, Boo
 use Rattle.std.specs.Bool.{passes}
 use Rattle.std.specs.List.{filter}
 use Rattle.std.specs.Option.{unwrap_or}
-use Rattle.std.specs.Ordering.{is_eq, ordering_then}
+use Rattle.std.specs.Ordering.{is_eq, is_lt, ordering_then}
 use Rattle.std.specs.declared.cmp.Ordering.{Ordering}
 use Rattle.std.specs.declared.cmp.Ordering.TheVariants.{Less, Equal, Greater}
 use Rattle.std.specs.Cmp.{IsTotalOrder, tied_itself}
 use Rattle.std.specs.BTreeMap.{is_at}
 use Rattle.std.specs.Map.{lookup, remove_entry, set_value}
 use Rattle.std.specs.FinMap.{find, put, is_sorted}
-use Rattle.std.specs.FinMap.Entries.{by_order, find_tied, is_sorted-put, is_sorted-where_key, length_without}
+use Rattle.std.specs.FinMap.Entries.{below_all, by_order, find_tied, is_sorted-put, is_sorted-where_key, length_without}
 use Rattle.std.proofs.lemmas.List.Elements.{All-filter}
 use Rattle.meta_types.specs.Name.{Prefix, Key}
 use Rattle.meta_types.specs.Order.{bytes_cmp, prefix_cmp, prefix_eq, key_cmp}
-use Rattle.meta_store.specs.Table.{Table, IsTable, without_object}
+use Rattle.dvvset.specs.Object.{Entry}
+use Rattle.meta_store.specs.Table.{Table, IsTable, with_former, with_object, without_object}
 use Rattle.meta_store.specs.Kept.{RowsOf, PartsOf, AreParts, AreRows, Parts, Rows, rows_at, rows_under, table_of, with_rows, without_row}
 use Rattle.meta_store.proofs.Keys.{key_total}
 use Rattle.meta_store.proofs.Kept.{Filled, IsNamed, find_row, key_of, not_after, not_some, prefix_total, rows_absent, then_apart}
-use Rattle.meta_store.proofs.Maps.{All-put, before_all, below_rest, find_below, is_true, looked_up, rest_sorted, written}
+use Rattle.meta_store.proofs.Maps.{All-put, before_all, below_rest, find_below, is_true, looked_up, rest_sorted, second, written}
 use Rattle.meta_store.proofs.Tables.{Held, Keyed}
 
 -- ---- ordered maps
@@ -74,11 +75,34 @@ module _ {K X : Type 0} (R : K → K → Ordering) where
           | Greater ↦ λ greater is. ap (λ r. cond (not (is_eq r)) (e ∷ without k after) (without k after)) greater ∙ ap (λ xs. e ∷ xs) (taken_back k v es is)
         ] refl none
 
+    -- what stood under a key is put there again
+    pub put_again : (k : K) (v w : X) (es : List (K × X)) → T (is_sorted R es) → find R k es ≡ Some w → put R k w (put R k v es) ≡ es
+    put_again k v w [] sorted found = absurd (not_some w (sym found))
+    put_again k v w (e ∷ es) sorted found =
+        let after : List (K × X) = put R k v es in
+        elim (R k e.0) as (λ r. R k e.0 ≡ r → cond (is_eq r) (Some e.1) (find R k es) ≡ Some w → put R k w (by_order r ((k, v) ∷ e ∷ es) ((e.0, v) ∷ es) (e ∷ after)) ≡ e ∷ es) [
+          | Less ↦ λ less is. absurd (not_some w (sym is ∙ find_below R k es (second (is_lt (R k e.0)) (below_all R k es) (before_all R o k v e es sorted less))))
+          | Equal ↦ λ tied is.
+              ap (λ r. by_order r ((k, w) ∷ (e.0, v) ∷ es) ((e.0, w) ∷ es) ((e.0, v) ∷ put R k w es)) tied
+              ∙ ap (λ x. (e.0, x) ∷ es) (let same : w ≡ e.1 = cc in same)
+          | Greater ↦ λ greater is.
+              ap (λ r. by_order r ((k, w) ∷ e ∷ after) ((e.0, w) ∷ after) (e ∷ put R k w after)) greater
+              ∙ ap (λ xs. e ∷ xs) (put_again k v w es (rest_sorted R o e es sorted) is)
+        ] refl found
+
+-- what was held under any key is taken back
+pub held_back : (k : Key) (o : List Entry) (table : Table) (former : Option (List Entry)) → T (is_sorted key_cmp table) → find key_cmp k table ≡ former → with_former k former (with_object k o table) ≡ table
+held_back k o table None sorted is = taken_back key_cmp key_total k o table is
+held_back k o table (Some before) sorted is = put_again key_cmp key_total k o before table sorted is
+
 -- ---- the table of the parts without a row
 
 -- at equal prefixes the second comparison decides
 then_tied : (a b : Ordering) → a ≡ Equal → is_eq (ordering_then a b) ≡ is_eq b
 then_tied a b tied = ap (λ r. is_eq (ordering_then r b)) tied
+
+not_empty : {A : Type 0} (x : A) (xs : List A) → x ∷ xs ≢ []
+not_empty x xs e = cc
 
 module _ {X : Type 0} (p : Prefix) (n : List ℕ) where
   -- a part of another prefix stays
@@ -159,16 +183,22 @@ module _ {X : Type 0} (p : Prefix) (n : List ℕ) where
   part_lessened before [] parts sorted found some = absurd (some refl)
   part_lessened before (row ∷ rows) parts sorted found some = written prefix_cmp prefix_total p before (row ∷ rows) parts sorted found
 
--- ---- a store
+module _ {X : Type 0} (p : Prefix) (parts : PartsOf X) (sorted : T (is_sorted prefix_cmp parts)) where
+  pub rises_with : (rows : RowsOf X) → T (is_sorted prefix_cmp (with_rows p rows parts))
+  rises_with [] = is_sorted-where_key prefix_cmp (λ q. not (prefix_eq p q)) parts sorted
+  rises_with (row ∷ rows) = is_sorted-put prefix_cmp prefix_total p (row ∷ rows) parts sorted
 
-not_empty : {A : Type 0} (x : A) (xs : List A) → x ∷ xs ≢ []
-not_empty x xs e = cc
+  pub filled_with : All Filled parts → (rows : RowsOf X) → All Filled (with_rows p rows parts)
+  filled_with filled [] = All-filter (λ part. not (prefix_eq p part.0)) Filled parts filled
+  filled_with filled (row ∷ rows) = All-put prefix_cmp Filled p (row ∷ rows) parts filled (not_empty row rows) (λ part is. not_empty row rows)
+
+-- ---- a store
 
 fewer : (b : Bool) (m n : ℕ) → cond b 1 0 + m ≡ n → n ≤ 8192 → m ≤ 8192
 fewer true m n e few = omega (arith, e, few)
 fewer false m n e few = omega (arith, e, few)
 
-pub rows_without : (n : List ℕ) (rows : Rows) → AreRows rows → AreRows (without_row n rows)
+pub rows_without : {X : Type 0} (n : List ℕ) (rows : RowsOf X) → AreRows rows → AreRows (without_row n rows)
 rows_without n rows are = record {
   rising = is_true (is_sorted bytes_cmp (without_row n rows)) (is_sorted-where_key bytes_cmp (λ m. not (is_eq (bytes_cmp n m))) rows (passes (is_sorted bytes_cmp rows) are.rising));
   named = All-filter (λ row. not (is_eq (bytes_cmp n row.0))) IsNamed rows are.named;
@@ -191,20 +221,12 @@ module _ (k : Key) (parts new : Parts) (are : AreParts parts) (e : new ≡ with_
   pub table_forgotten : table_of new ≡ without_object k (table_of parts)
   table_forgotten = ap table_of e ∙ table_without k.prefix k.key parts sorted
 
-  in_order : (rows : Rows) → T (is_sorted prefix_cmp (with_rows k.prefix rows parts))
-  in_order [] = is_sorted-where_key prefix_cmp (λ q. not (prefix_eq k.prefix q)) parts sorted
-  in_order (row ∷ rows) = is_sorted-put prefix_cmp prefix_total k.prefix (row ∷ rows) parts sorted
-
-  all_filled : (rows : Rows) → All Filled (with_rows k.prefix rows parts)
-  all_filled [] = All-filter (λ part. not (prefix_eq k.prefix part.0)) Filled parts are.filled
-  all_filled (row ∷ rows) = All-put prefix_cmp Filled k.prefix (row ∷ rows) parts are.filled (not_empty row rows) (λ part filled. not_empty row rows)
-
   pub parts_forgotten : AreParts new
   parts_forgotten =
       let rows : Rows = without_row k.key (rows_at k.prefix parts) in
       record {
-        rising = is_true (is_sorted prefix_cmp new) (subst (λ ps. T (is_sorted prefix_cmp ps)) (sym e) (in_order rows));
-        filled = subst (All Filled) (sym e) (all_filled rows);
+        rising = is_true (is_sorted prefix_cmp new) (subst (λ ps. T (is_sorted prefix_cmp ps)) (sym e) (rises_with k.prefix parts sorted rows));
+        filled = subst (All Filled) (sym e) (filled_with k.prefix parts sorted are.filled rows);
         table = subst IsTable (sym table_forgotten) (is_table k (table_of parts) are.table);
       }
 

@@ -62,9 +62,12 @@ table_put k o table is key held room =
       held = held-put k o table held is.held;
     }
 
+pub found-here : (k : Key) (o : List Entry) (table : Table) → find key_cmp k (with_object k o table) ≡ Some o
+found-here k o table =
+    find-put key_cmp key_total k k o table ∙ ap (λ c. cond (is_eq c) (Some o) (find key_cmp k table)) (tied_itself key_total k)
+
 pub object_at-here : (k : Key) (o : List Entry) (table : Table) → object_at (with_object k o table) k ≡ o
-object_at-here k o table =
-    ap (λ x. unwrap_or x []) (find-put key_cmp key_total k k o table ∙ ap (λ c. cond (is_eq c) (Some o) (find key_cmp k table)) (tied_itself key_total k))
+object_at-here k o table = ap (λ x. unwrap_or x []) (found-here k o table)
 
 other_key : (k l : Key) (c : Ordering) → key_cmp l k ≡ c → l ≢ k → is_eq c ≡ false
 other_key k l Less e other = refl

@@ -1,5 +1,5 @@
 -- A write of a held key through a borrow of its object: what a store is after it, and its refusals.
-use Rattle.std.proofs.Common.{◌≡◌, ◌⊎◌, ℕ, inl, inr, Bool, true, false, ◌&&◌, nat_le, if◌then◌else◌, T, List, [], length, Option, Some, None, is_none, IfSome, IfNone, Result, Ok, Err, IfOk, OnErr, refl, sym, ap, subst, ◌∙◌}
+use Rattle.std.proofs.Common.{◌≡◌, ◌⊎◌, ℕ, inl, inr, Bool, true, false, ◌&&◌, nat_le, if◌then◌else◌, T, List, [], length, Option, Some, None, is_none, IfSome, IfNone, Result, Ok, Err, IfOk, OnErr, OnOk, refl, sym, ap, subst, ◌∙◌}
 use Rattle.std.specs.Bool.{passes}
 use Rattle.std.specs.BTreeMap.{is_at}
 use Rattle.std.specs.Map.{lookup, set_value}
@@ -61,6 +61,16 @@ refusal_by_object table id key value context read held own room reads holds =
     ∙ sym (passed_by (is_of_another_key key context) WrongKey (if is_full_for table key then Some StoreFull else by_object) own)
 
 -- ---- the parts
+
+-- where a key was found, or nothing changed, no key is new
+pub kept_replaced : {E : Type 0} (k : Key) (o : List Entry) (parts new : Parts) → AreParts parts → (len : ℕ) (r : Result (List Entry) E) → IsKey k → IsHeld o → len ≡ length (table_of parts)
+    → OnOk r (new ≡ put prefix_cmp k.prefix (put bytes_cmp k.key o (rows_at k.prefix parts)) parts) → IfOk r (λ before. find bytes_cmp k.key (rows_at k.prefix parts) ≡ Some before) → OnErr r (new ≡ parts) → AreParts new × (len ≡ length (table_of new))
+kept_replaced k o parts new are len (Ok x) key held counted is there same =
+    let room : is_full_for (table_of parts) k ≡ false =
+    ap (λ f. is_none f && nat_le most_keys (length (table_of parts))) (find_row k parts (passes (is_sorted prefix_cmp parts) are.rising) ∙ there) in
+    (parts_after k o parts new are is key held room, counted ∙ length_after k o parts new are is false (sym (ap is_none there)))
+kept_replaced k o parts new are len (Err e) key held counted is there same =
+    (subst AreParts (sym same) are, counted ∙ ap (λ ps. length (table_of ps)) (sym same))
 
 module _ (k : Key) (parts : Parts) (are : AreParts parts) (before : Rows) (found : Some before ≡ lookup (is_at (prefix_cmp k.prefix)) parts) where
   abbrev sorted : T (is_sorted prefix_cmp parts)

@@ -1,5 +1,5 @@
 -- A table: what one node holds. The rule is our own.
-use Rattle.std.specs.Prelude.{◌≡◌, ℕ, ◌≤◌, nat_le, Bool, true, not, ◌&&◌, List, [], length, map, All}
+use Rattle.std.specs.Prelude.{◌≡◌, ℕ, ◌≤◌, nat_le, Bool, true, not, ◌&&◌, List, [], length, map, All, Option, Some, None}
 use Rattle.std.specs.List.{dedup, filter, list_all}
 use Rattle.std.specs.Option.{unwrap_or}
 use Rattle.std.specs.Ordering.{is_eq}
@@ -25,6 +25,11 @@ with_object key object table = put key_cmp key object table
 -- the table without the key and its object
 abbrev pub without_object : Key → Table → Table
 without_object key table = filter (λ row. not (is_eq (key_cmp key row.0))) table
+
+-- the table with what a key held before: this object, or nothing
+abbrev pub with_former : Key → Option (List Entry) → Table → Table
+with_former key (Some object) table = with_object key object table
+with_former key None table = without_object key table
 
 -- the vector of the object under the key has read all that this vector has
 abbrev pub is_stale : Table → Key → List Counter → Bool

@@ -1,12 +1,12 @@
 //! Laws of tables and of faults. The contract of a function is the law; its body does nothing, or
 //! compares.
 
-ghost use Rattle.std.specs.Prelude.{◌≡◌, ◌↔◌, ℕ, ◌<◌, List, None, length, get_or, IsTrue};
+ghost use Rattle.std.specs.Prelude.{◌≡◌, ◌↔◌, ℕ, ◌<◌, List, None, Some, length, get_or, IsTrue};
 ghost use Rattle.std.specs.FinMap.{find};
 ghost use Rattle.meta_types.specs.Name.{Key, IsKey};
 ghost use Rattle.meta_types.specs.Order.{KeyBefore, key_cmp};
 ghost use Rattle.dvvset.specs.Object.{Entry};
-ghost use Rattle.meta_store.specs.Table.{IsTable, Table, object_at, with_object, without_object};
+ghost use Rattle.meta_store.specs.Table.{IsTable, Table, object_at, with_former, with_object, without_object};
 
 use crate::fault::StoreFault;
 
@@ -28,6 +28,19 @@ pub fn forgetting_takes_back_what_was_held()
     ensures { (table : Table) (key : Key) (object : List Entry) → IsTable table
         → find key_cmp key table ≡ None
         → without_object key (with_object key object table) ≡ table }
+{}
+
+/// What is held under any key, and taken back by what the key held before, leaves the table as it
+/// was.
+pub fn a_hold_is_taken_back()
+    ensures { (table : Table) (key : Key) (object : List Entry) → IsTable table
+        → with_former key (find key_cmp key table) (with_object key object table) ≡ table }
+{}
+
+/// What is held under a key is found there.
+pub fn what_is_held_is_found()
+    ensures { (table : Table) (key : Key) (object : List Entry)
+        → find key_cmp key (with_object key object table) ≡ Some object }
 {}
 
 /// Faults are equal exactly if they are the same.

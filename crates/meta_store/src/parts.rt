@@ -1,6 +1,6 @@
 //! The map by full prefix in which a store keeps its table.
 
-ghost use Rattle.std.specs.Prelude.{◌≡◌, None, is_none, is_some, IfOk, OnOk, OnErr, true};
+ghost use Rattle.std.specs.Prelude.{◌≡◌, None, Some, is_none, is_some, IfErr, IfOk, OnOk, OnErr, true};
 ghost use Rattle.std.specs.FinMap.{find, is_sorted, put};
 ghost use Rattle.meta_types.specs.Name.{IsName};
 ghost use Rattle.meta_types.specs.Order.{bytes_cmp, prefix_cmp};
@@ -38,6 +38,31 @@ pub(crate) fn put_part(
     let rows = Rows::of_one(alloc, key, object)?;
     parts.insert(prefix, rows)?;
     Ok(true)
+}
+
+/// Puts the object in the place of the one that is held under the key, and returns that one. If the
+/// key isn't held, the object comes back and nothing changes. It takes no memory.
+pub(crate) fn replace_in_part(
+    parts: &mut BTreeMap<FullPrefix, Rows>,
+    prefix: &FullPrefix,
+    key: &ByteString,
+    object: Entries,
+) -> Result<Entries, Entries>
+    requires rising { is_sorted prefix_cmp parts.old.entries ≡ true }
+    ensures value { OnOk result (parts.new.entries ≡ put prefix_cmp prefix.now
+        (put bytes_cmp key.now object (rows_at prefix.now parts.old.entries))
+        parts.old.entries) }
+    ensures before { IfOk result (λ before.
+        find bytes_cmp key.now (rows_at prefix.now parts.old.entries) ≡ Some before) }
+    ensures absent { OnErr result
+        (find bytes_cmp key.now (rows_at prefix.now parts.old.entries) ≡ None) }
+    ensures back { IfErr result (λ back. back ≡ object) }
+    ensures same { OnErr result (parts.new.entries ≡ parts.old.entries) }
+{
+    let Some(rows) = parts.get_mut(prefix) else {
+        return Err(object);
+    };
+    rows.replace(key, object)
 }
 
 /// Takes the key and its object out, and the full prefix with its last key; returns whether the key

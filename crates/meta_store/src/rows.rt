@@ -1,6 +1,6 @@
 //! The rows under one full prefix.
 
-ghost use Rattle.std.specs.Prelude.{◌≡◌, [], ◌∷◌, length, map, false, IfOk, IfNone, IfSome, OnOk, OnErr, None, is_none, is_some};
+ghost use Rattle.std.specs.Prelude.{◌≡◌, [], ◌∷◌, length, map, false, IfErr, IfOk, IfNone, IfSome, OnOk, OnErr, None, Some, is_none, is_some};
 ghost use Rattle.std.specs.Option.{option_copied};
 ghost use Rattle.std.specs.FinMap.{find, put};
 ghost use Rattle.meta_types.specs.Name.{IsName};
@@ -20,6 +20,7 @@ use std::alloc::{AllocError, Global};
 use std::collections::BTreeMap;
 use std::collections::btree_map::Iter;
 use std::marker::Model;
+use std::mem;
 
 /// What a store holds under one full prefix: the keys' own bytes in byte order, each with its
 /// object.
@@ -64,6 +65,21 @@ impl Rows {
     {
         let before = self.by_key.insert(key, object)?;
         Ok(before.is_none())
+    }
+
+    /// Puts the object in the place of the one that is held under the key, and returns that one. If
+    /// the key isn't held, the object comes back and nothing changes. It takes no memory.
+    pub(crate) fn replace(&mut self, key: &ByteString, object: Entries) -> Result<Entries, Entries>
+        ensures value { OnOk result (self.new ≡ put bytes_cmp key.now object self.old) }
+        ensures before { IfOk result (λ before. find bytes_cmp key.now self.old ≡ Some before) }
+        ensures absent { OnErr result (find bytes_cmp key.now self.old ≡ None) }
+        ensures back { IfErr result (λ back. back ≡ object) }
+        ensures same { OnErr result (self.new ≡ self.old) }
+    {
+        let Some(held) = self.by_key.get_mut(key) else {
+            return Err(object);
+        };
+        Ok(mem::replace(held, object))
     }
 
     /// Writes to the key by `id`, with what the write has read, if the key is held; it is searched

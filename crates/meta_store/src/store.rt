@@ -1,4 +1,4 @@
-ghost use Rattle.std.specs.Prelude.{◌≡◌, [], length, None, IfOk, OnOk, OnErr, IfSome, IfNone, false, IsTrue, ◌↔◌};
+ghost use Rattle.std.specs.Prelude.{◌≡◌, [], length, None, Some, IfErr, IfOk, OnOk, OnErr, IfSome, IfNone, false, IsTrue, ◌↔◌};
 ghost use Rattle.std.specs.Option.{option_copied};
 ghost use Rattle.std.specs.FinMap.{find};
 ghost use Rattle.meta_types.specs.Order.{key_cmp};
@@ -12,7 +12,7 @@ ghost use Rattle.meta_store.specs.declared.fault.StoreFault.TheVariants.{Memory}
 
 use crate::context::Context;
 use crate::fault::StoreFault;
-use crate::parts::{copy_parts, put_part, remove_part};
+use crate::parts::{copy_parts, put_part, remove_part, replace_in_part};
 use crate::rows::Rows;
 use crate::source::Source;
 use dvvset::{Entries, Vector, has_read, join, values};
@@ -190,6 +190,20 @@ impl Store {
             return Ok(Some(value));
         };
         rows.put_held(alloc, id, key.own_bytes(), value, read)
+    }
+
+    /// Puts the object in the place of the one that is held under the key, and returns that one. If
+    /// the key isn't held, the object comes back and nothing changes. It takes no memory.
+    pub fn replace(&mut self, key: &MetaKey, object: Entries) -> Result<Entries, Entries>
+        requires { IsHeld object }
+        ensures value { OnOk result (self.new ≡ with_object key.now object self.old) }
+        ensures before { IfOk result (λ before. find key_cmp key.now self.old ≡ Some before) }
+        ensures lawful { IfOk result IsHeld }
+        ensures absent { OnErr result (find key_cmp key.now self.old ≡ None) }
+        ensures back { IfErr result (λ back. back ≡ object) }
+        ensures same { OnErr result (self.new ≡ self.old) }
+    {
+        replace_in_part(&mut self.parts, key.prefix(), key.own_bytes(), object)
     }
 
     /// Takes the key and its object out again. Nothing changes if the key isn't held. It takes no

@@ -24,6 +24,8 @@ mod past;
 #[cfg(test)]
 mod store;
 #[cfg(test)]
+mod taken_back;
+#[cfg(test)]
 mod tree_changes;
 #[cfg(test)]
 mod tree_rows;

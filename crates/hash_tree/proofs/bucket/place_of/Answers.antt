@@ -6,7 +6,7 @@ use Rattle.hash_tree.proofs.bucket.place_of.Goals as goal
 
 pub returns-in-Equal-clause-there : goal.returns-in-Equal-clause-there
 returns-in-Equal-clause-there c =
-    at_place c.args.key.now c.args.rows.now c.loop-place.place c.index-rows-place.result c.loop-place.invariant c.loop-place-test.true c.index-rows-place.is (sym c.in-Equal.ensures.value)
+    at_place c.args.key.now c.args.rows.now c.loop-place.place c.index-rows-place.result (passes (do_keys_rise c.args.rows.now) c.requires) c.loop-place.invariant c.loop-place-test.true c.index-rows-place.is (sym c.in-Equal.ensures.value)
 
 pub returns-in-Less-clause-absent : goal.returns-in-Less-clause-absent
 returns-in-Less-clause-absent c =

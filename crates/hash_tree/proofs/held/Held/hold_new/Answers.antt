@@ -9,7 +9,7 @@ use Rattle.meta_store.proofs.Keys.{key_total}
 use Rattle.hash_tree.specs.Tree.{DigestRows, object_digest, rows_of, with_digest}
 use Rattle.hash_tree.proofs.ByPrefix.{digested_put}
 use Rattle.hash_tree.proofs.Lookups.{find_digested}
-use Rattle.hash_tree.proofs.held.Held.hold.Goals as goal
+use Rattle.hash_tree.proofs.held.Held.hold_new.Goals as goal
 
 not_held : (x : Option (List Entry)) → option_map object_digest x ≡ None → x ≡ None
 not_held None e = refl
@@ -20,8 +20,8 @@ invariant_of-self-in-Ok c =
     let key = c.args.key.now in
     let store = c.self.inside.store in
     let held = c.in_ok-hold.ensures.value ∙ ap (λ k. with_object k c.args.object store) c.in_ok-own.ensures in
-    c.in-Ok.ensures.value ∙ ap (with_digest key c.object_digest-digest.result) c.self.invariant
-    ∙ ap (λ d. with_digest key d (rows_of store)) c.object_digest-digest.ensures
+    c.in-Ok.ensures.value ∙ ap (with_digest key c.args.digest) c.self.invariant
+    ∙ ap (λ d. with_digest key d (rows_of store)) c.requires.digest
     ∙ sym (digested_put key c.args.object store) ∙ sym (ap rows_of held)
 
 pub returns-in-Err-clause-same : goal.returns-in-Err-clause-same
