@@ -19,7 +19,7 @@ mod Finding
 -- what stands under a key after messages were taken
 mod Merging
 -- what both sides hold at the end
-mod Whole
+pub mod Whole
 -- steps of the loops that take messages
 mod Taking
 -- what a whole exchange leaves on both sides, round by round

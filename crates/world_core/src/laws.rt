@@ -6,10 +6,12 @@ ghost use Rattle.meta_types.specs.Name.{Key};
 ghost use Rattle.hash_tree.specs.Tree.{rows_of, tree_root};
 ghost use Rattle.meta_store.specs.Table.{object_at};
 ghost use Rattle.world_core.specs.declared.answer.Accepted.{Accepted};
-ghost use Rattle.world_core.specs.Knowledge.{KnowTheSame, OfAllTold};
+ghost use Rattle.past_model.specs.History.{IsHistory};
+ghost use Rattle.world_core.specs.Knowledge.{KnowTheSame, OfAllTold, ShowWhatTheyKnow};
 ghost use Rattle.world_core.specs.Outcome.{OneOutcomeForEachEvent, WorldRunsGoOn};
-ghost use Rattle.world_core.specs.Refusal.{table_at};
+ghost use Rattle.world_core.specs.Refusal.{node_at, table_at};
 ghost use Rattle.world_core.specs.Tells.{Told, Tells};
+ghost use Rattle.world_core.specs.World.{HasLived};
 
 use crate::fault::WorldFault;
 use crate::world::World;
@@ -31,6 +33,20 @@ pub fn one_outcome_for_each_event()
 pub fn runs_go_on()
     ensures { WorldRunsGoOn }
 {}
+
+/// What every world keeps to: what its events tell is a history; each node is the one of its
+/// number, and its events took it from a new node to where it is; and under each key it holds the
+/// object of the writes that it knows.
+pub fn a_world_tells_a_history(world: &World)
+    ensures history { (t : Told)
+        × (Tells world.now.accepted world.now.frames t × IsHistory t.history) }
+    ensures lived { (n : ℕ) → n < length world.now.nodes
+        → HasLived world.now n (node_at world.now n) }
+    ensures shows { ShowWhatTheyKnow world.now }
+{
+    // (for its type)
+    let _ = world.nodes.len();
+}
 
 /// Nodes that know the same writes under a key hold equal objects there, and so show equal values
 /// and contexts; nodes that know the same writes under every key hold equal tables, whose trees
