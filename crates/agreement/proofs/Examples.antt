@@ -14,7 +14,7 @@ use Rattle.past_model.proofs.Fitting.{so_far_all}
 use Rattle.past_model.proofs.Histories.{history_snoc}
 use Rattle.past_model.proofs.Walking.{known-other}
 use Rattle.agreement.specs.Left.{IsAmong, OfAllLeft, OfContextsLeft, OfStandingLeft, ArePlacesOf, HasNone, HasOverwritten, IsShown, newest_image, standing}
-use Rattle.agreement.specs.Stories.{key, deleted, after_deletion, lost, lost_writes, after_loss, deleted_elsewhere, after_keeping}
+use Rattle.agreement.specs.Stories.{one_key, deleted, after_deletion, lost, lost_writes, after_loss, deleted_elsewhere, after_keeping}
 
 -- ---- histories, happening by happening
 
@@ -59,7 +59,7 @@ deletion_fits : (v u : ValueParts) → IsHistory (deleted v ++ after_deletion u)
 unfolding FitFrom
 deletion_fits v u =
     history_of (deleted v ++ after_deletion u)
-    (tt, (tt, ((0, refl), (tt, ((0, (key, refl)), (tt, (tt, ((omega arith, omega arith), ((omega arith, omega arith), ((0, (key, refl)), ((0, refl), (tt, ((1, (key, refl)), tt)))))))))))))
+    (tt, (tt, ((0, refl), (tt, ((0, (one_key, refl)), (tt, (tt, ((omega arith, omega arith), ((omega arith, omega arith), ((0, (one_key, refl)), ((0, refl), (tt, ((1, (one_key, refl)), tt)))))))))))))
 
 deletion_restarts : (u : ValueParts) (n j : ℕ) → IsAmong (Restarted n j) (after_deletion u) → ((n ≡ 0) × (j ≡ 3)) ⊎ ((n ≡ 1) × (j ≡ 1))
 deletion_restarts u n j among = grind (arith, among)
@@ -67,10 +67,10 @@ deletion_restarts u n j among = grind (arith, among)
 deletion_gets : (u : ValueParts) (n i : ℕ) → IsAmong (Got n i) (after_deletion u) → (i ≡ 3) ⊎ (i ≡ 11)
 deletion_gets u n i among = grind (arith, among)
 
-deletion_left : (v u : ValueParts) → OfAllLeft (HasOverwritten (writes (deleted v)) 0) (deleted v) (after_deletion u) key
+deletion_left : (v u : ValueParts) → OfAllLeft (HasOverwritten (writes (deleted v)) 0) (deleted v) (after_deletion u) one_key
 unfolding NoneOf
 deletion_left v u = record {
-  nodes = each_node (HasOverwritten (writes (deleted v)) 0) (deleted v) key
+  nodes = each_node (HasOverwritten (writes (deleted v)) 0) (deleted v) one_key
       (λ n not_0 not_1. (not_0, (not_0, (not_0, (not_0, (not_1, (not_1, tt)))))))
       (λ e. absurd (cc)) (λ e. refl) (λ e. refl);
   images = λ n j among made.
@@ -80,27 +80,27 @@ deletion_left v u = record {
       let number : j ≡ 3 = is.1 in
       absurd (omega (arith, made, newest, number)))
       (λ is.
-      subst (λ m. HasOverwritten (writes (deleted v)) 0 (image (deleted v) m j key)) (sym is.0)
-      (subst (λ i. HasOverwritten (writes (deleted v)) 0 (image (deleted v) 1 i key)) (sym is.1) (λ e. refl)))
+      subst (λ m. HasOverwritten (writes (deleted v)) 0 (image (deleted v) m j one_key)) (sym is.0)
+      (subst (λ i. HasOverwritten (writes (deleted v)) 0 (image (deleted v) 1 i one_key)) (sym is.1) (λ e. refl)))
       (deletion_restarts u n j among);
   objects = λ n i among lt.
       ⊎_elim
-      (λ is. subst (λ p. HasOverwritten (writes (deleted v)) 0 (load (deleted v) p key)) (sym is) (λ e. refl))
+      (λ is. subst (λ p. HasOverwritten (writes (deleted v)) 0 (load (deleted v) p one_key)) (sym is) (λ e. refl))
       (λ is. absurd (omega (arith, lt, is)))
       (deletion_gets u n i among);
 }
 
-deletion_standing : (v u : ValueParts) → OfStandingLeft (HasOverwritten (writes (deleted v)) 0) (deleted v) (after_deletion u) key
+deletion_standing : (v u : ValueParts) → OfStandingLeft (HasOverwritten (writes (deleted v)) 0) (deleted v) (after_deletion u) one_key
 deletion_standing v u n j among late =
     ⊎_elim
-    (λ is. subst (λ m. HasOverwritten (writes (deleted v)) 0 (standing (deleted v) m key)) (sym is.0) (λ e. refl))
+    (λ is. subst (λ m. HasOverwritten (writes (deleted v)) 0 (standing (deleted v) m one_key)) (sym is.0) (λ e. refl))
     (λ is.
     let newest : newest_image (deleted v) n ≡ 1 = ap (newest_image (deleted v)) is.0 in
     let number : j ≡ 1 = is.1 in
     absurd (omega (arith, late, newest, number)))
     (deletion_restarts u n j among)
 
-pub deletion_is : (v u : ValueParts) → IsHistory (deleted v ++ after_deletion u) × OfAllLeft (HasOverwritten (writes (deleted v)) 0) (deleted v) (after_deletion u) key × OfStandingLeft (HasOverwritten (writes (deleted v)) 0) (deleted v) (after_deletion u) key × (known (deleted v ++ after_deletion u) 2 key 0 ≡ true)
+pub deletion_is : (v u : ValueParts) → IsHistory (deleted v ++ after_deletion u) × OfAllLeft (HasOverwritten (writes (deleted v)) 0) (deleted v) (after_deletion u) one_key × OfStandingLeft (HasOverwritten (writes (deleted v)) 0) (deleted v) (after_deletion u) one_key × (known (deleted v ++ after_deletion u) 2 one_key 0 ≡ true)
 deletion_is v u = (deletion_fits v u, deletion_left v u, deletion_standing v u, refl)
 
 -- ---- a loss
@@ -109,7 +109,7 @@ loss_fits : (v u : ValueParts) → IsHistory (lost v ++ after_loss u)
 unfolding FitFrom
 loss_fits v u =
     history_of (lost v ++ after_loss u)
-    (tt, (tt, ((0, refl), (tt, ((omega arith, omega arith), (tt, (tt, ((0, refl), ((0, (key, refl)), (tt, ((0, (key, refl)), (tt, ((omega arith, omega arith), ((omega arith, omega arith), ((omega arith, omega arith), tt)))))))))))))))
+    (tt, (tt, ((0, refl), (tt, ((omega arith, omega arith), (tt, (tt, ((0, refl), ((0, (one_key, refl)), (tt, ((0, (one_key, refl)), (tt, ((omega arith, omega arith), ((omega arith, omega arith), ((omega arith, omega arith), tt)))))))))))))))
 
 loss_places : (v : ValueParts) → ArePlacesOf (lost v) lost_writes
 loss_places v p is =
@@ -124,13 +124,13 @@ loss_restarts u n j among = grind (arith, among)
 loss_gets : (u : ValueParts) (n i : ℕ) → IsAmong (Got n i) (after_loss u) → (i ≡ 6) ⊎ (i ≡ 9)
 loss_gets u n i among = grind (arith, among)
 
-loss_uses : (u x : ValueParts) (n r : ℕ) → IsAmong (Wrote n key x (Some r)) (after_loss u) → r ≡ 5
+loss_uses : (u x : ValueParts) (n r : ℕ) → IsAmong (Wrote n one_key x (Some r)) (after_loss u) → r ≡ 5
 loss_uses u x n r among = grind (arith, among)
 
-loss_left : (v u : ValueParts) → OfAllLeft (HasNone lost_writes) (lost v) (after_loss u) key
+loss_left : (v u : ValueParts) → OfAllLeft (HasNone lost_writes) (lost v) (after_loss u) one_key
 unfolding NoneOf
 loss_left v u = record {
-  nodes = each_node (HasNone lost_writes) (lost v) key
+  nodes = each_node (HasNone lost_writes) (lost v) one_key
       (λ n not_0 not_1. (not_0, (not_0, (not_0, (not_0, (not_0, (not_0, (not_0, tt))))))))
       (λ p is. refl) (λ p is. refl) (λ p is. refl);
   images = λ n j among made.
@@ -146,22 +146,22 @@ loss_left v u = record {
       let number : j ≡ 1 = is.1 in
       absurd (omega (arith, made, newest, number)))
       (λ is.
-      subst (λ m. HasNone lost_writes (image (lost v) m j key)) (sym is.0)
-      (subst (λ i. HasNone lost_writes (image (lost v) 2 i key)) (sym is.1) (λ p has. refl)))
+      subst (λ m. HasNone lost_writes (image (lost v) m j one_key)) (sym is.0)
+      (subst (λ i. HasNone lost_writes (image (lost v) 2 i one_key)) (sym is.1) (λ p has. refl)))
       more)
       (loss_restarts u n j among);
   objects = λ n i among lt.
       ⊎_elim
-      (λ is. subst (λ q. HasNone lost_writes (load (lost v) q key)) (sym is) (λ p has. refl))
+      (λ is. subst (λ q. HasNone lost_writes (load (lost v) q one_key)) (sym is) (λ p has. refl))
       (λ is. absurd (omega (arith, lt, is)))
       (loss_gets u n i among);
 }
 
-loss_contexts : (v u : ValueParts) → OfContextsLeft (HasNone lost_writes) (lost v) (after_loss u) key
+loss_contexts : (v u : ValueParts) → OfContextsLeft (HasNone lost_writes) (lost v) (after_loss u) one_key
 loss_contexts v u n r x among lt =
-    subst (λ q. HasNone lost_writes (seen (lost v) q key)) (sym (loss_uses u x n r among)) (λ p has. refl)
+    subst (λ q. HasNone lost_writes (seen (lost v) q one_key)) (sym (loss_uses u x n r among)) (λ p has. refl)
 
-pub loss_is : (v u : ValueParts) → IsHistory (lost v ++ after_loss u) × ArePlacesOf (lost v) lost_writes × OfAllLeft (HasNone lost_writes) (lost v) (after_loss u) key × OfContextsLeft (HasNone lost_writes) (lost v) (after_loss u) key
+pub loss_is : (v u : ValueParts) → IsHistory (lost v ++ after_loss u) × ArePlacesOf (lost v) lost_writes × OfAllLeft (HasNone lost_writes) (lost v) (after_loss u) one_key × OfContextsLeft (HasNone lost_writes) (lost v) (after_loss u) one_key
 loss_is v u = (loss_fits v u, loss_places v, loss_left v u, loss_contexts v u)
 
 -- ---- an image behind
@@ -170,7 +170,7 @@ behind_fits : (v : ValueParts) → IsHistory (deleted_elsewhere v ++ after_keepi
 unfolding FitFrom
 behind_fits v =
     history_of (deleted_elsewhere v ++ after_keeping)
-    (tt, (tt, ((0, (key, refl)), (tt, ((1, refl), (tt, ((1, (key, refl)), (tt, ((omega arith, omega arith), tt)))))))))
+    (tt, (tt, ((0, (one_key, refl)), (tt, ((1, refl), (tt, ((1, (one_key, refl)), (tt, ((omega arith, omega arith), tt)))))))))
 
 behind_restarts : (n j : ℕ) → IsAmong (Restarted n j) after_keeping → (n ≡ 0) × (j ≡ 2)
 behind_restarts n j among = grind (arith, among)
@@ -178,10 +178,10 @@ behind_restarts n j among = grind (arith, among)
 behind_gets : (n i : ℕ) → IsAmong (Got n i) after_keeping → ⊥
 behind_gets n i among = grind (arith, among)
 
-behind_left : (v : ValueParts) → OfAllLeft (HasOverwritten (writes (deleted_elsewhere v)) 0) (deleted_elsewhere v) after_keeping key
+behind_left : (v : ValueParts) → OfAllLeft (HasOverwritten (writes (deleted_elsewhere v)) 0) (deleted_elsewhere v) after_keeping one_key
 unfolding NoneOf
 behind_left v = record {
-  nodes = each_node (HasOverwritten (writes (deleted_elsewhere v)) 0) (deleted_elsewhere v) key
+  nodes = each_node (HasOverwritten (writes (deleted_elsewhere v)) 0) (deleted_elsewhere v) one_key
       (λ n not_0 not_1. (not_0, (not_0, (not_1, (not_1, (not_1, (not_1, (not_0, tt))))))))
       (λ e. absurd (cc)) (λ e. refl) (λ e. refl);
   images = λ n j among made.
@@ -194,8 +194,8 @@ behind_left v = record {
 
 -- the value, as it was written first
 first_write : ValueParts → Write
-first_write v = record { place = 0; writer = writer_number 0 1; key = key; value = v; read = empty }
+first_write v = record { place = 0; writer = writer_number 0 1; key = one_key; value = v; read = empty }
 
-pub behind_is : (v : ValueParts) → IsHistory (deleted_elsewhere v ++ after_keeping) × OfAllLeft (HasOverwritten (writes (deleted_elsewhere v)) 0) (deleted_elsewhere v) after_keeping key × ((w : Write) × ((w.place ≡ 0) × IsShown (deleted_elsewhere v ++ after_keeping) 0 key w))
+pub behind_is : (v : ValueParts) → IsHistory (deleted_elsewhere v ++ after_keeping) × OfAllLeft (HasOverwritten (writes (deleted_elsewhere v)) 0) (deleted_elsewhere v) after_keeping one_key × ((w : Write) × ((w.place ≡ 0) × IsShown (deleted_elsewhere v ++ after_keeping) 0 one_key w))
 unfolding first_write
 behind_is v = (behind_fits v, behind_left v, (first_write v, (refl, (inr (inl refl), refl))))

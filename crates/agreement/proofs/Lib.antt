@@ -18,3 +18,19 @@ pub mod Meetings
 pub mod Examples
 -- a round runs at once
 pub mod Together
+-- the messages of an exchange, round by round
+pub mod Rounding
+-- a step of a node that begins an exchange, or takes a message of one
+pub mod Stepping
+-- frames of a world that are still to be delivered
+pub mod Pending
+-- a world after a run, and what it tells
+pub mod Longer
+-- a world after an event
+pub mod Moving
+-- all frames of an exchange are delivered, round by round
+pub mod Delivering
+-- what nodes hold, know and show
+pub mod Exchanged
+-- rounds of exchanges, one after the other
+pub mod InTurn

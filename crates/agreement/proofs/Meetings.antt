@@ -106,13 +106,13 @@ pub record Spread (base : ℕ → ℕ → Bool) (K : Known) (now : ℕ → ℕ �
   pub from : (n p : ℕ) → now n p ≡ true → (m : ℕ) × ((K n m ≡ true) × (base m p ≡ true))
   pub has : (n m p : ℕ) → K n m ≡ true → base m p ≡ true → now n p ≡ true
 
-Spread-own : (base : ℕ → ℕ → Bool) → Spread base own base
+pub Spread-own : (base : ℕ → ℕ → Bool) → Spread base own base
 Spread-own base = record {
   from = λ n p has. (n, (eq-eqb n n refl, has));
   has = λ n m p same had. ap (λ x. base x p) (eqb-true n m same) ∙ had;
 }
 
-Spread-one : (base : ℕ → ℕ → Bool) (K : Known) (e : Exchange) (now next : ℕ → ℕ → Bool) → Spread base K now → ((n p : ℕ) → next n p ≡ cond (takes_part e n) (now e.one p || now e.other p) (now n p)) → Spread base (after_one K e) next
+pub Spread-one : (base : ℕ → ℕ → Bool) (K : Known) (e : Exchange) (now next : ℕ → ℕ → Bool) → Spread base K now → ((n p : ℕ) → next n p ≡ cond (takes_part e n) (now e.one p || now e.other p) (now n p)) → Spread base (after_one K e) next
 Spread-one base K e now next spread step = record {
   from = λ n p is.
       (elim (takes_part e n) as (λ b. cond b (now e.one p || now e.other p) (now n p) ≡ true → (m : ℕ) × ((cond b (K e.one m || K e.other m) (K n m) ≡ true) × (base m p ≡ true))) [
@@ -172,7 +172,7 @@ others_stay hs k l es n ne =
     ap (λ u. u.known n l) (run_append start hs (meetings k (length hs) es))
     ∙ other_meetings k l (past hs) es (length hs) n ne (past-next hs)
 
-same_bool : (a b : Bool) → (a ≡ true → b ≡ true) → (b ≡ true → a ≡ true) → a ≡ b
+pub same_bool : (a b : Bool) → (a ≡ true → b ≡ true) → (b ≡ true → a ≡ true) → a ≡ b
 same_bool true b to back = sym (to refl)
 same_bool false true to back = back refl
 same_bool false false to back = refl

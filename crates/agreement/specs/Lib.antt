@@ -15,3 +15,9 @@ pub mod Schedules
 pub mod Tree
 -- an exchange of two nodes as happenings of the past
 pub mod Meeting
+-- a world, and what it tells
+pub use Rattle.world_core.specs.World as WorldParts
+pub use Rattle.world_core.specs.Knowledge
+pub use Rattle.world_core.specs.Outcome
+-- whole exchanges in a world
+pub mod World

@@ -1,7 +1,7 @@
-//! The laws of what is forgotten, of rounds and of trees. Each function does nothing: its contract
-//! is the law.
+//! The laws of what is forgotten, of rounds, of trees and of exchanges in a world. The contract of
+//! a function is the law; its body does nothing, or says of which world.
 
-ghost use Rattle.std.specs.Prelude.{◌≡◌, ◌≢◌, ◌↔◌, ◌∷◌, ◌++◌, ◌<◌, ◌≤◌, ◌+◌, ◌*◌, ◌%◌, ◌^◌, ◌||◌, ℕ, [], true, false, List, length, map};
+ghost use Rattle.std.specs.Prelude.{◌≡◌, ◌≢◌, ◌↔◌, ◌⊎◌, ◌∷◌, ◌++◌, ◌<◌, ◌≤◌, ◌+◌, ◌*◌, ◌%◌, ◌^◌, ◌||◌, ℕ, [], true, false, List, length, map};
 ghost use Rattle.meta_types.specs.Name.{Key};
 ghost use Rattle.meta_types.specs.Value.{ValueParts};
 ghost use Rattle.dvvset.specs.Object.{Entry};
@@ -12,11 +12,18 @@ ghost use Rattle.past_model.specs.Past.{In, Write, known, writes};
 ghost use Rattle.past_model.specs.History.{IsHistory};
 ghost use Rattle.past_model.specs.Arisen.{IsObjectKnown};
 ghost use Rattle.agreement.specs.Left.{ArePlacesOf, HasNone, HasOverwritten, IsShown, OfAllLeft, OfContextsLeft, OfStandingLeft};
-ghost use Rattle.agreement.specs.Stories.{after_deletion, after_keeping, after_loss, deleted, deleted_elsewhere, key, lost, lost_writes};
+ghost use Rattle.agreement.specs.Stories.{after_deletion, after_keeping, after_loss, deleted, deleted_elsewhere, lost, lost_writes, one_key};
 ghost use Rattle.agreement.specs.Rounds.{AreOfFirst, AreRounds, Exchange, IsRound, Known, KnowAll, after_all, after_rounds, count_known, exchanges_of, have_met, is_busy, own, takes_part};
 ghost use Rattle.agreement.specs.Schedules.{four_rounds, log_up, rounds_for};
 ghost use Rattle.agreement.specs.Tree.{IsTree, in_and_out, is_in, outwards};
 ghost use Rattle.agreement.specs.Meeting.{meetings};
+ghost use Rattle.agreement.specs.World.{AllShowTheSame, BothHoldAll, CollidesIn, CollidesInRounds, Exchanges, GoOutwards, IsIdle, KnowAfterAll, KnowWhatRootKnew, RoundsInTurn, ShowTheSame};
+ghost use Rattle.world_core.specs.Knowledge.{OfAllTold};
+ghost use Rattle.world_core.specs.Refusal.{node_at};
+ghost use Rattle.world_core.specs.World.{World as W};
+
+use world_core::World;
+use world_core::laws::a_world_tells_a_history;
 
 /// Writes that are left nowhere are forgotten for good: if no node knows any of them, no image from
 /// which a node restarts later has one, no object that was sent before and is got later, and no
@@ -61,13 +68,13 @@ pub fn an_overwritten_write_is_never_shown_again()
 pub fn there_are_such_histories()
     ensures forgotten { (v u : ValueParts) → IsHistory (lost v ++ after_loss u)
         × ArePlacesOf (lost v) lost_writes
-        × OfAllLeft (HasNone lost_writes) (lost v) (after_loss u) key
-        × OfContextsLeft (HasNone lost_writes) (lost v) (after_loss u) key }
+        × OfAllLeft (HasNone lost_writes) (lost v) (after_loss u) one_key
+        × OfContextsLeft (HasNone lost_writes) (lost v) (after_loss u) one_key }
     ensures overwritten { (v u : ValueParts) → IsHistory (deleted v ++ after_deletion u)
-        × OfAllLeft (HasOverwritten (writes (deleted v)) 0) (deleted v) (after_deletion u) key
+        × OfAllLeft (HasOverwritten (writes (deleted v)) 0) (deleted v) (after_deletion u) one_key
         × OfStandingLeft (HasOverwritten (writes (deleted v)) 0)
-        (deleted v) (after_deletion u) key
-        × (known (deleted v ++ after_deletion u) 2 key 0 ≡ true) }
+        (deleted v) (after_deletion u) one_key
+        × (known (deleted v ++ after_deletion u) 2 one_key 0 ≡ true) }
 {}
 
 /// The premise on what images start from is needed: there is a history in which each node, and all
@@ -76,8 +83,9 @@ pub fn there_are_such_histories()
 pub fn an_image_may_start_from_less_than_is_known()
     ensures { (v : ValueParts) → IsHistory (deleted_elsewhere v ++ after_keeping)
         × OfAllLeft (HasOverwritten (writes (deleted_elsewhere v)) 0)
-        (deleted_elsewhere v) after_keeping key
-        × ((w : Write) × ((w.place ≡ 0) × IsShown (deleted_elsewhere v ++ after_keeping) 0 key w)) }
+        (deleted_elsewhere v) after_keeping one_key
+        × ((w : Write) × ((w.place ≡ 0)
+        × IsShown (deleted_elsewhere v ++ after_keeping) 0 one_key w)) }
 {}
 
 /// Sixteen nodes know all after the four rounds of the hypercube, in which each exchanges with the
@@ -182,3 +190,48 @@ pub fn exchanges_of_objects_are_exchanges_of_knowledge()
         → IsObjectKnown (hs ++ meetings k (length hs) es) n k a
         → IsObjectKnown (hs ++ meetings k (length hs) es) m k b → a ≡ b }
 {}
+
+/// A whole exchange of two nodes of a world: one begins it, and then each frame that it brings
+/// forth is delivered, once and in the order in which they were sent, none is refused, and nothing
+/// else happens at the two; at other nodes anything may. Then both hold, under each key, the object
+/// of what either knew, and know that by the new history; so they show equal siblings and contexts,
+/// and have equal roots. A node of which there was no event is as it was. Or two unequal byte
+/// strings, hashed for the tables of the two when it began, have one digest.
+///
+/// Frames that were sent before may still be on their way; none of them comes to the two meanwhile.
+pub fn an_exchange_in_a_world_gives_both_the_union(world: &World)
+    ensures union { (e : Exchange) (new : W) → Exchanges world.now e new
+        → OfAllTold world.now (λ t. BothHoldAll t e new ⊎ CollidesIn world.now e) }
+    ensures agree { (e : Exchange) (new : W) → Exchanges world.now e new
+        → ShowTheSame new e.one e.other ⊎ CollidesIn world.now e }
+    ensures others { (e : Exchange) (new : W) (ran : Exchanges world.now e new) (n : ℕ)
+        → IsIdle n ran.accepted → node_at new n ≡ node_at world.now n }
+{
+    a_world_tells_a_history(world);
+}
+
+/// Rounds of whole exchanges in a world, those of each round at once, are exchanges of knowledge:
+/// each node then knows what `after_all` says of sets. So where all know all, all nodes show the
+/// same, whatever was lost before; sixteen nodes do after the four rounds; and exchanges along a
+/// tree, from the root to the leaves, make all its nodes know what the root knew. Or two unequal
+/// byte strings, hashed for the tables of two nodes that exchange when their round began, have one
+/// digest.
+pub fn exchanges_in_a_world_are_exchanges_of_knowledge(world: &World)
+    ensures known { (rounds : List (List Exchange)) → AreRounds rounds
+        → (new : W) (ran : RoundsInTurn world.now rounds new)
+        → OfAllTold world.now (λ t. KnowAfterAll t (exchanges_of rounds) new
+        ⊎ CollidesInRounds world.now rounds new ran) }
+    ensures agree { (rounds : List (List Exchange)) → AreRounds rounds
+        → (new : W) (ran : RoundsInTurn world.now rounds new)
+        → KnowAll (length world.now.nodes) (after_rounds rounds)
+        → AllShowTheSame new ⊎ CollidesInRounds world.now rounds new ran }
+    ensures sixteen { (new : W) (ran : RoundsInTurn world.now four_rounds new)
+        → length world.now.nodes ≡ 16
+        → AllShowTheSame new ⊎ CollidesInRounds world.now four_rounds new ran }
+    ensures repair { (root : ℕ) (edges : List Exchange) (rounds : List (List Exchange))
+        → GoOutwards root edges rounds → (new : W) (ran : RoundsInTurn world.now rounds new)
+        → OfAllTold world.now (λ t. KnowWhatRootKnew t root edges new
+        ⊎ CollidesInRounds world.now rounds new ran) }
+{
+    a_world_tells_a_history(world);
+}

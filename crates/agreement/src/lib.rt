@@ -4,7 +4,8 @@
 //! suffice, how many are needed, and what can no longer be learned once it is known nowhere.
 //!
 //! Read `specs/Left.antt`, `laws` up to `an_overwritten_write_is_never_shown_again`, then
-//! `specs/Rounds.antt`, `Schedules.antt`, `Tree.antt`, `Meeting.antt` and the other laws.
+//! `specs/Rounds.antt`, `Schedules.antt`, `Tree.antt`, `Meeting.antt`, `World.antt` and the other
+//! laws.
 #![tactic(auto)]
 
 pub mod laws;
