@@ -122,9 +122,9 @@ uint16_t zomtagi_empty_file(uint16_t node, uint8_t *buffer, size_t buffer_len, s
  *
  * Each is refused with 80 NoNode; then with what its comment lists before "step"; then with:
  *   34 Stopped, 37 Pending; what the step refuses, which its comment lists after "step";
- *   33 FileFull: the step was made, but its record doesn't fit in the file, which stops the node;
- *   99 Memory: nothing changed, or the node is stopped (zomtagi_about says which). It comes in
- *   place of 34 or 37 only if the step names a key or a full prefix, or brings bytes.
+ *   33 FileFull: its record doesn't fit in the file;
+ *   99 Memory. It comes in place of 34 or 37 only if the step names a key or a full prefix, or
+ *   brings bytes. After a refusal nothing has changed.
  * Only a write and zomtagi_keep have a record, and only if the node was served from a file. A step
  * of any other kind is never refused with 33.
  *

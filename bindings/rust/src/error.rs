@@ -24,7 +24,6 @@ pub enum Error {
 /// The numbers of refusals that the package deals with.
 pub(crate) const BAD_BODY: u16 = 15;
 pub(crate) const DAMAGED: u16 = 31;
-pub(crate) const FILE_FULL: u16 = 33;
 pub(crate) const STOPPED: u16 = 34;
 pub(crate) const NOTHING: u16 = 38;
 pub(crate) const SHORT_BUFFER: u16 = 81;
@@ -52,10 +51,10 @@ impl Error {
         }
     }
 
-    /// Whether the node is at its end, and is to be dropped: after 33, 34, 99, and what its store returned. After any other
-    /// error it is as it was.
+    /// Whether the node is at its end, and is to be dropped: after 34, and what its store returned. After any other error it
+    /// is as it was.
     pub fn ends_node(&self) -> bool {
-        matches!(self, Error::Refused(FILE_FULL | STOPPED | MEMORY) | Error::Io(_) | Error::Sync(_))
+        matches!(self, Error::Refused(STOPPED) | Error::Io(_) | Error::Sync(_))
     }
 
     /// The name of the error.

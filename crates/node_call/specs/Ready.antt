@@ -25,10 +25,10 @@ use Rattle.node_call.specs.Journaled.{IsPublishedBy}
 abbrev pub IsFullFor : ℕ → ℕ → ℕ → Type 0
 IsFullFor limit count steps = (limit ≤ count) ⊎ (2 ^ 64 - 1 ≤ steps)
 
--- what is ready: the entry, a copy of it to be handed out, and what it publishes
+-- what is ready: the event, the entry to be handed out, and what it publishes
 pub record ReadyView : Type 0 where
+  pub event : NodeEvent
   pub entry : Entry
-  pub copy : Entry
   pub change : Option Published
 
 -- the change, if there is one, as a list
@@ -60,19 +60,19 @@ pub record IsKnownStep (old : NodeParts) (event : NodeEvent) (new : NodeParts) (
   pub keeps : KeepsKeys old.table new.table
   pub counts : CountsOn 1 (length s.outbox) old new
 
--- what a step that was tried gives, with the copies that are handed out
-pub record IsMade (old : NodeParts) (event : NodeEvent) (new : NodeParts) (made : Made)
-    : Type 0 where
-  pub known : IsKnownStep old event new made.stepped
-  pub copy : made.copy ≡ entry_made event made.stepped
-  pub change : IsPublishedBy event made.stepped.reply new.table (listed made.change)
+-- what is made of the step of an event: its entry, and what it publishes
+pub record IsMade (old : NodeParts) (event : NodeEvent) (new : NodeParts) (stepped : Stepped)
+    (made : Made) : Type 0 where
+  pub entry : made.entry ≡ entry_made event stepped
+  pub known : IsKnownStep old made.entry.event new (stepped_of made.entry)
+  pub change : IsPublishedBy made.entry.event made.entry.reply new.table (listed made.change)
 
--- what is ready: the entry of the step that was tried, its copy, and what it publishes
-pub record IsReady (old : NodeParts) (event : NodeEvent) (new : NodeParts) (ready : ReadyView)
-    : Type 0 where
-  pub is_event : ready.entry.event ≡ event
+-- what is ready: the event, the entry of the step that was attempted, and what it publishes
+pub record IsReady (old : NodeParts) (event : NodeEvent) (new : NodeParts) (stepped : Stepped)
+    (ready : ReadyView) : Type 0 where
+  pub is_event : ready.event ≡ event
+  pub entry : ready.entry ≡ entry_made event stepped
   pub known : IsKnownStep old ready.entry.event new (stepped_of ready.entry)
-  pub copy : ready.copy ≡ ready.entry
   pub change : IsPublishedBy ready.entry.event ready.entry.reply new.table (listed ready.change)
 
 -- the step is one that the node can make

@@ -1,8 +1,8 @@
-//! The parts of what lies under a node's lock: a step is tried on a second state, all that is
-//! handed out is made ready, what the event stores goes into the file, and what it changes is shown
-//! to readers. Once these succeeded, keeping the entry can't fail.
+//! The parts of what lies under a node's lock: a step is attempted, all that is handed out is made
+//! ready, what the event stores goes into the file, and what it changes is shown to readers. Once
+//! these succeeded, keeping the entry can't fail; if one fails, the attempt is taken back.
 //!
-//! Read `trying`, `ready`, `storing`, `showing`; then `seat`, `acknowledgement`, `laws` and
+//! Read `ready`, `storing`, `showing`; then `seat`, `acknowledgement`, `laws` and
 //! `fault`.
 #![tactic(auto)]
 
@@ -13,7 +13,6 @@ mod ready;
 mod seat;
 mod showing;
 mod storing;
-mod trying;
 
 pub use acknowledgement::Acknowledgement;
 pub use fault::LockFault;
@@ -21,4 +20,3 @@ pub use ready::{Ready, prepare};
 pub use seat::{WriteSeat, merge_all};
 pub use showing::publish_change;
 pub use storing::store_in;
-pub use trying::{catch_up, try_step};

@@ -1,9 +1,10 @@
 //! What is made ready for an entry, so that keeping it can't fail.
 
-ghost use Rattle.std.specs.Prelude.{◌≡◌, ◌≢◌, ◌<◌, ◌^◌, ◌-◌, ◌⊎◌, true, IsErrOf, IfOk, IfErr, IfSome, OnOk, None, length, vec_len, vec_capacity};
+ghost use Rattle.std.specs.Prelude.{◌≡◌, ◌≢◌, ◌<◌, ◌^◌, ◌-◌, ◌⊎◌, IsErrOf, IfOk, IfErr, IfSome, OnOk, OnErr, None, length, vec_len, vec_capacity};
 ghost use Rattle.std.specs.FinMap.{find};
+ghost use Rattle.std.specs.Option.{option_copied};
 ghost use Rattle.meta_types.specs.Order.{key_cmp};
-ghost use Rattle.meta_store.specs.Table.{IsTable, object_at};
+ghost use Rattle.node_core.specs.Attempt.{IsAttempt, changed_key, committed, stepped_of};
 ghost use Rattle.node_core.specs.Growing.{TellsKeyChanged};
 ghost use Rattle.node_core.specs.Step.{CanComeOf};
 ghost use Rattle.node_call.specs.Journaled.{IsPublishedBy};
@@ -11,22 +12,21 @@ ghost use Rattle.node_call.specs.Ready.{CanStep, HoldsChanged, IsFullFor, IsHeld
 ghost use Rattle.node_call.specs.declared.fault.LockFault.TheVariants.{JournalFull, Memory};
 
 use crate::fault::LockFault;
-use crate::trying::try_step;
 use meta_store::Store;
 use meta_types::{MetaKey, both};
 use node_core::laws::{each_step_counts, each_step_grows, what_is_held_is_kept};
-use node_core::{NodeState, Stepped};
+use node_core::{Attempt, NodeState};
 use node_events::{NodeEvent, StepFault};
 use node_journal::Entry;
 use node_readers::Published;
 use std::alloc::AllocError;
 use std::marker::Model;
 
-/// What is ready: the entry of the step that was tried, a copy of it, and what it publishes.
+/// What is ready: the event that was attempted, the entry to be handed out, and what it publishes.
 #[derive(Drop)]
 pub struct Ready {
+    event: NodeEvent,
     entry: Entry,
-    copy: Entry,
     change: Option<Published>,
 }
 
@@ -35,7 +35,7 @@ impl Model for Ready {
 
     ghost Value = { ReadyView };
 
-    ghost view = { λ r. record { entry = r.entry; copy = r.copy; change = r.change } };
+    ghost view = { λ r. record { event = r.event; entry = r.entry; change = r.change } };
 }
 
 impl Ready {
@@ -54,110 +54,129 @@ impl Ready {
         self.change.take()
     }
 
-    /// Returns the entry, and its copy.
-    pub fn into_entries(self) -> (Entry, Entry)
-        ensures { (result.0 ≡ self.entry) × (result.1 ≡ self.copy) }
+    /// Returns the event, and the entry to be handed out.
+    pub fn into_parts(self) -> (NodeEvent, Entry)
+        ensures { (result.0 ≡ self.event) × (result.1 ≡ self.entry) }
     {
-        (self.entry, self.copy)
+        (self.event, self.entry)
     }
 }
 
-/// What the step gave, a copy of its entry, and what it publishes.
+/// The entry of a step, and what it publishes.
 #[derive(Drop)]
-pub(crate) struct Made {
-    pub stepped: Stepped,
-    pub copy: Entry,
-    pub change: Option<Published>,
+struct Made {
+    entry: Entry,
+    change: Option<Published>,
 }
 
-/// Tries the step on the spare, makes room for one more entry in the journal, and makes copies of
-/// all that is handed out and published. If it is refused, the spare is the state, or `is_even` is
-/// false.
+/// Attempts the step, makes room for one more entry in the journal, and makes copies of all that is
+/// handed out and published. If it is refused, the state is as before.
 ///
 /// Refused in this order: as `NodeState::step` is; 51 `JournalFull`. 99 `Memory` may come at any
 /// time.
 pub fn prepare(
-    state: &NodeState,
-    spare: &mut NodeState,
-    is_even: &mut bool,
+    state: &mut NodeState,
     journal: &mut Vec<Entry>,
     limit: usize,
     event: NodeEvent,
-) -> Result<Ready, LockFault>
-    requires { is_even.old ≡ true → spare.old ≡ state.now }
-    ensures ready { IfOk result (IsReady state.now event spare.new) }
+) -> Result<(Attempt, Ready), LockFault>
+    ensures attempt { IfOk result (λ it. IsAttempt state.old event state.new it.0) }
+    ensures ready { IfOk result
+        (λ it. IsReady state.old event (committed it.0 state.new) (stepped_of it.0) it.1) }
     ensures room { OnOk result (vec_len journal.new < vec_capacity journal.new) }
     ensures few { OnOk result
-        ((length journal.old.items < limit) × (state.now.steps < 2 ^ 64 - 1)) }
-    ensures even { is_even.new ≡ true → spare.new ≡ state.now }
-    ensures same { journal.new.items ≡ journal.old.items }
-    ensures refused { IfErr result
-        (Prevents state.now event limit (length journal.old.items)) }
+        ((length journal.old.items < limit) × (state.old.steps < 2 ^ 64 - 1)) }
+    ensures journal { journal.new.items ≡ journal.old.items }
+    ensures refused { IfErr result (Prevents state.old event limit (length journal.old.items)) }
+    ensures same { OnErr result (state.new ≡ state.old) }
 {
-    let made = try_all(state, spare, is_even, journal, limit, &event);
-    let (event, made) = both(Ok(event), made)?;
-    let Made {
-        stepped,
-        copy,
+    let made = prepare_on(state, journal, limit, &event);
+    // What is owned goes through `both`, so that nothing is owned if it fails.
+    let (event, (attempt, made)) = both(Ok(event), made)?;
+    let Made { entry, change } = made;
+    let ready = Ready {
+        event,
+        entry,
         change,
-    } = made;
-    Ok(Ready {
-        entry: Entry {
-            event,
-            reply: stepped.reply,
-            outbox: stepped.outbox,
-        },
-        copy,
-        change,
-    })
+    };
+    Ok((attempt, ready))
 }
 
-fn try_all(
-    state: &NodeState,
-    spare: &mut NodeState,
-    is_even: &mut bool,
+/// Does what `prepare` does, with an event that stays the caller's.
+fn prepare_on(
+    state: &mut NodeState,
     journal: &mut Vec<Entry>,
     limit: usize,
     event: &NodeEvent,
-) -> Result<Made, LockFault>
-    requires { is_even.old ≡ true → spare.old ≡ state.now }
-    ensures made { IfOk result (IsMade state.now event.now spare.new) }
+) -> Result<(Attempt, Made), LockFault>
+    ensures attempt { IfOk result (λ it. IsAttempt state.old event.now state.new it.0) }
+    ensures made { IfOk result
+        (λ it. IsMade state.old event.now (committed it.0 state.new) (stepped_of it.0) it.1) }
     ensures room { OnOk result (vec_len journal.new < vec_capacity journal.new) }
     ensures few { OnOk result
-        ((length journal.old.items < limit) × (state.now.steps < 2 ^ 64 - 1)) }
-    ensures even { is_even.new ≡ true → spare.new ≡ state.now }
-    ensures same { journal.new.items ≡ journal.old.items }
+        ((length journal.old.items < limit) × (state.old.steps < 2 ^ 64 - 1)) }
+    ensures journal { journal.new.items ≡ journal.old.items }
     ensures refused { IfErr result
-        (Prevents state.now event.now limit (length journal.old.items)) }
+        (Prevents state.old event.now limit (length journal.old.items)) }
+    ensures same { OnErr result (state.new ≡ state.old) }
 {
-    let known = try_known(state, spare, is_even, event)?;
-    let (tried, ()) = both(Ok(known), make_room(journal, limit, state.steps()))?;
-    let (stepped, key) = tried;
-    Ok(make(event, stepped, key, spare.store())?)
+    let steps = state.steps();
+    let attempt = attempt_known(state, event)?;
+    match make(state.store(), &attempt, journal, limit, steps, event) {
+        Ok(made) => Ok((attempt, made)),
+        Err(fault) => {
+            state.take_back(attempt);
+            Err(fault)
+        }
+    }
 }
 
-/// Makes the step. Its contract also says what the laws of steps say of it.
-fn try_known(
-    state: &NodeState,
-    spare: &mut NodeState,
-    is_even: &mut bool,
-    event: &NodeEvent,
-) -> Result<(Stepped, Option<MetaKey>), StepFault>
-    requires { is_even.old ≡ true → spare.old ≡ state.now }
-    ensures known { IfOk result (λ tried. IsKnownStep state.now event.now spare.new tried.0) }
-    ensures key { IfOk result (λ tried. TellsKeyChanged event.now tried.0.reply tried.1) }
-    ensures can { OnOk result (CanStep state.now event.now) }
-    ensures refused { IfErr result (CanComeOf state.now event.now) }
-    ensures even { is_even.new ≡ true → spare.new ≡ state.now }
+/// Attempts the step. Its contract also says what the laws of steps say of it.
+fn attempt_known(state: &mut NodeState, event: &NodeEvent) -> Result<Attempt, StepFault>
+    ensures attempt { IfOk result (IsAttempt state.old event.now state.new) }
+    ensures known { IfOk result
+        (λ a. IsKnownStep state.old event.now (committed a state.new) (stepped_of a)) }
+    ensures can { OnOk result (CanStep state.old event.now) }
+    ensures refused { IfErr result (CanComeOf state.old event.now) }
+    ensures same { OnErr result (state.new ≡ state.old) }
 {
     each_step_counts();
     each_step_grows(event);
     what_is_held_is_kept();
-    let tried = try_step(state, spare, is_even, event);
     // (for its type)
     let _ = state.store().len();
-    let _ = spare.store().len();
-    tried
+    let attempt = state.attempt(event);
+    let _ = state.store().len();
+    attempt
+}
+
+/// Makes room in the journal, and the entry with what it publishes, of what the store then holds.
+fn make(
+    store: &Store,
+    attempt: &Attempt,
+    journal: &mut Vec<Entry>,
+    limit: usize,
+    steps: u64,
+    event: &NodeEvent,
+) -> Result<Made, LockFault>
+    requires changed { TellsKeyChanged event.now attempt.now.reply (changed_key attempt.now) }
+    requires held { HoldsChanged event.now attempt.now.reply store.now }
+    ensures entry { IfOk result
+        (λ made. made.entry ≡ entry_made event.now (stepped_of attempt.now)) }
+    ensures change { IfOk result (λ made.
+        IsPublishedBy event.now attempt.now.reply store.now (listed made.change)) }
+    ensures room { OnOk result (vec_len journal.new < vec_capacity journal.new) }
+    ensures few { OnOk result ((length journal.old.items < limit) × (steps < 2 ^ 64 - 1)) }
+    ensures same { journal.new.items ≡ journal.old.items }
+    ensures full { IsErrOf result JournalFull
+        → IsFullFor limit (length journal.old.items) steps }
+    ensures causes { IfErr result (λ fault. (fault ≡ JournalFull) ⊎ (fault ≡ Memory)) }
+{
+    make_room(journal, limit, steps)?;
+    let entry = entry_of(event, attempt);
+    let change = held_under(attempt.changed(), store);
+    let (entry, change) = both(entry, change)?;
+    Ok(Made { entry, change })
 }
 
 fn make_room(journal: &mut Vec<Entry>, limit: usize, steps: u64) -> Result<(), LockFault>
@@ -175,50 +194,27 @@ fn make_room(journal: &mut Vec<Entry>, limit: usize, steps: u64) -> Result<(), L
     Ok(())
 }
 
-/// Returns a copy of the entry of a step.
-fn copy_of(event: &NodeEvent, stepped: &Stepped) -> Result<Entry, AllocError>
-    ensures { IfOk result (λ copy. copy ≡ entry_made event.now stepped.now) }
+/// Returns the entry of the step that was attempted.
+fn entry_of(event: &NodeEvent, attempt: &Attempt) -> Result<Entry, AllocError>
+    ensures { IfOk result (λ entry. entry ≡ entry_made event.now (stepped_of attempt.now)) }
 {
     Ok(Entry {
         event: event.copy()?,
-        reply: stepped.reply.copy()?,
-        outbox: stepped.outbox.copy()?,
-    })
-}
-
-fn make(
-    event: &NodeEvent,
-    stepped: Stepped,
-    key: Option<MetaKey>,
-    store: &Store,
-) -> Result<Made, AllocError>
-    requires changed { TellsKeyChanged event.now stepped.reply key }
-    requires held { HoldsChanged event.now stepped.reply store.now }
-    ensures stepped { IfOk result (λ made. made.stepped ≡ stepped) }
-    ensures copy { IfOk result (λ made. made.copy ≡ entry_made event.now stepped) }
-    ensures change { IfOk result (λ made.
-        IsPublishedBy event.now stepped.reply store.now (listed made.change)) }
-{
-    let copy = copy_of(event, &stepped);
-    let change = held_under(key, store);
-    let (stepped, (copy, change)) = both(Ok(stepped), both(copy, change))?;
-    Ok(Made {
-        stepped,
-        copy,
-        change,
+        reply: attempt.reply().copy()?,
+        outbox: attempt.outbox().copy()?,
     })
 }
 
 /// Returns a copy of what the store holds under the key, if there is a key.
-fn held_under(key: Option<MetaKey>, store: &Store) -> Result<Option<Published>, AllocError>
-    requires { IfSome key (λ key. find key_cmp key store.now ≢ None) }
-    ensures { IfOk result (IsHeldUnder key store.now) }
+fn held_under(key: Option<&MetaKey>, store: &Store) -> Result<Option<Published>, AllocError>
+    requires { IfSome (option_copied key) (λ key. find key_cmp key store.now ≢ None) }
+    ensures { IfOk result (IsHeldUnder (option_copied key.entry) store.now) }
 {
     let Some(key) = key else {
         return Ok(None);
     };
-    match store.object(&key) {
-        Some(object) => Ok(Some(Published::new(key, object.copy()?))),
+    match store.object(key) {
+        Some(object) => Ok(Some(Published::new(key.copy()?, object.copy()?))),
         None => unreachable!(),
     }
 }

@@ -16,21 +16,29 @@ use Rattle.meta_store.specs.declared.fault.StoreFault.TheVariants as OfStore
 use Rattle.plumtree.specs.Broadcast.{TakesStale}
 use Rattle.plumtree.specs.Rows as cast
 use Rattle.node_events.specs.Fault.{of_store}
+use Rattle.node_events.specs.declared.outbox.Outbox.{Outbox}
 use Rattle.node_events.specs.declared.fault.StepFault.{StepFault}
 use Rattle.node_events.specs.declared.fault.StepFault.TheVariants.{Memory}
 use Rattle.node_events.specs.declared.reply.Reply.{Reply}
 use Rattle.node_events.specs.declared.reply.Reply.TheVariants.{TookFresh, TookStale}
 use Rattle.node_overlay.specs.declared.origin.Origin.TheVariants as OfOrigin
-use Rattle.node_overlay.specs.Outbox.{HasSpelling, frames_from}
+use Rattle.node_overlay.specs.declared.pending.Pending.{Pending}
+use Rattle.node_overlay.specs.Outbox.{AreFramesOf, HasSpelling, frames_from}
 use Rattle.node_overlay.specs.Origin.{whole_messages}
 use Rattle.node_overlay.specs.Overlay.{Overlay, envelope, out_of, overlay_after_call}
-use Rattle.node_core.specs.declared.state.Stepped.{Stepped}
-use Rattle.node_core.specs.Node.{NodeParts, with_overlay}
+use Rattle.node_overlay.specs.Pending.{Pends, after_pending}
+use Rattle.node_core.specs.declared.attempt.Attempt.{Attempt}
+use Rattle.node_core.specs.declared.attempt.End.{End}
+use Rattle.node_core.specs.declared.attempt.End.TheVariants.{Overlay as OfOverlay}
+use Rattle.node_core.specs.Attempt.{Undoes, ended}
+use Rattle.node_core.specs.Node.{IsInLife, NodeParts, with_overlay}
 use Rattle.node_core.specs.Draft.{NodeDraft}
 use Rattle.node_core.specs.Rows.{is_fresh, merge, row_of_gossip}
-use Rattle.node_core.specs.Handling.{StepsOnMessage, StepsTo}
+use Rattle.node_core.specs.Handling.{AttemptsMessage, AttemptsTo, key_if_fresh}
 use Rattle.node_core.specs.Step.{begun, with_counts, refusal_of_object, reply_of_object}
-use Rattle.node_core.specs.Changing.{change_to, gossips, holding, noting, spreading}
+use Rattle.subscriptions.specs.News.{NewsParts}
+use Rattle.node_core.specs.Changing.{AreNews, change_to, gossips, holding, noting, spreading}
+use Rattle.node_core.proofs.Attempting.{overlay_to_undo}
 use Rattle.node_core.proofs.Changing.{fresh_gossip, fresh_object, stale_gossip}
 use Rattle.node_core.proofs.Making.{made}
 
@@ -67,12 +75,13 @@ refused_so : (fault : StoreFault) (gave : StepFault) (refusal : Option StoreFaul
 refused_so fault gave refusal is (inl memory) = inl (is ∙ ap of_store memory)
 refused_so fault gave refusal is (inr refused) = inr (ap (option_map of_store) refused ∙ ap (λ f. Some f) (sym is))
 
-pub merge_refused : {store : Table} (r : Result Stepped StepFault) (old new : NodeParts) (key : Key) (came : List Entry)
-    (fault : StoreFault) (done : NodeDraft) (reply : Reply) → new ≡ old → store ≡ old.table
+pub merge_refused : {store : Table} (r : Result Attempt StepFault) (old new : NodeParts) (key : Key) (came : List Entry)
+    (fault : StoreFault) (done : NodeDraft) (reply : Reply) (changed : Option Key) → new ≡ old → store ≡ old.table
     → (fault ≡ OfStore.Memory) ⊎ (refusal_of_merge store key came ≡ Some fault)
-    → IsErrAnd r (λ gave. gave ≡ of_store fault) → StepsTo old (refusal_of_object key came old) done reply r new
-merge_refused (Ok stepped) old new key came fault done reply same store_is cause gives = absurd gives
-merge_refused {store = store} (Err gave) old new key came fault done reply same store_is cause gives = (
+    → IsErrAnd r (λ gave. gave ≡ of_store fault)
+    → AttemptsTo old (refusal_of_object key came old) done reply changed r new
+merge_refused (Ok a) old new key came fault done reply changed same store_is cause gives = absurd gives
+merge_refused {store = store} (Err gave) old new key came fault done reply changed same store_is cause gives = (
   refused_so fault gave (refusal_of_merge old.table key came) gives
       (subst (λ (table : Table). (fault ≡ OfStore.Memory) ⊎ (refusal_of_merge table key came ≡ Some fault)) store_is cause),
   same,
@@ -93,48 +102,55 @@ stale_reply : (old : NodeParts) (key : Key) (came : List Entry) → is_fresh key
     → reply_of_object key came old ≡ TookStale
 stale_reply old key came stale = cond-false (is_fresh key came old) TookFresh TookStale stale
 
+-- an object that came fresh changes what is held under its key, and a stale one nothing
+fresh_changes : (old : NodeParts) (key : Key) (came : List Entry) → is_fresh key came old ≡ true
+    → Some key ≡ key_if_fresh (reply_of_object key came old) (Some key)
+fresh_changes old key came fresh =
+    sym (ap (λ reply. key_if_fresh reply (Some key)) (fresh_reply old key came fresh))
+
+stale_changes : (old : NodeParts) (key : Key) (came : List Entry) → is_fresh key came old ≡ false
+    → None ≡ key_if_fresh (reply_of_object key came old) (Some key)
+stale_changes old key came stale =
+    sym (ap (λ reply. key_if_fresh reply (Some key)) (stale_reply old key came stale))
+
 -- ---- GOSSIP
 
-pub stale_taken : {old : NodeParts} {outbox : List (List ℕ)} (from round : ℕ) (key : Key) (came : List Entry)
-    (new : NodeParts) (stepped : Stepped) → is_stale old.table key (join came) ≡ true
-    → stepped ≡ record { reply = TookStale; outbox = outbox }
+pub stale_taken : (from round : ℕ) (key : Key) (came : List Entry) (old inside : NodeParts) (p : Pending) (overlay : Overlay) (outbox : Outbox)
+    → inside ≡ old → IsInLife inside
+    → Pends p inside.overlay overlay (overlay_after_call (TakesStale from) inside.overlay)
+    → is_stale old.table key (join came) ≡ true
     → outbox ≡ map spelling (frames_from old.node old.frames (envelope from Prune ∷ []))
     → All HasSpelling (frames_from old.node old.frames (envelope from Prune ∷ []))
-    → new ≡ with_counts (length outbox) (with_overlay (overlay_after_call (TakesStale from) old.overlay) old)
-    → StepsOnMessage old from 0 (Gossip round key came) (Ok stepped) new
-stale_taken {old = old} from round key came new stepped stale is sends frames counts =
+    → AttemptsMessage old from 0 (Gossip round key came) (Ok (record { reply = TookStale; outbox = outbox; end = OfOverlay p })) (with_overlay overlay inside)
+stale_taken from round key came old inside p overlay outbox same h pends stale sends frames =
     let after = with_overlay (overlay_after_call (TakesStale from) old.overlay) old in
     let known = stale_so key came old stale in
-    let outbox_is = ap (λ (s : Stepped). s.outbox) is in
-    made old after new (refusal_of_object key came old) (row_of_gossip from round key came (begun old))
-    (reply_of_object key came old) (envelope from Prune ∷ []) stepped
-    (accepted_if_stale old key came stale) (stale_gossip from round key came old known)
-    (ap (λ (s : Stepped). s.reply) is ∙ sym (stale_reply old key came known))
-    (outbox_is ∙ sends) frames
-    (counts ∙ ap (λ outbox. with_counts (length outbox) after) (sym outbox_is))
-
--- the same, if the overlay was told so
-pub overlay_told : {old s : NodeParts} {overlay : Overlay} (from : ℕ) → s ≡ old
-    → overlay ≡ overlay_after_call (TakesStale from) s.overlay
-    → with_overlay overlay s ≡ with_overlay (overlay_after_call (TakesStale from) old.overlay) old
-overlay_told {s = s} from view is =
-    ap (λ overlay. with_overlay overlay s) is
-    ∙ (λ i. with_overlay (overlay_after_call (TakesStale from) (view i).overlay) (view i))
+    let then : with_overlay (after_pending p overlay) inside ≡ after =
+    ap (λ o. with_overlay o inside) pends.ends ∙ (λ i. with_overlay (overlay_after_call (TakesStale from) (same i).overlay) (same i)) in
+    record {
+      step =
+          made old after _ (refusal_of_object key came old) (row_of_gossip from round key came (begun old))
+          (reply_of_object key came old) (envelope from Prune ∷ []) _
+          (accepted_if_stale old key came stale) (stale_gossip from round key came old known)
+          (sym (stale_reply old key came known)) sends frames (ap (with_counts (length outbox)) then);
+      undo = subst (λ changed. Undoes old (with_overlay overlay inside) changed (OfOverlay p)) (stale_changes old key came known)
+          (subst (λ o. Undoes o (with_overlay overlay inside) None (OfOverlay p)) same (overlay_to_undo p inside overlay _ h pends h.own_views));
+    }
 
 -- what is sent then
 pub prune_sent : (from : ℕ) (o : Overlay) → whole_messages (out_of (TakesStale from) o) ≡ envelope from Prune ∷ []
 unfolding cast.on_stale
 prune_sent from o = refl
 
-pub fresh_taken : {old : NodeParts} {store : Table} {outbox : List (List ℕ)} (from round : ℕ) (key : Key)
-    (came entries : List Entry) (new : NodeParts) (stepped : Stepped) → store ≡ old.table
+pub fresh_taken : {store : Table} (from round : ℕ) (key : Key) (came entries : List Entry) (old new : NodeParts) (news : NewsParts)
+    (end : End) (outbox : Outbox) → store ≡ old.table
     → Some entries ≡ merged_if_fresh store key came → refusal_of_merge store key came ≡ None
-    → stepped ≡ record { reply = TookFresh; outbox = outbox }
-    → outbox ≡ map spelling (frames_from old.node old.frames (gossips (OfOrigin.Gossip from round) key entries old))
-    → All HasSpelling (frames_from old.node old.frames (gossips (OfOrigin.Gossip from round) key entries old))
-    → new ≡ with_counts (length outbox) (noting (change_to key entries) (spreading (OfOrigin.Gossip from round) key entries old))
-    → StepsOnMessage old from 0 (Gossip round key came) (Ok stepped) new
-fresh_taken {old = old} from round key came entries new stepped store_is merged accepted is sends frames counts =
+    → AreNews key entries old news
+    → AreFramesOf old.node old.frames (gossips (OfOrigin.Gossip from round) news.change.key entries old) outbox
+    → ended end new ≡ noting news.change (spreading (OfOrigin.Gossip from round) news.change.key entries old)
+    → Undoes old new (Some news.change.key) end
+    → AttemptsMessage old from 0 (Gossip round key came) (Ok (record { reply = TookFresh; outbox = outbox; end = end })) new
+fresh_taken from round key came entries old new news end outbox store_is merged accepted are sends ends undoes =
     let origin = OfOrigin.Gossip from round in
     let foreseen = merge_if_some old.table key came entries (merged ∙ ap (λ table. merged_if_fresh table key came) store_is) in
     let fresh = fresh_so key came old foreseen.fresh in
@@ -142,36 +158,42 @@ fresh_taken {old = old} from round key came entries new stepped store_is merged 
       parts = noting (change_to key entries) (spreading origin key entries old);
       sent = gossips origin key entries old;
     } in draft in
-    let outbox_is = ap (λ (s : Stepped). s.outbox) is in
-    made old (noting (change_to key entries) (spreading origin key entries old)) new
-    (refusal_of_object key came old) (row_of_gossip from round key came (begun old)) (reply_of_object key came old)
-    (gossips origin key entries old) stepped
-    (ap (λ table. option_map of_store (refusal_of_merge table key came)) (sym store_is) ∙ ap (option_map of_store) accepted)
-    (fresh_gossip from round key came old fresh ∙ ap after (sym foreseen.merged))
-    (ap (λ (s : Stepped). s.reply) is ∙ sym (fresh_reply old key came fresh))
-    (outbox_is ∙ sends) frames
-    (counts ∙ ap (λ outbox. with_counts (length outbox) (noting (change_to key entries) (spreading origin key entries old))) (sym outbox_is))
+    let sent = subst (λ (n : NewsParts). AreFramesOf old.node old.frames (gossips origin n.change.key entries old) outbox) are sends in
+    let then = ends ∙ ap (λ (n : NewsParts). noting n.change (spreading origin n.change.key entries old)) are in
+    record {
+      step =
+          made old (noting (change_to key entries) (spreading origin key entries old)) _
+          (refusal_of_object key came old) (row_of_gossip from round key came (begun old)) (reply_of_object key came old)
+          (gossips origin key entries old) _
+          (ap (λ table. option_map of_store (refusal_of_merge table key came)) (sym store_is) ∙ ap (option_map of_store) accepted)
+          (fresh_gossip from round key came old fresh ∙ ap after (sym foreseen.merged))
+          (sym (fresh_reply old key came fresh)) sent.frames sent.lawful (ap (with_counts (length outbox)) then);
+      undo = subst (λ changed. Undoes old new changed end) (ap (λ (n : NewsParts). Some n.change.key) are ∙ fresh_changes old key came fresh) undoes;
+    }
 
 -- ---- XOBJECT
 
-pub fresh_kept : {old : NodeParts} {store : Table} {outbox : List (List ℕ)} (key : Key) (came entries : List Entry)
-    (new : NodeParts) (stepped : Stepped) → store ≡ old.table
+pub fresh_kept : {store : Table} (key : Key) (came entries : List Entry) (old new : NodeParts) (news : NewsParts)
+    (end : End) (outbox : Outbox) → store ≡ old.table
     → Some entries ≡ merged_if_fresh store key came → refusal_of_merge store key came ≡ None
-    → stepped ≡ record { reply = TookFresh; outbox = outbox } → outbox ≡ []
-    → new ≡ with_counts (length outbox) (noting (change_to key entries) (holding key entries old))
-    → StepsOnMessage old 0 0 (XObject key came) (Ok stepped) new
-fresh_kept {old = old} key came entries new stepped store_is merged accepted is none counts =
+    → AreNews key entries old news → outbox ≡ []
+    → ended end new ≡ noting news.change (holding news.change.key entries old)
+    → Undoes old new (Some news.change.key) end
+    → AttemptsMessage old 0 0 (XObject key came) (Ok (record { reply = TookFresh; outbox = outbox; end = end })) new
+fresh_kept key came entries old new news end outbox store_is merged accepted are none ends undoes =
     let foreseen = merge_if_some old.table key came entries (merged ∙ ap (λ table. merged_if_fresh table key came) store_is) in
     let fresh = fresh_so key came old foreseen.fresh in
     let after = λ (entries : List Entry). let draft : NodeDraft = record {
       parts = noting (change_to key entries) (holding key entries old);
       sent = [];
     } in draft in
-    let outbox_is = ap (λ (s : Stepped). s.outbox) is in
-    made old (noting (change_to key entries) (holding key entries old)) new
-    (refusal_of_object key came old) (merge key came (begun old)) (reply_of_object key came old) [] stepped
-    (ap (λ table. option_map of_store (refusal_of_merge table key came)) (sym store_is) ∙ ap (option_map of_store) accepted)
-    (fresh_object key came old fresh ∙ ap after (sym foreseen.merged))
-    (ap (λ (s : Stepped). s.reply) is ∙ sym (fresh_reply old key came fresh))
-    (outbox_is ∙ none) (All-nil HasSpelling)
-    (counts ∙ ap (λ outbox. with_counts (length outbox) (noting (change_to key entries) (holding key entries old))) (sym outbox_is))
+    let then = ends ∙ ap (λ (n : NewsParts). noting n.change (holding n.change.key entries old)) are in
+    record {
+      step =
+          made old (noting (change_to key entries) (holding key entries old)) _
+          (refusal_of_object key came old) (merge key came (begun old)) (reply_of_object key came old) [] _
+          (ap (λ table. option_map of_store (refusal_of_merge table key came)) (sym store_is) ∙ ap (option_map of_store) accepted)
+          (fresh_object key came old fresh ∙ ap after (sym foreseen.merged))
+          (sym (fresh_reply old key came fresh)) none (All-nil HasSpelling) (ap (with_counts (length outbox)) then);
+      undo = subst (λ changed. Undoes old new changed end) (ap (λ (n : NewsParts). Some n.change.key) are ∙ fresh_changes old key came fresh) undoes;
+    }

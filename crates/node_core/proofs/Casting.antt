@@ -22,20 +22,25 @@ use Rattle.plumtree.specs.Rows as cast
 use Rattle.node_events.specs.declared.outbox.Outbox.{Outbox}
 use Rattle.node_events.specs.declared.reply.Reply.TheVariants.{Took}
 use Rattle.node_overlay.specs.declared.envelope.Envelope.{Envelope}
+use Rattle.node_overlay.specs.declared.pending.Pending.{Pending}
 use Rattle.node_overlay.specs.Outbox.{HasSpelling, IsSpelledVector, frames_from}
 use Rattle.node_overlay.specs.Origin.{envelope_with}
 use Rattle.node_overlay.specs.Overlay.{Overlay, envelope, out_of, overlay_after_call}
+use Rattle.node_overlay.specs.Pending.{Pends, after_pending}
+use Rattle.node_core.specs.declared.attempt.End.TheVariants.{Count, Overlay as OfOverlay}
 use Rattle.node_core.specs.declared.state.Stepped.{Stepped}
-use Rattle.node_core.specs.Node.{NodeParts, with_overlay}
+use Rattle.node_core.specs.Attempt.{Undoes}
+use Rattle.node_core.specs.Node.{IsInLife, NodeParts, with_overlay}
 use Rattle.node_core.specs.Draft.{NodeDraft, call_broadcast}
 use Rattle.node_core.specs.Rows.{row_of_graft, row_of_ihave, row_of_message}
-use Rattle.node_core.specs.Handling.{IsQuestion, StepsOnMessage}
+use Rattle.node_core.specs.Handling.{AttemptsMessage, IsAttemptTo, IsQuestion, carried_key, key_if_fresh}
 use Rattle.node_core.specs.Step.{IsStepTo, begun, with_counts, refusal_of_message, reply_of_message}
+use Rattle.node_core.proofs.Attempting.{nothing_to_undo, overlay_to_undo}
 use Rattle.node_core.proofs.Making.{made}
 
 -- ---- a step in which the broadcast alone was told something, and these bytes are sent
 
-pub told_step : (call : CastCall) (old inside new : NodeParts) (overlay : Overlay) (done : NodeDraft) (sent : List Envelope) (outbox : Outbox) (stepped : Stepped)
+told_step : (call : CastCall) (old inside new : NodeParts) (overlay : Overlay) (done : NodeDraft) (sent : List Envelope) (outbox : Outbox) (stepped : Stepped)
     → inside ≡ old → overlay ≡ overlay_after_call call inside.overlay
     → done ≡ record { parts = with_overlay (overlay_after_call call old.overlay) old; sent = sent }
     → stepped ≡ record { reply = Took; outbox = outbox }
@@ -52,16 +57,26 @@ told_step call old inside new overlay done sent outbox stepped same told_is is v
     (counts ∙ ap (λ (sent : List (List ℕ)). with_counts (length sent) (with_overlay overlay inside)) (sym gives)
     ∙ ap (with_counts (length stepped.outbox)) mid)
 
+-- the same of an attempt of it, which is pending
+pub told_attempt : (call : CastCall) (old inside : NodeParts) (p : Pending) (overlay : Overlay) (done : NodeDraft) (sent : List Envelope) (outbox : Outbox)
+    → inside ≡ old → IsInLife inside → Pends p inside.overlay overlay (overlay_after_call call inside.overlay)
+    → done ≡ record { parts = with_overlay (overlay_after_call call old.overlay) old; sent = sent }
+    → outbox ≡ map spelling (frames_from old.node old.frames sent)
+    → All HasSpelling (frames_from old.node old.frames sent)
+    → IsAttemptTo old None done Took None (with_overlay overlay inside) (record { reply = Took; outbox = outbox; end = OfOverlay p })
+told_attempt call old inside p overlay done sent outbox same h pends is sends frames = record {
+  step = told_step call old inside _ (after_pending p overlay) done sent outbox _ same pends.ends is refl sends frames refl;
+  undo = subst (λ o. Undoes o (with_overlay overlay inside) None (OfOverlay p)) same (overlay_to_undo p inside overlay _ h pends h.own_views);
+}
+
 -- nothing is sent
-pub told_quietly : (call : CastCall) (old inside new : NodeParts) (overlay : Overlay) (done : NodeDraft) (outbox : Outbox) (stepped : Stepped)
-    → inside ≡ old → overlay ≡ overlay_after_call call inside.overlay
+pub told_quietly : (call : CastCall) (old inside : NodeParts) (p : Pending) (overlay : Overlay) (done : NodeDraft) (outbox : Outbox)
+    → inside ≡ old → IsInLife inside → Pends p inside.overlay overlay (overlay_after_call call inside.overlay)
     → done ≡ record { parts = with_overlay (overlay_after_call call old.overlay) old; sent = [] }
-    → stepped ≡ record { reply = Took; outbox = outbox } → outbox ≡ []
-    → new ≡ with_counts (length outbox) (with_overlay overlay inside)
-    → IsStepTo old None done Took new stepped
-told_quietly call old inside new overlay done outbox stepped same told_is is value nothing counts =
-    told_step call old inside new overlay done [] outbox stepped same told_is is value nothing
-    (All-nil HasSpelling) counts
+    → outbox ≡ []
+    → IsAttemptTo old None done Took None (with_overlay overlay inside) (record { reply = Took; outbox = outbox; end = OfOverlay p })
+told_quietly call old inside p overlay done outbox same h pends is nothing =
+    told_attempt call old inside p overlay done [] outbox same h pends is nothing (All-nil HasSpelling)
 
 -- ---- PRUNE
 
@@ -156,16 +171,25 @@ question_reply (XBucket prefix leaf keys) s is = refl
 question_reply (XWant key) s is = refl
 question_reply _ s is = absurd is
 
-pub asked_step : (from : ℕ) (m : Message) (old new : NodeParts) (sent : List Envelope) (outbox : Outbox) (stepped : Stepped) → IsQuestion m
-    → sent ≡ map (envelope from) (answers_to old.table m)
-    → stepped ≡ record { reply = Took; outbox = outbox }
-    → outbox ≡ map spelling (frames_from old.node old.frames sent)
-    → All HasSpelling (frames_from old.node old.frames sent)
-    → new ≡ with_counts (length outbox) old
-    → StepsOnMessage old from 0 m (Ok stepped) new
-asked_step from m old new sent outbox stepped is sent_is value sends frames counts =
-    let gives : stepped.outbox ≡ outbox = ap (λ (s : Stepped). s.outbox) value in
-    made old old new (refusal_of_message m old) (row_of_message from 0 m (begun old)) (reply_of_message m old) sent stepped
-    (question_accepted m old is) (after_question from m old is ∙ ap (λ sent. record { parts = old; sent = sent }) (sym sent_is))
-    (ap (λ (s : Stepped). s.reply) value ∙ question_reply m old is) (gives ∙ sends) frames
-    (counts ∙ ap (λ (sent : List (List ℕ)). with_counts (length sent) old) (sym gives))
+-- a question changes nothing
+question_changes : (m : Message) (s : NodeParts) → IsQuestion m → None ≡ key_if_fresh (reply_of_message m s) (carried_key m)
+question_changes (XRoot root) s is = refl
+question_changes (XPrefixes prefixes) s is = refl
+question_changes (XInner prefix digests) s is = refl
+question_changes (XLeaves prefix inner digests) s is = refl
+question_changes (XBucket prefix leaf keys) s is = refl
+question_changes (XWant key) s is = refl
+question_changes _ s is = absurd is
+
+pub asked : (from : ℕ) (m : Message) (s : NodeParts) (sent : List Envelope) (outbox : Outbox) → IsInLife s → IsQuestion m
+    → sent ≡ map (envelope from) (answers_to s.table m)
+    → outbox ≡ map spelling (frames_from s.node s.frames sent)
+    → All HasSpelling (frames_from s.node s.frames sent)
+    → AttemptsMessage s from 0 m (Ok (record { reply = Took; outbox = outbox; end = Count })) s
+asked from m s sent outbox h is sent_is sends frames = record {
+  step =
+      made s s _ (refusal_of_message m s) (row_of_message from 0 m (begun s)) (reply_of_message m s) sent _
+      (question_accepted m s is) (after_question from m s is ∙ ap (λ sent. record { parts = s; sent = sent }) (sym sent_is))
+      (question_reply m s is) sends frames refl;
+  undo = subst (λ changed. Undoes s s changed Count) (question_changes m s is) (nothing_to_undo s h);
+}

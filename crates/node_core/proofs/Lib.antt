@@ -2,7 +2,7 @@
 pub mod Making
 -- a change in the order of the code is that of the table
 pub mod Changing
--- what a change gives out may be sent, and is taken back if memory runs out
+-- what a change gives out may be sent
 pub mod Spreading
 -- the steps that change an object are those of the table
 pub mod Stepping
@@ -14,6 +14,8 @@ pub mod Casting
 pub mod Answering
 -- an event of the views, a tick and HELLO are those of the table
 pub mod Viewing
+-- an attempt of a step makes it, and can be undone
+pub mod Attempting
 -- what a watch hands out is what the step replies
 pub mod Handing
 -- what comes of bytes that spell a frame, and the key whose object a step changes

@@ -9,18 +9,11 @@ use Rattle.node_core.specs.declared.state.Stepped.{Stepped}
 use Rattle.node_core.specs.Node.{NodeParts}
 use Rattle.node_core.specs.Rows.{Input, IsInput, Local, Received}
 use Rattle.node_core.specs.Step.{CanComeOf, IsNoFrame, IsNodeStep, IsRefused, IsStepOf, Rejects, refusal_of}
-use Rattle.node_core.specs.Handling.{Steps}
+use Rattle.node_core.specs.declared.attempt.Attempt.{Attempt}
+use Rattle.node_core.specs.Handling.{Attempts}
 use Rattle.node_core.specs.Run.{NoEventHasTwoOutcomes, IsOneCause, IsRun, RunsGoOn}
 
 -- ---- an event of the node itself
-
-pub stepped : (old new : NodeParts) (r : Result Stepped StepFault) (event own : NodeEvent)
-    → event ≡ own → IsInput own (Local own) → Steps old (Local own) r new
-    → IfOk r (IsNodeStep old event new)
-stepped old new (Ok s) event own same is step =
-    subst (λ e. IsNodeStep old e new s) (sym same)
-    (record { input = Local own; is_input = is; step = step })
-stepped old new (Err fault) event own same is fails = tt
 
 pub cause_of : (old : NodeParts) (fault : StepFault) (own : NodeEvent) → IsInput own (Local own)
     → (fault ≡ Memory) ⊎ (refusal_of (Local own) old ≡ Some fault) → CanComeOf old own fault
@@ -28,15 +21,15 @@ cause_of old fault own is (inl memory) = inl memory
 cause_of old fault own is (inr first) =
     inr (inr (record { input = Local own; is_input = is; first = first }))
 
-pub refused : (old new : NodeParts) (r : Result Stepped StepFault) (own : NodeEvent)
-    → IsInput own (Local own) → Steps old (Local own) r new → IfErr r (CanComeOf old own)
-refused old new (Ok s) own is step = tt
+pub refused : (old new : NodeParts) (r : Result Attempt StepFault) (own : NodeEvent)
+    → IsInput own (Local own) → Attempts old (Local own) r new → IfErr r (CanComeOf old own)
+refused old new (Ok a) own is step = tt
 refused old new (Err fault) own is fails = cause_of old fault own is fails.0
 
-pub rejected : (old new : NodeParts) (r : Result Stepped StepFault) (event own : NodeEvent)
-    → event ≡ own → IsInput own (Local own) → Steps old (Local own) r new
+pub rejected : (old new : NodeParts) (r : Result Attempt StepFault) (event own : NodeEvent)
+    → event ≡ own → IsInput own (Local own) → Attempts old (Local own) r new
     → IfErr r (λ fault. Rejects old event fault new)
-rejected old new (Ok s) event own same is step = tt
+rejected old new (Ok a) event own same is step = tt
 rejected old new (Err fault) event own same is fails =
     subst (λ e. Rejects old e fault new) (sym same)
     (record { cause = cause_of old fault own is fails.0; same = fails.1 })

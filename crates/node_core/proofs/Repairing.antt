@@ -1,5 +1,5 @@
 -- The sibling that is chosen is the one that is read, and writing it over all is the repair.
-use Rattle.std.proofs.Common.{◌≡◌, ◌<◌, ◌∙◌, ℕ, true, List, length, Some, None, Result, IfOk, IfErr, get_or, if◌then◌else◌, nat_le, refl, sym, ap, subst}
+use Rattle.std.proofs.Common.{◌≡◌, ◌<◌, ◌∙◌, ℕ, true, List, length, Some, None, Result, Ok, Err, IfErr, get_or, if◌then◌else◌, nat_le, refl, sym, ap, subst}
 use Rattle.std.proofs.lemmas.Option.{slice_get_read}
 use Rattle.std.specs.List.{slice_get}
 use Rattle.std.specs.Option.{option_map}
@@ -9,12 +9,15 @@ use Rattle.dvvset.specs.Clock.{values_of}
 use Rattle.meta_store.specs.Table.{object_at}
 use Rattle.node_events.specs.declared.event.NodeEvent.TheVariants.{PutOver}
 use Rattle.node_events.specs.declared.fault.StepFault.{StepFault}
+use Rattle.std.specs.Result.{IsErrAnd}
+use Rattle.node_core.specs.declared.attempt.Attempt.{Attempt}
 use Rattle.node_core.specs.declared.state.Stepped.{Stepped}
+use Rattle.node_core.specs.Attempt.{committed, stepped_of}
 use Rattle.node_core.specs.Node.{NodeParts}
 use Rattle.node_core.specs.Rows.{Local}
-use Rattle.node_core.specs.Handling.{Steps}
+use Rattle.node_core.specs.Handling.{Attempts}
 use Rattle.node_core.specs.Repair.{CanComeOfRepair, IsRepair, chosen, repair_event}
-use Rattle.node_core.proofs.Outcomes.{refused, stepped}
+use Rattle.node_core.proofs.Outcomes.{cause_of}
 
 -- the siblings that were read are those of the key, and this is the chosen one
 is_event : (choice : List ValueParts → ℕ) (key : Key) (s : NodeParts) (siblings : List ValueParts)
@@ -24,19 +27,21 @@ is_event choice key s siblings v are is =
     ap (option_map (PutOver key)) (sym is ∙ ap (chosen choice) are)
 
 pub repaired : (choice : List ValueParts → ℕ) (key : Key) (old new : NodeParts)
-    (siblings : List ValueParts) (v : ValueParts) (r : Result Stepped StepFault)
+    (siblings : List ValueParts) (v : ValueParts) (a : Attempt)
     → siblings ≡ values_of (object_at old.table key) → chosen choice siblings ≡ Some v
-    → Steps old (Local (PutOver key v)) r new
-    → IfOk r (IsRepair (repair_event choice key old) old new)
-repaired choice key old new siblings v r are is steps =
-    subst (λ event. IfOk r (IsRepair event old new)) (is_event choice key old siblings v are is)
-    (stepped old new r (PutOver key v) (PutOver key v) refl refl steps)
+    → Attempts old (Local (PutOver key v)) (Ok a) new
+    → IsRepair (repair_event choice key old) old (committed a new) (stepped_of a)
+repaired choice key old new siblings v a are is attempts =
+    subst (λ event. IsRepair event old (committed a new) (stepped_of a)) (is_event choice key old siblings v are is)
+    (record { input = Local (PutOver key v); is_input = refl; step = attempts.step })
 
 pub not_repaired : (choice : List ValueParts → ℕ) (key : Key) (old new : NodeParts)
-    (siblings : List ValueParts) (v : ValueParts) (r : Result Stepped StepFault)
+    (siblings : List ValueParts) (v : ValueParts) (fault : StepFault) (r : Result Stepped StepFault)
     → siblings ≡ values_of (object_at old.table key) → chosen choice siblings ≡ Some v
-    → Steps old (Local (PutOver key v)) r new
+    → Attempts old (Local (PutOver key v)) (Err fault) new → IsErrAnd r (λ gave. gave ≡ fault)
     → IfErr r (CanComeOfRepair (repair_event choice key old) old)
-not_repaired choice key old new siblings v r are is steps =
-    subst (λ event. IfErr r (CanComeOfRepair event old)) (is_event choice key old siblings v are is)
-    (refused old new r (PutOver key v) refl steps)
+not_repaired choice key old new siblings v fault (Ok s) are is attempts gives = absurd gives
+not_repaired choice key old new siblings v fault (Err gave) are is attempts gives =
+    subst (CanComeOfRepair (repair_event choice key old) old) (sym gives)
+    (subst (λ event. CanComeOfRepair event old fault) (is_event choice key old siblings v are is)
+    (cause_of old fault (PutOver key v) refl attempts.0))

@@ -6,7 +6,6 @@ use Rattle.dvvset.specs.Object.{Entry}
 use Rattle.dvvset.specs.Clock.{join}
 use Rattle.meta_store.specs.Table.{with_object}
 use Rattle.plumtree.specs.Broadcast.{Changes}
-use Rattle.plumtree.specs.Savepoint.{rolled_back, savepoint_of}
 use Rattle.subscriptions.specs.declared.change.Change.{Change}
 use Rattle.subscriptions.specs.Watching.{with_change}
 use Rattle.node_overlay.specs.declared.envelope.Envelope.{Envelope}
@@ -48,12 +47,6 @@ change_to key object = record { key = key; vector = join object }
 abbrev pub AreNews : Key → List Entry → NodeParts → NewsParts → Type 0
 AreNews key object s news =
     news ≡ record { change = change_to key object; notes = hearing_count key s.watches }
-
--- the same node, except for a broadcast that may be ahead: rolling it back makes it the old one
-pub record IsBehind (old new : NodeParts) : Type 0 where
-  pub views : new.overlay.views ≡ old.overlay.views
-  pub cast : rolled_back (savepoint_of old.overlay.cast) new.overlay.cast ≡ old.overlay.cast
-  pub rest : with_overlay old.overlay new ≡ old
 
 -- the round, if there is one, is that of a frame
 abbrev pub HasRound : Origin → Type 0

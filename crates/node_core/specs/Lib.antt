@@ -21,9 +21,12 @@ pub mod Repair
 pub mod Leaving
 -- what a step changes of what is held, and that this only grows
 pub mod Growing
+-- what a change of an object brings with it, in the order of the code
+pub mod Changing
+-- a step in two halves: an attempt, which is committed or taken back
+pub mod Attempt
 -- equality of what steps give
 pub mod Equal
 -- ---- not needed to believe the public contracts: what private functions say of what they are
--- handed, and of a change
+-- handed
 pub mod Handling
-pub mod Changing

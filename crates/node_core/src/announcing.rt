@@ -4,9 +4,10 @@ ghost use Rattle.std.specs.Prelude.{◌≡◌, ◌≢◌, true};
 ghost use Rattle.meta_frame.specs.declared.message.Message.TheVariants.{Graft, IHave, Prune};
 ghost use Rattle.meta_store.specs.Table.{is_stale};
 ghost use Rattle.node_overlay.specs.Outbox.{IsSpelledVector};
-ghost use Rattle.node_core.specs.Handling.{StepsOnMessage};
+ghost use Rattle.node_core.specs.Handling.{AttemptsMessage};
 
-use crate::state::{NodeState, Stepped};
+use crate::attempt::{Attempt, End};
+use crate::state::NodeState;
 use dvvset::Vector;
 use meta_types::{MetaKey, NodeId};
 use node_events::{Reply, StepFault};
@@ -19,14 +20,18 @@ impl NodeState {
         round: u16,
         key: &MetaKey,
         vector: &Vector,
-    ) -> Result<Stepped, StepFault>
+    ) -> Result<Attempt, StepFault>
         requires another { from ≢ self.old.node }
         requires spelled { IsSpelledVector vector.now }
-        ensures { StepsOnMessage self.old from 0 (IHave round key.now vector.now) result self.new }
+        ensures { AttemptsMessage self.old from 0 (IHave round key.now vector.now) result self.new }
     {
         let stale = self.held.store().is_stale(key, vector);
-        self.overlay.on_ihave(from, round, key, vector, stale)?;
-        Ok(self.finish(Reply::Took, self.nothing_sent()))
+        let pending = self.overlay.on_ihave(from, round, key, vector, stale)?;
+        Ok(Attempt {
+            reply: Reply::Took,
+            outbox: self.nothing_sent(),
+            end: End::Overlay(pending),
+        })
     }
 
     /// Takes a GRAFT: the sender is sent what it asks for, if it is here.
@@ -36,17 +41,21 @@ impl NodeState {
         round: u16,
         key: &MetaKey,
         vector: &Vector,
-    ) -> Result<Stepped, StepFault>
+    ) -> Result<Attempt, StepFault>
         requires another { from ≢ self.old.node }
         requires spelled { IsSpelledVector vector.now }
-        ensures { StepsOnMessage self.old from 0 (Graft round key.now vector.now) result self.new }
+        ensures { AttemptsMessage self.old from 0 (Graft round key.now vector.now) result self.new }
     {
         let held = self.held.store().is_stale(key, vector);
         if held {
             self.on_held_graft(from, round, key, vector)
         } else {
-            self.overlay.on_bare_graft(from, round, key)?;
-            Ok(self.finish(Reply::Took, self.nothing_sent()))
+            let pending = self.overlay.on_bare_graft(from, round, key)?;
+            Ok(Attempt {
+                reply: Reply::Took,
+                outbox: self.nothing_sent(),
+                end: End::Overlay(pending),
+            })
         }
     }
 
@@ -58,30 +67,42 @@ impl NodeState {
         round: u16,
         key: &MetaKey,
         vector: &Vector,
-    ) -> Result<Stepped, StepFault>
+    ) -> Result<Attempt, StepFault>
         requires another { from ≢ self.old.node }
         requires spelled { IsSpelledVector vector.now }
         requires held { is_stale self.old.table key.now vector.now ≡ true }
-        ensures { StepsOnMessage self.old from 0 (Graft round key.now vector.now) result self.new }
+        ensures { AttemptsMessage self.old from 0 (Graft round key.now vector.now) result self.new }
     {
         // Only the contract needs it.
         let _ = vector;
         let Some(object) = self.held.store().object(key) else {
             // This never happens: an absent object descends no vector that has read something.
-            return Ok(self.finish(Reply::Took, self.nothing_sent()));
+            return Ok(Attempt {
+                reply: Reply::Took,
+                outbox: self.nothing_sent(),
+                end: End::Count,
+            });
         };
         let (alloc, number) = (self.alloc, self.frames);
-        let outbox = self
+        let (pending, outbox) = self
             .overlay
             .on_graft(alloc, number, from, round, key, object)?;
-        Ok(self.finish(Reply::Took, outbox))
+        Ok(Attempt {
+            reply: Reply::Took,
+            outbox,
+            end: End::Overlay(pending),
+        })
     }
 
     /// Takes a PRUNE: the sender wants only announcements.
-    pub(crate) fn on_prune(&mut self, from: NodeId) -> Result<Stepped, StepFault>
-        ensures { StepsOnMessage self.old from 0 Prune result self.new }
+    pub(crate) fn on_prune(&mut self, from: NodeId) -> Result<Attempt, StepFault>
+        ensures { AttemptsMessage self.old from 0 Prune result self.new }
     {
-        self.overlay.on_prune(from)?;
-        Ok(self.finish(Reply::Took, self.nothing_sent()))
+        let pending = self.overlay.on_prune(from)?;
+        Ok(Attempt {
+            reply: Reply::Took,
+            outbox: self.nothing_sent(),
+            end: End::Overlay(pending),
+        })
     }
 }

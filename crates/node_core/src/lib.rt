@@ -2,6 +2,7 @@
 #![tactic(auto)]
 
 mod announcing;
+pub mod attempt;
 mod change;
 mod commit;
 pub mod laws;
@@ -18,4 +19,5 @@ mod ticking;
 mod watching;
 mod writing;
 
+pub use attempt::Attempt;
 pub use state::{NodeState, Stepped};

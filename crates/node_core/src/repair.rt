@@ -27,7 +27,10 @@ impl NodeState {
     {
         let (siblings, _) = self.held.store().get(key)?;
         match chosen(resolver, siblings.as_slice())? {
-            Some(value) => self.put_over(key, &value),
+            Some(value) => {
+                let attempt = self.put_over(key, &value)?;
+                Ok(self.commit(attempt))
+            }
             None => Ok(Stepped {
                 reply: Reply::Done,
                 outbox: self.nothing_sent(),

@@ -4,9 +4,10 @@ ghost use Rattle.std.specs.Prelude.{◌≡◌, None, Some, IfErr, OnOk};
 ghost use Rattle.node_core.specs.Rows.{Local};
 ghost use Rattle.node_core.specs.Step.{refusal_of_peer};
 ghost use Rattle.node_events.specs.declared.event.NodeEvent.TheVariants.{Exchange, Hello};
-ghost use Rattle.node_core.specs.Handling.{Steps};
+ghost use Rattle.node_core.specs.Handling.{Attempts};
 
-use crate::state::{NodeState, Stepped};
+use crate::attempt::{Attempt, End};
+use crate::state::NodeState;
 use exchange::start;
 use meta_frame::Message;
 use meta_types::NodeId;
@@ -14,22 +15,30 @@ use node_events::{Reply, StepFault};
 
 impl NodeState {
     /// Begins an exchange with a peer.
-    pub(crate) fn exchange(&mut self, peer: NodeId) -> Result<Stepped, StepFault>
-        ensures { Steps self.old (Local (Exchange peer)) result self.new }
+    pub(crate) fn exchange(&self, peer: NodeId) -> Result<Attempt, StepFault>
+        ensures { Attempts self.now (Local (Exchange peer)) result self.now }
     {
         self.is_another(peer)?;
         let outbox = self.one_frame(peer, start(&self.held))?;
-        Ok(self.finish(Reply::Done, outbox))
+        Ok(Attempt {
+            reply: Reply::Done,
+            outbox,
+            end: End::Count,
+        })
     }
 
     /// Tells a peer which life the node is in.
-    pub(crate) fn hello(&mut self, peer: NodeId) -> Result<Stepped, StepFault>
-        ensures { Steps self.old (Local (Hello peer)) result self.new }
+    pub(crate) fn hello(&self, peer: NodeId) -> Result<Attempt, StepFault>
+        ensures { Attempts self.now (Local (Hello peer)) result self.now }
     {
         self.is_another(peer)?;
         let life = self.incarnation;
         let outbox = self.one_frame(peer, Message::Hello { life })?;
-        Ok(self.finish(Reply::Done, outbox))
+        Ok(Attempt {
+            reply: Reply::Done,
+            outbox,
+            end: End::Count,
+        })
     }
 
     /// Refuses the node itself.

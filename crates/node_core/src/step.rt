@@ -1,15 +1,12 @@
 //! One step of a node.
 
 ghost use Rattle.std.specs.Prelude.{◌≡◌, IfOk, IfErr};
-ghost use Rattle.node_core.specs.Growing.{TellsKeyChanged};
-ghost use Rattle.node_core.specs.Handling.{key_of_write};
-ghost use Rattle.node_core.specs.Rows.{IsInput, Local};
+ghost use Rattle.node_core.specs.Attempt.{IsAttempt};
 ghost use Rattle.node_core.specs.Step.{IsNodeStep, Rejects};
 
+use crate::attempt::Attempt;
 use crate::state::{NodeState, Stepped};
-use meta_types::MetaKey;
 use node_events::{NodeEvent, StepFault};
-use std::alloc::AllocError;
 
 impl NodeState {
     /// Makes the step of an event. Returns the reply, and the frames to send. A refused event
@@ -34,6 +31,16 @@ impl NodeState {
         ensures step { IfOk result (IsNodeStep self.old event.now self.new) }
         ensures refused { IfErr result (λ fault. Rejects self.old event.now fault self.new) }
     {
+        let attempt = self.attempt(event)?;
+        Ok(self.commit(attempt))
+    }
+
+    /// Attempts the step of an event: all is done that may fail, so that the step can then be
+    /// committed, or taken back. Refused as `step` is, and then nothing changes.
+    pub fn attempt(&mut self, event: &NodeEvent) -> Result<Attempt, StepFault>
+        ensures attempt { IfOk result (IsAttempt self.old event.now self.new) }
+        ensures refused { IfErr result (λ fault. Rejects self.old event.now fault self.new) }
+    {
         match event {
             NodeEvent::Read { key } => self.read(key),
             NodeEvent::Write {
@@ -53,44 +60,5 @@ impl NodeState {
             NodeEvent::Hello { peer } => self.hello(*peer),
             NodeEvent::Leave => self.leave(),
         }
-    }
-
-    /// Makes that step, and returns the key under which what is held changed, if it did: that of a
-    /// write, or of an object that was taken fresh. Refused as `step` is; the key is copied before
-    /// anything changes, so its copy may be refused with 99 `Memory`, too.
-    pub fn step_changing(
-        &mut self,
-        event: &NodeEvent,
-    ) -> Result<(Stepped, Option<MetaKey>), StepFault>
-        ensures step { IfOk result (λ made. IsNodeStep self.old event.now self.new made.0) }
-        ensures key { IfOk result (λ made. TellsKeyChanged event.now made.0.reply made.1) }
-        ensures refused { IfErr result (λ fault. Rejects self.old event.now fault self.new) }
-    {
-        match event {
-            NodeEvent::Take { frame, word } => self.take_changing(frame, *word),
-            _ => self.step_own(event),
-        }
-    }
-
-    /// Makes the step of an event that brings no frame, and returns the key of a write.
-    fn step_own(&mut self, event: &NodeEvent) -> Result<(Stepped, Option<MetaKey>), StepFault>
-        requires { IsInput event.now (Local event.now) }
-        ensures step { IfOk result (λ made. IsNodeStep self.old event.now self.new made.0) }
-        ensures key { IfOk result (λ made. TellsKeyChanged event.now made.0.reply made.1) }
-        ensures refused { IfErr result (λ fault. Rejects self.old event.now fault self.new) }
-    {
-        let key = key_of_write(event)?;
-        let stepped = self.step_on(event)?;
-        Ok((stepped, key))
-    }
-}
-
-/// Returns a copy of the key of a write. Fails only when memory runs out.
-fn key_of_write(event: &NodeEvent) -> Result<Option<MetaKey>, AllocError>
-    ensures { IfOk result (λ key. key ≡ key_of_write event.now) }
-{
-    match event {
-        NodeEvent::Write { key, .. } | NodeEvent::PutOver { key, .. } => Ok(Some(key.copy()?)),
-        _ => Ok(None),
     }
 }

@@ -1,30 +1,30 @@
 //! Frames that come.
 
-ghost use Rattle.std.specs.Prelude.{◌≡◌, ◌≢◌, ◌⊎◌, IfOk, IfErr, OnErr, Some, All, map};
+ghost use Rattle.std.specs.Prelude.{◌≡◌, ◌≢◌, IfOk, IfErr, All, map};
 ghost use Rattle.exchange.specs.Answers.{answers_to};
 ghost use Rattle.meta_frame.specs.Frame.{IsLawful, IsMessage};
 ghost use Rattle.node_overlay.specs.Outbox.{MaySend};
 ghost use Rattle.node_overlay.specs.Overlay.{envelope};
+ghost use Rattle.node_core.specs.Attempt.{IsAttempt};
 ghost use Rattle.node_core.specs.Rows.{Received};
-ghost use Rattle.node_core.specs.Growing.{TellsKeyChanged};
-ghost use Rattle.node_core.specs.Step.{IsNodeStep, IsStepOf, Rejects, refusal_of};
+ghost use Rattle.node_core.specs.Step.{Rejects};
 ghost use Rattle.node_events.specs.declared.event.NodeEvent.TheVariants.{Take};
 ghost use Rattle.node_events.specs.declared.fault.StepFault.TheVariants.{Memory};
-ghost use Rattle.node_core.specs.Handling.{IsQuestion, Steps, StepsOnMessage, carried_key, key_if_fresh};
+ghost use Rattle.node_core.specs.Handling.{Attempts, AttemptsMessage, IsQuestion};
 
-use crate::state::{NodeState, Stepped};
+use crate::attempt::{Attempt, End};
+use crate::state::NodeState;
 use exchange::answer;
 use meta_frame::{Frame, Message, decode};
-use meta_types::{ByteString, MetaKey, NodeId};
+use meta_types::{ByteString, NodeId};
 use node_events::{Reply, StepFault};
 use node_overlay::Envelope;
 use std::alloc::{AllocError, Global};
 
 impl NodeState {
     /// Takes bytes that should be a frame for the node.
-    pub(crate) fn take(&mut self, bytes: &ByteString, word: u64) -> Result<Stepped, StepFault>
-        ensures step { IfOk result
-            (λ stepped. IsNodeStep self.old (Take bytes.now word) self.new stepped) }
+    pub(crate) fn take(&mut self, bytes: &ByteString, word: u64) -> Result<Attempt, StepFault>
+        ensures attempt { IfOk result (IsAttempt self.old (Take bytes.now word) self.new) }
         ensures refused { IfErr result
             (λ fault. Rejects self.old (Take bytes.now word) fault self.new) }
     {
@@ -35,50 +35,9 @@ impl NodeState {
         taken
     }
 
-    /// Takes them, and returns the key of the object that they brought, too, if it was fresh.
-    pub(crate) fn take_changing(
-        &mut self,
-        bytes: &ByteString,
-        word: u64,
-    ) -> Result<(Stepped, Option<MetaKey>), StepFault>
-        ensures step { IfOk result
-            (λ taken. IsNodeStep self.old (Take bytes.now word) self.new taken.0) }
-        ensures key { IfOk result
-            (λ taken. TellsKeyChanged (Take bytes.now word) taken.0.reply taken.1) }
-        ensures refused { IfErr result
-            (λ fault. Rejects self.old (Take bytes.now word) fault self.new) }
-    {
-        let frame = decode(self.alloc, bytes.as_slice())?;
-        let taken = self.receive_changing(&frame, word);
-        drop(frame);
-        taken
-    }
-
-    /// Takes a frame, and returns the key of its object, too, if it was fresh. The key is copied
-    /// before anything changes.
-    fn receive_changing(
-        &mut self,
-        frame: &Frame,
-        word: u64,
-    ) -> Result<(Stepped, Option<MetaKey>), StepFault>
+    fn receive(&mut self, frame: &Frame, word: u64) -> Result<Attempt, StepFault>
         requires { IsLawful frame.now }
-        ensures step { IfOk result
-            (λ taken. IsStepOf self.old (Received frame.now word) self.new taken.0) }
-        ensures key { IfOk result
-            (λ taken. taken.1 ≡ key_if_fresh taken.0.reply (carried_key frame.now.message)) }
-        ensures refused { IfErr result (λ fault.
-            (fault ≡ Memory) ⊎ (refusal_of (Received frame.now word) self.old ≡ Some fault)) }
-        ensures same { OnErr result (self.new ≡ self.old) }
-    {
-        let carried = carried_key(&frame.message)?;
-        let stepped = self.receive(frame, word)?;
-        let key = key_if_fresh(&stepped.reply, carried);
-        Ok((stepped, key))
-    }
-
-    fn receive(&mut self, frame: &Frame, word: u64) -> Result<Stepped, StepFault>
-        requires { IsLawful frame.now }
-        ensures { Steps self.old (Received frame.now word) result self.new }
+        ensures { Attempts self.old (Received frame.now word) result self.new }
     {
         if frame.to != self.node {
             return Err(StepFault::NotAddressed);
@@ -92,10 +51,10 @@ impl NodeState {
         from: NodeId,
         word: u64,
         message: &Message,
-    ) -> Result<Stepped, StepFault>
+    ) -> Result<Attempt, StepFault>
         requires another { from ≢ self.old.node }
         requires lawful { IsMessage message.now }
-        ensures { StepsOnMessage self.old from word message.now result self.new }
+        ensures { AttemptsMessage self.old from word message.now result self.new }
     {
         match message {
             Message::Gossip { round, key, object } => self.on_gossip(from, *round, key, object),
@@ -122,14 +81,20 @@ impl NodeState {
     }
 
     /// Takes a question of an exchange, and answers it to the sender.
-    fn on_question(&mut self, from: NodeId, message: &Message) -> Result<Stepped, StepFault>
-        requires another { from ≢ self.old.node }
+    fn on_question(&self, from: NodeId, message: &Message) -> Result<Attempt, StepFault>
+        requires another { from ≢ self.now.node }
         requires question { IsQuestion message.now }
-        ensures { StepsOnMessage self.old from 0 message.now result self.new }
+        ensures { AttemptsMessage self.now from 0 message.now result self.now }
     {
+        // (for its type)
+        let _ = self.overlay.views();
         let sent = self.answers(from, message)?;
         let outbox = self.outbox(sent)?;
-        Ok(self.finish(Reply::Took, outbox))
+        Ok(Attempt {
+            reply: Reply::Took,
+            outbox,
+            end: End::Count,
+        })
     }
 
     /// Returns the answers to a question, each to the sender. Fails only when memory runs out.
@@ -144,25 +109,6 @@ impl NodeState {
         let _few = self.held.store().len();
         let messages = answer(self.alloc, &self.held, message)?;
         Ok(addressed(self.alloc, to, messages)?)
-    }
-}
-
-/// Returns a copy of the key of the object that a message carries. Fails only when memory runs out.
-fn carried_key(message: &Message) -> Result<Option<MetaKey>, AllocError>
-    ensures { IfOk result (λ key. key ≡ carried_key message.now) }
-{
-    match message {
-        Message::Gossip { key, .. } | Message::XObject { key, .. } => Ok(Some(key.copy()?)),
-        _ => Ok(None),
-    }
-}
-
-fn key_if_fresh(reply: &Reply, key: Option<MetaKey>) -> Option<MetaKey>
-    ensures { result ≡ key_if_fresh reply.now key }
-{
-    match reply {
-        Reply::TookFresh => key,
-        _ => None,
     }
 }
 

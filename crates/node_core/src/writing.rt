@@ -3,9 +3,10 @@
 ghost use Rattle.std.specs.Option.{option_copied};
 ghost use Rattle.node_core.specs.Rows.{Local};
 ghost use Rattle.node_events.specs.declared.event.NodeEvent.TheVariants.{PutOver};
-ghost use Rattle.node_core.specs.Handling.{Steps, StepsOnWrite};
+ghost use Rattle.node_core.specs.Handling.{Attempts, AttemptsWrite};
 
-use crate::state::{NodeState, Stepped};
+use crate::attempt::Attempt;
+use crate::state::NodeState;
 use meta_store::Context;
 use meta_types::{MetaKey, Value};
 use node_events::{Reply, StepFault};
@@ -18,19 +19,25 @@ impl NodeState {
         key: &MetaKey,
         value: &Value,
         context: Option<&Context>,
-    ) -> Result<Stepped, StepFault>
-        ensures { StepsOnWrite self.old key.now value.now (option_copied context.entry) result
+    ) -> Result<Attempt, StepFault>
+        ensures { AttemptsWrite self.old key.now value.now (option_copied context.entry) result
             self.new }
     {
         let store = self.held.store();
         let object = store.preview_put(self.actor(), key, value.copy()?, context)?;
-        let (vector, outbox) = self.change(Origin::Write, key, object)?;
-        Ok(self.finish(Reply::Wrote { vector }, outbox))
+        let news = self.news(key, &object)?;
+        let vector = news.vector().copy()?;
+        let (end, outbox) = self.change(Origin::Write, object, news)?;
+        Ok(Attempt {
+            reply: Reply::Wrote { vector },
+            outbox,
+            end,
+        })
     }
 
     /// Reads the node, and writes at once a value that has read what was shown.
-    pub(crate) fn put_over(&mut self, key: &MetaKey, value: &Value) -> Result<Stepped, StepFault>
-        ensures { Steps self.old (Local (PutOver key.now value.now)) result self.new }
+    pub(crate) fn put_over(&mut self, key: &MetaKey, value: &Value) -> Result<Attempt, StepFault>
+        ensures { Attempts self.old (Local (PutOver key.now value.now)) result self.new }
     {
         let context = self.held.store().context(key, self.source())?;
         let written = self.write(key, value, Some(&context));

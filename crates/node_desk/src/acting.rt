@@ -11,11 +11,11 @@ ghost use Rattle.node_call.specs.declared.fault.LockFault.TheVariants.{Memory, S
 
 use crate::desk::Desk;
 use devices::Device;
-use node_call::{Acknowledgement, LockFault, WriteSeat, catch_up, prepare};
+use node_call::{Acknowledgement, LockFault, WriteSeat, prepare};
+use node_core::Stepped;
 use node_events::NodeEvent;
-use node_journal::Receipt;
+use node_journal::{Entry, Receipt};
 use node_readers::Naming;
-use std::mem::swap;
 use std::sync::Wait;
 
 impl<D: Device + Drop, J: Naming, H: Wait + Drop> Desk<D, J, H> {
@@ -66,33 +66,26 @@ impl<D: Device + Drop, J: Naming, H: Wait + Drop> Desk<D, J, H> {
         }
         // (for its type)
         let _ = self.outlets.file.device();
-        let ready = prepare(
-            &self.state,
-            &mut self.spare,
-            &mut self.is_even,
-            &mut self.journal,
-            self.limit,
-            event,
-        )?;
+        let (node, place) = (self.state.node(), self.state.steps());
+        let (attempt, ready) = prepare(&mut self.state, &mut self.journal, self.limit, event)?;
         let mut ready = ready;
         let done = self
             .outlets
-            .store_and_show(rt, self.alloc, self.spare.store(), &mut ready);
+            .store_and_show(rt, self.alloc, self.state.store(), &mut ready);
         if let Err(fault) = done {
             drop(ready);
+            self.state.take_back(attempt);
             return Err(fault);
         }
-        let (node, place) = (self.state.node(), self.state.steps());
-        let (entry, copy) = ready.into_entries();
-        swap(&mut self.state, &mut self.spare);
-        self.is_even = catch_up(&self.state, &mut self.spare, &entry.event);
-        self.journal.push_reserved(entry);
+        let (event, entry) = ready.into_parts();
+        let Stepped { reply, outbox } = self.state.commit(attempt);
+        self.journal.push_reserved(Entry {
+            event,
+            reply,
+            outbox,
+        });
         seat.count(&mut self.counts);
-        let receipt = Receipt {
-            node,
-            place,
-            entry: copy,
-        };
+        let receipt = Receipt { node, place, entry };
         Ok(Acknowledgement::of(receipt, self.outlets.publisher.revision().again()))
     }
 }

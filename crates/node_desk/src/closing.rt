@@ -69,7 +69,6 @@ impl<D: Device + Drop, J: Naming, H: Wait + Drop> Desk<D, J, H> {
         let Desk {
             base,
             state,
-            spare,
             journal,
             outlets,
             mut counts,
@@ -82,7 +81,7 @@ impl<D: Device + Drop, J: Naming, H: Wait + Drop> Desk<D, J, H> {
             tail,
             ..
         } = outlets;
-        drop((spare, publisher, tail));
+        drop((publisher, tail));
         merge_all(&mut rest, seats);
         counts.audit(&mut rest);
         drop((counts, rest));

@@ -15,10 +15,8 @@ pub const MAX_SEATS: u64 = 8;
 
 /// A node's state, its journal, its file and what readers are shown, which are moved together.
 ///
-/// The state is held twice. Each step is tried on the spare. Once the file has what the step
-/// stores, and readers are shown what it changed, the two change places, and the other makes the
-/// step too. So nothing of the node can fail once a byte went out, and no table is copied for a
-/// call; but each step is made twice.
+/// A step is attempted. Once the file has what the step stores, and readers are shown what it
+/// changed, the attempt is committed, which can't fail; if one of them fails, it is taken back.
 #[derive(Drop)]
 pub struct Desk<D: Device + Drop, J: Naming, H: Wait + Drop> {
     pub(crate) alloc: Global,
@@ -26,10 +24,6 @@ pub struct Desk<D: Device + Drop, J: Naming, H: Wait + Drop> {
     /// The state from which the journal began.
     pub(crate) base: NodeState,
     pub(crate) state: NodeState,
-    /// What the next step is tried on.
-    pub(crate) spare: NodeState,
-    /// Whether the spare is known to be the state.
-    pub(crate) is_even: bool,
     pub(crate) journal: Vec<Entry>,
     pub(crate) outlets: Outlets<D, J, H>,
     pub(crate) counts: Book<J>,
@@ -67,7 +61,6 @@ impl<D: Device + Drop, J: Naming, H: Wait + Drop> Model for Desk<D, J, H> {
         × (d.base.steps + length d.journal.items ≡ d.state.steps)
         × (d.rest.parts + d.out ≡ J.parts)
         × (with_all J.opening d.outlets.publisher.list ≡ d.state.table)
-        × (d.is_even ≡ true → d.spare ≡ d.state)
         × (d.outlets.file.is_served ≡ true)
         × (d.outlets.is_stopped ≡ false
         → IsGoing d.outlets.file.is_stopped d.outlets.publisher.stopped

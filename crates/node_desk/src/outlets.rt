@@ -37,27 +37,27 @@ impl<D: Device + Drop, J: Naming, H: Wait + Drop> Outlets<D, J, H> {
         &mut self,
         rt: &R,
         alloc: Global,
-        spare: &Store,
+        store: &Store,
         ready: &mut Ready,
     ) -> Result<(), LockFault>
         requires file { (self.old.file.is_stopped ≡ false) × (self.old.file.is_served ≡ true) }
         requires going { self.old.is_stopped ≡ false }
-        requires within { IsStoredOf spare.now
+        requires within { IsStoredOf store.now
             (file_state (D.content self.old.file.device)).contents.table }
         requires grows { IfSome ready.old.change
             (GrowsBy (with_all J.opening self.old.publisher.list)) }
         ensures stored { OnOk result (HasStored D.content D.may_leave
-            (record_after ready.old.entry.event spare.now) self.old.file self.new.file) }
+            (record_after ready.old.entry.event store.now) self.old.file self.new.file) }
         ensures list { OnOk result
             (self.new.publisher.list ≡ self.old.publisher.list ++ listed ready.old.change) }
         ensures going { OnOk result ((self.new.file.is_stopped ≡ false)
             × (self.old.publisher.stopped ≡ false → self.new.publisher.stopped ≡ false)
             × (self.new.is_stopped ≡ false)) }
-        ensures entries { (ready.new.entry ≡ ready.old.entry)
-            × (ready.new.copy ≡ ready.old.copy) }
+        ensures entries { (ready.new.event ≡ ready.old.event)
+            × (ready.new.entry ≡ ready.old.entry) }
         ensures same { OnErr result (self.new.publisher.list ≡ self.old.publisher.list) }
         ensures refused { IfErr result (RefusesKeeping self.old.file.gate
-            (record_after ready.old.entry.event spare.now) ready.old.change
+            (record_after ready.old.entry.event store.now) ready.old.change
             (D.failed self.old.file.device) (D.failed self.new.file.device)
             self.new.is_stopped) }
         ensures still { OnErr result (self.new.is_stopped ≡ false
@@ -68,10 +68,10 @@ impl<D: Device + Drop, J: Naming, H: Wait + Drop> Outlets<D, J, H> {
         ensures any_moment { LeavesOnly D.moment D.left_since
             self.old.file.device self.new.file.device
             (LeavesRecord (D.content self.old.file.device)
-            (record_after ready.old.entry.event spare.now)) }
+            (record_after ready.old.entry.event store.now)) }
         ensures whose { IsOfSameLife self.old.file self.new.file }
     {
-        let stored = store_in(alloc, &mut self.file, ready.event(), spare);
+        let stored = store_in(alloc, &mut self.file, ready.event(), store);
         if let Err(fault) = stored {
             self.is_stopped = self.file.is_stopped();
             return Err(of_append(fault));

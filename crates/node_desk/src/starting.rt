@@ -122,7 +122,6 @@ fn write_seats<J: Naming>(
 #[derive(Drop)]
 struct Parts<J: Naming, H: Wait + Drop> {
     base: NodeState,
-    spare: NodeState,
     publisher: Publisher<J, H>,
     tail: Tail<J>,
     counts: Book<J>,
@@ -181,8 +180,7 @@ fn make_parts<J: Naming, H: Wait + Drop>(
     requires life { 1 ≤ life.1 }
     requires opening { table.now ≡ J.opening }
     requires fits { refusal_of_start capacity ≡ None }
-    ensures states { IfOk result (λ p. (p.base ≡ opening life.0 life.1 table.now)
-        × (p.spare ≡ opening life.0 life.1 table.now)) }
+    ensures base { IfOk result (λ p. p.base ≡ opening life.0 life.1 table.now) }
     ensures publisher { IfOk result (λ p. (p.publisher.list ≡ []) × (p.publisher.stopped ≡ false)) }
     ensures counts { IfOk result (λ p. (p.counts.total ≡ 0) × (p.rest.amount ≡ 0)) }
     ensures shares { IfOk result (λ p. p.rest.parts + capacity.writers ≡ J.parts) }
@@ -193,19 +191,12 @@ fn make_parts<J: Naming, H: Wait + Drop>(
     let (counts, whole) = blank.open::<J>();
     let (tail, revision) = beginning.named::<J>();
     let (node, number) = life;
-    let states = both(
-        opened(alloc, node, number, table),
-        opened(alloc, node, number, table),
-    );
+    let base = opened(alloc, node, number, table);
     let shown = published(handle, alloc, revision, table, capacity.readers);
     let shares = shared(alloc, whole, capacity.writers);
-    let ((base, spare), ((publisher, readers), (rest, writers))) = both(
-        states,
-        both(shown, shares),
-    )?;
+    let (base, ((publisher, readers), (rest, writers))) = both(base, both(shown, shares))?;
     Ok(Parts {
         base,
-        spare,
         publisher,
         tail,
         counts,
@@ -223,7 +214,6 @@ fn desk_of<D: Device + Drop, J: Naming, H: Wait + Drop>(
     capacity: Capacity,
 ) -> Started<D, J, H>
     requires states { (parts.base ≡ opening J.node J.incarnation J.opening)
-        × (parts.spare ≡ opening J.node J.incarnation J.opening)
         × (state ≡ opening J.node J.incarnation J.opening) }
     requires publisher { (parts.publisher.list ≡ []) × (parts.publisher.stopped ≡ false) }
     requires counts { (parts.counts.total ≡ 0) × (parts.rest.amount ≡ 0) }
@@ -244,8 +234,6 @@ fn desk_of<D: Device + Drop, J: Naming, H: Wait + Drop>(
             limit: capacity.journal,
             base: parts.base,
             state,
-            spare: parts.spare,
-            is_even: true,
             journal: Vec::new(alloc),
             outlets: Outlets {
                 file,
@@ -270,8 +258,7 @@ fn begun<D: Device + Drop, J: Naming, H: Wait + Drop>(
     table: Store,
     capacity: Capacity,
 ) -> Result<Started<D, J, H>, NotStarted<D>>
-    requires states { (parts.base ≡ opening J.node J.incarnation J.opening)
-        × (parts.spare ≡ opening J.node J.incarnation J.opening) }
+    requires base { parts.base ≡ opening J.node J.incarnation J.opening }
     requires publisher { (parts.publisher.list ≡ []) × (parts.publisher.stopped ≡ false) }
     requires counts { (parts.counts.total ≡ 0) × (parts.rest.amount ≡ 0) }
     requires shares { parts.rest.parts + capacity.writers ≡ J.parts }
@@ -309,7 +296,7 @@ impl<D: Device + Drop, J: Naming, H: Wait + Drop> Desk<D, J, H> {
     /// limit is 0 or more than 1,048,576; 52 `NoSeat` if more than eight seats of a kind are asked
     /// for. 99 `Memory` may come at any time.
     ///
-    /// It makes four copies of the table: for the base, for the spare, and two for readers.
+    /// It makes three copies of the table: for the base, and two for readers.
     pub fn start(
         handle: H,
         alloc: Global,

@@ -1,5 +1,5 @@
 -- The file of a host stays that of his node.
-use Rattle.std.proofs.Common.{◌≡◌, ◌≢◌, ℕ, ◌+◌, ◌-◌, Bool, true, false, ◌||◌, cond, T, List, [], length, Option, Some, None, Ok, is_some, ⊎_elim, refl, sym, ap, subst, ◌∙◌, arith, nat_lt}
+use Rattle.std.proofs.Common.{◌≡◌, ◌≢◌, ℕ, ◌+◌, ◌-◌, Bool, true, false, ◌||◌, cond, T, List, [], length, Option, Some, None, Ok, is_some, refl, sym, ap, subst, ◌∙◌, arith, nat_lt}
 use Rattle.std.specs.Option.{unwrap_or}
 use Rattle.std.specs.Ordering.{is_eq}
 use Rattle.std.specs.Cmp.{tied_itself}
@@ -37,7 +37,7 @@ use Rattle.node_file.proofs.Made.{opens_so, stands_so}
 use Rattle.node_file.specs.Stored.{object_record, record_under}
 use Rattle.node_hosted.specs.declared.fault.HostFault.{HostFault}
 use Rattle.node_hosted.specs.declared.fault.HostFault.TheVariants.{Step, FileFull, Stopped, Pending, Memory}
-use Rattle.node_hosted.specs.Hosting.{Acts, HostedParts, KeepsAllButContexts, MayStep, RefusesActing, Serves, StopsAfter, Stores, after_sending, after_storing, gate_after, next_frame, sent_by, spelled_for}
+use Rattle.node_hosted.specs.Hosting.{Acts, HostedParts, KeepsAllButContexts, MayStep, RefusesActing, Serves, Stores, after_sending, after_storing, gate_after, next_frame, sent_by, spelled_for}
 use Rattle.node_hosted.specs.HostFile.{HasObjectOf, HasRecordOf, IsFileOf, IsKnownTo, IsNextRecord, IsRecordOf, IsStoredIn, IsUpToDate, calls_to_store, host_calls}
 use Rattle.node_hosted.proofs.Histories.{leave_without, left_without, read_without}
 use Rattle.node_hosted.proofs.Knowing.{put_known}
@@ -163,33 +163,17 @@ stepped file old event new grows table acts is =
           (next_of is.gate (file_state file) new.state (stored_key event) is.version by.known by.life);
     }
 
-stopped_after : (file : List ℕ) (old : HostedParts) (event : NodeEvent) (new : HostedParts) → EachStepGrows event
-    → IsTable new.state.table → StopsAfter old event new → IsFileOf file old → IsFileOf file new
-stopped_after file old event new grows table stops is =
-    let by = beside file old event new.state stops.stepped grows table stops.ready stops.step is in
-    let none : old.to_store ≡ None = nothing_to_store old.to_store (nat_lt old.sent (length old.outbox)) stops.ready.free in record {
-      gate = is.gate;
-      its_gate = ap (λ (n : HostedParts). n.gate) stops.rest ∙ is.its_gate;
-      opens = is.opens;
-      version = is.version;
-      node = by.node;
-      known = by.known;
-      next =
-          subst (IsUpToDate (file_state file) new.state) (sym (ap (λ (n : HostedParts). n.to_store) stops.rest ∙ none)) by.life;
-    }
-
 same_file : (file : List ℕ) (old new : HostedParts) → new ≡ old → IsFileOf file old → IsFileOf file new
 same_file file old new same is = subst (IsFileOf file) (sym same) is
 
-pub refused : (file : List ℕ) (old : HostedParts) (event : NodeEvent) (new : HostedParts) (fault : HostFault) → EachStepGrows event
-    → IsTable new.state.table → RefusesActing old event new fault → IsFileOf file old → IsFileOf file new
-refused file old event new (Step fault) grows table why is = same_file file old new why.2 is
-refused file old event new FileFull grows table why is = stopped_after file old event new grows table why.0 is
-refused file old event new Stopped grows table why is = same_file file old new why.1 is
-refused file old event new Pending grows table why is = same_file file old new why.2 is
-refused file old event new Memory grows table why is =
-    ⊎_elim (λ same. same_file file old new same.1 is) (λ stops. stopped_after file old event new grows table stops.0 is) why
-refused file old event new _ grows table why is = absurd why
+pub refused : (file : List ℕ) (old : HostedParts) (event : NodeEvent) (new : HostedParts) (fault : HostFault)
+    → RefusesActing old event new fault → IsFileOf file old → IsFileOf file new
+refused file old event new (Step fault) why is = same_file file old new why.2 is
+refused file old event new FileFull why is = same_file file old new why.2 is
+refused file old event new Stopped why is = same_file file old new why.1 is
+refused file old event new Pending why is = same_file file old new why.2 is
+refused file old event new Memory why is = same_file file old new why.1 is
+refused file old event new _ why is = absurd why
 
 -- ---- sending, and contexts
 

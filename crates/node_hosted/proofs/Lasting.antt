@@ -149,7 +149,7 @@ goes_on_once : (old new : Moment) → IsFileOf old.file old.node → Happens old
 goes_on_once old new is (Stepped event typed acts same) =
     same_goes_on old new is same (stepped old.file old.node event new.node (step_grows event typed.read) typed.held acts is)
 goes_on_once old new is (Refused event fault typed why same) =
-    same_goes_on old new is same (refused old.file old.node event new.node fault (step_grows event typed.read) typed.held why is)
+    same_goes_on old new is same (refused old.file old.node event new.node fault why is)
 goes_on_once old new is (Sent sent same) =
     same_goes_on old new is same (subst (IsFileOf old.file) (sym sent) (sending old.file old.node is))
 goes_on_once old new is (Contexts rest same) = same_goes_on old new is same (with_contexts old.file old.node new.node rest is)
@@ -246,11 +246,10 @@ not_ready key o n waits ready =
 waits_refused : (key : Key) (o : List Entry) (old : HostedParts) (event : NodeEvent) (new : HostedParts) (fault : HostFault) → Waits key o old
     → RefusesActing old event new fault → Waits key o new
 waits_refused key o old event new (Step fault) waits why = subst (Waits key o) (sym why.2) waits
-waits_refused key o old event new FileFull waits why = not_ready key o old waits why.0.ready
+waits_refused key o old event new FileFull waits why = subst (Waits key o) (sym why.2) waits
 waits_refused key o old event new IsStopped waits why = subst (Waits key o) (sym why.1) waits
 waits_refused key o old event new Pending waits why = subst (Waits key o) (sym why.2) waits
-waits_refused key o old event new Memory waits why =
-    ⊎_elim (λ same. subst (Waits key o) (sym same.1) waits) (λ stops. not_ready key o old waits stops.0.ready) why
+waits_refused key o old event new Memory waits why = subst (Waits key o) (sym why.1) waits
 waits_refused key o old event new _ waits why = absurd why
 
 waits_sent : (key : Key) (o : List Entry) (n : HostedParts) (next : Option (List ℕ)) → Waits key o n → Waits key o (sent_by next n)

@@ -1,14 +1,19 @@
--- A step that was made and can't be handed out stops the node.
-use Rattle.std.proofs.Common.{inr}
+-- Why a step that could be made isn't: what it stores isn't spelled.
+use Rattle.std.proofs.Common.{◌≡◌}
+use Rattle.node_core.specs.Node.{NodeParts}
+use Rattle.node_core.specs.Step.{IsNodeStep}
+use Rattle.node_core.specs.declared.state.Stepped.{Stepped}
 use Rattle.node_events.specs.Event.{stored_key}
 use Rattle.node_events.specs.declared.event.NodeEvent.{NodeEvent}
 use Rattle.node_file.specs.Stored.{record_under}
 use Rattle.node_hosted.specs.declared.fault.HostFault.{HostFault}
 use Rattle.node_hosted.specs.declared.fault.HostFault.TheVariants.{FileFull, Memory}
-use Rattle.node_hosted.specs.Hosting.{HostedParts, RefusesActing, RefusesSpelling, StopsAfter}
+use Rattle.node_hosted.specs.Hosting.{HostedParts, MayStep, RefusesActing, RefusesSpelling}
 
-pub stops : (old : HostedParts) (event : NodeEvent) (new : HostedParts) (fault : HostFault) → StopsAfter old event new
-    → RefusesSpelling old.gate (record_under (stored_key event) new.state.table) fault → RefusesActing old event new fault
-stops old event new FileFull after why = (after, why)
-stops old event new Memory after why = inr (after, why)
-stops old event new _ after why = absurd why
+pub refuses : (old new : HostedParts) (event : NodeEvent) (state : NodeParts) (stepped : Stepped) (fault : HostFault) → MayStep old
+    → IsNodeStep old.state event state stepped → RefusesSpelling old.gate (record_under (stored_key event) state.table) fault
+    → new ≡ old → RefusesActing old event new fault
+refuses old new event state stepped FileFull may step why same =
+    (may, record { state = state; stepped = stepped; step = step; full = why }, same)
+refuses old new event state stepped Memory may step why same = (may, same)
+refuses old new event state stepped _ may step why same = absurd why

@@ -73,43 +73,33 @@ pub record Acts (old : HostedParts) (event : NodeEvent) (new : HostedParts) : Ty
   pub contexts : new.contexts ≡ old.contexts
   pub going : new.stopped ≡ false
 
--- the step was made, but it can't be handed out, and that stops the node; nothing else changes
-pub record StopsAfter (old : HostedParts) (event : NodeEvent) (new : HostedParts) : Type 0 where
-  pub ready : MayStep old
-  pub stepped : Stepped
-  pub step : IsNodeStep old.state event new.state stepped
-  pub rest : new ≡ record old { state = new.state; stopped = true }
-
 -- a file whose closed gate stands there can't take the record
 abbrev pub IsOverfullWith : Option ℕ → Option Record → Type 0
 IsOverfullWith None stored = ⊥
 IsOverfullWith (Some gate) stored = IsTooLong gate stored
 
--- there is something to store, and a file of this closed gate can take it
-pub record IsWanted (gate : Option ℕ) (stored : Option Record) : Type 0 where
-  pub there : spelled_for gate stored ≢ None
-  pub fits : IsOverfullWith gate stored → ⊥
-
 -- why what is to be stored isn't spelled: the file is full, or memory ran out
 abbrev pub RefusesSpelling : Option ℕ → Option Record → HostFault → Type 0
 RefusesSpelling gate stored FileFull = IsOverfullWith gate stored
-RefusesSpelling gate stored Memory = IsWanted gate stored
+RefusesSpelling gate stored Memory = Unit {0}
 RefusesSpelling gate stored fault = ⊥
 
--- why no step was made, or it wasn't handed out
+-- the node can make the step, and the host's file can't take its record
+pub record Overfills (old : HostedParts) (event : NodeEvent) : Type 0 where
+  pub state : NodeParts
+  pub stepped : Stepped
+  pub step : IsNodeStep old.state event state stepped
+  pub full : IsOverfullWith old.gate (record_under (stored_key event) state.table)
+
+-- why no step was made; then nothing changes
 abbrev pub RefusesActing : HostedParts → NodeEvent → HostedParts → HostFault → Type 0
 RefusesActing old event new (Step fault) =
     MayStep old × (IsNoFrame event fault ⊎ IsRefused old.state event fault) × (new ≡ old)
-RefusesActing old event new FileFull =
-    StopsAfter old event new
-    × IsOverfullWith old.gate (record_under (stored_key event) new.state.table)
+RefusesActing old event new FileFull = MayStep old × Overfills old event × (new ≡ old)
 RefusesActing old event new Stopped = (old.stopped ≡ true) × (new ≡ old)
 RefusesActing old event new Pending =
     (old.stopped ≡ false) × (is_pending old ≡ true) × (new ≡ old)
-RefusesActing old event new Memory =
-    (MayStep old × (new ≡ old))
-    ⊎ (StopsAfter old event new
-    × IsWanted old.gate (record_under (stored_key event) new.state.table))
+RefusesActing old event new Memory = MayStep old × (new ≡ old)
 RefusesActing old event new fault = ⊥
 
 -- ---- what is handed out

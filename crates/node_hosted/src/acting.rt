@@ -24,9 +24,8 @@ impl HostedNode {
     /// Makes the step of an event. The record to store is the next `record`; after it, the reply
     /// and the frames are handed out.
     ///
-    /// Refused in this order: 34 `Stopped`; 37 `Pending`; as `NodeState::step` is; 33 `FileFull`,
-    /// which stops the node. 99 `Memory` may come at any time, and stops the node if the step was
-    /// made. A refused call that doesn't stop the node leaves all as before.
+    /// Refused in this order: 34 `Stopped`; 37 `Pending`; as `NodeState::step` is; 33 `FileFull`. 99
+    /// `Memory` may come at any time. A refused call leaves all as before.
     pub fn act(&mut self, event: NodeEvent) -> Result<(), HostFault>
         ensures acts { OnOk result (Acts self.old event self.new) }
         ensures stopped { self.old.stopped ≡ true → result ≡ Err HostFault.Stopped }
@@ -53,9 +52,10 @@ impl HostedNode {
         if self.to_store.is_some() || self.sent < self.outbox.len() {
             return Err(HostFault::Pending);
         }
-        let Stepped { reply, outbox } = self.state.step_on(event)?;
+        let attempt = self.state.attempt(event)?;
         match spelled_for(self.alloc, self.gate, event, self.state.store()) {
             Ok(to_store) => {
+                let Stepped { reply, outbox } = self.state.commit(attempt);
                 self.to_store = to_store;
                 self.reply = Some(reply);
                 self.outbox = outbox.into_vec();
@@ -63,7 +63,7 @@ impl HostedNode {
                 Ok(())
             }
             Err(fault) => {
-                self.is_stopped = true;
+                self.state.take_back(attempt);
                 Err(fault)
             }
         }

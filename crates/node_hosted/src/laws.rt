@@ -38,14 +38,11 @@ pub fn a_step_keeps_the_file(node: &HostedNode, event: &NodeEvent)
     each_step_grows(event);
 }
 
-/// A step that is refused leaves the node its file, even if it stops the node.
-pub fn a_refused_step_keeps_the_file(node: &HostedNode, event: &NodeEvent)
-    ensures { (file : List ℕ) (old : HostedParts) (fault : HostFault)
-        → RefusesActing old event.now node.now fault → IsFileOf file old → IsFileOf file node.now }
-{
-    let _keys = node.state().store().len();
-    each_step_grows(event);
-}
+/// A step that is refused leaves the node its file.
+pub fn a_refused_step_keeps_the_file()
+    ensures { (file : List ℕ) (old new : HostedParts) (event : NodeEvent) (fault : HostFault)
+        → RefusesActing old event new fault → IsFileOf file old → IsFileOf file new }
+{}
 
 /// Sending, and keeping and forgetting contexts, leave the node its file too.
 pub fn sending_and_contexts_keep_the_file()

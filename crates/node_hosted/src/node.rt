@@ -123,7 +123,7 @@ impl HostedNode {
         &self.state
     }
 
-    /// Returns whether the host failed to store a record, or a step could not be handed out.
+    /// Returns whether the host failed to store a record.
     pub fn is_stopped(&self) -> bool
         ensures { result ≡ self.now.stopped }
     {

@@ -12,8 +12,6 @@ pub mod Restoring
 pub mod Keepings
 -- what each change of a node keeps
 pub mod Noding
--- what is ready before a step
-pub mod Ready
 -- a node after a step
 pub mod Stepping
 -- a node after one more happening

@@ -17,8 +17,6 @@ pub mod Keeping
 pub mod Node
 -- where a node stands after a history, which the rule of a world cites
 pub mod Follows
--- what private functions alone cite: what is made ready before a step, and a store that is filled
--- from an image; and how images are kept
-pub mod Ahead
+-- what private functions alone cite: a store that is filled from an image; and how images are kept
 pub mod Restore
 pub mod Logs

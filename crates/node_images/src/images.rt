@@ -1,10 +1,10 @@
 //! The images of one node, as a list: each is an earlier one with one object in place of what
 //! stands there under its key.
 
-ghost use Rattle.std.specs.Prelude.{◌≡◌, ◌∷◌, ◌++◌, [], length, get_or, ◌<◌, ◌^◌, All, IfOk, OnOk, OnErr, IfSome, take};
+ghost use Rattle.std.specs.Prelude.{◌≡◌, ◌∷◌, ◌++◌, [], length, get_or, ◌<◌, ◌^◌, All, IfOk, OnOk, OnErr, IfSome};
 ghost use Rattle.std.specs.Option.{option_copied, option_map};
 ghost use Rattle.meta_store.specs.Table.{IsHeld};
-ghost use Rattle.node_images.specs.Image.{IsChange};
+ghost use Rattle.node_images.specs.Images.{change_of};
 ghost use Rattle.node_images.specs.Logs.{GrowTo, IsKeptChange, IsInLogs, Keeps, whole_change, whole_object};
 
 use crate::kept::{Kept, KeptChange};
@@ -168,62 +168,62 @@ impl Images {
         }
     }
 
-    /// Adds an image that changes the one of the number `base`, and copies the part of the object
-    /// that isn't kept already. Fails only when memory runs out, and then nothing changes.
+    /// Adds an image that changes the one of the number `base`: it has this object under the key.
+    /// The part of the object that isn't kept already is copied. Without an object the image changes
+    /// nothing. Fails only when memory runs out, and then nothing changes.
     pub fn push(
         &mut self,
         base: usize,
-        change: Option<&(MetaKey, Entries)>,
+        key: &MetaKey,
+        object: Option<&Entries>,
     ) -> Result<(), AllocError>
-        requires { IsChange (option_copied change) }
-        ensures value { OnOk result (self.new ≡ self.old
-            ++ (record { base = base; change = option_copied change.entry }) ∷ []) }
+        requires { IfSome (option_copied object) IsHeld }
+        ensures value { OnOk result (self.new ≡ self.old ++ (record {
+          base = base;
+          change = change_of key.now (option_copied object.entry);
+        }) ∷ []) }
         ensures same { OnErr result (self.new ≡ self.old) }
     {
-        let change = keep(&mut self.logs, &mut self.latest, change)?;
+        let change = keep(&mut self.logs, &mut self.latest, key, object)?;
         self.kept.push(Kept { base, change })?;
         Ok(())
     }
-
-    /// Keeps only the first `len` images, or all if there are no more. It takes no memory.
-    pub fn truncate(&mut self, len: usize)
-        ensures { self.new ≡ take len self.old }
-    {
-        self.kept.truncate(len);
-    }
 }
 
-/// Keeps a change, if there is one. If memory runs out, logs may have grown.
+/// Keeps a change, if there is an object. If memory runs out, logs may have grown.
 fn keep(
     logs: &mut Logs,
     latest: &mut Latest,
-    change: Option<&(MetaKey, Entries)>,
+    key: &MetaKey,
+    object: Option<&Entries>,
 ) -> Result<Option<KeptChange>, AllocError>
-    requires { IsChange (option_copied change) }
+    requires { IfSome (option_copied object) IsHeld }
     ensures grow { GrowTo logs.old logs.new }
     ensures kept { IfOk result (λ kept. IfSome kept (IsKeptChange logs.new)) }
-    ensures value { IfOk result
-        (λ kept. option_map (whole_change logs.new) kept ≡ option_copied change.entry) }
+    ensures value { IfOk result (λ kept. option_map (whole_change logs.new) kept
+        ≡ change_of key.now (option_copied object.entry)) }
 {
-    match change {
+    match object {
         None => Ok(None),
-        Some(change) => Ok(Some(keep_change(logs, latest, change)?)),
+        Some(object) => Ok(Some(keep_change(logs, latest, key, object)?)),
     }
 }
 
 fn keep_change(
     logs: &mut Logs,
     latest: &mut Latest,
-    change: &(MetaKey, Entries),
+    key: &MetaKey,
+    object: &Entries,
 ) -> Result<KeptChange, AllocError>
-    requires { IsHeld change.now.1 }
+    requires { IsHeld object.now }
     ensures grow { GrowTo logs.old logs.new }
     ensures change { IfOk result (IsKeptChange logs.new) }
-    ensures value { IfOk result (λ kept. whole_change logs.new kept ≡ change.now) }
+    ensures value { IfOk result
+        (λ kept. whole_change logs.new kept ≡ (key.now, object.now)) }
 {
-    let entries = keep_object(logs, latest, &change.0, change.1.entries())?;
+    let entries = keep_object(logs, latest, key, object.entries())?;
     Ok(KeptChange {
-        key: change.0.copy()?,
+        key: key.copy()?,
         entries,
     })
 }

@@ -3,11 +3,10 @@
 //! images that writes of one key leave take memory in proportion to their number, not to its
 //! square.
 //!
-//! Read `image`, `node`, `ahead` and `restore`; then `images` (`Images`, `Image`, `Change`), with
+//! Read `image`, `node` and `restore`; then `images` (`Images`, `Image`, `Change`), with
 //! `kept` and `logs` for how values are kept once.
 #![tactic(auto)]
 
-mod ahead;
 pub mod image;
 pub mod images;
 mod kept;

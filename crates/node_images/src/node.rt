@@ -1,17 +1,15 @@
-ghost use Rattle.std.specs.Prelude.{◌≡◌, ◌<◌, ◌≤◌, length, vec_len, vec_capacity, IfOk, IfErr, IfSome, OnOk, OnErr};
+ghost use Rattle.std.specs.Prelude.{◌≡◌, ◌<◌, ◌≤◌, length, IfOk, IfErr, OnOk, OnErr};
+ghost use Rattle.std.specs.Option.{option_map};
 ghost use Rattle.meta_store.specs.Table.{IsTable};
+ghost use Rattle.node_events.specs.Event.{stored_key};
 ghost use Rattle.node_core.specs.Step.{CanComeOf};
-ghost use Rattle.node_images.specs.Ahead.{IsAhead, IsReady};
-ghost use Rattle.node_images.specs.Images.{IsChange};
-ghost use Rattle.node_images.specs.Keeping.{IsRestorable, most_incarnation};
-ghost use Rattle.node_images.specs.Node.{IsImagedStep, IsRestarted, images_with, keeping, new_node, standing_with};
+ghost use Rattle.node_images.specs.Keeping.{IsRestorable, change_at, most_incarnation};
+ghost use Rattle.node_images.specs.Node.{IsImagedStep, IsRestarted, context_read, images_with, keeping, new_node, standing_with};
 
 use crate::Images;
-use crate::ahead::{Ahead, copy_of};
 use crate::restore::restore;
-use dvvset::Entries;
-use meta_store::Context;
-use meta_types::{MetaKey, NodeId, both};
+use meta_store::{Context, Store};
+use meta_types::NodeId;
 use node_core::{NodeState, Stepped};
 use node_events::{NodeEvent, Outbox, Reply, StepFault};
 use std::alloc::{AllocError, Global};
@@ -85,21 +83,45 @@ impl ImagedNode {
         ensures refused { IfErr result (CanComeOf self.old.state event) }
         ensures same { OnErr result (self.new ≡ self.old) }
     {
-        let count = self.images.len();
-        // What is owned goes through `both`, so that the step owns nothing if it fails.
-        let ready = prepare(&mut self.images, self.standing, &self.state, &event);
-        let (event, (ahead, standing)) = both(Ok(event), ready)?;
-        match self.state.step(event) {
-            Ok(stepped) => {
+        // The event is dropped at the only way out, so that the proof has one case for it.
+        let stepped = self.step_on(&event);
+        drop(event);
+        stepped
+    }
+
+    /// Makes the step of an event that stays the caller's.
+    fn step_on(&mut self, event: &NodeEvent) -> Result<ImagedStep, StepFault>
+        ensures step { IfOk result (IsImagedStep self.old event.now self.new) }
+        ensures held { OnOk result (IsTable self.new.state.table) }
+        ensures restorable { IsRestorable (keeping self.old) }
+        ensures refused { IfErr result (CanComeOf self.old.state event.now) }
+        ensures same { OnErr result (self.new ≡ self.old) }
+    {
+        let context = context_read(&self.state, event)?;
+        let attempt = self.state.attempt(event)?;
+        let store = self.state.store();
+        match keep(
+            &mut self.images,
+            self.standing,
+            store,
+            event,
+            attempt.reply(),
+        ) {
+            Ok((copy, standing)) => {
+                let Stepped { reply, outbox } = self.state.commit(attempt);
                 // (for its type)
                 let _few = self.state.store().len();
                 self.standing = standing;
-                Ok(given(ahead, stepped))
+                Ok(ImagedStep {
+                    reply,
+                    copy,
+                    context,
+                    outbox,
+                })
             }
-            Err(fault) => {
-                drop(ahead);
-                self.images.truncate(count);
-                Err(fault)
+            Err(_) => {
+                self.state.take_back(attempt);
+                Err(StepFault::Memory)
             }
         }
     }
@@ -124,66 +146,58 @@ impl ImagedNode {
     }
 }
 
-/// Returns what a step gives, by what was made ready before it.
-fn given(ahead: Ahead, stepped: Stepped) -> ImagedStep
-    requires { IsReady ahead.reply stepped.reply }
-    ensures { result ≡ record {
-      reply = stepped.reply;
-      copy = stepped.reply;
-      context = ahead.context;
-      outbox = stepped.outbox;
-    } }
+/// Returns the context that an event reads with, if it reads.
+fn context_read(state: &NodeState, event: &NodeEvent) -> Result<Option<Context>, AllocError>
+    ensures { IfOk result (λ context. context ≡ context_read event.now state.now) }
 {
-    let copy = copy_of(&stepped.reply, ahead.reply);
-    ImagedStep {
-        reply: stepped.reply,
-        copy,
-        context: ahead.context,
-        outbox: stepped.outbox,
+    match event {
+        NodeEvent::Read { key } | NodeEvent::PutOver { key, .. } => {
+            Ok(Some(state.store().context(key, state.source())?))
+        }
+        _ => Ok(None),
     }
 }
 
-/// Makes ready what the step of an event leaves beside the node's state, and adds the image, if
-/// there is one: it changes the standing one. Returns both that and which one stands then.
-fn prepare(
+/// Returns a copy of the reply, and which image stands then; if the event leaves an image, it is
+/// added, with what the store holds under its key. If memory runs out, nothing changes.
+fn keep(
     images: &mut Images,
     standing: usize,
-    state: &NodeState,
+    store: &Store,
     event: &NodeEvent,
-) -> Result<(Ahead, usize), StepFault>
-    ensures ready { IfOk result (λ ready. IsAhead state.now event.now ready.0) }
-    ensures refused { IfErr result (CanComeOf state.now event.now) }
-    ensures images { IfOk result
-        (λ ready. images.new ≡ images_with ready.0.change standing images.old) }
-    ensures standing { IfOk result
-        (λ ready. ready.1 ≡ standing_with ready.0.change standing images.old) }
+    reply: &Reply,
+) -> Result<(Reply, usize), AllocError>
+    ensures copy { IfOk result (λ kept. kept.0 ≡ reply.now) }
+    ensures images { let left = option_map (change_at store.now) (stored_key event.now) in
+        OnOk result (images.new ≡ images_with left standing images.old) }
+    ensures standing { let left = option_map (change_at store.now) (stored_key event.now) in
+        IfOk result (λ kept. kept.1 ≡ standing_with left standing images.old) }
     ensures same { OnErr result (images.new ≡ images.old) }
 {
-    let ahead = Ahead::of(images.alloc(), state, event)?;
-    match add(images, standing, &ahead.change) {
-        Ok(standing) => Ok((ahead, standing)),
-        Err(_) => {
-            drop(ahead);
-            Err(StepFault::Memory)
-        }
-    }
+    let copy = reply.copy()?;
+    let standing = add(images, standing, store, event)?;
+    Ok((copy, standing))
 }
 
-/// Adds an image, if a change is left: it changes the standing one. Returns which one stands then.
+/// Adds an image, if the event leaves one: it changes the standing one. Returns which one stands
+/// then.
 fn add(
     images: &mut Images,
     standing: usize,
-    change: &Option<Option<(MetaKey, Entries)>>,
+    store: &Store,
+    event: &NodeEvent,
 ) -> Result<usize, AllocError>
-    requires { IfSome change.now IsChange }
-    ensures images { OnOk result (images.new ≡ images_with change.now standing images.old) }
-    ensures standing { IfOk result
-        (λ number. number ≡ standing_with change.now standing images.old) }
+    ensures images { let left = option_map (change_at store.now) (stored_key event.now) in
+        OnOk result (images.new ≡ images_with left standing images.old) }
+    ensures standing { let left = option_map (change_at store.now) (stored_key event.now) in
+        IfOk result (λ number. number ≡ standing_with left standing images.old) }
     ensures same { OnErr result (images.new ≡ images.old) }
 {
-    match change {
-        Some(change) => {
-            images.push(standing, change.as_ref())?;
+    // (for its type)
+    let _ = store.len();
+    match event.stored_key() {
+        Some(key) => {
+            images.push(standing, key, store.object(key))?;
             Ok(images.len())
         }
         None => Ok(standing),

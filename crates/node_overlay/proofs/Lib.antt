@@ -10,3 +10,5 @@ pub mod Numbering
 pub mod Sendable
 -- frames that differ in the addressee and the number alone
 pub mod Respelling
+-- what was asked can be ended, and taken back
+pub mod Asked

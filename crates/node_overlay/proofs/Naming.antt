@@ -123,11 +123,13 @@ pub given : {o : Overlay} {views : NodeViews} {old new : Broadcast} {call : Cast
     → overlay_of views old ≡ o → IsCall call old new out → out ≡ out_of call o
 given {call = call} same row = row.gives ∙ ap (λ (o : Overlay). out_of call o) same
 
+-- frames of the same node and messages
 pub same_frames : {n m number : ℕ} {sent es : List Envelope} {outbox : List (List ℕ)} → n ≡ m → sent ≡ es
     → AreFramesOf n number sent outbox → AreFramesOf m number es outbox
 same_frames {n = n} {number = number} {es = es} {outbox = outbox} node is h =
     subst (λ m. AreFramesOf m number es outbox) node (subst (λ es. AreFramesOf n number es outbox) is h)
 
+-- what `outbox` gives are the frames of equal messages
 pub framed : {E : Type 0} (r : Result (List (List ℕ)) E) (node number : ℕ) {sent es : List Envelope} → sent ≡ es
     → IfOk r (λ outbox. outbox ≡ map spelling (frames_from node number sent))
     → IfOk r (λ outbox. All HasSpelling (frames_from node number sent)) → IfOk r (AreFramesOf node number es)
@@ -136,12 +138,14 @@ framed (Err fault) node number is frames lawful = tt
 
 -- ---- a call that is taken back if memory ran out
 
-pub taken_back : {old between : Broadcast} {call : CastCall} {standing : Standing} {out : List CastOut}
+-- the broadcast goes back to where it stood before the call
+is_rolled_back : {old between : Broadcast} {call : CastCall} {standing : Standing} {out : List CastOut}
     → IsCall call old between out → standing ≡ savepoint_of old → IsOfObjects call
     → rolled_back standing between ≡ old
-taken_back {old = old} {call = call} row stood of =
+is_rolled_back {old = old} {call = call} row stood of =
     (λ i. rolled_back (stood i) (row.broadcast i)) ∙ are_taken_back old call of
 
+-- made or taken back, the overlay keeps what always holds
 pub made_or_back : {X E : Type 0} (r : Result X E) (new : Broadcast) {between old : Broadcast} {call : CastCall}
     {standing : Standing} {out : List CastOut} {o : Overlay} {views : NodeViews}
     → overlay_of views old ≡ o → IsOverlay (overlay_of views old) → IsCall call old between out
@@ -150,16 +154,9 @@ pub made_or_back : {X E : Type 0} (r : Result X E) (new : Broadcast) {between ol
 made_or_back (Ok x) new {views = views} same h row stood made back of of_none may =
     subst (λ cast. IsOverlay (overlay_of views cast)) (sym made) (told_on same h row of_none may)
 made_or_back (Err fault) new {views = views} same h row stood made back of of_none may =
-    subst (λ cast. IsOverlay (overlay_of views cast)) (sym (back ∙ taken_back row stood of)) h
+    subst (λ cast. IsOverlay (overlay_of views cast)) (sym (back ∙ is_rolled_back row stood of)) h
 
-pub made : {X E : Type 0} (r : Result X E) (new : Broadcast) {between old : Broadcast} {call : CastCall}
-    {out : List CastOut} {o : Overlay} {views : NodeViews}
-    → overlay_of views old ≡ o → IsCall call old between out → OnOk r (new ≡ between)
-    → OnOk r (overlay_of views new ≡ overlay_after_call call o)
-made (Ok x) new {call = call} {views = views} same row is =
-    ap (overlay_of views) (is ∙ row.broadcast) ∙ ap (overlay_after_call call) same
-made (Err fault) new same row is = tt
-
+-- taken back, the overlay is the old one
 pub unmade : {X E : Type 0} (r : Result X E) (new : Broadcast) {between old : Broadcast} {call : CastCall}
     {standing : Standing} {out : List CastOut} {o : Overlay} {views : NodeViews}
     → overlay_of views old ≡ o → IsCall call old between out → standing ≡ savepoint_of old
@@ -167,7 +164,7 @@ pub unmade : {X E : Type 0} (r : Result X E) (new : Broadcast) {between old : Br
     → OnErr r (overlay_of views new ≡ o)
 unmade (Ok x) new same row stood back of = tt
 unmade (Err fault) new {views = views} same row stood back of =
-    ap (overlay_of views) (back ∙ taken_back row stood of) ∙ same
+    ap (overlay_of views) (back ∙ is_rolled_back row stood of) ∙ same
 
 -- what another node announces, of a round of a frame, a key and a spelled vector, may come
 pub announced : {node from round : ℕ} (key : Key) (vector : List Counter) → from ≢ node

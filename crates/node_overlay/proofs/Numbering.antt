@@ -1,7 +1,7 @@
 -- Messages become frames, one after another.
 use Rattle.std.proofs.Common.{◌≡◌, ℕ, List, [], ◌∷◌, ◌++◌, All, sym, ap, ◌∙◌}
 use Rattle.std.proofs.lemmas.List.{append_assoc}
-use Rattle.std.proofs.lemmas.List.Elements.{All-cons, All-nil, All-same}
+use Rattle.std.proofs.lemmas.List.Elements.{All-cons, All-same}
 use Rattle.meta_frame.specs.declared.message.Frame.{Frame}
 use Rattle.node_overlay.specs.declared.envelope.Envelope.{Envelope}
 use Rattle.node_overlay.specs.Outbox.{HasSpelling, count_on, frame_of, frames_from}
@@ -25,7 +25,3 @@ one_more_spelled from number next e rest all is counted first later =
     All-same HasSpelling (frames_from from number all) (frame_of from next e ∷ frames_from from next rest)
     (ap (frames_from from number) is ∙ ap (λ n. frame_of from n e ∷ frames_from from n rest) (sym counted))
     (All-cons HasSpelling (frame_of from next e) (frames_from from next rest) first later)
-
-pub none_left : (from number : ℕ) (rest : List Envelope) → rest ≡ [] → All HasSpelling (frames_from from number rest)
-none_left from number rest none =
-    All-same HasSpelling (frames_from from number rest) [] (ap (frames_from from number) none) (All-nil HasSpelling)

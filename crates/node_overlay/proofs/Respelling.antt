@@ -1,5 +1,5 @@
 -- The bytes of two frames that differ in the addressee and the number alone.
-use Rattle.std.proofs.Common.{◌≡◌, Bool, IsTrue, ℕ, ◌+◌, ◌<◌, ◌≤◌, List, [], ◌∷◌, ◌++◌, map, take, drop, length, get_or, sym, ap, ◌∙◌, arith}
+use Rattle.std.proofs.Common.{◌≡◌, Bool, IsTrue, ℕ, ◌+◌, ◌<◌, List, [], ◌∷◌, ◌++◌, map, take, drop, length, get_or, sym, ap, ◌∙◌}
 use Rattle.std.proofs.lemmas.List.{map_more}
 use Rattle.std.specs.Int.{w16, w64, to_be_bytes}
 use Rattle.dvvset.specs.Equal.{counters_eq, counters_eq-Decides, entries_eq, entries_eq-Decides}

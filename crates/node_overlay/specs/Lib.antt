@@ -5,3 +5,5 @@ pub mod Overlay
 pub mod Outbox
 -- which call of the broadcast a change makes, and what it gives out
 pub mod Origin
+-- what it was asked, before that is final
+pub mod Pending

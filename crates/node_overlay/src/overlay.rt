@@ -1,11 +1,13 @@
-ghost use Rattle.std.specs.Prelude.{◌≡◌, ◌↔◌, All, IfOk, IsTrue, OnOk, OnErr};
+ghost use Rattle.std.specs.Prelude.{◌≡◌, ◌↔◌, All, IfOk, IsTrue};
 ghost use Rattle.hyparview.specs.Lawful.{IsOfAnother};
 ghost use Rattle.hyparview.specs.Views.{draft_after, views_of};
 ghost use Rattle.node_overlay.specs.Outbox.{AreFramesOf, MaySend};
 ghost use Rattle.node_overlay.specs.Overlay.{IsOverlay, empty_overlay, messages_of};
 ghost use Rattle.node_overlay.specs.Overlay.{overlay_after_view, peer_changes, sent_by_view};
+ghost use Rattle.node_overlay.specs.Pending.{Pends};
 
 use crate::envelope::Envelope;
+use crate::pending::Pending;
 use crate::sending::outbox;
 use hyparview::{ViewEvent, ViewOut, Views};
 use meta_types::{NodeId, both};
@@ -72,26 +74,30 @@ impl Overlay {
         Ok(Overlay { views, cast })
     }
 
-    /// Takes an event of the views, and tells the broadcast who came and who went. Returns the
-    /// frames to send, numbered from the one after `number` on. Fails only when memory runs out,
-    /// and then all is as before. The broadcast is changed in place, and never copied.
+    /// Returns what an event of the views changes, which the broadcast hears of, and the frames to
+    /// send, numbered from the one after `number` on; the overlay stays as it is. Fails only when
+    /// memory runs out. What waits is never copied.
     pub fn on_view_event(
-        &mut self,
+        &self,
         alloc: Global,
         number: u64,
         event: &ViewEvent,
         word: u64,
-    ) -> Result<Outbox, AllocError>
-        requires { IsOfAnother self.old.views.node event.now }
-        ensures overlay { OnOk result (self.new ≡ overlay_after_view event.now word self.old) }
-        ensures sends { IfOk result (AreFramesOf self.old.views.node number
-            (sent_by_view event.now word self.old)) }
-        ensures unchanged { OnErr result (self.new ≡ self.old) }
+    ) -> Result<(Pending, Outbox), AllocError>
+        requires { IsOfAnother self.now.views.node event.now }
+        ensures pending { IfOk result (λ seen. Pends seen.0 self.now self.now
+            (overlay_after_view event.now word self.now)) }
+        ensures sends { IfOk result (λ seen. AreFramesOf self.now.views.node number
+            (sent_by_view event.now word self.now) seen.1) }
     {
         let (views, (changes, outbox)) = self.after_view_event(alloc, number, event, word)?;
-        self.cast.change_peers(changes.as_slice())?;
-        self.views = views;
-        Ok(outbox)
+        let peers = self.cast.foresee_changes(changes.as_slice())?;
+        let pending = Pending::Views {
+            views,
+            peers,
+            changes,
+        };
+        Ok((pending, outbox))
     }
 
     /// Returns the views after the event, who came and who went, and the frames.

@@ -1,7 +1,7 @@
 //! A tick of the overlay: the broadcast's, and then a shuffle, if it is due. All that may fail is
 //! made first, so that the broadcast makes its tick in place, and copies nothing of what waits.
 
-ghost use Rattle.std.specs.Prelude.{◌≡◌, ◌++◌, All, IfOk, OnOk, OnErr};
+ghost use Rattle.std.specs.Prelude.{◌≡◌, ◌++◌, All, IfOk};
 ghost use Rattle.hyparview.specs.Views.{draft_after, views_of};
 ghost use Rattle.hyparview.specs.declared.event.ViewEvent.TheVariants.{ShuffleDue};
 ghost use Rattle.plumtree.specs.Broadcast.{Tick};
@@ -11,34 +11,36 @@ ghost use Rattle.node_overlay.specs.Origin.{overlay_after_tick, sent_by_tick, wh
 ghost use Rattle.node_overlay.specs.Outbox.{AreFramesOf, MaySend};
 ghost use Rattle.node_overlay.specs.Overlay.{out_of, overlay_after_call, overlay_after_view};
 ghost use Rattle.node_overlay.specs.Overlay.{sent_by_view};
+ghost use Rattle.node_overlay.specs.Pending.{Pends};
 
 use crate::envelope::Envelope;
 use crate::messages::whole_messages;
 use crate::overlay::{Overlay, parted};
+use crate::pending::Pending;
 use crate::sending::outbox;
 use hyparview::{ViewEvent, Views};
 use meta_types::{NodeId, both};
 use node_events::Outbox;
-use plumtree::TickedPeers;
+use plumtree::Foreseen;
 use std::alloc::{AllocError, Global};
 
 /// How many ticks there are from one shuffle of the views to the next.
 const TICKS_OF_A_SHUFFLE: u64 = 10;
 
 impl Overlay {
-    /// Makes the tick of this number. Returns the frames to send, numbered from the one after
-    /// `number` on. Fails only when memory runs out, and then all is as before.
+    /// Returns what the tick of this number changes, and the frames to send, numbered from the one
+    /// after `number` on; the overlay stays as it is. Fails only when memory runs out.
     pub fn on_tick(
-        &mut self,
+        &self,
         alloc: Global,
         number: u64,
         ticks: u64,
         word: u64,
-    ) -> Result<Outbox, AllocError>
-        ensures overlay { OnOk result (self.new ≡ overlay_after_tick ticks word self.old) }
-        ensures sends { IfOk result (AreFramesOf self.old.views.node number
-            (sent_by_tick ticks word self.old)) }
-        ensures unchanged { OnErr result (self.new ≡ self.old) }
+    ) -> Result<(Pending, Outbox), AllocError>
+        ensures pending { IfOk result (λ seen. Pends seen.0 self.now self.now
+            (overlay_after_tick ticks word self.now)) }
+        ensures sends { IfOk result (λ seen. AreFramesOf self.now.views.node number
+            (sent_by_tick ticks word self.now) seen.1) }
     {
         if ticks % TICKS_OF_A_SHUFFLE == 0 {
             self.on_shuffling_tick(alloc, number, word)
@@ -47,47 +49,41 @@ impl Overlay {
         }
     }
 
-    /// Makes a tick of the broadcast alone.
-    fn on_quiet_tick(&mut self, alloc: Global, number: u64) -> Result<Outbox, AllocError>
-        ensures overlay { OnOk result (self.new ≡ overlay_after_call Tick self.old) }
-        ensures sends { IfOk result (AreFramesOf self.old.views.node number
-            (whole_messages (out_of Tick self.old))) }
-        ensures unchanged { OnErr result (self.new ≡ self.old) }
+    /// Foresees a tick of the broadcast alone.
+    fn on_quiet_tick(&self, alloc: Global, number: u64) -> Result<(Pending, Outbox), AllocError>
+        ensures pending { IfOk result (λ seen. Pends seen.0 self.now self.now
+            (overlay_after_call Tick self.now)) }
+        ensures sends { IfOk result (λ seen. AreFramesOf self.now.views.node number
+            (whole_messages (out_of Tick self.now)) seen.1) }
     {
         let (peers, sent) = self.after_broadcast_tick(alloc)?;
         let outbox = outbox(alloc, self.views.node(), number, sent);
         let (peers, outbox) = both(Ok(peers), outbox)?;
-        self.cast.make_tick(peers);
-        Ok(outbox)
+        Ok((Pending::Tick(peers), outbox))
     }
 
-    /// Makes a tick of the broadcast and then a shuffle, in which nobody comes or goes.
+    /// Foresees a tick of the broadcast and then a shuffle, in which nobody comes or goes.
     fn on_shuffling_tick(
-        &mut self,
+        &self,
         alloc: Global,
         number: u64,
         word: u64,
-    ) -> Result<Outbox, AllocError>
-        ensures overlay { OnOk result
-            (self.new ≡ overlay_after_view ShuffleDue word (overlay_after_call Tick self.old)) }
-        ensures sends { IfOk result (AreFramesOf self.old.views.node number
-            (whole_messages (out_of Tick self.old) ++ sent_by_view ShuffleDue word self.old)) }
-        ensures unchanged { OnErr result (self.new ≡ self.old) }
+    ) -> Result<(Pending, Outbox), AllocError>
+        ensures pending { IfOk result (λ seen. Pends seen.0 self.now self.now
+            (overlay_after_view ShuffleDue word (overlay_after_call Tick self.now))) }
+        ensures sends { IfOk result (λ seen. AreFramesOf self.now.views.node number
+            (whole_messages (out_of Tick self.now) ++ sent_by_view ShuffleDue word self.now)
+            seen.1) }
     {
         let ticked = self.after_broadcast_tick(alloc);
         let ((peers, sent), (views, more)) = both(ticked, self.after_shuffle(alloc, word))?;
         let outbox = joined_outbox(alloc, self.views.node(), number, sent, more);
         let ((peers, views), outbox) = both(Ok((peers, views)), outbox)?;
-        self.views = views;
-        self.cast.make_tick(peers);
-        Ok(outbox)
+        Ok((Pending::Shuffle(views, peers), outbox))
     }
 
     /// Returns the peers of the broadcast after a tick, and the messages that go out.
-    fn after_broadcast_tick(
-        &self,
-        alloc: Global,
-    ) -> Result<(TickedPeers, Vec<Envelope>), AllocError>
+    fn after_broadcast_tick(&self, alloc: Global) -> Result<(Foreseen, Vec<Envelope>), AllocError>
         ensures peers { IfOk result
             (λ after. after.0 ≡ peers_of (after_call self.now.cast Tick)) }
         ensures sent { IfOk result

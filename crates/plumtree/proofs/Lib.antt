@@ -10,3 +10,5 @@ pub mod Sending
 pub mod TakingBack
 -- a tick in two steps
 pub mod Ticking
+-- changes of who is a peer in two steps
+pub mod PeerChanges

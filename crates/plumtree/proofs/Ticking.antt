@@ -1,5 +1,5 @@
 -- A tick in two steps is the tick.
-use Rattle.std.proofs.Common.{◌≡◌, ℕ, ◌-◌, Bool, true, false, cond, ◌||◌, List, [], ◌∷◌, ◌++◌, map, drop, length, nat_lt, refl, sym, ap, ◌∙◌, arith}
+use Rattle.std.proofs.Common.{◌≡◌, ◌-◌, Bool, true, false, cond, ◌||◌, List, [], ◌∷◌, ◌++◌, map, drop, length, nat_lt, refl, sym, ap, ◌∙◌, arith}
 use Rattle.std.proofs.lemmas.Bool.{lt-ltb}
 use Rattle.std.specs.List.{filter}
 use Rattle.std.proofs.lemmas.List.{append-nil, append_assoc}
@@ -9,7 +9,7 @@ use Rattle.plumtree.specs.Draft.{Draft}
 use Rattle.plumtree.specs.Rows.{ask_first, keep, none_missing, on_tick, send_announcements, tick_each, tick_one}
 use Rattle.plumtree.specs.Broadcast.{Broadcast, Tick, broadcast_with, draft_of}
 use Rattle.plumtree.specs.Lawful.{after_call}
-use Rattle.plumtree.specs.Ticking.{graft_each, graft_first, graft_one, missing_after, stays_missing, ticked}
+use Rattle.plumtree.specs.Ticking.{Peers, graft_each, graft_first, graft_one, missing_after, stays_missing, ticked, with_peers}
 
 -- the draft with this in place of what is missing
 abbrev waiting : List MissingObject → Draft → Draft
@@ -100,11 +100,10 @@ pub on_tick-parts : (t : Draft) → on_tick t ≡ waiting (missing_after t.missi
 unfolding on_tick
 on_tick-parts t = tick_each-parts t.missing (begun t)
 
--- who is a peer then and what it leaves
-pub tick_made : (b : Broadcast) → after_call b Tick
-    ≡ broadcast_with (after_call b Tick).eager (after_call b Tick).lazy [] (missing_after b.missing)
-tick_made b =
+-- what it leaves, with these peers
+pub tick_made : (peers : Peers) (b : Broadcast) → with_peers peers (after_call b Tick) ≡ broadcast_with peers.eager peers.lazy [] (missing_after b.missing)
+tick_made peers b =
     let is = on_tick-parts (draft_of b) in
     let queue : (after_call b Tick).queue ≡ [] = ap (λ (t : Draft). t.queue) is ∙ graft_each-queue b.missing (begun (draft_of b)) in
     let missing : (after_call b Tick).missing ≡ missing_after b.missing = ap (λ (t : Draft). t.missing) is in
-    λ i. broadcast_with (after_call b Tick).eager (after_call b Tick).lazy (queue i) (missing i)
+    λ i. broadcast_with peers.eager peers.lazy (queue i) (missing i)

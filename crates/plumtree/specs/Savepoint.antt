@@ -1,5 +1,8 @@
 -- Coming back to where a broadcast stood.
-use Rattle.std.specs.Prelude.{ℕ, ◌≡◌, List, length, take}
+use Rattle.std.specs.Prelude.{ℕ, ◌≡◌, ◌-◌, List, length, take, slice_get, slice_set, Option, None, Some}
+use Rattle.plumtree.specs.declared.entry.Noted.{Noted}
+use Rattle.plumtree.specs.declared.entry.Noted.TheVariants.{Nothing, Object, Announcer as OfAnnouncer}
+use Rattle.plumtree.specs.Missing.{MissingObject}
 use Rattle.plumtree.specs.Broadcast.{Broadcast, CastCall, Broadcasts, TakesFresh, TakesStale, TakesPrune, TakesGraft}
 use Rattle.plumtree.specs.Lawful.{after_call}
 
@@ -36,3 +39,26 @@ abbrev pub AreTakenBack : Type 0
 AreTakenBack =
     (b : Broadcast) (call : CastCall) → IsOfObjects call
     → rolled_back (savepoint_of b) (after_call b call) ≡ b
+
+-- ---- an announcement is taken back
+
+-- the announcer that came last is gone
+abbrev pub without_last_announcer : MissingObject → MissingObject
+without_last_announcer m =
+    record m { announcers = take (length m.announcers - 1) m.announcers }
+
+-- the object at this place, if there is one, without it
+abbrev pub without_announcer_at : Option MissingObject → ℕ → List MissingObject
+    → List MissingObject
+without_announcer_at None place ms = ms
+without_announcer_at (Some m) place ms = slice_set ms place (without_last_announcer m)
+
+-- what was missing before this was noted
+abbrev pub without_noted : Noted → List MissingObject → List MissingObject
+without_noted Nothing ms = ms
+without_noted Object ms = take (length ms - 1) ms
+without_noted (OfAnnouncer place) ms = without_announcer_at (slice_get ms place) place ms
+
+-- the broadcast before this was noted
+abbrev pub with_noted_back : Noted → Broadcast → Broadcast
+with_noted_back noted b = record b { missing = without_noted noted b.missing }

@@ -18,6 +18,10 @@ pub record Peers : Type 0 where
 abbrev pub peers_of : Broadcast → Peers
 peers_of b = record { eager = b.eager; lazy = b.lazy }
 
+-- the broadcast, with these peers
+abbrev pub with_peers : Peers → Broadcast → Broadcast
+with_peers peers b = record b { eager = peers.eager; lazy = peers.lazy }
+
 -- ---- what a tick gives out
 
 -- the first of these announcers is asked for the object

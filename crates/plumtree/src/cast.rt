@@ -2,8 +2,9 @@ ghost use Rattle.std.specs.Prelude.{◌≡◌, ◌↔◌, [], IfOk, IsTrue, OnOk
 ghost use Rattle.plumtree.specs.Broadcast.{Broadcasts, Changes, Down, IsCall, TakesFresh};
 ghost use Rattle.plumtree.specs.Broadcast.{TakesGraft, TakesIHave, TakesPrune, TakesStale, Tick, Up};
 ghost use Rattle.plumtree.specs.Broadcast.{gossip_call};
+ghost use Rattle.plumtree.specs.Savepoint.{with_noted_back};
 
-use crate::entry::{Announcement, Announcer, CastOut, MissingObject};
+use crate::entry::{Announcement, Announcer, CastOut, MissingObject, Noted};
 use crate::links::{become_eager, become_lazy};
 use crate::missing::{
     announcements, copy_missing, copy_queue, gossips, leave_known, leave_queue, lose_announcer,
@@ -214,7 +215,6 @@ impl Cast {
 
     /// Takes an IHAVE: unless it is stale, its object is waited for. `stale` says whether the
     /// node's context of the key descends the vector.
-    #[tactic(auto, unfolding(crate::specs::Rows::on_ihave))]
     pub fn on_ihave(
         &mut self,
         from: NodeId,
@@ -227,11 +227,30 @@ impl Cast {
             (TakesIHave from round key.now vector.now stale) self.old self.new out.items) }
         ensures unchanged { OnErr result (self.new ≡ self.old) }
     {
-        if !stale {
-            let announcer = Announcer { peer: from, round };
-            note(self.alloc, &mut self.missing, announcer, key, vector)?;
-        }
+        self.note_ihave(from, round, key, vector, stale)?;
         Ok(Vec::new(self.alloc))
+    }
+
+    /// Takes an IHAVE, as `on_ihave` does. Returns what `take_back_ihave` takes to take this back.
+    #[tactic(auto, unfolding(crate::specs::Rows::on_ihave))]
+    pub fn note_ihave(
+        &mut self,
+        from: NodeId,
+        round: u16,
+        key: &MetaKey,
+        vector: &Vector,
+        stale: bool,
+    ) -> Result<Noted, AllocError>
+        ensures row { OnOk result (IsCall
+            (TakesIHave from round key.now vector.now stale) self.old self.new []) }
+        ensures back { IfOk result (λ noted. with_noted_back noted self.new ≡ self.old) }
+        ensures unchanged { OnErr result (self.new ≡ self.old) }
+    {
+        if stale {
+            return Ok(Noted::Nothing);
+        }
+        let announcer = Announcer { peer: from, round };
+        note(self.alloc, &mut self.missing, announcer, key, vector)
     }
 
     /// Takes a GRAFT: its sender becomes eager, and is sent the object if it is held. `held` says

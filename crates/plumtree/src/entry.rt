@@ -42,6 +42,16 @@ pub struct Announcer {
     pub round: u16,
 }
 
+/// What an IHAVE changed of what is missing, so that it can be taken back.
+#[derive(Clone, Copy, Debug, PartialEq, Eq)]
+pub enum Noted {
+    Nothing,
+    /// One more object is missing, which goes last.
+    Object,
+    /// The missing object at this place has one more announcer, who goes last.
+    Announcer(usize),
+}
+
 /// An object that was announced and isn't here.
 #[derive(Debug, Drop)]
 pub(crate) struct MissingObject {

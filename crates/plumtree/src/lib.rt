@@ -19,13 +19,15 @@
 //! }
 //! ```
 //!
-//! Read `entry`, `cast`, then `links`, `missing` and `tick`; `changes` has many changes of who is a
-//! peer at once, `savepoint` takes calls back; what holds of every call is in `laws`.
+//! Read `entry`, `cast`, then `links` and `missing`. `tick` and `changes` foresee a tick, and many
+//! changes of who is a peer, before they are made; `savepoint` takes other calls back. What holds
+//! of every call is in `laws`.
 #![tactic(auto)]
 
 pub mod cast;
 pub mod changes;
 pub mod entry;
+pub mod foreseen;
 pub mod laws;
 mod links;
 mod missing;
@@ -33,6 +35,6 @@ pub mod savepoint;
 pub mod tick;
 
 pub use cast::Cast;
-pub use entry::{CastOut, PeerChange};
+pub use entry::{CastOut, Noted, PeerChange};
+pub use foreseen::Foreseen;
 pub use savepoint::Savepoint;
-pub use tick::TickedPeers;

@@ -1,15 +1,17 @@
 //! The objects that a node waits for, and the announcements that wait for a tick.
 
-ghost use Rattle.std.specs.Prelude.{◌≡◌, ◌<◌, drop, length, map, IfOk, IfSome, OnOk, OnErr};
+ghost use Rattle.std.specs.Prelude.{◌≡◌, ◌<◌, drop, length, map, if◌then◌else◌};
+ghost use Rattle.std.specs.Prelude.{IfOk, IfSome, OnOk, OnErr};
 ghost use Rattle.std.specs.List.{filter, position};
 ghost use Rattle.plumtree.specs.declared.entry.CastOut.TheVariants.{Gossip};
 ghost use Rattle.plumtree.specs.Draft.{announcement_to};
 ghost use Rattle.plumtree.specs.Rows.{first_announced, ihave_of, is_announced_by, is_not_by};
 ghost use Rattle.plumtree.specs.Rows.{is_not_to, is_of, is_still_missing, noted, with_announcer};
 ghost use Rattle.plumtree.specs.Rows.{without_announcer};
+ghost use Rattle.plumtree.specs.Savepoint.{without_last_announcer, without_noted};
 ghost use Rattle.plumtree.specs.Ticking.{missing_after, stays_missing, ticked};
 
-use crate::entry::{Announcement, Announcer, CastOut, MissingObject};
+use crate::entry::{Announcement, Announcer, CastOut, MissingObject, Noted};
 use dvvset::{Vector, descends};
 use meta_frame::Message;
 use meta_types::{MetaKey, NodeId};
@@ -72,16 +74,25 @@ impl MissingObject {
         !(self.key == *key && descends(vector, &self.vector))
     }
 
-    /// Adds an announcer, unless it announced the object before.
-    fn add_announcer(&mut self, announcer: Announcer) -> Result<(), AllocError>
+    /// Adds an announcer, unless it announced the object before. Returns whether it was added.
+    fn add_announcer(&mut self, announcer: Announcer) -> Result<bool, AllocError>
         ensures ok { OnOk result
             (self.new ≡ with_announcer announcer.peer announcer.round self.old) }
+        ensures back { IfOk result (λ added.
+            (if added then without_last_announcer self.new else self.new) ≡ self.old) }
         ensures unchanged { OnErr result (self.new ≡ self.old) }
     {
-        if !is_announced_by(self.announcers.as_slice(), announcer.peer) {
-            self.announcers.push(announcer)?;
+        if is_announced_by(self.announcers.as_slice(), announcer.peer) {
+            return Ok(false);
         }
-        Ok(())
+        self.announcers.push(announcer)?;
+        Ok(true)
+    }
+
+    fn lose_last_announcer(&mut self)
+        ensures { self.new ≡ without_last_announcer self.old }
+    {
+        drop(self.announcers.pop());
     }
 
     fn lose_announcer(&mut self, node: NodeId)
@@ -126,24 +137,48 @@ fn place_of(missing: &[MissingObject], key: &MetaKey, vector: &Vector) -> Option
     missing.iter().position(|object| object.is_of(key, vector))
 }
 
-/// Notes an announcement of an object that isn't here.
+/// Notes an announcement of an object that isn't here. Returns what `forget_noted` takes to take
+/// this back.
 pub(crate) fn note(
     alloc: Global,
     missing: &mut Vec<MissingObject>,
     announcer: Announcer,
     key: &MetaKey,
     vector: &Vector,
-) -> Result<(), AllocError>
+) -> Result<Noted, AllocError>
     ensures ok { OnOk result (missing.new.items
         ≡ noted announcer.peer announcer.round key.now vector.now missing.old.items) }
+    ensures back { IfOk result
+        (λ noted. without_noted noted missing.new.items ≡ missing.old.items) }
     ensures unchanged { OnErr result (missing.new.items ≡ missing.old.items) }
 {
     match place_of(missing.as_slice(), key, vector) {
-        Some(place) => missing[place].add_announcer(announcer),
+        Some(place) => {
+            if missing[place].add_announcer(announcer)? {
+                Ok(Noted::Announcer(place))
+            } else {
+                Ok(Noted::Nothing)
+            }
+        }
         None => {
             let new = MissingObject::announced_by(alloc, announcer, key, vector)?;
             missing.push(new)?;
-            Ok(())
+            Ok(Noted::Object)
+        }
+    }
+}
+
+/// Takes back what was noted last. It takes no memory.
+pub(crate) fn forget_noted(missing: &mut Vec<MissingObject>, noted: Noted)
+    ensures { missing.new.items ≡ without_noted noted missing.old.items }
+{
+    match noted {
+        Noted::Nothing => {}
+        Noted::Object => drop(missing.pop()),
+        Noted::Announcer(place) => {
+            if place < missing.len() {
+                missing[place].lose_last_announcer();
+            }
         }
     }
 }

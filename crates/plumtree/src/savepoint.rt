@@ -1,7 +1,9 @@
 ghost use Rattle.std.specs.Prelude.{◌≡◌, IfOk};
-ghost use Rattle.plumtree.specs.Savepoint.{rolled_back, savepoint_of};
+ghost use Rattle.plumtree.specs.Savepoint.{rolled_back, savepoint_of, with_noted_back};
 
 use crate::cast::Cast;
+use crate::entry::Noted;
+use crate::missing::forget_noted;
 use indexmap::IndexSet;
 use meta_types::NodeId;
 use std::alloc::AllocError;
@@ -47,5 +49,12 @@ impl Cast {
         self.eager = savepoint.eager;
         self.lazy = savepoint.lazy;
         self.queue.truncate(savepoint.waiting);
+    }
+
+    /// Takes back an IHAVE that `note_ihave` took last. It never fails, and takes no memory.
+    pub fn take_back_ihave(&mut self, noted: Noted)
+        ensures { self.new ≡ with_noted_back noted self.old }
+    {
+        forget_noted(&mut self.missing, noted);
     }
 }

@@ -4,10 +4,11 @@
 ghost use Rattle.std.specs.Prelude.{◌≡◌, IfOk, OnOk};
 ghost use Rattle.plumtree.specs.Broadcast.{Tick, draft_of, row};
 ghost use Rattle.plumtree.specs.Lawful.{after_call};
-ghost use Rattle.plumtree.specs.Ticking.{peers_of};
+ghost use Rattle.plumtree.specs.Ticking.{peers_of, with_peers};
 
 use crate::cast::Cast;
 use crate::entry::{Announcer, CastOut, MissingObject};
+use crate::foreseen::Foreseen;
 use crate::links::become_eager;
 use crate::missing::{announced, lose_ticks};
 use indexmap::IndexSet;
@@ -16,36 +17,18 @@ use meta_types::NodeId;
 use std::alloc::AllocError;
 use std::marker::Model;
 
-/// Who is eager and who is lazy after a tick that isn't made yet.
-#[derive(Drop)]
-pub struct TickedPeers {
-    eager: IndexSet<NodeId>,
-    lazy: IndexSet<NodeId>,
-}
-
-impl Model for TickedPeers {
-    ghost use Rattle.plumtree.specs.Lawful.{AreLinks};
-    ghost use Rattle.plumtree.specs.Ticking.{Peers};
-
-    ghost Value = { Peers };
-
-    ghost view = { λ p. record { eager = p.eager.keys; lazy = p.lazy.keys } };
-
-    ghost invariant = { λ p. AreLinks p.eager.keys p.lazy.keys };
-}
-
 impl Cast {
     ghost use Rattle.plumtree.specs.Rows.{none_missing, send_announcements};
     ghost use Rattle.plumtree.specs.Ticking.{graft_each};
 
     /// Returns what a tick gives out, and the peers after it, for `make_tick`; the broadcast stays
     /// as it is. Fails only when memory runs out.
-    pub fn foresee_tick(&self) -> Result<(TickedPeers, Vec<CastOut>), AllocError>
+    pub fn foresee_tick(&self) -> Result<(Foreseen, Vec<CastOut>), AllocError>
         ensures peers { IfOk result (λ seen. seen.0 ≡ peers_of (after_call self.now Tick)) }
         ensures out { IfOk result (λ seen. seen.1.items ≡ (row Tick (draft_of self.now)).out) }
     {
         let draft = self.tick_draft()?;
-        let peers = TickedPeers {
+        let peers = Foreseen {
             eager: draft.eager,
             lazy: draft.lazy,
         };
@@ -54,9 +37,8 @@ impl Cast {
 
     /// Makes the tick that was foreseen. It never fails, takes no memory, and copies nothing of
     /// what waits.
-    pub fn make_tick(&mut self, peers: TickedPeers)
-        requires { peers ≡ peers_of (after_call self.old Tick) }
-        ensures { self.new ≡ after_call self.old Tick }
+    pub fn make_tick(&mut self, peers: Foreseen)
+        ensures { self.new ≡ with_peers peers (after_call self.old Tick) }
     {
         self.eager = peers.eager;
         self.lazy = peers.lazy;

@@ -116,6 +116,26 @@ impl Watch {
         Ok(changes)
     }
 
+    /// Returns copies of the changes that are held, oldest first; they stay. Fails only when memory
+    /// runs out.
+    pub fn noted(&self) -> Result<Vec<Change>, AllocError>
+        ensures { IfOk result (λ changes. changes.items ≡ self.now.changes) }
+    {
+        let mut changes = Vec::with_capacity(self.alloc, self.changes.len())?;
+        let (front, back) = self.changes.as_slices();
+        append_copies(&mut changes, front)?;
+        append_copies(&mut changes, back)?;
+        Ok(changes)
+    }
+
+    /// Forgets the changes that are held, and how many were missed. It takes no memory.
+    pub fn clear(&mut self)
+        ensures { self.new ≡ emptied self.old }
+    {
+        self.changes.clear();
+        self.missed = 0;
+    }
+
     /// Fails only when memory runs out.
     pub fn copy(&self) -> Result<Self, AllocError>
         ensures { IfOk result (λ copy. copy ≡ self.now) }
@@ -172,6 +192,16 @@ fn push_copies(
 {
     for change in changes {
         push(copies, change.copy()?);
+    }
+    Ok(())
+}
+
+/// Adds copies at the end.
+fn append_copies(copies: &mut Vec<Change>, changes: &[Change]) -> Result<(), AllocError>
+    ensures { OnOk result (copies.new.items ≡ copies.old.items ++ changes.now) }
+{
+    for change in changes {
+        copies.push(change.copy()?)?;
     }
     Ok(())
 }

@@ -1,4 +1,4 @@
-ghost use Rattle.std.specs.Prelude.{◌≡◌, ◌≤◌, ◌+◌, ◌-◌, ◌∷◌, ◌++◌, [], None, length, map, IfOk, OnOk, OnErr};
+ghost use Rattle.std.specs.Prelude.{◌≡◌, ◌≤◌, ◌+◌, ◌-◌, ◌∷◌, ◌++◌, [], None, length, take, map, IfOk, OnOk, OnErr};
 ghost use Rattle.meta_types.specs.Failing.{FailsBy};
 ghost use Rattle.subscriptions.specs.Watching.{empty, with_change};
 ghost use Rattle.subscriptions.specs.Watches.{AreChangesOf, at_number, hand_out, hearing_count, most_watches};
@@ -87,22 +87,39 @@ impl Watches {
         Ok(Watch::new(self.alloc, prefix, capacity)?)
     }
 
-    /// Hands out what the watch of this number has noted. Refused with 29 `NoSuchWatch` and 99
-    /// `Memory`.
-    pub fn hand_out(&mut self, number: u64) -> Result<HandedOut, WatchFault>
-        ensures value { OnOk result (self.new ≡ hand_out number self.old) }
-        ensures handed { IfOk result (AreChangesOf (at_number self.old number)) }
-        ensures accepted { OnOk result (refusal_of_changes number self.old ≡ None) }
-        ensures refused { FailsBy Memory (refusal_of_changes number self.old) result }
-        ensures same { OnErr result (self.new ≡ self.old) }
+    /// Returns copies of what the watch of this number has noted, which stays. Refused with 29
+    /// `NoSuchWatch` and 99 `Memory`.
+    pub fn noted_by(&self, number: u64) -> Result<HandedOut, WatchFault>
+        ensures handed { IfOk result (AreChangesOf (at_number self.now number)) }
+        ensures accepted { OnOk result (refusal_of_changes number self.now ≡ None) }
+        ensures refused { FailsBy Memory (refusal_of_changes number self.now) result }
     {
         if number == 0 || number > self.list.len() as u64 {
             return Err(WatchFault::NoSuchWatch);
         }
-        let place = number as usize - 1;
-        let missed = self.list[place].missed();
-        let changes = self.list[place].take()?;
-        Ok(HandedOut { missed, changes })
+        let watch = &self.list[number as usize - 1];
+        Ok(HandedOut {
+            missed: watch.missed(),
+            changes: watch.noted()?,
+        })
+    }
+
+    /// Clears the watch of this number, if there is one: what it has noted leaves it. It takes no
+    /// memory.
+    pub fn clear(&mut self, number: u64)
+        ensures { self.new ≡ hand_out number self.old }
+    {
+        if number == 0 || number > self.list.len() as u64 {
+            return;
+        }
+        self.list[number as usize - 1].clear();
+    }
+
+    /// Takes out the watch that was added last, if there is one. It takes no memory.
+    pub fn forget_last(&mut self)
+        ensures { self.new ≡ take (length self.old - 1) self.old }
+    {
+        drop(self.list.pop());
     }
 
     /// Returns the news of a change: a note for each watch that hears the key. Fails only when

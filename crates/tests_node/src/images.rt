@@ -1,12 +1,8 @@
 //! What images show, even if their values stand in a log that went on, or could not.
 
-ghost use Rattle.std.specs.Prelude.{IfSome};
-ghost use Rattle.meta_store.specs.Table.{IsHeld};
-
 use crate::parts::{key, node, value};
-use dvvset::Entries;
 use meta_store::{Source, Store};
-use meta_types::{Actor, MetaKey};
+use meta_types::Actor;
 use node_images::Images;
 use std::alloc::Global;
 use std::mem::replace;
@@ -99,38 +95,19 @@ fn try_make(rt: &impl Abort, alloc: Global, store: &mut Store, write: &Write) ->
     written
 }
 
-/// Returns what an image changes: the key and its object.
-fn change(rt: &impl Abort, alloc: Global, store: &Store) -> Option<(MetaKey, Entries)>
-    ensures { IfSome result (λ change. IsHeld change.1) }
-{
-    let key = key(rt, alloc, b"a", b"b", b"k");
-    match object(store, &key) {
-        Some(object) => Some((key, object)),
-        None => {
-            drop(key);
-            None
-        }
-    }
-}
-
-/// Returns a copy of the object under the key. It is made once more if memory is refused.
-fn object(store: &Store, key: &MetaKey) -> Option<Entries>
-    ensures { IfSome result IsHeld }
-{
-    let object = store.object(key)?;
-    object.copy().or(object.copy()).ok()
-}
-
 /// Adds an image of what is in the store, once more if memory is refused.
 fn add(rt: &impl Abort, alloc: Global, images: &mut Images, store: &Store) {
+    // (for its type)
+    let _ = store.len();
     let base = images.len();
-    let change = change(rt, alloc, store);
-    assert!(rt; change.is_some());
-    if images.push(base, change.as_ref()).is_err() {
+    let key = key(rt, alloc, b"a", b"b", b"k");
+    let object = store.object(&key);
+    assert!(rt; object.is_some());
+    if images.push(base, &key, object).is_err() {
         assert_eq!(rt; images.len(), base);
-        assert!(rt; images.push(base, change.as_ref()).is_ok());
+        assert!(rt; images.push(base, &key, object).is_ok());
     }
-    drop(change);
+    drop(key);
 }
 
 /// Returns whether the image at the place shows what is in the store. It is read once more if

@@ -12,32 +12,26 @@ use Rattle.std.proofs.Math.ListN as list
 use Rattle.meta_types.specs.Name.{IsKey, Key}
 use Rattle.meta_types.specs.Value.{ValueParts}
 use Rattle.dvvset.specs.Object.{Entry}
-use Rattle.dvvset.specs.Clock.{join, values_of}
 use Rattle.meta_frame.specs.Frame.{Spells}
 use Rattle.meta_frame.specs.declared.message.Frame.{Frame}
 use Rattle.meta_store.specs.Context.{Reading}
-use Rattle.meta_store.specs.Table.{IsHeld, IsTable, object_at}
-use Rattle.subscriptions.specs.Watching.{Watching}
+use Rattle.meta_store.specs.Table.{IsHeld, IsTable}
 use Rattle.node_events.specs.Event.{stored_key}
 use Rattle.node_events.specs.declared.event.NodeEvent.{NodeEvent}
-use Rattle.node_events.specs.declared.event.NodeEvent.TheVariants as OfNode
-use Rattle.node_events.specs.declared.reply.Reply.{Reply}
 use Rattle.node_events.specs.declared.reply.Reply.TheVariants as OfReply
 use Rattle.node_events.specs.declared.reply.Reply.TheVariants.{Done}
 use Rattle.node_core.specs.declared.state.Stepped.{Stepped}
 use Rattle.node_core.specs.Leaving.{AreOfHeld, StepLeaves}
-use Rattle.subscriptions.specs.Watches.{at_number}
-use Rattle.node_core.specs.Node.{NodeParts, opening, present}
-use Rattle.node_core.specs.Step.{IsNodeStep, reply_of_changes}
+use Rattle.node_core.specs.Node.{NodeParts, opening}
+use Rattle.node_core.specs.Step.{IsNodeStep}
 use Rattle.past_model.specs.declared.happening.Happening.TheVariants.{Restarted}
 use Rattle.past_model.specs.History.{most_restarts}
 use Rattle.past_model.specs.Past.{past}
 use Rattle.past_model.proofs.Matching.{same_lives, same_numbers}
-use Rattle.node_images.specs.Ahead.{IsPlain, IsReady, object_written, reply_ahead}
 use Rattle.node_images.specs.Images.{Image}
 use Rattle.node_images.specs.Keeping.{IsRestorable, Keeping, change_at, most_incarnation}
 use Rattle.node_images.proofs.Keepings.{with_restart}
-use Rattle.node_images.proofs.Ready.{ready}
+use Rattle.node_core.proofs.Growing.{only_reads}
 use Rattle.node_images.specs.Node.{BeginsFrom, ImagedNode, IsRestarted, arrived, context_read, images_with, keeping, new_node}
 use Rattle.node_images.specs.Follows.{FollowsHistory}
 use Rattle.world_core.specs.declared.answer.Accepted.{Accepted}
@@ -149,24 +143,12 @@ all_handed w a n node bytes contexts all is =
     (All-weaker (λ b. HandsOut w b.answer) (λ b. HandsOut (after w a n node bytes contexts) b.answer) (λ b. handed_more w a n node bytes contexts b.answer) w.accepted all)
     is
 
-no_context : (watch : Option Watching) (values : List ValueParts) (context : Reading) → reply_of_changes watch ≡ OfReply.Looked values context → ⊥
-no_context None values context e = cc
-no_context (Some watch) values context e = cc
-
 -- the context that a step's reply hands out is the one that it reads with
-reads_with : (s : NodeParts) (step : NodeEvent) (reply : Reply) (values : List ValueParts) (context : Reading) → IsReady (reply_ahead step s) reply → reply ≡ OfReply.Looked values context
-    → context_read step s ≡ Some context
-reads_with s (OfNode.Read k) reply values context ready is =
-    let both : OfReply.Looked (values_of (object_at s.table k)) (present k s) ≡ OfReply.Looked values context = ready ∙ is in
-    cc
-reads_with s (OfNode.Write k v read) reply values context ready is =
-    let both : OfReply.Wrote (join (object_written s k v read)) ≡ OfReply.Looked values context = ready ∙ is in
-    absurd (cc)
-reads_with s (OfNode.PutOver k v) reply values context ready is =
-    let both : OfReply.Wrote (join (object_written s k v (Some (present k s)))) ≡ OfReply.Looked values context = ready ∙ is in
-    absurd (cc)
-reads_with s (OfNode.Changes number) reply values context ready is = absurd (no_context (at_number s.watches number) values context (ready ∙ is))
-reads_with s step reply values context ready is = absurd (subst IsPlain is ready)
+reads_with : (s state : NodeParts) (step : NodeEvent) (given : Stepped) (values : List ValueParts) (context : Reading) → IsNodeStep s step state given
+    → given.reply ≡ OfReply.Looked values context → context_read step s ≡ Some context
+reads_with s state step given values context is reply =
+    let read = only_reads s step state given values context is reply in
+    ap (λ e. context_read e s) read.1.0 ∙ ap (λ c. Some c) (sym read.1.1)
 
 -- ---- lives
 
@@ -315,7 +297,7 @@ handed_step : (w : World) (a : Accepted) (step : NodeEvent) (state : NodeParts) 
     → HandsOut (after w a (node_of_event a.event) node bytes (list_of (context_read step (node_at w (node_of_event a.event)).state))) a.answer
 handed_step w a step state s st bytes node = λ values context reply.
     let old = (node_at w (node_of_event a.event)).state in
-    let read : context_read step old ≡ Some context = reads_with old step s.reply values context (ready old step state s st.makes) (sym st.reply ∙ reply) in (
+    let read : context_read step old ≡ Some context = reads_with old state step s values context st.makes (sym st.reply ∙ reply) in (
       length w.contexts + 1,
       (
         st.read ∙ ap (read_after w.contexts) read,

@@ -10,8 +10,7 @@ invariant_of-result g c =
     let n = g.J.Naming in
     let r = c.requires in
     let base = r.states.0 in
-    let spare = r.states.1 in
-    let state = r.states.2 in
+    let state = r.states.1 in
     let steps = ap (λ (s : NodeParts). s.steps) state in
     let table = ap (λ (s : NodeParts). s.table) state in
     let count = c.len-out.ensures ∙ (c.args.parts.writers.ok.0 ∙ (ap length r.writers ∙ length-replicate c.args.capacity.writers 0)) in
@@ -23,7 +22,6 @@ invariant_of-result g c =
       omega (arith, ap (λ (s : NodeParts). s.steps) (base ∙ sym state)),
       omega (arith, count, r.shares),
       ap (with_all n.opening) r.publisher.0 ∙ sym table,
-      (λ _. spare ∙ sym state),
       r.served.served,
       (λ _. record { file = r.served.going; publisher = r.publisher.1; within = file_within n.opening _ _ r.lawful table r.served.table }),
     )

@@ -6,7 +6,7 @@ use Rattle.meta_frame.specs.declared.message.Message.TheVariants.{Gossip}
 use Rattle.meta_store.specs.Table.{object_at}
 use Rattle.plumtree.specs.Broadcast.{TakesGraft}
 use Rattle.node_overlay.specs.Overlay.{envelope}
-use Rattle.node_core.proofs.Casting.{after_graft, graft_sent, held_if_stale, told_step}
+use Rattle.node_core.proofs.Casting.{after_graft, graft_sent, held_if_stale, told_attempt}
 use Rattle.node_core.proofs.Making.{own_frames}
 use Rattle.node_core.proofs.state.NodeState.on_held_graft.Goals as goal
 
@@ -31,8 +31,7 @@ returns c =
     ap (λ (found : Option (List Entry)). unwrap_or found []) c.in-Some.ensures.value ∙ ap (λ t. object_at t key) table_is in
     let sent = own_frames c.self.view_is c.self.invariant.own_views
     (graft_sent from round key object c.self.inside.overlay ∙ ap (λ object. envelope from (Gossip round key object) ∷ []) is)
-    c.in_ok-outbox.ensures.sends in
-    told_step (TakesGraft from round key true) s _ c.finish-2.new.self c.on_graft.new.self _
-    (envelope from (Gossip round key (object_at s.table key)) ∷ []) c.in_ok-outbox.outbox c.finish-2.result c.self.view_is
-    c.in_ok-outbox.ensures.overlay (after_graft from round key c.args.vector.now s c.requires.held) c.finish-2.ensures.value
-    sent.frames sent.lawful c.finish-2.ensures.counts
+    c.in_ok-pending.ensures.sends in
+    told_attempt (TakesGraft from round key true) s _ c.in_ok-pending.pending c.on_graft.new.self _
+    (envelope from (Gossip round key (object_at s.table key)) ∷ []) c.in_ok-pending.outbox c.self.view_is c.self.invariant
+    c.in_ok-pending.ensures.pending (after_graft from round key c.args.vector.now s c.requires.held) sent.frames sent.lawful

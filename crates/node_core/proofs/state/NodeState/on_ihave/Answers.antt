@@ -11,8 +11,6 @@ returns c =
     let stale = c.is_stale-stale in
     let table_is = c.store.ensures ∙ ap (λ s. s.table) c.self.view_is in
     let stale_is = stale.ensures ∙ ap (λ t. is_stale t key vector) table_is in
-    told_quietly (TakesIHave c.args.from c.args.round key vector stale.result) c.args.self.now _ c.finish.new.self c.on_ihave.new.self _
-    c.nothing_sent.result c.finish.result
-    c.self.view_is c.in_ok-on_ihave.ensures.overlay
-    (after_ihave c.args.from c.args.round key vector c.args.self.now stale.result stale_is) c.finish.ensures.value c.nothing_sent.ensures
-    c.finish.ensures.counts
+    told_quietly (TakesIHave c.args.from c.args.round key vector stale.result) c.args.self.now _ c.in_ok-pending.pending c.on_ihave.new.self _
+    c.nothing_sent.result c.self.view_is c.self.invariant c.in_ok-pending.ensures.pending
+    (after_ihave c.args.from c.args.round key vector c.args.self.now stale.result stale_is) c.nothing_sent.ensures

@@ -1,17 +1,16 @@
-use Rattle.std.proofs.Common.{length, refl, sym, ap, ◌∙◌}
+use Rattle.std.proofs.Common.{refl, sym, ap, ◌∙◌}
 use Rattle.node_core.specs.Node.{NodeParts}
-use Rattle.node_core.specs.Step.{with_counts}
 use Rattle.node_core.proofs.Arriving.{fresh_kept, merge_refused}
 use Rattle.node_core.proofs.state.NodeState.on_object.Goals as goal
 
 pub returns-in_err-object : goal.returns-in_err-object
 returns-in_err-object c =
-    merge_refused c.from_residual.result c.args.self.now c.args.self.now c.args.key.now c.args.came.now _ _ _ refl
+    merge_refused c.from_residual.result c.args.self.now c.args.self.now c.args.key.now c.args.came.now _ _ _ _ refl
     (c.store.ensures ∙ ap (λ (s : NodeParts). s.table) c.self.view_is) c.in_err-object.ensures.fault c.from_residual.ensures.1
 
-pub returns-in_ok-change_quietly-in-Some : goal.returns-in_ok-change_quietly-in-Some
-returns-in_ok-change_quietly-in-Some c =
-    fresh_kept c.args.key.now c.args.came.now c.in-Some.object c.finish.new.self c.finish.result
-    (c.store.ensures ∙ ap (λ (s : NodeParts). s.table) c.self.view_is) (sym c.in-Some.is ∙ c.in_ok-object.ensures.value)
-    c.in_ok-object.ensures.no_refusal c.finish.ensures.value c.nothing_sent.ensures
-    (c.finish.ensures.counts ∙ ap (with_counts (length c.nothing_sent.result)) c.in_ok-change_quietly-in-Some.ensures.node)
+pub returns-in_ok-end-in-Some : goal.returns-in_ok-end-in-Some
+returns-in_ok-end-in-Some c =
+    let kept = c.in_ok-end-in-Some.ensures in
+    fresh_kept c.args.key.now c.args.came.now c.in-Some.object c.args.self.now c.change_quietly.new.self c.in_ok-news-in-Some.news
+    c.in_ok-end-in-Some.end c.nothing_sent.result (c.store.ensures ∙ ap (λ (s : NodeParts). s.table) c.self.view_is)
+    (sym c.in-Some.is ∙ c.in_ok-object.ensures.value) c.in_ok-object.ensures.no_refusal c.in_ok-news-in-Some.ensures.news c.nothing_sent.ensures kept.end kept.undo

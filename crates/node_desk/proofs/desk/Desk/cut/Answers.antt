@@ -18,5 +18,4 @@ invariant_of-self g c =
       i.6,
       i.7,
       i.8,
-      i.9,
     )

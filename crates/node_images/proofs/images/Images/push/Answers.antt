@@ -2,6 +2,7 @@ use Rattle.std.proofs.Common.{[], ◌∷◌, ◌++◌, map, sym, ap, subst, ◌�
 use Rattle.std.specs.Prelude.{All}
 use Rattle.std.specs.Option.{option_copied}
 use Rattle.meta_store.proofs.Maps.{always}
+use Rattle.node_images.specs.Images.{change_of}
 use Rattle.node_images.specs.Logs.{IsImageKept, whole_image}
 use Rattle.node_images.proofs.Growing.{images_on, kept_on, one_more_image, one_more_kept}
 use Rattle.node_images.proofs.images.Images.push.Goals as goal
@@ -39,4 +40,4 @@ pub returns-clause-value : goal.returns-clause-value
 returns-clause-value c =
     one_more_image c.self.inside.logs c.keep.new.logs c.self.inside.kept.items c.push.new.self.items c.args.base c.in_ok-change.change _
     c.keep.ensures.grow c.self.invariant c.in_ok-push.ensures.items c.in_ok-change.ensures.value
-    ∙ ap (λ images. images ++ (record { base = c.args.base; change = option_copied c.args.change }) ∷ []) c.self.view_is
+    ∙ ap (λ images. images ++ (record { base = c.args.base; change = change_of c.args.key.now (option_copied c.args.object) }) ∷ []) c.self.view_is

@@ -2,35 +2,28 @@ use Rattle.std.proofs.Common.{◌≡◌, All, refl, sym, ap, subst, ◌∙◌}
 use Rattle.std.proofs.lemmas.Result.{IfOk-at_ok}
 use Rattle.plumtree.specs.Broadcast.{Tick}
 use Rattle.plumtree.specs.Lawful.{after_call}
-use Rattle.plumtree.specs.Ticking.{Peers, peers_of}
+use Rattle.plumtree.specs.Ticking.{Peers, peers_of, with_peers}
+use Rattle.node_overlay.specs.declared.pending.Pending.TheVariants.{Tick as OfTick}
 use Rattle.node_overlay.specs.Origin.{whole_messages}
 use Rattle.node_overlay.specs.Outbox.{AreFramesOf, MaySend}
 use Rattle.node_overlay.specs.Overlay.{IsOverlay, Overlay, out_of, overlay_after_call, overlay_of}
 use Rattle.node_overlay.proofs.Naming.{framed, names_others_on, same_frames}
+use Rattle.node_overlay.proofs.Asked.{foreseen}
 use Rattle.node_overlay.proofs.overlay.Overlay.on_quiet_tick.Goals as goal
-use Rattle.node_overlay.proofs.overlay.Overlay.on_quiet_tick.Goals.{After-make_tick}
-
-is_after : (c : After-make_tick)
-    → overlay_of c.self.inside.views c.make_tick.new.self ≡ overlay_after_call Tick c.args.self.now
-is_after c = ap (overlay_of c.self.inside.views) c.make_tick.ensures ∙ ap (overlay_after_call Tick) c.self.view_is
-
-pub make_tick-requires : goal.make_tick-requires
-make_tick-requires c =
-    IfOk-at_ok (λ (peers : Peers). peers ≡ peers_of (after_call c.args.self.now.cast Tick)) c.in_ok-peers-2.ensures.value.0 c.in_ok-peers.ensures.peers
-    ∙ sym (ap (λ (o : Overlay). peers_of (after_call o.cast Tick)) c.self.view_is)
 
 pub outbox-outbox-requires : goal.outbox-outbox-requires
 outbox-outbox-requires c =
     let own = c.node.ensures ∙ ap (λ (o : Overlay). o.views.node) c.self.view_is in
     subst (λ n. All (MaySend n) c.in_ok-peers.sent.items) (sym own) c.in_ok-peers.ensures.may
 
-pub invariant_of-self : goal.invariant_of-self
-invariant_of-self c =
+pub returns-clause-pending : goal.returns-clause-pending
+returns-clause-pending c =
+    let o = c.args.self.now in
+    let peers = IfOk-at_ok (λ (peers : Peers). peers ≡ peers_of (after_call o.cast Tick)) c.in_ok-peers-2.ensures.value.0 c.in_ok-peers.ensures.peers in
     let was = subst IsOverlay c.self.view_is c.self.invariant in
-    subst IsOverlay (sym (is_after c)) (names_others_on.calls c.args.self.now Tick tt tt was)
-
-pub returns-clause-overlay : goal.returns-clause-overlay
-returns-clause-overlay c = is_after c
+    foreseen (OfTick c.in_ok-peers-2.peers) o (overlay_after_call Tick o)
+    (ap (λ (peers : Peers). overlay_of o.views (with_peers peers (after_call o.cast Tick))) peers) refl was
+    (names_others_on.calls o Tick tt tt was)
 
 pub returns-clause-sends : goal.returns-clause-sends
 returns-clause-sends c =

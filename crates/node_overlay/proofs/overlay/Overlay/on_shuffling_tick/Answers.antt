@@ -1,26 +1,27 @@
-use Rattle.std.proofs.Common.{◌≡◌, ◌++◌, Vec, Global, All, sym, ap, subst, ◌∙◌}
+use Rattle.std.proofs.Common.{◌≡◌, ◌++◌, Vec, Global, All, refl, sym, ap, subst, ◌∙◌}
 use Rattle.std.proofs.lemmas.Result.{IfOk-at_ok}
 use Rattle.hyparview.specs.declared.event.ViewEvent.TheVariants.{ShuffleDue}
 use Rattle.hyparview.specs.Views.{NodeViews, draft_after, views_of}
 use Rattle.plumtree.specs.Broadcast.{Tick}
-use Rattle.plumtree.specs.Ticking.{Peers, peers_of}
+use Rattle.plumtree.specs.Ticking.{Peers, peers_of, with_peers}
 use Rattle.plumtree.specs.Lawful.{after_call}
 use Rattle.node_overlay.specs.declared.envelope.Envelope.{Envelope}
+use Rattle.node_overlay.specs.declared.pending.Pending.TheVariants.{Shuffle}
 use Rattle.node_overlay.specs.Origin.{whole_messages}
 use Rattle.node_overlay.specs.Outbox.{AreFramesOf, MaySend}
 use Rattle.node_overlay.specs.Overlay.{IsOverlay, Overlay, out_of, overlay_after_call, overlay_after_view, overlay_of, sent_by_view}
 use Rattle.node_overlay.proofs.Naming.{names_others_on, same_frames}
+use Rattle.node_overlay.proofs.Asked.{foreseen}
 use Rattle.node_overlay.proofs.Shuffling.{after_shuffling}
 use Rattle.node_overlay.proofs.overlay.Overlay.on_shuffling_tick.Goals as goal
-use Rattle.node_overlay.proofs.overlay.Overlay.on_shuffling_tick.Goals.{After-make_tick}
 
 -- what the two made
-views_is : (c : After-make_tick) → c.in_ok-peers.views ≡ views_of (draft_after ShuffleDue c.args.word c.args.self.now.views)
+views_is : (c : goal.In_ok-peers-2) → c.in_ok-peers.views ≡ views_of (draft_after ShuffleDue c.args.word c.args.self.now.views)
 views_is c =
     IfOk-at_ok (λ (t : NodeViews × Vec Envelope Global). t.0 ≡ views_of (draft_after ShuffleDue c.args.word c.args.self.now.views))
     c.in_ok-peers.ensures.value.1 c.after_shuffle.ensures.views
 
-is_sent : (c : After-make_tick) → c.in_ok-peers.sent.items ++ c.in_ok-peers.more.items
+is_sent : (c : goal.In_ok-peers-2) → c.in_ok-peers.sent.items ++ c.in_ok-peers.more.items
     ≡ whole_messages (out_of Tick c.args.self.now) ++ sent_by_view ShuffleDue c.args.word c.args.self.now
 is_sent c =
     let o = c.args.self.now in
@@ -29,22 +30,6 @@ is_sent c =
     let back = IfOk-at_ok (λ (t : NodeViews × Vec Envelope Global). t.1.items ≡ sent_by_view ShuffleDue c.args.word o) c.in_ok-peers.ensures.value.1
     c.after_shuffle.ensures.sent in
     λ i. front i ++ back i
-
-is_after : (c : After-make_tick) → overlay_of c.in_ok-peers-2.views c.make_tick.new.self
-    ≡ overlay_after_view ShuffleDue c.args.word (overlay_after_call Tick c.args.self.now)
-is_after c =
-    let o = c.args.self.now in
-    let views = IfOk-at_ok (λ (t : Peers × NodeViews). t.1 ≡ views_of (draft_after ShuffleDue c.args.word o.views)) c.in_ok-peers-2.ensures.value.0 (views_is c) in
-    let cast = c.make_tick.ensures ∙ ap (λ (o : Overlay). after_call o.cast Tick) c.self.view_is in
-    (λ i. overlay_of (views i) (cast i)) ∙ after_shuffling c.args.word o
-
-pub make_tick-requires : goal.make_tick-requires
-make_tick-requires c =
-    let o = c.args.self.now in
-    let is = IfOk-at_ok (λ (t : Peers × Vec Envelope Global). t.0 ≡ peers_of (after_call o.cast Tick)) c.in_ok-peers.ensures.value.0
-    c.after_broadcast_tick-ticked.ensures.peers in
-    IfOk-at_ok (λ (t : Peers × NodeViews). t.0 ≡ peers_of (after_call o.cast Tick)) c.in_ok-peers-2.ensures.value.0 is
-    ∙ sym (ap (λ (o : Overlay). peers_of (after_call o.cast Tick)) c.self.view_is)
 
 pub joined_outbox-outbox-requires-clause-front : goal.joined_outbox-outbox-requires-clause-front
 joined_outbox-outbox-requires-clause-front c =
@@ -62,15 +47,19 @@ joined_outbox-outbox-requires-clause-back c =
     (IfOk-at_ok (λ (t : NodeViews × Vec Envelope Global). All (MaySend o.views.node) t.1.items) c.in_ok-peers.ensures.value.1
     c.after_shuffle.ensures.may)
 
-pub invariant_of-self : goal.invariant_of-self
-invariant_of-self c =
+pub returns-clause-pending : goal.returns-clause-pending
+returns-clause-pending c =
     let o = c.args.self.now in
+    let word = c.args.word in
+    let made = c.in_ok-peers-2.ensures.value.0 in
+    let views = IfOk-at_ok (λ (t : Peers × NodeViews). t.1 ≡ views_of (draft_after ShuffleDue word o.views)) made (views_is c) in
+    let foreseen_peers = IfOk-at_ok (λ (t : Peers × Vec Envelope Global). t.0 ≡ peers_of (after_call o.cast Tick)) c.in_ok-peers.ensures.value.0
+    c.after_broadcast_tick-ticked.ensures.peers in
+    let peers = IfOk-at_ok (λ (t : Peers × NodeViews). t.0 ≡ peers_of (after_call o.cast Tick)) made foreseen_peers in
     let was = subst IsOverlay c.self.view_is c.self.invariant in
-    subst IsOverlay (sym (is_after c))
-    (names_others_on.views (overlay_after_call Tick o) ShuffleDue c.args.word tt (names_others_on.calls o Tick tt tt was))
-
-pub returns-clause-overlay : goal.returns-clause-overlay
-returns-clause-overlay c = is_after c
+    foreseen (Shuffle c.in_ok-peers-2.views c.in_ok-peers-2.peers) o (overlay_after_view ShuffleDue word (overlay_after_call Tick o))
+    ((λ i. overlay_of (views i) (with_peers (peers i) (after_call o.cast Tick))) ∙ after_shuffling word o) refl was
+    (names_others_on.views (overlay_after_call Tick o) ShuffleDue word tt (names_others_on.calls o Tick tt tt was))
 
 pub returns-clause-sends : goal.returns-clause-sends
 returns-clause-sends c =

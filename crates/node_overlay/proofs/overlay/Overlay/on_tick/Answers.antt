@@ -1,10 +1,11 @@
-use Rattle.std.proofs.Common.{◌≡◌, ◌≢◌, ◌%◌, ℕ, cond, ◌++◌, eq-eqb, refl, sym, ap, ◌∙◌}
+use Rattle.std.proofs.Common.{◌≡◌, ◌≢◌, ◌%◌, ℕ, cond, ◌++◌, eq-eqb, refl, sym, ap, subst}
 use Rattle.std.proofs.lemmas.Bool.{ne_eqb}
-use Rattle.std.proofs.lemmas.Result.{IfOk-weaker, on_ok_weaker}
+use Rattle.std.proofs.lemmas.Result.{IfOk-weaker}
 use Rattle.hyparview.specs.declared.event.ViewEvent.TheVariants.{ShuffleDue}
 use Rattle.plumtree.specs.Broadcast.{Tick}
 use Rattle.node_overlay.specs.Origin.{overlay_after_tick, sent_by_tick, whole_messages}
 use Rattle.node_overlay.specs.Overlay.{Overlay, out_of, overlay_after_call, overlay_after_view, sent_by_view}
+use Rattle.node_overlay.specs.Pending.{Pends}
 use Rattle.node_overlay.proofs.Naming.{same_frames}
 use Rattle.node_overlay.proofs.overlay.Overlay.on_tick.Goals as goal
 
@@ -34,24 +35,26 @@ not_due_sent ticks word o not_due =
     let sent = whole_messages (out_of Tick o) in
     sym (ap (λ is. cond is (sent ++ sent_by_view ShuffleDue word o) sent) (ne_eqb (ticks % 10) 0 not_due))
 
-pub returns-then-ticks-eq0-clause-overlay : goal.returns-then-ticks-eq0-clause-overlay
-returns-then-ticks-eq0-clause-overlay c =
-    on_ok_weaker c.on_shuffling_tick.result (λ is. is ∙ due_after c.args.ticks c.args.word c.args.self.now c.if-ticks-eq0.true)
-    c.on_shuffling_tick.ensures.overlay
+pub returns-then-ticks-eq0-clause-pending : goal.returns-then-ticks-eq0-clause-pending
+returns-then-ticks-eq0-clause-pending c =
+    let o = c.args.self.now in
+    IfOk-weaker c.on_shuffling_tick.result _ _ (λ seen. subst (Pends seen.0 o o) (due_after c.args.ticks c.args.word o c.if-ticks-eq0.true))
+    c.on_shuffling_tick.ensures.pending
 
 pub returns-then-ticks-eq0-clause-sends : goal.returns-then-ticks-eq0-clause-sends
 returns-then-ticks-eq0-clause-sends c =
     IfOk-weaker c.on_shuffling_tick.result _ _
-    (λ outbox frames. same_frames refl (due_sent c.args.ticks c.args.word c.args.self.now c.if-ticks-eq0.true) frames)
+    (λ seen frames. same_frames refl (due_sent c.args.ticks c.args.word c.args.self.now c.if-ticks-eq0.true) frames)
     c.on_shuffling_tick.ensures.sends
 
-pub returns-else-ticks-eq0-clause-overlay : goal.returns-else-ticks-eq0-clause-overlay
-returns-else-ticks-eq0-clause-overlay c =
-    on_ok_weaker c.on_quiet_tick.result (λ is. is ∙ not_due_after c.args.ticks c.args.word c.args.self.now c.if-ticks-eq0.false)
-    c.on_quiet_tick.ensures.overlay
+pub returns-else-ticks-eq0-clause-pending : goal.returns-else-ticks-eq0-clause-pending
+returns-else-ticks-eq0-clause-pending c =
+    let o = c.args.self.now in
+    IfOk-weaker c.on_quiet_tick.result _ _ (λ seen. subst (Pends seen.0 o o) (not_due_after c.args.ticks c.args.word o c.if-ticks-eq0.false))
+    c.on_quiet_tick.ensures.pending
 
 pub returns-else-ticks-eq0-clause-sends : goal.returns-else-ticks-eq0-clause-sends
 returns-else-ticks-eq0-clause-sends c =
     IfOk-weaker c.on_quiet_tick.result _ _
-    (λ outbox frames. same_frames refl (not_due_sent c.args.ticks c.args.word c.args.self.now c.if-ticks-eq0.false) frames)
+    (λ seen frames. same_frames refl (not_due_sent c.args.ticks c.args.word c.args.self.now c.if-ticks-eq0.false) frames)
     c.on_quiet_tick.ensures.sends

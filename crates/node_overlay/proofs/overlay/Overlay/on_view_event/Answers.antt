@@ -1,17 +1,14 @@
-use Rattle.std.proofs.Common.{◌≡◌, rules, subst, sym}
-use Rattle.node_overlay.specs.Overlay.{IsOverlay, overlay_after_view, overlay_of}
+use Rattle.std.proofs.Common.{rules, refl, subst}
+use Rattle.node_overlay.specs.declared.pending.Pending.TheVariants.{Views}
+use Rattle.node_overlay.specs.Overlay.{IsOverlay, overlay_after_view}
 use Rattle.node_overlay.proofs.Naming.{names_others_on}
+use Rattle.node_overlay.proofs.Asked.{foreseen}
 use Rattle.node_overlay.proofs.overlay.Overlay.on_view_event.Goals as goal
-use Rattle.node_overlay.proofs.overlay.Overlay.on_view_event.Goals.{After-drop-changes-2}
 
-is_after : (c : After-drop-changes-2)
-    → overlay_of c.in_ok-views.views c.change_peers.new.self ≡ overlay_after_view c.args.event.now c.args.word c.args.self.now
-is_after c = search rules
-
-pub invariant_of-self-2 : goal.invariant_of-self-2
-invariant_of-self-2 c =
+pub returns-clause-pending : goal.returns-clause-pending
+returns-clause-pending c =
+    let o = c.args.self.now in
+    let event = c.args.event.now in
     let was = subst IsOverlay c.self.view_is c.self.invariant in
-    subst IsOverlay (sym (is_after c)) (names_others_on.views c.args.self.now c.args.event.now c.args.word c.requires was)
-
-pub returns-clause-overlay : goal.returns-clause-overlay
-returns-clause-overlay c = is_after c
+    foreseen (Views c.in_ok-views.views c.in_ok-peers.peers c.in_ok-views.changes) o (overlay_after_view event c.args.word o) (search rules) refl was
+    (names_others_on.views o event c.args.word c.requires was)

@@ -1,37 +1,15 @@
-use Rattle.std.proofs.Common.{subst}
-use Rattle.plumtree.specs.Broadcast.{Broadcasts, TakesFresh}
-use Rattle.plumtree.specs.Lawful.{MayCome}
-use Rattle.node_overlay.specs.declared.origin.Origin.{Origin}
+use Rattle.std.proofs.Common.{ap, subst, ◌∙◌}
+use Rattle.plumtree.specs.Savepoint.{savepoint_of}
 use Rattle.node_overlay.specs.Origin.{call_of}
-use Rattle.node_overlay.proofs.Naming.{told_may, told_or_kept}
+use Rattle.node_overlay.specs.Overlay.{IsOverlay, Overlay}
+use Rattle.node_overlay.proofs.Asked.{called_from, is_of_objects}
 use Rattle.node_overlay.proofs.overlay.Overlay.spread.Goals as goal
 
-may_write : (c : goal.After-on_broadcast)
-    → MayCome c.args.self.now.views.node (Broadcasts c.args.key.now c.args.vector.now)
-may_write c =
-    subst (λ (o : Origin). MayCome c.args.self.now.views.node (call_of o c.args.key.now c.args.vector.now)) c.in-Write.is c.requires
-
-may_hear : (c : goal.After-on_fresh)
-    → MayCome c.args.self.now.views.node (TakesFresh c.in-Gossip.from c.in-Gossip.round c.args.key.now c.args.vector.now)
-may_hear c =
-    subst (λ (o : Origin). MayCome c.args.self.now.views.node (call_of o c.args.key.now c.args.vector.now)) c.in-Gossip.is c.requires
-
-pub invariant_of-self : goal.invariant_of-self
-invariant_of-self c =
-    let call = c.on_broadcast in
-    told_or_kept (λ outs. outs.items) call.result call.new.self _ c.self.view_is c.self.invariant call.ensures.row call.ensures.unchanged tt (may_write c)
-
-pub returns-in-Write-clause-may : goal.returns-in-Write-clause-may
-returns-in-Write-clause-may c =
-    let call = c.on_broadcast in
-    told_may (λ outs. outs.items) call.result call.new.self _ c.self.view_is c.self.invariant call.ensures.row (may_write c)
-
-pub invariant_of-self-in-Gossip : goal.invariant_of-self-in-Gossip
-invariant_of-self-in-Gossip c =
-    let call = c.on_fresh in
-    told_or_kept (λ outs. outs.items) call.result call.new.self _ c.self.view_is c.self.invariant call.ensures.row call.ensures.unchanged tt (may_hear c)
-
-pub returns-in-Gossip-clause-may : goal.returns-in-Gossip-clause-may
-returns-in-Gossip-clause-may c =
-    let call = c.on_fresh in
-    told_may (λ outs. outs.items) call.result call.new.self _ c.self.view_is c.self.invariant call.ensures.row (may_hear c)
+pub returns-clause-pending : goal.returns-clause-pending
+returns-clause-pending c =
+    let origin = c.args.origin in
+    let call = call_of origin c.args.key.now c.args.vector.now in
+    let of = is_of_objects origin c.args.key.now c.args.vector.now in
+    called_from c.in_ok-savepoint.savepoint call c.args.self.now c.call.new.self c.in_ok-outs.ensures.overlay
+    (c.in_ok-savepoint.ensures ∙ ap (λ (o : Overlay). savepoint_of o.cast) c.self.view_is)
+    (subst IsOverlay c.self.view_is c.self.invariant) of.0 of.1 c.requires
