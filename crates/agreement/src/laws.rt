@@ -195,10 +195,11 @@ pub fn exchanges_of_objects_are_exchanges_of_knowledge()
 /// forth is delivered, once and in the order in which they were sent, none is refused, and nothing
 /// else happens at the two; at other nodes anything may. Then both hold, under each key, the object
 /// of what either knew, and know that by the new history; so they show equal siblings and contexts,
-/// and have equal roots. A node of which there was no event is as it was. Or two unequal byte
-/// strings, hashed for the tables of the two when it began, have one digest.
+/// and have equal roots; or two unequal byte strings, hashed for the tables of the two when it
+/// began, have one digest. A node of which there was no event is as it was.
 ///
-/// Frames that were sent before may still be on their way; none of them comes to the two meanwhile.
+/// The order is one over both directions. Frames that were sent before may still be on their way;
+/// none of them comes to the two meanwhile.
 pub fn an_exchange_in_a_world_gives_both_the_union(world: &World)
     ensures union { (e : Exchange) (new : W) → Exchanges world.now e new
         → OfAllTold world.now (λ t. BothHoldAll t e new ⊎ CollidesIn world.now e) }

@@ -83,7 +83,8 @@ impl Attempt {
 }
 
 impl NodeState {
-    /// Makes the step that was attempted. Returns the reply, and the frames to send.
+    /// Makes the step that was attempted, if nothing was asked of the node since. Returns the reply,
+    /// and the frames to send.
     pub fn commit(&mut self, attempt: Attempt) -> Stepped
         requires { CanEnd attempt self.old }
         ensures node { self.new ≡ committed attempt self.old }
@@ -94,7 +95,7 @@ impl NodeState {
         self.finish(reply, outbox)
     }
 
-    /// Takes the attempt back: the node is as it was.
+    /// Takes the attempt back, if nothing was asked of the node since: it is as it was.
     pub fn take_back(&mut self, attempt: Attempt)
         requires { CanEnd attempt self.old }
         ensures { self.new ≡ taken_back attempt self.old }

@@ -78,10 +78,15 @@ abbrev pub IsOverfullWith : Option ℕ → Option Record → Type 0
 IsOverfullWith None stored = ⊥
 IsOverfullWith (Some gate) stored = IsTooLong gate stored
 
+-- there is something to store, and a file of this closed gate can take it
+pub record IsWanted (gate : Option ℕ) (stored : Option Record) : Type 0 where
+  pub there : spelled_for gate stored ≢ None
+  pub fits : IsOverfullWith gate stored → ⊥
+
 -- why what is to be stored isn't spelled: the file is full, or memory ran out
 abbrev pub RefusesSpelling : Option ℕ → Option Record → HostFault → Type 0
 RefusesSpelling gate stored FileFull = IsOverfullWith gate stored
-RefusesSpelling gate stored Memory = Unit {0}
+RefusesSpelling gate stored Memory = IsWanted gate stored
 RefusesSpelling gate stored fault = ⊥
 
 -- the node can make the step, and the host's file can't take its record

@@ -17,8 +17,7 @@ pub enum HostFault {
     Step(StepFault),
     /// 33: the file would be too long.
     FileFull,
-    /// 34: the node is stopped: the host failed to store a record, or the node made a step that
-    /// could not be handed out.
+    /// 34: the node is stopped, since the host failed to store a record.
     Stopped,
     /// 37: the host hasn't stored or fetched all that an earlier step gave.
     Pending,
