@@ -8,10 +8,12 @@ use Rattle.crossbeam_queue.specs.Fifo.{Pushes, Pops, Forks, Merges, Learns}
 use Rattle.crossbeam_queue.proofs.Lists.{at_set}
 use Rattle.inbox.specs.declared.parcel.Parcel.{Parcel}
 use Rattle.inbox.specs.declared.rule.Knowledge.{Knowledge}
-use Rattle.inbox.specs.Balance.{HasEach, Balances}
+use Rattle.std.specs.Prelude.{nat_eq}
+use Rattle.std.specs.List.{IsDistinct}
+use Rattle.inbox.specs.Balance.{HasEach, Balances, senders_of}
 use Rattle.inbox.specs.Moments.{HasPuts}
 use Rattle.inbox.specs.Parcels.{parcels_of}
-use Rattle.inbox.specs.Rule.{sender, taker, nobody, FitsSender, FitsTaker, AreBack, NoneFrom, FitsRole, KeepsOrder}
+use Rattle.inbox.specs.Rule.{sender, taker, nobody, FitsSender, FitsTaker, AreBack, NoneFrom, FitsRole, KeepsOrder, LeavesBalanced}
 use Rattle.inbox.proofs.Lists.{snoc_at, Each, each_set, parcels_of-append, parcels_of_own, parcels_of_other, changed, changed_here, changed_else}
 use Rattle.inbox.proofs.Once.{none_once, once_more}
 
@@ -128,12 +130,31 @@ learns_puts place v may items views h at =
 
 -- ---- a frame is taken
 
+has_each : (sent : Sent) (seat : Seats) (made : ℕ) (all : List Parcel) (bs : BackList)
+    → ((p : ℕ) → parcels_of p all ≡ sent p) → AreBack sent seat made bs → HasEach made bs all
+has_each sent seat made all [] is k = tt
+has_each sent seat made all (b ∷ bs) is k =
+    (k.0, is b.0 ∙ sym k.2, has_each sent seat made all bs is k.3)
+
+balanced : (sent : Sent) (seat : Seats) (made : ℕ) (taken : List Parcel) (bs : BackList)
+    (items : List Parcel) → ((p : ℕ) → parcels_of p (taken ++ items) ≡ sent p)
+    → AreBack sent seat made bs → IsDistinct nat_eq (senders_of bs) → NoneFrom sent seat made
+    → Balances made taken bs items
+balanced sent seat made taken bs items is known once unmade = record {
+  each = has_each sent seat made (taken ++ items) bs is known;
+  once = once;
+  no_other = λ p from. is p ∙ (unmade p from).1;
+}
+
 pub takes : (place : ℕ) (v : Knowledge) → v.takes ≡ true
-    → Pops KeepsOrder place v (λ x w. w ≡ taker v.made (v.taken ++ x ∷ []) v.back)
+    → Pops KeepsOrder place v (λ x w. LeavesBalanced v.made (v.taken ++ x ∷ []) v.back w)
 takes place v may x items views h at =
     let w : Knowledge = taker v.made (v.taken ++ x ∷ []) v.back in
     let got = h.got ++ x ∷ [] in
-    let mine = (h.fit place v at).1 may in (
+    let mine = (h.fit place v at).1 may in
+    let is : (p : ℕ) → parcels_of p ((v.taken ++ x ∷ []) ++ items) ≡ h.sent p =
+    λ p. ap (λ l. parcels_of p ((l ++ x ∷ []) ++ items)) mine.all
+    ∙ ap (parcels_of p) (append_assoc h.got (x ∷ []) items) ∙ h.in_order p in (
       w,
       record {
         reader = h.reader;
@@ -156,14 +177,12 @@ takes place v may x items views h at =
               λ p. absurd (other (((h.fit j u e).1 p).here ∙ sym mine.here)),
             ));
       },
-      refl,
+      record {
+        knows = refl;
+        left = items;
+        balances = balanced h.sent h.seat v.made (v.taken ++ x ∷ []) v.back items is mine.known mine.once mine.unmade;
+      },
     )
-
-has_each : (sent : Sent) (seat : Seats) (made : ℕ) (all : List Parcel) (bs : BackList)
-    → ((p : ℕ) → parcels_of p all ≡ sent p) → AreBack sent seat made bs → HasEach made bs all
-has_each sent seat made all [] is k = tt
-has_each sent seat made all (b ∷ bs) is k =
-    (k.0, is b.0 ∙ sym k.2, has_each sent seat made all bs is k.3)
 
 -- what the taker learns
 pub learns : (place : ℕ) (v : Knowledge) → v.takes ≡ true
@@ -172,11 +191,7 @@ learns place v may items views h at =
     let mine = (h.fit place v at).1 may in
     let is : (p : ℕ) → parcels_of p (v.taken ++ items) ≡ h.sent p =
     λ p. ap (λ l. parcels_of p (l ++ items)) mine.all ∙ h.in_order p in
-    record {
-      each = has_each h.sent h.seat v.made (v.taken ++ items) v.back is mine.known;
-      once = mine.once;
-      no_other = λ p from. is p ∙ (mine.unmade p from).1;
-    }
+    balanced h.sent h.seat v.made v.taken v.back items is mine.known mine.once mine.unmade
 
 -- ---- a pass is handed out
 

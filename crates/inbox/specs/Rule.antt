@@ -6,7 +6,7 @@ use mathlib.Core.Option.{Option, some, none}
 use lib.ListN.{get_elem?}
 use Rattle.inbox.specs.declared.parcel.Parcel.{Parcel}
 use Rattle.inbox.specs.declared.rule.Knowledge.{Knowledge}
-use Rattle.inbox.specs.Balance.{senders_of}
+use Rattle.inbox.specs.Balance.{Balances, senders_of}
 use Rattle.inbox.specs.Parcels.{parcels_of}
 
 -- what the pass of a sender knows: its number, and what was put by it
@@ -33,6 +33,13 @@ taker made taken back = record {
   made = made;
   back = back;
 }
+
+-- a taker knows this, and some parcels are left with which it balances
+pub record LeavesBalanced (made : ℕ) (taken : List Parcel) (back : List (ℕ × List Parcel))
+    (w : Knowledge) : Type 0 where
+  pub knows : w ≡ taker made taken back
+  pub left : List Parcel
+  pub balances : Balances made taken back left
 
 -- what a pass that came back knows: nothing
 abbrev pub nobody : Knowledge

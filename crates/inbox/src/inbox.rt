@@ -1,4 +1,4 @@
-ghost use Rattle.std.specs.Prelude.{◌≡◌, ◌↔◌, ◌⊎◌, ◌≤◌, List, [], true, IfOk, IfErr, IsErrOf, IfSome, IsNone, MatchResult, vec_capacity};
+ghost use Rattle.std.specs.Prelude.{◌≡◌, ◌↔◌, ◌⊎◌, ◌≤◌, List, [], true, IfOk, IfErr, IsErrOf, IfSome, IsNone, MatchResult, OnSome, vec_capacity};
 ghost use Rattle.crossbeam_queue.specs.Passes.{view, IsPassOf, ruled_capacity};
 ghost use Rattle.meta_types.specs.Failing.{FailsWith};
 ghost use Rattle.inbox.specs.Balance.{MayBeLeft};
@@ -145,6 +145,7 @@ impl Inbox {
     pub fn take<R: Wait>(&self, rt: &R, pass: &mut TakePass) -> Option<Parcel>
         requires { pass.old.line ≡ self.now.line }
         ensures some { IfSome result (λ parcel. pass.new ≡ with_taken pass.old parcel) }
+        ensures left { OnSome result ((left : List AParcel) × MayBeLeft pass.new left) }
         ensures none { IsNone result → (pass.new ≡ pass.old) × WasEmpty pass.old }
     {
         self.queue.pop_as::<Takes, R>(rt, &mut pass.pass)

@@ -66,14 +66,15 @@ impl Lesson<Parcel, Knowledge> for Puts {
     ghost fact = { λ v items. HasPuts v.from v.put items };
 }
 
-/// A frame is taken; if there is none, all that came back has been taken.
+/// A frame is taken, and what is left balances what was taken; if there is none, all that came back
+/// has been taken.
 pub struct Takes;
 
 impl Outcome<Parcel, Knowledge> for Takes {
-    ghost use Rattle.std.specs.Prelude.{◌≡◌, ◌++◌, ◌∷◌, []};
-    ghost use Rattle.inbox.specs.Rule.{taker};
+    ghost use Rattle.std.specs.Prelude.{◌++◌, ◌∷◌, []};
+    ghost use Rattle.inbox.specs.Rule.{LeavesBalanced};
 
-    ghost then = { λ v x w. w ≡ taker v.made (v.taken ++ x ∷ []) v.back };
+    ghost then = { λ v x w. LeavesBalanced v.made (v.taken ++ x ∷ []) v.back w };
 }
 
 impl Lesson<Parcel, Knowledge> for Takes {
