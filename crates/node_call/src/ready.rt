@@ -4,7 +4,7 @@ ghost use Rattle.std.specs.Prelude.{◌≡◌, ◌≢◌, ◌<◌, ◌^◌, ◌-
 ghost use Rattle.std.specs.FinMap.{find};
 ghost use Rattle.std.specs.Option.{option_copied};
 ghost use Rattle.meta_types.specs.Order.{key_cmp};
-ghost use Rattle.node_core.specs.Attempt.{IsAttempt, changed_key, committed, stepped_of};
+ghost use Rattle.node_core.specs.Attempt.{IsAttempt, changed_key, committed, stepped_by};
 ghost use Rattle.node_core.specs.Growing.{TellsKeyChanged};
 ghost use Rattle.node_core.specs.Step.{CanComeOf};
 ghost use Rattle.node_call.specs.Journaled.{IsPublishedBy};
@@ -82,7 +82,7 @@ pub fn prepare(
 ) -> Result<(Attempt, Ready), LockFault>
     ensures attempt { IfOk result (λ it. IsAttempt state.old event state.new it.0) }
     ensures ready { IfOk result
-        (λ it. IsReady state.old event (committed it.0 state.new) (stepped_of it.0) it.1) }
+        (λ it. IsReady state.old event (committed it.0 state.new) (stepped_by it.0) it.1) }
     ensures room { OnOk result (vec_len journal.new < vec_capacity journal.new) }
     ensures few { OnOk result
         ((length journal.old.items < limit) × (state.old.steps < 2 ^ 64 - 1)) }
@@ -111,7 +111,7 @@ fn prepare_on(
 ) -> Result<(Attempt, Made), LockFault>
     ensures attempt { IfOk result (λ it. IsAttempt state.old event.now state.new it.0) }
     ensures made { IfOk result
-        (λ it. IsMade state.old event.now (committed it.0 state.new) (stepped_of it.0) it.1) }
+        (λ it. IsMade state.old event.now (committed it.0 state.new) (stepped_by it.0) it.1) }
     ensures room { OnOk result (vec_len journal.new < vec_capacity journal.new) }
     ensures few { OnOk result
         ((length journal.old.items < limit) × (state.old.steps < 2 ^ 64 - 1)) }
@@ -135,7 +135,7 @@ fn prepare_on(
 fn attempt_known(state: &mut NodeState, event: &NodeEvent) -> Result<Attempt, StepFault>
     ensures attempt { IfOk result (IsAttempt state.old event.now state.new) }
     ensures known { IfOk result
-        (λ a. IsKnownStep state.old event.now (committed a state.new) (stepped_of a)) }
+        (λ a. IsKnownStep state.old event.now (committed a state.new) (stepped_by a)) }
     ensures can { OnOk result (CanStep state.old event.now) }
     ensures refused { IfErr result (CanComeOf state.old event.now) }
     ensures same { OnErr result (state.new ≡ state.old) }
@@ -162,7 +162,7 @@ fn make(
     requires changed { TellsKeyChanged event.now attempt.now.reply (changed_key attempt.now) }
     requires held { HoldsChanged event.now attempt.now.reply store.now }
     ensures entry { IfOk result
-        (λ made. made.entry ≡ entry_made event.now (stepped_of attempt.now)) }
+        (λ made. made.entry ≡ entry_made event.now (stepped_by attempt.now)) }
     ensures change { IfOk result (λ made.
         IsPublishedBy event.now attempt.now.reply store.now (listed made.change)) }
     ensures room { OnOk result (vec_len journal.new < vec_capacity journal.new) }
@@ -196,7 +196,7 @@ fn make_room(journal: &mut Vec<Entry>, limit: usize, steps: u64) -> Result<(), L
 
 /// Returns the entry of the step that was attempted.
 fn entry_of(event: &NodeEvent, attempt: &Attempt) -> Result<Entry, AllocError>
-    ensures { IfOk result (λ entry. entry ≡ entry_made event.now (stepped_of attempt.now)) }
+    ensures { IfOk result (λ entry. entry ≡ entry_made event.now (stepped_by attempt.now)) }
 {
     Ok(Entry {
         event: event.copy()?,

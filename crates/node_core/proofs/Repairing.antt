@@ -12,7 +12,7 @@ use Rattle.node_events.specs.declared.fault.StepFault.{StepFault}
 use Rattle.std.specs.Result.{IsErrAnd}
 use Rattle.node_core.specs.declared.attempt.Attempt.{Attempt}
 use Rattle.node_core.specs.declared.state.Stepped.{Stepped}
-use Rattle.node_core.specs.Attempt.{committed, stepped_of}
+use Rattle.node_core.specs.Attempt.{committed, stepped_by}
 use Rattle.node_core.specs.Node.{NodeParts}
 use Rattle.node_core.specs.Rows.{Local}
 use Rattle.node_core.specs.Handling.{Attempts}
@@ -30,9 +30,9 @@ pub repaired : (choice : List ValueParts → ℕ) (key : Key) (old new : NodePar
     (siblings : List ValueParts) (v : ValueParts) (a : Attempt)
     → siblings ≡ values_of (object_at old.table key) → chosen choice siblings ≡ Some v
     → Attempts old (Local (PutOver key v)) (Ok a) new
-    → IsRepair (repair_event choice key old) old (committed a new) (stepped_of a)
+    → IsRepair (repair_event choice key old) old (committed a new) (stepped_by a)
 repaired choice key old new siblings v a are is attempts =
-    subst (λ event. IsRepair event old (committed a new) (stepped_of a)) (is_event choice key old siblings v are is)
+    subst (λ event. IsRepair event old (committed a new) (stepped_by a)) (is_event choice key old siblings v are is)
     (record { input = Local (PutOver key v); is_input = refl; step = attempts.step })
 
 pub not_repaired : (choice : List ValueParts → ℕ) (key : Key) (old new : NodeParts)

@@ -20,8 +20,8 @@ use Rattle.node_core.specs.Growing.{TellsKeyChanged}
 use Rattle.node_core.specs.Step.{IsNodeStep, with_counts}
 
 -- the reply and the frames of the step
-abbrev pub stepped_of : Attempt → Stepped
-stepped_of a = record { reply = a.reply; outbox = a.outbox }
+abbrev pub stepped_by : Attempt → Stepped
+stepped_by a = record { reply = a.reply; outbox = a.outbox }
 
 -- the key of the object that changed
 abbrev pub key_of_end : End → Option Key
@@ -122,7 +122,7 @@ pub record Undoes (old new : NodeParts) (changed : Option Key) (e : End) : Type 
 -- holds already what the step leaves
 pub record IsAttempt (old : NodeParts) (event : NodeEvent) (new : NodeParts) (a : Attempt)
     : Type 0 where
-  pub step : IsNodeStep old event (committed a new) (stepped_of a)
+  pub step : IsNodeStep old event (committed a new) (stepped_by a)
   pub back : taken_back a new ≡ old
   pub key : TellsKeyChanged event a.reply (changed_key a)
   pub table : new.table ≡ (committed a new).table

@@ -16,7 +16,7 @@ use Rattle.node_events.specs.declared.reply.Reply.TheVariants.{Wrote, TookFresh}
 use Rattle.node_overlay.specs.Outbox.{AreFramesOf}
 use Rattle.node_overlay.specs.declared.pending.Pending.{Pending}
 use Rattle.node_core.specs.declared.attempt.Attempt.{Attempt}
-use Rattle.node_core.specs.Attempt.{CanEndOverlay, Undoes, committed, overlay_ended, overlay_taken_back, stepped_of}
+use Rattle.node_core.specs.Attempt.{CanEndOverlay, Undoes, committed, overlay_ended, overlay_taken_back, stepped_by}
 use Rattle.node_core.specs.Node.{NodeParts, vector_under, with_overlay}
 use Rattle.node_core.specs.Draft.{NodeDraft}
 use Rattle.node_core.specs.Leaving.{carried_object}
@@ -51,7 +51,7 @@ key_changed (Received frame word) reply = key_if_fresh reply (carried_key frame.
 -- is the old one; and this is the key of the object that changed
 pub record IsAttemptTo (old : NodeParts) (refusal : Option StepFault) (done : NodeDraft)
     (reply : Reply) (changed : Option Key) (new : NodeParts) (a : Attempt) : Type 0 where
-  pub step : IsStepTo old refusal done reply (committed a new) (stepped_of a)
+  pub step : IsStepTo old refusal done reply (committed a new) (stepped_by a)
   pub undo : Undoes old new changed a.end
 
 -- it attempted that; or it failed, with `Memory` or with the refusal that there is, and changed

@@ -5,7 +5,7 @@
 
 ghost use Rattle.std.specs.Prelude.{◌≡◌, map};
 ghost use Rattle.std.specs.Option.{option_copied};
-ghost use Rattle.node_core.specs.Attempt.{CanEnd, CanEndAt, CanEndOverlay, changed_key, committed, ended, overlay_ended, overlay_taken_back, stepped_of, taken_back, undone};
+ghost use Rattle.node_core.specs.Attempt.{CanEnd, CanEndAt, CanEndOverlay, changed_key, committed, ended, overlay_ended, overlay_taken_back, stepped_by, taken_back, undone};
 ghost use Rattle.node_core.specs.declared.attempt.End.TheVariants.{Change, Tick};
 ghost use Rattle.node_overlay.specs.Overlay.{overlay_after_call};
 ghost use Rattle.plumtree.specs.Broadcast.{Changes};
@@ -88,7 +88,7 @@ impl NodeState {
     pub fn commit(&mut self, attempt: Attempt) -> Stepped
         requires { CanEnd attempt self.old }
         ensures node { self.new ≡ committed attempt self.old }
-        ensures stepped { result ≡ stepped_of attempt }
+        ensures stepped { result ≡ stepped_by attempt }
     {
         let Attempt { reply, outbox, end } = attempt;
         self.end(end);

@@ -1,7 +1,7 @@
 use Rattle.std.proofs.Common.{◌≡◌, ℕ, Option, rules, ap, subst, ◌∙◌}
 use Rattle.meta_store.specs.Table.{Table}
 use Rattle.node_events.specs.Event.{stored_key}
-use Rattle.node_core.specs.Attempt.{committed, stepped_of}
+use Rattle.node_core.specs.Attempt.{committed, stepped_by}
 use Rattle.node_core.specs.Node.{NodeParts}
 use Rattle.node_core.specs.Step.{IsNodeStep}
 use Rattle.node_file.specs.Stored.{record_under}
@@ -18,9 +18,9 @@ returns-in-Err-clause-refused c =
     let after = committed a c.attempt.new.self in
     let may : MayStep old = search rules in
     let state_is = ap (λ (n : HostedParts). n.state) c.self.view_is in
-    let step = subst (λ (s : NodeParts). IsNodeStep s event after (stepped_of a)) state_is attempted.step in
+    let step = subst (λ (s : NodeParts). IsNodeStep s event after (stepped_by a)) state_is attempted.step in
     let of : Option ℕ → Table → Type 0 = λ gate held. RefusesSpelling gate (record_under (stored_key event) held) c.in-Err.fault in
     let gate_is = ap (λ (n : HostedParts). n.gate) c.self.view_is in
     let table_is : c.store.result.now ≡ after.table = c.store.ensures ∙ attempted.table in
     let why : of old.gate after.table = subst (λ t. of old.gate t) table_is (subst (λ g. of g c.store.result.now) gate_is c.in-Err.ensures.refused) in
-    refuses old _ event after (stepped_of a) c.in-Err.fault may step why (search rules)
+    refuses old _ event after (stepped_by a) c.in-Err.fault may step why (search rules)
