@@ -1,15 +1,18 @@
--- A record put behind the last, as a run of two writes.
+-- Records put behind the last, as a run of two writes.
 use Rattle.std.proofs.Common.{◌≡◌, inl, inr, ⊎_elim, ℕ, ◌+◌, ◌≤◌, List, [], ◌∷◌, ◌++◌, length, None, Ok, true, refl, sym, ◌∙◌, ap, subst, arith, append_assoc, length-append, length-take, take, drop}
 use Rattle.std.proofs.lemmas.List.{drop_at, take-append-le, take-take}
+use Rattle.std.proofs.lemmas.List.Elements.{All-cons, All-nil}
 use Rattle.node_file.specs.declared.record.Record.{Record}
 use Rattle.node_file.specs.declared.record.Record.TheVariants.{Life}
 use Rattle.devices.specs.Device.{Overwrites, Torn, LeavesOnly}
 use Rattle.node_file.specs.Record.{IsRecord, payload, record_bytes}
 use Rattle.node_file.specs.Fold.{may_follow, with_record}
-use Rattle.node_file.specs.File.{FileState, WithOrWithout, file_state, opened, state_with}
+use Rattle.node_file.specs.File.{FileState, file_state, opened}
+use Rattle.node_file.specs.Clean.{behind_gates}
+use Rattle.node_file.specs.Batch.{CanTakeAll, NoneOrAll, batch_size, behind_first, state_with_all}
 use Rattle.devices.proofs.Moments.{follows, weaker}
 use Rattle.node_file.proofs.Parting.{IsLaidOut, laid_out}
-use Rattle.node_file.proofs.Torn.{length-record, torn_behind, torn_gate, open_has, written_behind, written_gate, written_over}
+use Rattle.node_file.proofs.Torn.{length-behind_gates, length-record, torn_behind, torn_gate, open_has, written_behind, written_gate, written_over}
 
 -- a record between its gates, without the first
 pub spelled_size : (r : Record) (bytes : List ℕ) → bytes ≡ 1 ∷ (record_bytes (payload r) ++ 0 ∷ []) → length bytes ≡ 38 + length (payload r)
@@ -50,43 +53,49 @@ module _ (end : ℕ) (f : List ℕ) (opens : opened None f ≡ Ok (file_state f,
   pub few_keys : length (file_state f).contents.table ≤ 8192
   few_keys = layout.few
 
-  module _ (record_ : Record) (new : (file_state f).version ≡ 2) (lawful : IsRecord record_) (may : may_follow (file_state f).contents record_ ≡ true) (few : length (with_record (file_state f).contents record_).table ≤ 8192) where
-    -- behind the closed gate stands the whole record
+  -- the gate is still there once something is written behind it
+  pub still_within : (bytes g : List ℕ) → Overwrites f (end + 1) bytes g → end ≤ length g
+  still_within bytes g holds =
+      let front = take (end + 1) f ++ bytes in
+      omega (arith, ap length holds, length-append front (drop (end + 1 + length bytes) f), length-append (take (end + 1) f) bytes, length-take (end + 1) f, gate_within)
+
+  -- a record that can be taken alone
+  pub alone : (record_ : Record) → (file_state f).version ≡ 2 → IsRecord record_ → may_follow (file_state f).contents record_ ≡ true → length (with_record (file_state f).contents record_).table ≤ 8192 → CanTakeAll (file_state f) (record_ ∷ [])
+  alone record_ new lawful may few = record { version = new; lawful = All-cons IsRecord record_ [] lawful (All-nil IsRecord); follow = (may, tt); room = few }
+
+  module _ (first : Record) (more : List Record) (can : CanTakeAll (file_state f) (first ∷ more)) where
+    -- behind the closed gate stand the whole records
     abbrev pub IsStaged : List ℕ → Type 0
-    IsStaged g = (tail : List ℕ) × (g ≡ layout.front ++ layout.gate ∷ (record_bytes (payload record_) ++ 0 ∷ tail))
+    IsStaged g = (tail : List ℕ) × (g ≡ layout.front ++ layout.gate ∷ (behind_first first more ++ tail))
 
-    pub staged : (bytes g : List ℕ) → bytes ≡ record_bytes (payload record_) ++ 0 ∷ [] → Overwrites f (end + 1) bytes g → IsStaged g
-    staged bytes g is holds =
-        let w = written_behind layout.front layout.rest bytes g layout.gate end layout.size (subst (λ (l : List ℕ). Overwrites l (end + 1) bytes g) layout.split holds) in
-        let body : bytes ++ w.0 ≡ record_bytes (payload record_) ++ 0 ∷ w.0 = ap (λ (l : List ℕ). l ++ w.0) is ∙ append_assoc (record_bytes (payload record_)) (0 ∷ []) w.0 in
-        (w.0, w.1 ∙ ap (λ (l : List ℕ). layout.front ++ layout.gate ∷ l) body)
+    pub staged : (g : List ℕ) → Overwrites f (end + 1) (behind_first first more) g → IsStaged g
+    staged g holds = written_behind layout.front layout.rest (behind_first first more) g layout.gate end layout.size (subst (λ (l : List ℕ). Overwrites l (end + 1) (behind_first first more) g) layout.split holds)
 
-    pub staged_within : (g : List ℕ) → IsStaged g → end ≤ length g
-    staged_within g s = omega (arith, ap length s.1, length-append layout.front (layout.gate ∷ (record_bytes (payload record_) ++ 0 ∷ s.0)), layout.size)
+    new_end : end + batch_size (first ∷ more) ≡ end + length (behind_first first more)
+    unfolding behind_gates
+    new_end = let size : length (behind_gates (first ∷ more)) ≡ length (behind_first first more) + 1 = omega arith in omega (arith, size, length-behind_gates (first ∷ more))
 
-    new_end : (bytes : List ℕ) → bytes ≡ record_bytes (payload record_) ++ 0 ∷ [] → end + (37 + length (payload record_)) ≡ end + length bytes
-    new_end bytes is = omega (arith, ap length is, length-append (record_bytes (payload record_)) (0 ∷ []), length-record (payload record_))
+    pub appended : (g h : List ℕ) → IsStaged g → Overwrites g end (1 ∷ []) h → opened None h ≡ Ok (state_with_all (file_state f) (first ∷ more), end + batch_size (first ∷ more))
+    appended g h s holds =
+        ap (opened None) (written_gate layout.front (behind_first first more ++ s.0) h layout.gate 1 end layout.size (subst (λ (l : List ℕ). Overwrites l end (1 ∷ []) h) s.1 holds))
+        ∙ open_has (file_state f) end f layout first more s.0 can
 
-    pub appended : (bytes g h : List ℕ) → bytes ≡ record_bytes (payload record_) ++ 0 ∷ [] → IsStaged g → Overwrites g end (1 ∷ []) h → opened None h ≡ Ok (state_with (file_state f) record_, end + length bytes)
-    appended bytes g h is s holds =
-        let body = record_bytes (payload record_) ++ 0 ∷ s.0 in
-        ap (opened None) (written_gate layout.front body h layout.gate 1 end layout.size (subst (λ (l : List ℕ). Overwrites l end (1 ∷ []) h) s.1 holds))
-        ∙ open_has (file_state f) end f layout record_ s.0 new lawful may few
-        ∙ ap (λ (n : ℕ). Ok (state_with (file_state f) record_, n)) (new_end bytes is)
+    -- by the bytes that were written
+    pub ends_at : (h bytes : List ℕ) → bytes ≡ behind_first first more → opened None h ≡ Ok (state_with_all (file_state f) (first ∷ more), end + batch_size (first ∷ more)) → opened None h ≡ Ok (state_with_all (file_state f) (first ∷ more), end + length bytes)
+    ends_at h bytes is opens = opens ∙ ap (λ (n : ℕ). Ok (state_with_all (file_state f) (first ∷ more), n)) (new_end ∙ ap (λ (l : List ℕ). end + length l) (sym is))
 
-    -- gate and record in one write
-    pub put_over : (bytes g : List ℕ) → bytes ≡ 1 ∷ (record_bytes (payload record_) ++ 0 ∷ []) → Overwrites f end bytes g → opened None g ≡ Ok (state_with (file_state f) record_, end + (37 + length (payload record_)))
+    -- gate and records in one write
+    pub put_over : (bytes g : List ℕ) → bytes ≡ 1 ∷ behind_first first more → Overwrites f end bytes g → opened None g ≡ Ok (state_with_all (file_state f) (first ∷ more), end + batch_size (first ∷ more))
     put_over bytes g is holds =
         let w = written_over layout.front layout.rest bytes g layout.gate end layout.size (subst (λ (l : List ℕ). Overwrites l end bytes g) layout.split holds) in
-        let body : bytes ++ w.0 ≡ 1 ∷ (record_bytes (payload record_) ++ 0 ∷ w.0) = ap (λ (l : List ℕ). l ++ w.0) is ∙ ap (λ (l : List ℕ). 1 ∷ l) (append_assoc (record_bytes (payload record_)) (0 ∷ []) w.0) in
-        ap (opened None) (w.1 ∙ ap (λ (l : List ℕ). layout.front ++ l) body) ∙ open_has (file_state f) end f layout record_ w.0 new lawful may few
+        ap (opened None) (w.1 ∙ ap (λ (l : List ℕ). layout.front ++ (l ++ w.0)) is) ∙ open_has (file_state f) end f layout first more w.0 can
 
     module _ {D : Type 0} (moment : D → ℕ) (left_since : D → ℕ → List ℕ → Type 0) where
-      pub staged_run : (n : ℕ) (old mid : D) → LeavesOnly moment left_since old mid (Torn (end + 1) n f) → LeavesOnly moment left_since old mid (WithOrWithout f record_)
-      staged_run n old mid run = weaker moment left_since old mid (Torn (end + 1) n f) (WithOrWithout f record_) run (λ c torn. inl (torn_behind (file_state f) end f layout n c torn ∙ sym opens))
+      pub staged_run : (n : ℕ) (old mid : D) → LeavesOnly moment left_since old mid (Torn (end + 1) n f) → LeavesOnly moment left_since old mid (NoneOrAll f (first ∷ more))
+      staged_run n old mid run = weaker moment left_since old mid (Torn (end + 1) n f) (NoneOrAll f (first ∷ more)) run (λ c torn. inl (torn_behind (file_state f) end f layout n c torn ∙ sym opens))
 
-      pub gate_run : (n : ℕ) (old mid new_ : D) (g : List ℕ) → IsStaged g → LeavesOnly moment left_since old mid (Torn (end + 1) n f) → LeavesOnly moment left_since mid new_ (Torn end 1 g) → LeavesOnly moment left_since old new_ (WithOrWithout f record_)
-      gate_run n old mid new_ g s first second =
-          follows moment left_since old mid new_ (WithOrWithout f record_) (Torn end 1 g) (staged_run n old mid first) second
+      pub gate_run : (n : ℕ) (old mid new_ : D) (g : List ℕ) → IsStaged g → LeavesOnly moment left_since old mid (Torn (end + 1) n f) → LeavesOnly moment left_since mid new_ (Torn end 1 g) → LeavesOnly moment left_since old new_ (NoneOrAll f (first ∷ more))
+      gate_run n old mid new_ g s before after =
+          follows moment left_since old mid new_ (NoneOrAll f (first ∷ more)) (Torn end 1 g) (staged_run n old mid before) after
           (λ c torn. ⊎_elim (λ same. inl (same ∙ sym opens)) (λ has. inr has)
-          (torn_gate (file_state f) end f layout record_ s.0 c new lawful may few (subst (λ (l : List ℕ). Torn end 1 l c) s.1 torn)))
+          (torn_gate (file_state f) end f layout first more s.0 c can (subst (λ (l : List ℕ). Torn end 1 l c) s.1 torn)))

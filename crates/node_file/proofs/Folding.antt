@@ -161,6 +161,15 @@ pub no_fewer : (t : Table) (key : Key) (o : List Entry) → length t ≤ length 
 no_fewer [] key o = omega arith
 no_fewer (e ∷ t) key o = match_many (key_cmp key e.0) (length (e ∷ t)) ((key, o) ∷ e ∷ t) ((e.0, o) ∷ t) (e ∷ put key_cmp key o t) (omega arith) (omega arith) (omega (arith, no_fewer t key o))
 
+match_few : (o : Ordering) (n : ℕ) (x y z : Table) → length x ≤ n → length y ≤ n → length z ≤ n → length (by_order o x y z) ≤ n
+match_few Less n x y z a b c = a
+match_few Equal n x y z a b c = b
+match_few Greater n x y z a b c = c
+
+pub one_more : (t : Table) (key : Key) (o : List Entry) → length (put key_cmp key o t) ≤ length t + 1
+one_more [] key o = omega arith
+one_more (e ∷ t) key o = match_few (key_cmp key e.0) (length (e ∷ t) + 1) ((key, o) ∷ e ∷ t) ((e.0, o) ∷ t) (e ∷ put key_cmp key o t) (omega arith) (omega arith) (omega (arith, one_more t key o))
+
 still_many : (c : Contents) (record_ : Record) → 8192 < length c.table → 8192 < length (with_record c record_).table
 still_many c (Life n) many = many
 still_many c (Object key o) many = omega (arith, many, no_fewer c.table key o)

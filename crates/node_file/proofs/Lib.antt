@@ -13,4 +13,5 @@ mod Tables
 mod Clean
 mod Changed
 mod Payloads
+pub mod Batches
 pub mod ByHosts

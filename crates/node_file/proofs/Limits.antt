@@ -1,11 +1,12 @@
 -- What the limits of a store say of records, and of the tables that records make.
-use Rattle.std.proofs.Common.{◌≡◌, ℕ, ◌+◌, ◌<◌, ◌≤◌, Bool, true, false, ◌&&◌, cond, List, length, Option, Some, None, is_some, is_none, refl, arith, leb}
+use Rattle.std.proofs.Common.{◌≡◌, ℕ, ◌+◌, ◌<◌, ◌≤◌, Bool, true, false, not, T, ◌&&◌, cond, List, [], ◌∷◌, length, Option, Some, None, is_some, is_none, refl, subst, arith, leb}
 use Rattle.std.specs.Bool.{passes}
 use Rattle.std.specs.Cmp.{first_so, second_so}
 use Rattle.std.specs.List.{list_all}
 use Rattle.std.specs.FinMap.{find, put, is_sorted}
 use Rattle.std.specs.FinMap.Entries.{length-put}
 use Rattle.std.proofs.lemmas.Bool.{leb-true, leb-false}
+use Rattle.meta_types.specs.First.{first_that_applies}
 use Rattle.meta_types.specs.Name.{Key}
 use Rattle.meta_types.specs.Order.{key_cmp}
 use Rattle.dvvset.specs.Object.{Entry, IsObject}
@@ -16,7 +17,11 @@ use Rattle.meta_store.proofs.Keys.{key_total}
 use Rattle.meta_store.proofs.Sizes.{few_values_fit, held_fits}
 use Rattle.node_file.specs.declared.record.Record.TheVariants.{Object}
 use Rattle.node_file.specs.Fold.{Contents}
-use Rattle.node_file.specs.Refusal.{has_spelling}
+use Rattle.meta_store.specs.declared.fault.StoreFault.TheVariants.{ObjectTooLarge}
+use Rattle.node_file.specs.declared.fault.FileFault.TheVariants.{FileFull, Stopped, Store}
+use Rattle.node_file.specs.Record.{payload}
+use Rattle.node_file.specs.Refusal.{has_spelling, is_too_long_with, most_file, refusal_of_append}
+use Rattle.node_file.proofs.Parting.{at_least}
 use Rattle.node_file.specs.Reads.{WouldBeTooMany}
 
 pub held_spells : (es : List Entry) → IsHeld es → object.Fits es
@@ -43,6 +48,19 @@ unheld_is_large es is shows isnt = not_true (is_small_enough most_merged es) (λ
 
 -- when an object is refused
 pub ruleset of_refusals = (recorded_fits, unrecorded_is_large, unheld_is_large)
+
+-- the record of an object that isn't refused doesn't make the file too long
+not_long : (spelled long small : Bool) → (spelled ≡ false → small ≡ false)
+    → first_that_applies ((false, Stopped) ∷ (spelled && long, FileFull) ∷ (not small, Store ObjectTooLarge) ∷ []) ≡ None → long ≡ false
+not_long true true small large e = absurd cc
+not_long true false small large e = refl
+not_long false long true large e = absurd (subst T (large refl) tt)
+not_long false long false large e = absurd cc
+
+pub object_short : (gate : ℕ) (k : Key) (o : List Entry) → refusal_of_append false gate k o ≡ None → gate + 38 + length (payload (Object k o)) ≤ most_file
+object_short gate k o none =
+    at_least most_file (gate + 38 + length (payload (Object k o)))
+    (not_long (has_spelling o) (is_too_long_with gate (Object k o)) (is_small_enough most_merged o) (unrecorded_is_large o) none)
 
 -- ---- how many keys there are
 

@@ -1,5 +1,5 @@
 -- A file that is made, and one that is opened.
-use Rattle.std.proofs.Common.{◌≡◌, ◌⊎◌, inl, inr, ⊎_elim, nat_lt, Some, ◌≤◌, ℕ, ◌<◌, List, [], length, take, drop, Option, None, Result, Ok, Err, Bool, true, false, cond, refl, sym, ◌∙◌, ap, arith, eqb, ◌-◌}
+use Rattle.std.proofs.Common.{◌≡◌, ◌⊎◌, inl, inr, nat_lt, Some, ℕ, ◌<◌, List, [], length, take, drop, Option, None, Result, Ok, Err, Bool, true, false, cond, refl, sym, ◌∙◌, ap, arith, eqb, ◌-◌}
 use Rattle.std.specs.Int.{w16, from_be_bytes, to_be_bytes}
 use Rattle.std.proofs.lemmas.Nat.{from_be_bytes-to_be_bytes_2}
 use Rattle.node_file.specs.declared.fault.FileFault.{FileFault}
@@ -8,10 +8,10 @@ use Rattle.node_file.specs.File.{FileState, empty_file, ended, file_state, for_n
 use Rattle.node_file.specs.Refusal.{refusal_of_life, refusal_of_serve}
 use Rattle.node_file.specs.View.{FileView, IsSettled}
 use Rattle.std.specs.Str.{bytes_eq}
-use Rattle.std.proofs.lemmas.Bool.{cases_lt, eq-eqb, eqb-true}
+use Rattle.std.proofs.lemmas.Bool.{eq-eqb, eqb-true}
 use Rattle.meta_store.specs.Table.{most_keys}
 use Rattle.meta_store.specs.declared.fault.StoreFault.TheVariants.{StoreFull}
-use Rattle.devices.specs.Device.{IsDurable, HasFailed}
+use Rattle.devices.specs.Device.{IsDurable}
 use Rattle.node_file.proofs.Folding.{closed}
 use Rattle.node_file.proofs.Parting.{not_below, head_read}
 

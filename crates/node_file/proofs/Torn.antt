@@ -1,10 +1,11 @@
--- What a crash leaves in each of the two steps of an append.
-use Rattle.std.proofs.Common.{◌≡◌, ◌≢◌, ◌⊎◌, inl, inr, ℕ, ◌+◌, ◌-◌, ◌<◌, ◌≤◌, List, [], ◌∷◌, ◌++◌, length, get_or, take, drop, None, Some, true, Result, Ok, refl, sym, ◌∙◌, ap, arith, append-nil, append_assoc, length-append, take-append-drop}
+-- What a crash leaves in each of the two steps of an append, of one record or of many.
+use Rattle.std.proofs.Common.{◌≡◌, ◌≢◌, ◌⊎◌, inl, inr, ℕ, ◌+◌, ◌-◌, ◌<◌, ◌≤◌, List, [], ◌∷◌, ◌++◌, length, get_or, take, drop, fold, All, None, Some, Result, Ok, refl, sym, ◌∙◌, ap, arith, append-nil, append_assoc, length-append, take-append-drop}
 use Rattle.std.specs.Int.{w16, w32, from_be_bytes, to_be_bytes}
 use Rattle.std.proofs.lemmas.Bool.{cases_eq}
 use Rattle.std.proofs.lemmas.Slice.Eq.{bytes_eq-Decides}
 use Rattle.std.proofs.lemmas.Nat.{from_be_bytes-to_be_bytes_4}
 use Rattle.std.proofs.lemmas.List.{take_at, drop_at, drop_more}
+use Rattle.std.proofs.lemmas.List.Elements.{All-head, All-tail}
 use Rattle.sha2.specs.Sha256.{sha256}
 use Rattle.sha2.proofs.Facts256.{length-sha256}
 use Rattle.devices.specs.Device.{Overwrites, Torn}
@@ -19,8 +20,10 @@ use Rattle.meta_store.proofs.Sizes.{held_fits, small_parts}
 use Rattle.node_file.specs.declared.record.Record.{Record}
 use Rattle.node_file.specs.declared.record.Record.TheVariants.{Life, Object}
 use Rattle.node_file.specs.Record.{IsRecord, record_if_held, object_read, payload, record_bytes, record_in, record_of, whole_record, with_size}
-use Rattle.node_file.specs.Fold.{fold_records, may_follow, with_record}
-use Rattle.node_file.specs.File.{FileState, StandsFor, ended, opened, state_with}
+use Rattle.node_file.specs.Fold.{Contents, fold_records, may_follow, with_record}
+use Rattle.node_file.specs.File.{FileState, StandsFor, ended, opened, record_size}
+use Rattle.node_file.specs.Clean.{behind_gates}
+use Rattle.node_file.specs.Batch.{CanTakeAll, EachFollows, batch_size, behind_first, state_with_all}
 use Rattle.node_file.proofs.Folding.{closed, takes}
 use Rattle.node_file.proofs.Parting.{IsLaidOut, reads_whole, not_below}
 
@@ -133,6 +136,28 @@ written_over front rest bytes c old e size holds =
     let tail = drop (e + length bytes) f in
     (tail, holds ∙ append_assoc (take e f) bytes tail ∙ ap (λ (l : List ℕ). l ++ (bytes ++ tail)) (take_at front (old ∷ rest) e size))
 
+-- ---- records one after the other
+
+-- how many bytes they are, with the closed gate behind them
+pub length-behind_gates : (records : List Record) → length (behind_gates records) ≡ batch_size records + 1
+unfolding behind_gates record_size
+length-behind_gates [] = refl
+length-behind_gates (record_ ∷ records) = omega (arith, length-append (record_bytes (payload record_)) (behind_gates records), length-record (payload record_), length-behind_gates records)
+
+-- each is taken in, whatever stands behind the closed gate
+takes_all : (records : List Record) (c : Contents) (tail : List ℕ) → All IsRecord records → EachFollows c records → fold_records may_follow with_record 2 c 0 (behind_gates records ++ tail) ≡ Ok (fold with_record c records, length tail + 1)
+unfolding behind_gates
+takes_all [] c tail lawful follow = closed may_follow with_record 2 c 0 tail (omega arith)
+takes_all (record_ ∷ records) c tail lawful follow =
+    let m = payload record_ in
+    let behind = behind_gates records ++ tail in
+    let size = length-record m in
+    let long : 36 + length m ≤ length (record_bytes m ++ behind) = omega (arith, length-append (record_bytes m) behind, size) in
+    ap (λ (l : List ℕ). fold_records may_follow with_record 2 c 0 (1 ∷ l)) (append_assoc (record_bytes m) (behind_gates records) tail)
+    ∙ takes may_follow with_record 2 c (record_bytes m ++ behind) record_ (36 + length m) (read_again record_ behind (All-head IsRecord record_ records lawful)) follow.0 long
+    ∙ ap (λ (b : List ℕ). fold_records may_follow with_record 2 (with_record c record_) 0 b) (drop_at (record_bytes m) behind (36 + length m) size)
+    ∙ takes_all records (with_record c record_) tail (All-tail IsRecord record_ records lawful) follow.1
+
 -- ---- what such files stand for
 
 found : (s : FileState) (end n : ℕ) → length s.contents.table ≤ 8192 → ended (end + n) (s.version, s.node) (Ok (s.contents, n)) ≡ Ok (s, end)
@@ -145,23 +170,19 @@ module _ (s : FileState) (end : ℕ) (f : List ℕ) (l : IsLaidOut s end f) wher
   pub closed_has : (gate : ℕ) (rest : List ℕ) → gate ≢ 1 → opened None (l.front ++ gate ∷ rest) ≡ Ok (s, end)
   closed_has gate rest shut = l.goes gate rest ∙ ap (ended (end + (length rest + 1)) (s.version, s.node)) (closed may_follow with_record s.version s.contents gate rest shut) ∙ found s end (length rest + 1) l.few
 
-  -- an open gate takes in the record behind it
-  pub open_has : (record_ : Record) (tail : List ℕ) → s.version ≡ 2 → IsRecord record_ → may_follow s.contents record_ ≡ true → length (with_record s.contents record_).table ≤ 8192
-      → opened None (l.front ++ 1 ∷ (record_bytes (payload record_) ++ 0 ∷ tail)) ≡ Ok (state_with s record_, end + (37 + length (payload record_)))
-  open_has record_ tail new lawful follows few =
-      let m = payload record_ in
-      let rest = record_bytes m ++ 0 ∷ tail in
-      let size = length-record m in
-      let long : length rest ≡ 36 + length m + (length tail + 1) = omega (arith, length-append (record_bytes m) (0 ∷ tail), size) in
-      let is : record_in s.version rest ≡ Some (record_, 36 + length m) = ap (λ (v : ℕ). record_in v rest) new ∙ read_again record_ (0 ∷ tail) lawful in
-      let read : fold_records may_follow with_record s.version s.contents 0 (1 ∷ rest) ≡ Ok (with_record s.contents record_, length tail + 1) =
-      takes may_follow with_record s.version s.contents rest record_ (36 + length m) is follows (omega (arith, long))
-      ∙ ap (λ (b : List ℕ). fold_records may_follow with_record s.version (with_record s.contents record_) 0 b) (drop_at (record_bytes m) (0 ∷ tail) (36 + length m) size)
-      ∙ closed may_follow with_record s.version (with_record s.contents record_) 0 tail (omega arith) in
-      let total : end + (length rest + 1) ≡ end + (37 + length m) + (length tail + 1) = omega (arith, long) in
+  -- an open gate takes in the records behind it
+  pub open_has : (first : Record) (more : List Record) (tail : List ℕ) → CanTakeAll s (first ∷ more) → opened None (l.front ++ 1 ∷ (behind_first first more ++ tail)) ≡ Ok (state_with_all s (first ∷ more), end + batch_size (first ∷ more))
+  unfolding behind_gates
+  open_has first more tail can =
+      let records = first ∷ more in
+      let rest = behind_first first more ++ tail in
+      let read : fold_records may_follow with_record s.version s.contents 0 (1 ∷ rest) ≡ Ok (fold with_record s.contents records, length tail + 1) =
+      ap (λ (v : ℕ). fold_records may_follow with_record v s.contents 0 (1 ∷ rest)) can.version ∙ takes_all records s.contents tail can.lawful can.follow in
+      let long : length (behind_gates records ++ tail) ≡ length rest + 1 = omega arith in
+      let total : end + (length rest + 1) ≡ end + batch_size records + (length tail + 1) = omega (arith, long, length-append (behind_gates records) tail, length-behind_gates records) in
       l.goes 1 rest ∙ ap (ended (end + (length rest + 1)) (s.version, s.node)) read
-      ∙ ap (λ (n : ℕ). ended n (s.version, s.node) (Ok (with_record s.contents record_, length tail + 1))) total
-      ∙ found (state_with s record_) (end + (37 + length m)) (length tail + 1) few
+      ∙ ap (λ (n : ℕ). ended n (s.version, s.node) (Ok (fold with_record s.contents records, length tail + 1))) total
+      ∙ found (state_with_all s records) (end + batch_size records) (length tail + 1) can.room
 
   -- a record torn behind the closed gate
   pub torn_behind : (n : ℕ) (c : List ℕ) → Torn (end + 1) n f c → opened None c ≡ Ok (s, end)
@@ -170,14 +191,14 @@ module _ (s : FileState) (end : ℕ) (f : List ℕ) (l : IsLaidOut s end f) wher
       let is = at_gate l.front l.rest c l.gate end l.size same in
       ap (opened None) is ∙ closed_has l.gate (drop (end + 1) c) l.shut
 
-  -- a gate torn in front of a whole record
-  pub torn_gate : (record_ : Record) (tail c : List ℕ) → s.version ≡ 2 → IsRecord record_ → may_follow s.contents record_ ≡ true → length (with_record s.contents record_).table ≤ 8192
-      → Torn end 1 (l.front ++ l.gate ∷ (record_bytes (payload record_) ++ 0 ∷ tail)) c → (opened None c ≡ Ok (s, end)) ⊎ StandsFor (state_with s record_) c
-  torn_gate record_ tail c new lawful follows few torn =
-      let body = record_bytes (payload record_) ++ 0 ∷ tail in
+  -- a gate torn in front of whole records
+  pub torn_gate : (first : Record) (more : List Record) (tail c : List ℕ) → CanTakeAll s (first ∷ more)
+      → Torn end 1 (l.front ++ l.gate ∷ (behind_first first more ++ tail)) c → (opened None c ≡ Ok (s, end)) ⊎ StandsFor (state_with_all s (first ∷ more)) c
+  torn_gate first more tail c can torn =
+      let body = behind_first first more ++ tail in
       let is = gate_torn l.front body c l.gate end l.size torn in
       elim (cases_eq (get_or c end 0) 1) [
-        | inl is_open ↦ inr (end + (37 + length (payload record_)), ap (opened None) (is ∙ ap (λ (g : ℕ). l.front ++ g ∷ body) is_open) ∙ open_has record_ tail new lawful follows few)
+        | inl is_open ↦ inr (end + batch_size (first ∷ more), ap (opened None) (is ∙ ap (λ (g : ℕ). l.front ++ g ∷ body) is_open) ∙ open_has first more tail can)
         | inr shut ↦ inl (ap (opened None) is ∙ closed_has (get_or c end 0) body shut)
       ]
 

@@ -1,6 +1,6 @@
 -- Gates that were changed on the disk. No digest covers a gate: one that was open and isn't any
 -- more ends the file there, and hides the records behind it. The rule is our own.
-use Rattle.std.specs.Prelude.{ℕ, zero, suc, ◌+◌, List, [], ◌∷◌, length, take, drop, Option, Some, None, Result, Ok, Err, Bool, false, not, is_some, ◌&&◌, ◌||◌, nat_lt, ◌==◌, if◌then◌else◌}
+use Rattle.std.specs.Prelude.{ℕ, zero, suc, ◌+◌, List, [], ◌∷◌, length, take, drop, Option, Some, None, Result, Ok, Bool, false, not, is_some, ◌&&◌, ◌||◌, nat_lt, ◌==◌, if◌then◌else◌}
 use Rattle.std.specs.Int.{w32, from_be_bytes}
 use Rattle.node_file.specs.declared.fault.FileFault.{FileFault}
 use Rattle.node_file.specs.declared.record.Record.{Record}
@@ -46,8 +46,9 @@ size_read (Some read) = Some read.1
 abbrev pub size_in : ℕ → List ℕ → Option ℕ
 size_in version bytes = size_read (record_in version bytes)
 
--- A crash leaves one whole record at most, and a closed gate behind it. These bytes behind a whole
--- record show more: an open gate, or another whole record.
+-- A crash in an append of one record leaves one whole record at most, and a closed gate behind it.
+-- These bytes behind a whole record show more: an open gate, or another whole record. So may what
+-- is left of a batch.
 abbrev pub goes_on : ℕ → List ℕ → Bool
 goes_on version [] = false
 goes_on version (gate ∷ rest) = (gate == 1) || is_some (size_in version rest)

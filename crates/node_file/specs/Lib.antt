@@ -29,6 +29,8 @@ pub mod Refusal
 pub mod View
 -- what is stored of a table under a key, and the file afterwards
 pub mod Stored
+-- many records that are appended at once
+pub mod Batch
 -- what private functions return
 pub mod Reads
 pub mod Putting

@@ -100,7 +100,9 @@ fn goes_on(alloc: Global, version: u8, after: &[u8]) -> Result<bool, FileFault>
 /// are no file the answer says nothing.
 ///
 /// A gate that was changed to 0 in front of the last record isn't found, since a crash leaves the
-/// same. That no crash leaves more isn't proved: what isn't synced may be any bytes after it.
+/// same. That no crash leaves more isn't proved: what isn't synced may be any bytes after it. One
+/// in [`append_all`](crate::NodeFile::append_all) of two or more objects may leave more: they were
+/// never acknowledged.
 ///
 /// Refused with 99 `Memory`. It takes memory for two records.
 #[tactic(auto, unfolding(crate::specs::Gates::changed_gate))]

@@ -1,17 +1,22 @@
 //! A node's file for a host who keeps its bytes by other means than a `Device`: what he writes.
 
-ghost use Rattle.std.specs.Prelude.{◌≡◌, ◌⊎◌, ◌+◌, ◌≤◌, ℕ, length, None, Some, Ok, Err, false, true, IfOk, IfErr, OnOk};
+ghost use Rattle.std.specs.Prelude.{◌≡◌, ◌≢◌, ◌⊎◌, ◌+◌, ◌≤◌, ℕ, [], All, length, map, None, Some, Ok, Err, false, true, IfOk, IfErr, OnOk};
 ghost use Rattle.frame_fields.specs.Field.{has_value};
-ghost use Rattle.node_file.specs.Clean.{clean_bytes};
+ghost use Rattle.node_file.specs.Batch.{batch_bytes, refusal_of_batch};
+ghost use Rattle.node_file.specs.Clean.{clean_bytes, row_record};
 ghost use Rattle.node_file.specs.File.{StandsFor, file_state, gated, new_state, opened};
 ghost use Rattle.node_file.specs.Hosted.{CanTake};
 ghost use Rattle.node_file.specs.Record.{IsRecord};
 ghost use Rattle.node_file.specs.Refusal.{most_file, refusal_of_append, refusal_of_serve};
+ghost use Rattle.node_file.specs.declared.batch_fault.BatchFault.{BatchFault};
 ghost use Rattle.node_file.specs.declared.fault.FileFault.{FileFault};
 ghost use Rattle.node_file.specs.declared.record.Record.TheVariants.{Life, Object};
 
+use crate::batch::{refusal_of_batch, spell_batch};
+use crate::batch_fault::BatchFault;
 use crate::fault::FileFault;
 use crate::found::Found;
+use crate::new_object::NewObject;
 use crate::node_file::refusal_of;
 use crate::opening::stands_for;
 use crate::record::{NewRecord, spell_record};
@@ -122,4 +127,38 @@ pub fn spell_append(
         return Err(fault);
     }
     Ok(spell_record(alloc, NewRecord::Object(key, object))?)
+}
+
+/// Returns the records that a host appends at once, so that each of these is the object under its
+/// key from then on. He writes them as [`serve_bytes`] says: all but the first byte after the
+/// closed gate, and, once that is synced, that byte over the gate (`laws::a_batch_is_safe`).
+/// Without objects there is nothing to write.
+///
+/// Refused as [`NodeFile::append_all`](crate::NodeFile::append_all) is, except with 34 `Stopped`
+/// and 30 `Device`. It takes memory for the records.
+pub fn spell_append_all(
+    alloc: Global,
+    gate: usize,
+    objects: &[NewObject<'_>],
+) -> Result<Vec<u8>, BatchFault>
+    ensures refusals { (fault : BatchFault) → refusal_of_batch false gate objects.now ≡ Some fault
+        → result ≡ Err fault }
+    ensures records { IfOk result (λ bytes.
+        bytes.items ≡ batch_bytes (map row_record objects.now)) }
+    ensures lawful { OnOk result (All IsRecord (map row_record objects.now)) }
+    ensures fits { objects.now ≢ []
+        → IfOk result (λ bytes. gate + length bytes.items ≤ most_file) }
+    ensures refused { IfErr result (λ fault. (fault ≡ BatchFault.File FileFault.Memory)
+        ⊎ (refusal_of_batch false gate objects.now ≡ Some fault)) }
+{
+    if let Some(fault) = refusal_of_batch(gate, objects) {
+        return Err(fault);
+    }
+    if objects.is_empty() {
+        return Ok(Vec::new(alloc));
+    }
+    match spell_batch(alloc, objects) {
+        Ok(bytes) => Ok(bytes),
+        Err(_) => Err(BatchFault::File(FileFault::Memory)),
+    }
 }

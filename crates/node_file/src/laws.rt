@@ -2,10 +2,11 @@
 
 ghost use Rattle.std.specs.Prelude.{◌≡◌, ◌≢◌, ◌↔◌, ◌+◌, ◌-◌, ◌<◌, ◌≤◌, ◌++◌, ◌∷◌, All, List, [], ℕ, None, Some, Ok, length, set, take, drop};
 ghost use Rattle.frame_readers.proofs.Readers.{IsBytes};
+ghost use Rattle.node_file.specs.Batch.{CanTakeAll};
 ghost use Rattle.node_file.specs.Clean.{file_of};
 ghost use Rattle.node_file.specs.File.{empty_file, file_state, new_state, opened, FileState};
 ghost use Rattle.node_file.specs.Gates.{changed_gate, end_of_records};
-ghost use Rattle.node_file.specs.Hosted.{CanTake, TakesRecord};
+ghost use Rattle.node_file.specs.Hosted.{CanTake, TakesAll, TakesRecord};
 ghost use Rattle.node_file.specs.Lives.{IsTold};
 ghost use Rattle.node_file.specs.Record.{IsRecord, payload, record_bytes, record_in, record_of, Says};
 ghost use Rattle.node_file.specs.Refusal.{refusal_of_serve};
@@ -90,4 +91,14 @@ pub fn an_append_is_safe()
     ensures { (file : List ℕ) (gate : ℕ) (said : Record)
         → opened None file ≡ Ok (file_state file, gate) → CanTake (file_state file) said
         → TakesRecord file gate said }
+{}
+
+/// Records that are appended to the bytes of a file at once, by the same four calls, are then in
+/// the file, one after the other, and every crash after the last call leaves the file with all of
+/// them. A crash at any moment before leaves the file without them, or with all.
+pub fn a_batch_is_safe()
+    ensures { (file : List ℕ) (gate : ℕ) (first : Record) (more : List Record)
+        → opened None file ≡ Ok (file_state file, gate)
+        → CanTakeAll (file_state file) (first ∷ more)
+        → TakesAll file gate first more }
 {}

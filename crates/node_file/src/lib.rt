@@ -8,17 +8,20 @@
 //! file.append(alloc, &key, &object)?; // durable from here on
 //! ```
 //!
-//! Read `node_file` and `opening`, then `hosted` (a file without a device), `record`, `laws` and
-//! `fault`; `reading`, `old` (objects of version 1), `contents`, `found`, `putting` and `rewriting`
-//! hold the code.
+//! Read `node_file` and `opening`, then `batch` (many objects at once), `hosted` (a file without a
+//! device), `record`, `laws` and `fault`; `reading`, `old` (objects of version 1), `contents`,
+//! `found`, `putting` and `rewriting` hold the code.
 #![tactic(auto)]
 
+mod batch;
+mod batch_fault;
 mod contents;
 mod fault;
 mod found;
 mod gates;
 mod hosted;
 pub mod laws;
+mod new_object;
 mod node_file;
 mod old;
 mod opening;
@@ -27,10 +30,13 @@ mod reading;
 mod record;
 mod rewriting;
 
+pub use batch::{MAX_BATCH, has_room_for_all};
+pub use batch_fault::BatchFault;
 pub use fault::FileFault;
 pub use found::{MAX_FILE_LEN, MIN_FILE_LEN};
 pub use gates::{MAX_LOOKED_AT, changed_gate, end_of_records};
-pub use hosted::{Served, clean_copy, serve_bytes, spell_append};
+pub use hosted::{Served, clean_copy, serve_bytes, spell_append, spell_append_all};
+pub use new_object::NewObject;
 pub use node_file::NodeFile;
 pub use opening::{create, empty_file, open_node, serve};
 pub use reading::read_record;

@@ -1,20 +1,26 @@
-ghost use Rattle.std.specs.Prelude.{◌≡◌, ◌⊎◌, ◌+◌, ◌≤◌, true, false, length, None, Some, Err, OnOk, OnErr, IfErr};
+ghost use Rattle.std.specs.Prelude.{◌≡◌, ◌⊎◌, ◌+◌, ◌≤◌, [], true, false, length, map, None, Some, Err, IsOk, OnOk, OnErr, IfErr};
 ghost use Rattle.devices.specs.Device.{LeavesOnly};
 ghost use Rattle.frame_fields.specs.Field.{has_value};
 ghost use Rattle.meta_store.specs.Step as store;
-ghost use Rattle.meta_store.specs.Table.{has_few_values};
+ghost use Rattle.meta_store.specs.Table.{has_few_values, most_keys};
 ghost use Rattle.std.specs.List.{list_all};
 ghost use Rattle.node_file.specs.Record.{IsRecord};
+ghost use Rattle.node_file.specs.Batch.{AreAppended, IsBatchOfDevice, NoneOrAll, batch_size, refusal_of_batch, state_with_all};
+ghost use Rattle.node_file.specs.Clean.{row_record};
 ghost use Rattle.node_file.specs.Fault.{IsOfDevice};
 ghost use Rattle.node_file.specs.File.{file_state, IsAppended, record_size, state_with, WithOrWithout};
 ghost use Rattle.node_file.specs.Refusal.{has_spelling, refusal_of_append};
 ghost use Rattle.node_file.specs.View.{IsSettled};
+ghost use Rattle.node_file.specs.declared.batch_fault.BatchFault.{BatchFault};
 ghost use Rattle.node_file.specs.declared.fault.FileFault.{FileFault};
 ghost use Rattle.node_file.specs.declared.record.Record.TheVariants.{Object};
 
+use crate::batch::{refusal_of_batch, spell_batch};
+use crate::batch_fault::BatchFault;
 use crate::fault::FileFault;
 use crate::found::MAX_FILE_LEN;
-use crate::putting::{WriteFault, put_record};
+use crate::new_object::NewObject;
+use crate::putting::{WriteFault, put_batch, put_record};
 use crate::record::{AROUND_PAYLOAD, NewRecord, spell_record};
 use devices::Device;
 use dvvset::{Entries, Entry};
@@ -219,6 +225,80 @@ impl<D: Device> NodeFile<D> {
             Err(WriteFault::Device) => {
                 self.is_stopped = true;
                 Err(FileFault::Device)
+            }
+        }
+    }
+
+    /// Appends that each of these is the object under its key from now on: all of them, or none.
+    /// After `Ok` they are durable. Without objects it does nothing.
+    ///
+    /// Refused in this order: 34 `Stopped`; `TooMany`, if they are more than
+    /// [`MAX_BATCH`](crate::MAX_BATCH); 33 `FileFull` and 27 `ObjectTooLarge` of the first object
+    /// that `append` would refuse behind those before it, with its place; 30 `Device`, which stops
+    /// the file. 99 `Memory` stops it too if the device was asked for something before. The objects
+    /// of a call that stopped the file stand in it, all of them, or none does.
+    ///
+    /// It makes the four calls of one append, and takes memory for all records. If a crash cuts off
+    /// a batch of two or more, what is left behind the closed gate may look as if that gate had
+    /// been changed, and [`changed_gate`](crate::changed_gate) tells it. Nothing acknowledged is
+    /// lost then.
+    pub fn append_all(&mut self, alloc: Global, objects: &[NewObject<'_>]) -> Result<(), BatchFault>
+        requires served { self.old.is_served ≡ true }
+        requires room { self.old.is_stopped ≡ false → length (state_with_all
+            (file_state (D.content self.old.device)) (map row_record objects.now)).contents.table
+            ≤ most_keys }
+        ensures refusals { (fault : BatchFault)
+            → refusal_of_batch self.old.is_stopped self.old.gate objects.now ≡ Some fault
+            → (result ≡ Err fault) × (self.new ≡ self.old) }
+        ensures none { objects.now ≡ [] → self.old.is_stopped ≡ false
+            → IsOk result × (self.new ≡ self.old) }
+        ensures appended { OnOk result (file_state (D.content self.new.device)
+            ≡ state_with_all (file_state (D.content self.old.device))
+            (map row_record objects.now)) }
+        ensures written { OnOk result (AreAppended self.old.gate (map row_record objects.now)
+            (D.content self.old.device) (D.content self.new.device)) }
+        ensures gate { OnOk result (self.new.gate
+            ≡ self.old.gate + batch_size (map row_record objects.now)) }
+        ensures goes_on { OnOk result
+            ((self.old.is_stopped ≡ false) × (self.new.is_stopped ≡ false)) }
+        ensures settled { self.new.is_stopped ≡ false
+            → IsSettled D.content D.may_leave self.new }
+        ensures any_moment { self.old.is_stopped ≡ false → LeavesOnly D.moment D.left_since
+            self.old.device self.new.device
+            (NoneOrAll (D.content self.old.device) (map row_record objects.now)) }
+        ensures still { OnOk result
+            (D.failed self.new.device ≡ D.failed self.old.device) }
+        ensures refused { IfErr result (λ fault.
+            IsBatchOfDevice fault (D.failed self.old.device) (D.failed self.new.device)
+            ⊎ (refusal_of_batch self.old.is_stopped self.old.gate objects.now ≡ Some fault)) }
+        ensures stopped_or_same { OnErr result ((self.new.is_stopped ≡ true)
+            ⊎ ((D.content self.new.device ≡ D.content self.old.device)
+            × (self.new.gate ≡ self.old.gate))) }
+        ensures stops { IfErr result (λ fault. fault ≡ BatchFault.File FileFault.Device
+            → self.new.is_stopped ≡ true) }
+        ensures whose { (self.new.node ≡ self.old.node) × (self.new.life ≡ self.old.life)
+            × (self.new.is_served ≡ true) }
+    {
+        if self.is_stopped() {
+            return Err(BatchFault::File(FileFault::Stopped));
+        }
+        if let Some(refusal) = refusal_of_batch(self.gate, objects) {
+            return Err(refusal);
+        }
+        if objects.is_empty() {
+            return Ok(());
+        }
+        let Ok(bytes) = spell_batch(alloc, objects) else {
+            return Err(BatchFault::File(FileFault::Memory));
+        };
+        match put_batch(&mut self.device, self.gate, objects, &bytes[1..]) {
+            Ok(()) => {
+                self.gate += bytes.len() - 1;
+                Ok(())
+            }
+            Err(cause) => {
+                self.is_stopped = cause.has_begun();
+                Err(BatchFault::File(cause.into()))
             }
         }
     }

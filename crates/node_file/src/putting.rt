@@ -1,16 +1,21 @@
-//! Putting a record after the others, so that a crash at any moment leaves a file with it or
-//! without it: it is written after the closed gate and synced, and then the gate is opened and
-//! synced.
+//! Putting a record after the others, or many at once, so that a crash at any moment leaves a file
+//! with all of them or without: they are written after the closed gate and synced, and then that
+//! gate is opened and synced.
 
-ghost use Rattle.std.specs.Prelude.{◌≡◌, ◌+◌, ◌<◌, ◌≤◌, ◌^◌, ◌++◌, [], ◌∷◌, true, length, None, Ok, OnOk, IsErrOf};
+ghost use Rattle.std.specs.Prelude.{◌≡◌, ◌+◌, ◌<◌, ◌≤◌, ◌^◌, ◌++◌, List, [], ◌∷◌, true, length, map, None, Ok, OnOk, IsErrOf};
 ghost use Rattle.devices.specs.Device.{HasFailed, IsDurable, LeavesOnly, Overwrites, Torn};
 ghost use Rattle.meta_store.specs.Table.{most_keys};
+ghost use Rattle.node_file.specs.Batch.{AreAppended, CanTakeAll, NoneOrAll, behind_first, state_with_all};
+ghost use Rattle.node_file.specs.Clean.{behind_gates, row_record};
 ghost use Rattle.node_file.specs.File.{file_state, IsAppended, opened, state_with, WithOrWithout};
 ghost use Rattle.node_file.specs.Fold.{may_follow};
+ghost use Rattle.node_file.specs.Putting.{has_begun};
 ghost use Rattle.node_file.specs.Reads.{record_given};
 ghost use Rattle.node_file.specs.Record.{IsRecord, payload, record_bytes};
+ghost use Rattle.node_file.specs.declared.record.Record.{Record};
 
 use crate::fault::FileFault;
+use crate::new_object::NewObject;
 use crate::record::{NewRecord, OPEN_GATE};
 use devices::{Device, DeviceFault};
 
@@ -22,6 +27,19 @@ pub(crate) enum WriteFault {
     /// Memory ran out later.
     Memory,
     Device,
+}
+
+impl WriteFault {
+    /// Returns whether the device was asked for something.
+    pub(crate) fn has_begun(self) -> bool
+        ensures { result ≡ has_begun self }
+    {
+        match self {
+            WriteFault::NotBegun => false,
+            WriteFault::Memory => true,
+            WriteFault::Device => true,
+        }
+    }
 }
 
 impl From<WriteFault> for FileFault {
@@ -67,6 +85,52 @@ fn write_synced<D: Device>(device: &mut D, at: usize, bytes: &[u8]) -> Result<()
     }
 }
 
+/// Puts records after the closed gate, and opens the gate. `spelled` are their bytes after the gate
+/// of the first, up to the closed gate after the last.
+fn put_spelled<D: Device>(device: &mut D, gate: usize, spelled: &[u8]) -> Result<(), WriteFault>
+    requires opens { opened None (D.content device.old)
+        ≡ Ok (file_state (D.content device.old), gate) }
+    requires durable { IsDurable (D.content device.old) (D.may_leave device.old) }
+    requires short { gate < 2 ^ 60 }
+    ensures any_moment { (first : Record) (more : List Record)
+        → spelled.now ≡ behind_first first more
+        → CanTakeAll (file_state (D.content device.old)) (first ∷ more)
+        → LeavesOnly D.moment D.left_since device.old device.new
+        (NoneOrAll (D.content device.old) (first ∷ more)) }
+    ensures written { OnOk result ((first : Record) (more : List Record)
+        → spelled.now ≡ behind_first first more
+        → AreAppended gate (first ∷ more) (D.content device.old) (D.content device.new)) }
+    ensures opens { OnOk result ((first : Record) (more : List Record)
+        → spelled.now ≡ behind_first first more
+        → CanTakeAll (file_state (D.content device.old)) (first ∷ more)
+        → opened None (D.content device.new)
+        ≡ Ok (
+          state_with_all (file_state (D.content device.old)) (first ∷ more),
+          gate + length spelled.now,
+        )) }
+    ensures synced { OnOk result (IsDurable (D.content device.new) (D.may_leave device.new)) }
+    ensures not_begun { IsErrOf result WriteFault.NotBegun
+        → (D.content device.new ≡ D.content device.old)
+        × IsDurable (D.content device.new) (D.may_leave device.new) }
+    ensures cause { IsErrOf result WriteFault.Device
+        → HasFailed (D.failed device.old) (D.failed device.new) }
+    ensures still { (IsErrOf result WriteFault.Device → ⊥)
+        → D.failed device.new ≡ D.failed device.old }
+{
+    match write_synced(device, gate + 1, spelled) {
+        Ok(()) => {}
+        Err(WriteFault::NotBegun) => return Err(WriteFault::NotBegun),
+        Err(WriteFault::Memory) => return Err(WriteFault::Memory),
+        Err(WriteFault::Device) => return Err(WriteFault::Device),
+    }
+    match write_synced(device, gate, &[OPEN_GATE]) {
+        Ok(()) => Ok(()),
+        Err(WriteFault::NotBegun) => Err(WriteFault::Memory),
+        Err(WriteFault::Memory) => Err(WriteFault::Memory),
+        Err(WriteFault::Device) => Err(WriteFault::Device),
+    }
+}
+
 /// Puts a record after the closed gate, and opens the gate. `spelled` are the record's bytes after
 /// its gate, with the closed gate that follows.
 pub(crate) fn put_record<D: Device>(
@@ -104,16 +168,40 @@ pub(crate) fn put_record<D: Device>(
     ensures still { (IsErrOf result WriteFault.Device → ⊥)
         → D.failed device.new ≡ D.failed device.old }
 {
-    match write_synced(device, gate + 1, spelled) {
-        Ok(()) => {}
-        Err(WriteFault::NotBegun) => return Err(WriteFault::NotBegun),
-        Err(WriteFault::Memory) => return Err(WriteFault::Memory),
-        Err(WriteFault::Device) => return Err(WriteFault::Device),
-    }
-    match write_synced(device, gate, &[OPEN_GATE]) {
-        Ok(()) => Ok(()),
-        Err(WriteFault::NotBegun) => Err(WriteFault::Memory),
-        Err(WriteFault::Memory) => Err(WriteFault::Memory),
-        Err(WriteFault::Device) => Err(WriteFault::Device),
-    }
+    put_spelled(device, gate, spelled)
+}
+
+/// Puts the records of the objects after the closed gate, as `put_record` does with one.
+pub(crate) fn put_batch<D: Device>(
+    device: &mut D,
+    gate: usize,
+    objects: &[NewObject<'_>],
+    spelled: &[u8],
+) -> Result<(), WriteFault>
+    requires bytes { 1 ∷ spelled.now ≡ behind_gates (map row_record objects.now) }
+    requires opens { opened None (D.content device.old)
+        ≡ Ok (file_state (D.content device.old), gate) }
+    requires can_take { CanTakeAll (file_state (D.content device.old))
+        (map row_record objects.now) }
+    requires durable { IsDurable (D.content device.old) (D.may_leave device.old) }
+    requires short { gate < 2 ^ 60 }
+    ensures any_moment { LeavesOnly D.moment D.left_since device.old device.new
+        (NoneOrAll (D.content device.old) (map row_record objects.now)) }
+    ensures written { OnOk result (AreAppended gate (map row_record objects.now)
+        (D.content device.old) (D.content device.new)) }
+    ensures opens { OnOk result (opened None (D.content device.new)
+        ≡ Ok (
+          state_with_all (file_state (D.content device.old)) (map row_record objects.now),
+          gate + length spelled.now,
+        )) }
+    ensures synced { OnOk result (IsDurable (D.content device.new) (D.may_leave device.new)) }
+    ensures not_begun { IsErrOf result WriteFault.NotBegun
+        → (D.content device.new ≡ D.content device.old)
+        × IsDurable (D.content device.new) (D.may_leave device.new) }
+    ensures cause { IsErrOf result WriteFault.Device
+        → HasFailed (D.failed device.old) (D.failed device.new) }
+    ensures still { (IsErrOf result WriteFault.Device → ⊥)
+        → D.failed device.new ≡ D.failed device.old }
+{
+    put_spelled(device, gate, spelled)
 }

@@ -100,9 +100,24 @@ fn write_payload(out: &mut Vec<u8>, given: NewRecord<'_>) -> Result<(), AllocErr
     }
 }
 
+/// Writes the open gate of a record, and the record, at the end of bytes.
+#[tactic(auto, unfolding(crate::specs::Record::record_bytes))]
+pub(crate) fn write_with_gate(out: &mut Vec<u8>, given: NewRecord<'_>) -> Result<(), AllocError>
+    requires lawful { IsRecord (record_given given) }
+    ensures { OnOk result (out.new.items
+        ≡ out.old.items ++ 1 ∷ record_bytes (payload (record_given given.entry))) }
+{
+    let start = out.len();
+    let len = given.payload_len();
+    out.push(OPEN_GATE)?;
+    write_u32(out, len as u32)?;
+    write_payload(out, given)?;
+    let digest: [u8; 32] = Sha256::digest(&out[start + 5..]);
+    out.extend_from_slice(&digest)
+}
+
 /// Returns the bytes of a record, with the open gate before and the closed gate after them. Fails
 /// only when memory runs out.
-#[tactic(auto, unfolding(crate::specs::Record::record_bytes))]
 pub(crate) fn spell_record(alloc: Global, given: NewRecord<'_>) -> Result<Vec<u8>, AllocError>
     requires lawful { IsRecord (record_given given) }
     ensures { IfOk result (λ bytes. bytes.items
@@ -110,11 +125,7 @@ pub(crate) fn spell_record(alloc: Global, given: NewRecord<'_>) -> Result<Vec<u8
 {
     let len = given.payload_len();
     let mut bytes = Vec::with_capacity(alloc, len + AROUND_PAYLOAD)?;
-    bytes.push(OPEN_GATE)?;
-    write_u32(&mut bytes, len as u32)?;
-    write_payload(&mut bytes, given)?;
-    let digest: [u8; 32] = Sha256::digest(&bytes[5..]);
-    bytes.extend_from_slice(&digest)?;
+    write_with_gate(&mut bytes, given)?;
     bytes.push(CLOSED_GATE)?;
     Ok(bytes)
 }

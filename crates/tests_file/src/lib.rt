@@ -8,6 +8,8 @@
 // statics, of which a proof knows no more than their type.
 
 #[cfg(test)]
+mod batches;
+#[cfg(test)]
 mod files;
 #[cfg(test)]
 mod gates;

@@ -7,7 +7,9 @@ use devices::MemoryDevice;
 use dvvset::Entries;
 use meta_store::size::may_be_held;
 use meta_types::MetaKey;
-use node_file::{FileFault, NodeFile, open_node, rewrite, serve};
+use node_file::{
+    BatchFault, FileFault, NewObject, NodeFile, has_room_for_all, open_node, rewrite, serve,
+};
 use std::alloc::Global;
 
 /// Returns whether the bytes open as one of the two: the last life and the number of keys.
@@ -32,9 +34,9 @@ fn is_served(alloc: Global) -> Option<bool> {
     }
 }
 
-/// Returns the key and the object of the file of one record.
-fn key_and_object(alloc: Global) -> Option<(MetaKey, Entries)> {
-    let (_, table, _) = open_node(alloc, device(alloc, ONE).ok()?, None).ok()?;
+/// Returns the key of a file, and its object.
+fn key_and_object(alloc: Global, file: &[u8]) -> Option<(MetaKey, Entries)> {
+    let (_, table, _) = open_node(alloc, device(alloc, file).ok()?, None).ok()?;
     let (prefix, rows) = table.iter().next()?;
     let (key, object) = rows.iter().next()?;
     let own = key.as_slice().to_vec(alloc).ok()?;
@@ -42,16 +44,17 @@ fn key_and_object(alloc: Global) -> Option<(MetaKey, Entries)> {
     Some((key, object.copy().ok()?))
 }
 
-/// Returns whether an append that ended so left the file of one record; `None` if memory was
-/// refused and it left the served file, or stopped the file once it had written something.
+/// Returns whether an append that ended so left these bytes; `None` if memory was refused and it
+/// left the served file, or stopped the file once it had written something.
 fn left(
     alloc: Global,
     file: &NodeFile<MemoryDevice>,
     ended: Result<(), FileFault>,
+    whole: &[u8],
 ) -> Option<bool> {
     let content = file.device().content();
     match ended {
-        Ok(()) => Some(content == ONE),
+        Ok(()) => Some(content == whole),
         Err(FileFault::Memory) => {
             let is_left = if file.is_stopped() {
                 content != SERVED && is_one_of(alloc, content, [(1, 0), (1, 1)])
@@ -71,7 +74,7 @@ fn append_leaves(alloc: Global, key: &MetaKey, object: &Entries) -> Option<bool>
     drop(table);
     let left = if fits {
         let ended = file.append(alloc, key, object);
-        left(alloc, &file, ended)
+        left(alloc, &file, ended, ONE)
     } else {
         Some(false)
     };
@@ -81,10 +84,50 @@ fn append_leaves(alloc: Global, key: &MetaKey, object: &Entries) -> Option<bool>
 
 /// Returns whether an append to the served file leaves the file of one record.
 fn is_appended(alloc: Global) -> Option<bool> {
-    let (key, object) = key_and_object(alloc)?;
+    let (key, object) = key_and_object(alloc, ONE)?;
     let left = append_leaves(alloc, &key, &object);
     drop(key);
     drop(object);
+    left
+}
+
+/// Appends the objects at once to the served file, and returns what `left` says of it.
+fn batch_leaves(alloc: Global, objects: &[NewObject<'_>]) -> Option<bool> {
+    let (mut file, table, _) = serve(alloc, device(alloc, EMPTY).ok()?, None).ok()?;
+    let fits = has_room_for_all(&table, objects);
+    drop(table);
+    let left = if fits {
+        match file.append_all(alloc, objects) {
+            Ok(()) => left(alloc, &file, Ok(()), TWO),
+            Err(BatchFault::File(fault)) => left(alloc, &file, Err(fault), TWO),
+            Err(_) => Some(false),
+        }
+    } else {
+        Some(false)
+    };
+    drop(file);
+    left
+}
+
+/// Lends the objects, and returns what `left` says once they were appended at once.
+fn rows_leave(alloc: Global, rows: &[(MetaKey, Entries)]) -> Option<bool> {
+    let mut objects = Vec::new(alloc);
+    for row in rows {
+        if !may_be_held(&row.1) {
+            return Some(false);
+        }
+        objects.push(NewObject::new(&row.0, &row.1)).ok()?;
+    }
+    batch_leaves(alloc, &objects)
+}
+
+/// Returns whether a batch of two objects leaves the file of two records.
+fn are_appended(alloc: Global) -> Option<bool> {
+    let x = key_and_object(alloc, ONE)?;
+    let y = key_and_object(alloc, TWO)?;
+    let rows = [x, y];
+    let left = rows_leave(alloc, &rows);
+    drop(rows);
     left
 }
 
@@ -119,6 +162,12 @@ fn a_file_is_served_again_under_refused_memory(rt: HostRuntime) {
 #[test]
 fn a_file_is_appended_to_again_under_refused_memory(rt: HostRuntime) {
     let done = is_appended(rt.alloc()).or_else(|| is_appended(rt.alloc()));
+    assert!(rt; done == Some(true));
+}
+
+#[test]
+fn a_batch_is_appended_again_under_refused_memory(rt: HostRuntime) {
+    let done = are_appended(rt.alloc()).or_else(|| are_appended(rt.alloc()));
     assert!(rt; done == Some(true));
 }
 

@@ -66,7 +66,7 @@ fn after(rt: &impl Abort, alloc: Global, passed: u64) -> Ended {
 
 /// A write that isn't synced, and the content before it.
 #[derive(Drop)]
-struct LastWrite {
+pub(crate) struct LastWrite {
     before: Vec<u8>,
     at: usize,
     written: Vec<u8>,
@@ -97,7 +97,11 @@ fn content_before(rt: &impl Abort, alloc: Global, device: &MemoryDevice) -> Vec<
 }
 
 /// Returns the last call of the device, if it is a write.
-fn last_write_of(rt: &impl Abort, alloc: Global, device: &MemoryDevice) -> Option<LastWrite> {
+pub(crate) fn last_write_of(
+    rt: &impl Abort,
+    alloc: Global,
+    device: &MemoryDevice,
+) -> Option<LastWrite> {
     match device.calls().last() {
         Some(Call::Wrote(at, bytes)) => Some(LastWrite {
             before: content_before(rt, alloc, device),
@@ -176,7 +180,7 @@ fn image(
 }
 
 /// Returns whether each image of sectors of this size opens as one of the two.
-fn each_opens(
+pub(crate) fn each_opens(
     rt: &impl Abort,
     alloc: Global,
     write: &LastWrite,
