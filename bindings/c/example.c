@@ -34,7 +34,7 @@ static void must(const char *what, bool done)
 static void accepted(const char *call, uint16_t number)
 {
     if (number != ZOMTAGI_OK) {
-        fprintf(stderr, "example: %s was refused with %d\n", call, number);
+        fprintf(stderr, "example: %s was refused with %d %s\n", call, number, zomtagi_refusal_name(number));
         exit(1);
     }
 }
@@ -163,7 +163,7 @@ static void print_damage(struct member *member, uint16_t node, size_t place)
     size_t end = read_file(member->file), at = 0;
     buffer[place] ^= 1;
     uint16_t number = zomtagi_check_file(buffer, end, node, &at);
-    printf("with another byte %zu: %d at %zu\n", place, number, at);
+    printf("with another byte %zu: %d %s at %zu\n", place, number, zomtagi_refusal_name(number), at);
 }
 
 static uint64_t number_at(const uint8_t *bytes)
@@ -175,20 +175,27 @@ static uint64_t number_at(const uint8_t *bytes)
     return number;
 }
 
+/* Prints a node's neighbours, and how many keys it holds. */
+static void print_about(struct member *member)
+{
+    zomtagi_node_info info;
+    accepted("zomtagi_about", zomtagi_about(&member->slot, &info));
+    accepted("zomtagi_neighbours", zomtagi_neighbours(&member->slot, buffer, size, &len));
+    printf("node %d has %zu keys, %zu neighbours\n", info.number, info.keys, len / 2);
+}
+
 /* Reads a node under the key, and prints the siblings. */
 static void print_read(struct member *member)
 {
-    uint16_t node;
-    uint32_t life;
-    uint8_t is_stopped;
-    accepted("zomtagi_about", zomtagi_about(&member->slot, &node, &life, &is_stopped));
+    zomtagi_node_info info;
+    accepted("zomtagi_about", zomtagi_about(&member->slot, &info));
     accepted("zomtagi_read", zomtagi_read(&member->slot, COLOUR));
     uint16_t number;
     do {
         number = zomtagi_reply(&member->slot, buffer, size, &len);
     } while (has_grown(number));
     accepted("zomtagi_reply", number);
-    printf("node %d, life %u:", node, (unsigned)life);
+    printf("node %d, life %u:", info.number, (unsigned)info.life);
     const uint8_t *bytes = buffer + 9;
     for (uint64_t left = number_at(buffer + 1); left > 0; left--) {
         bool has_body = bytes[8] == 1;
@@ -219,6 +226,7 @@ int main(void)
 
     accepted("zomtagi_write_over", zomtagi_write_over(zero, COLOUR, BYTES("red"), 0));
     carry(members, 0);
+    print_about(&members[1]);
     print_read(&members[1]);
 
     /* A write that has read nothing stands beside; one that has read both replaces both. */
@@ -237,7 +245,7 @@ int main(void)
     carry(members, 1);
     zomtagi_free(one);
     uint16_t number = zomtagi_tick(one, word());
-    printf("after zomtagi_free: %d\n", number);
+    printf("after zomtagi_free: %d %s\n", number, zomtagi_refusal_name(number));
     must("a slot without a node answers 80", number == ZOMTAGI_NO_NODE);
     serve_again(&members[1], 1);
     print_read(&members[1]);

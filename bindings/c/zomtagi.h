@@ -31,57 +31,105 @@ extern "C" {
  *
  * - Only the exports change a slot, and nobody looks into it. You may move it by copying its bytes,
  *   if you don't use the old place again: only one copy of a full slot may be used.
- * - A slot has one call at a time, and all its calls are on one thread. After a fork only one of the
- *   two processes may use it.
+ * - A slot has one call at a time, from any thread. After a fork only one of the two processes may
+ *   use it.
  * - A full slot is freed once, by zomtagi_free, or it leaks. A slot that was freed is empty: an
  *   export that needs a node returns 80, zomtagi_free does nothing, and zomtagi_new or
  *   zomtagi_serve may fill the slot again.
- * - A pointer is never NULL, not even with a length of 0, and points to as many bytes as the length
- *   says. What an export writes (slot, buffer, len, gate, number ..) overlaps nothing else that it
- *   is given.
+ * - A pointer points to as many bytes as its length says. Only if that is 0 may it be NULL. What an
+ *   export writes (slot, buffer, len, gate, number ..) overlaps nothing else that it is given.
  */
 typedef struct zomtagi_slot {
     bool full;
     void *node;
 } zomtagi_slot;
 
-/* The numbers of refusals, with their names. Only the exports have 80 to 82. */
+/*
+ * The numbers of refusals, and what they mean. Only the exports have 80 to 82. A number keeps its
+ * meaning; later versions may have more.
+ */
 enum {
     ZOMTAGI_OK = 0,
-    ZOMTAGI_BAD_NAME = 1,         /* a part of a key is empty or too long */
-    ZOMTAGI_VALUE_TOO_LONG = 2,   /* a body has more than 1,024 bytes */
-    ZOMTAGI_BAD_NODE = 3,         /* no number from 0 to 15, or the node's own */
-    ZOMTAGI_SHORT = 10,           /* 10 to 16: the bytes are no frame */
-    ZOMTAGI_BAD_MAGIC = 11,
-    ZOMTAGI_BAD_VERSION = 12,
-    ZOMTAGI_BAD_KIND = 13,
-    ZOMTAGI_TOO_LONG = 14,
-    ZOMTAGI_BAD_BODY = 15,        /* zomtagi_check_frame says where */
-    ZOMTAGI_LEFT_OVER = 16,
-    ZOMTAGI_BAD_SEAL = 17,        /* no key of the cluster sealed the bytes */
-    ZOMTAGI_BAD_KEY = 18,         /* keys have 32 bytes, or 64 */
-    ZOMTAGI_COUNTER_SPENT = 20,   /* this life of the node can't count another write of the key */
-    ZOMTAGI_BAD_ENTRIES = 21,     /* the frame's object can't have arisen beside the one held */
-    ZOMTAGI_STORE_FULL = 25,      /* the node holds 8,192 keys, and this is another one */
-    ZOMTAGI_WRONG_KEY = 26,       /* the context is of another key */
-    ZOMTAGI_OBJECT_TOO_LARGE = 27,
-    ZOMTAGI_BAD_WATCH = 28,       /* a capacity out of range, or a seventeenth watch in a life */
-    ZOMTAGI_NO_SUCH_WATCH = 29,
-    ZOMTAGI_DAMAGED = 31, /* no node file, or a damaged one: zomtagi_check_file says where */
-    ZOMTAGI_OTHER_NODE = 32,      /* the file is of another node */
-    ZOMTAGI_FILE_FULL = 33,       /* the file would have more than 2^40 bytes */
-    ZOMTAGI_STOPPED = 34,
+    ZOMTAGI_BAD_NAME = 1,           /* a part of a key is empty or too long */
+    ZOMTAGI_VALUE_TOO_LONG = 2,     /* a body has more than 1,024 bytes */
+    ZOMTAGI_BAD_NODE = 3,           /* no number from 0 to 15, or the node's own */
+    ZOMTAGI_SHORT = 10,             /* the bytes end before the frame does */
+    ZOMTAGI_BAD_MAGIC = 11,         /* the bytes don't begin as a frame does */
+    ZOMTAGI_BAD_VERSION = 12,       /* the frame is of another version */
+    ZOMTAGI_BAD_KIND = 13,          /* there is no such kind of frame */
+    ZOMTAGI_TOO_LONG = 14,          /* the frame says that it is longer than any */
+    ZOMTAGI_BAD_BODY = 15,          /* a field of the frame is at fault: zomtagi_check_frame says where */
+    ZOMTAGI_LEFT_OVER = 16,         /* more bytes stand behind the frame */
+    ZOMTAGI_BAD_SEAL = 17,          /* no key of the cluster sealed the bytes */
+    ZOMTAGI_BAD_KEY = 18,           /* keys have 32 bytes, or 64 */
+    ZOMTAGI_COUNTER_SPENT = 20,     /* this life of the node can't count another write of the key */
+    ZOMTAGI_BAD_ENTRIES = 21,       /* the frame's object can't have arisen beside the one held */
+    ZOMTAGI_STORE_FULL = 25,        /* the node holds 8,192 keys, and this is another one */
+    ZOMTAGI_WRONG_KEY = 26,         /* the context is of another key */
+    ZOMTAGI_OBJECT_TOO_LARGE = 27,  /* the object would be too large */
+    ZOMTAGI_BAD_WATCH = 28,         /* a capacity out of range, or a seventeenth watch in a life */
+    ZOMTAGI_NO_SUCH_WATCH = 29,     /* there is no watch of this number */
+    ZOMTAGI_DAMAGED = 31,           /* no node file, or a damaged one: zomtagi_check_file says where */
+    ZOMTAGI_OTHER_NODE = 32,        /* the file is of another node */
+    ZOMTAGI_FILE_FULL = 33,         /* the file would have more than 2^40 bytes */
+    ZOMTAGI_STOPPED = 34,           /* a record wasn't stored: free the node, and serve it again */
     ZOMTAGI_INCARNATION_SPENT = 35, /* there is no further life */
-    ZOMTAGI_OLD_VERSION = 36,     /* the file is of version 1 */
-    ZOMTAGI_PENDING = 37, /* a record isn't stored, or zomtagi_sent wasn't called for each frame */
-    ZOMTAGI_NOTHING = 38,         /* there is nothing to hand out */
-    ZOMTAGI_NOT_ADDRESSED = 40,   /* the frame is addressed to another node */
-    ZOMTAGI_NO_SUCH_READ = 43,    /* there is no context of this number */
-    ZOMTAGI_NO_NODE = 80,         /* there is no node in the slot */
-    ZOMTAGI_SHORT_BUFFER = 81,    /* the buffer is shorter than what it should hold */
-    ZOMTAGI_BAD_LIFE = 82,        /* lives are numbered from 1 */
-    ZOMTAGI_MEMORY = 99
+    ZOMTAGI_OLD_VERSION = 36,       /* the file is of version 1 */
+    ZOMTAGI_PENDING = 37,           /* a record isn't stored, or a frame isn't marked as sent */
+    ZOMTAGI_NOTHING = 38,           /* there is nothing to hand out */
+    ZOMTAGI_NOT_ADDRESSED = 40,     /* the frame is addressed to another node */
+    ZOMTAGI_NO_SUCH_READ = 43,      /* there is no context of this number */
+    ZOMTAGI_NO_NODE = 80,           /* there is no node in the slot */
+    ZOMTAGI_SHORT_BUFFER = 81,      /* the buffer is shorter than what it should hold */
+    ZOMTAGI_BAD_LIFE = 82,          /* lives are numbered from 1 */
+    ZOMTAGI_MEMORY = 99             /* memory ran out */
 };
+
+/*
+ * Returns the name of a refusal, such as "BadName" for 1: "Ok" for 0, and "Unknown" for a number
+ * that isn't in the list.
+ */
+static inline const char *zomtagi_refusal_name(uint16_t number) {
+    switch (number) {
+    case ZOMTAGI_OK: return "Ok";
+    /* made by scripts/refusals: the names */
+    case ZOMTAGI_BAD_NAME: return "BadName";
+    case ZOMTAGI_VALUE_TOO_LONG: return "ValueTooLong";
+    case ZOMTAGI_BAD_NODE: return "BadNode";
+    case ZOMTAGI_SHORT: return "Short";
+    case ZOMTAGI_BAD_MAGIC: return "BadMagic";
+    case ZOMTAGI_BAD_VERSION: return "BadVersion";
+    case ZOMTAGI_BAD_KIND: return "BadKind";
+    case ZOMTAGI_TOO_LONG: return "TooLong";
+    case ZOMTAGI_BAD_BODY: return "BadBody";
+    case ZOMTAGI_LEFT_OVER: return "LeftOver";
+    case ZOMTAGI_BAD_SEAL: return "BadSeal";
+    case ZOMTAGI_BAD_KEY: return "BadKey";
+    case ZOMTAGI_COUNTER_SPENT: return "CounterSpent";
+    case ZOMTAGI_BAD_ENTRIES: return "BadEntries";
+    case ZOMTAGI_STORE_FULL: return "StoreFull";
+    case ZOMTAGI_WRONG_KEY: return "WrongKey";
+    case ZOMTAGI_OBJECT_TOO_LARGE: return "ObjectTooLarge";
+    case ZOMTAGI_BAD_WATCH: return "BadWatch";
+    case ZOMTAGI_NO_SUCH_WATCH: return "NoSuchWatch";
+    case ZOMTAGI_DAMAGED: return "Damaged";
+    case ZOMTAGI_OTHER_NODE: return "OtherNode";
+    case ZOMTAGI_FILE_FULL: return "FileFull";
+    case ZOMTAGI_STOPPED: return "Stopped";
+    case ZOMTAGI_INCARNATION_SPENT: return "IncarnationSpent";
+    case ZOMTAGI_OLD_VERSION: return "OldVersion";
+    case ZOMTAGI_PENDING: return "Pending";
+    case ZOMTAGI_NOTHING: return "Nothing";
+    case ZOMTAGI_NOT_ADDRESSED: return "NotAddressed";
+    case ZOMTAGI_NO_SUCH_READ: return "NoSuchRead";
+    case ZOMTAGI_NO_NODE: return "NoNode";
+    case ZOMTAGI_SHORT_BUFFER: return "ShortBuffer";
+    case ZOMTAGI_BAD_LIFE: return "BadLife";
+    case ZOMTAGI_MEMORY: return "Memory";
+    /* the end of the names */
+    default: return "Unknown";
+    }
+}
 
 /* ---- making and freeing ---- */
 
@@ -181,7 +229,8 @@ uint16_t zomtagi_delete_over(zomtagi_slot *slot, const uint8_t *prefix, size_t p
 /*
  * Hands the node bytes that should be a frame for it. Reply 3 if the frame has no object, 4 if its
  * object has a write that the node didn't know, 5 if it has none. What came is in no file until its
- * key is written or kept.
+ * key is written or kept. After reply 4 the key stands in the frame as in a reply: from byte 22 on if
+ * byte 3 is 1 (GOSSIP), and from byte 20 on if it is 17 (XOBJECT).
  * step: 10 Short, 11 BadMagic, 12 BadVersion, 13 BadKind, 14 TooLong, 10 Short, 16 LeftOver,
  * 15 BadBody; 40 NotAddressed; 21 BadEntries, 25 StoreFull, 27 ObjectTooLarge. After one of these,
  * drop the bytes.
@@ -301,12 +350,37 @@ uint16_t zomtagi_forget_context(zomtagi_slot *slot, uint64_t number);
  */
 
 /*
- * Hands out the keys under a full prefix, in order, one after the other, each as in a reply; no
- * bytes if there are none. Refused with 80 NoNode, 1 BadName, 81 ShortBuffer, 99 Memory.
+ * Hands out the full prefixes that hold a key, in order, one after the other: the prefix and the
+ * sub-prefix, each with its length before it, in 2 bytes. Refused with 80 NoNode, 81 ShortBuffer,
+ * 99 Memory.
+ */
+uint16_t zomtagi_prefixes(zomtagi_slot *slot, uint8_t *buffer, size_t buffer_len, size_t *len);
+
+/*
+ * Hands out the keys under a full prefix, in order, one after the other: 1 (1 byte) if all that is
+ * shown under the key was deleted, or 0, and then the key as in a reply; no bytes if there are none.
+ * Refused with 80 NoNode, 1 BadName, 81 ShortBuffer, 99 Memory.
  */
 uint16_t zomtagi_list(zomtagi_slot *slot, const uint8_t *prefix, size_t prefix_len,
                       const uint8_t *sub, size_t sub_len, uint8_t *buffer, size_t buffer_len,
                       size_t *len);
+
+/*
+ * Hands out what is shown under a key: the number of values (8 bytes), then each, as in reply 1. It
+ * is no step, so it may be called while a record is being stored, and it gives no context: a write
+ * that should replace just this needs zomtagi_read. Refused with 80 NoNode, 1 BadName, 81
+ * ShortBuffer, 99 Memory.
+ */
+uint16_t zomtagi_peek(zomtagi_slot *slot, const uint8_t *prefix, size_t prefix_len,
+                      const uint8_t *sub, size_t sub_len, const uint8_t *key, size_t key_len,
+                      uint8_t *buffer, size_t buffer_len, size_t *len);
+
+/*
+ * Hands out the node's neighbours, at most 4, the one of longest standing first, each in 2 bytes. A
+ * node without neighbours hears of no write: join. Refused with 80 NoNode, 81 ShortBuffer, 99
+ * Memory.
+ */
+uint16_t zomtagi_neighbours(zomtagi_slot *slot, uint8_t *buffer, size_t buffer_len, size_t *len);
 
 /*
  * Hands out the root of the tree over all that the node holds, 32 bytes. Nodes that hold the same
@@ -314,12 +388,17 @@ uint16_t zomtagi_list(zomtagi_slot *slot, const uint8_t *prefix, size_t prefix_l
  */
 uint16_t zomtagi_root(zomtagi_slot *slot, uint8_t *buffer, size_t buffer_len, size_t *len);
 
-/*
- * Says the node's number, the number of its life, and 1 if it is stopped, or 0. Refused with 80
- * NoNode: all three are then as they were.
- */
-uint16_t zomtagi_about(zomtagi_slot *slot, uint16_t *number, uint32_t *life,
-                       uint8_t *is_stopped);
+/* What is told of a node. */
+typedef struct zomtagi_node_info {
+    uint16_t number;
+    uint8_t is_stopped; /* 1 if a record wasn't stored, else 0 */
+    uint32_t life;
+    size_t keys; /* how many it holds, of at most 8,192 */
+    size_t gate; /* the offset of the closed gate of its file, with which it ends; 0 without one */
+} zomtagi_node_info;
+
+/* Tells what the node is. Refused with 80 NoNode: *info is then as it was. */
+uint16_t zomtagi_about(zomtagi_slot *slot, zomtagi_node_info *info);
 
 /* ---- of bytes alone ----
  *

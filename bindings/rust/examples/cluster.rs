@@ -3,38 +3,45 @@
 //!     cargo run --release --offline --example cluster -- NODE NODES PORT FOLDER
 //!
 //! NODE is its number, from 0, of NODES; node N listens at PORT + N, and has the file FOLDER/node-N. At standard input it takes
-//! `put NAME VALUE`, `get NAME`, `del NAME`, `list`, `watch`, `root`, `leave` and `quit`, and prints a line for each.
+//! the commands that `README.md` beside this file has, and prints a line for each.
 //!
 //! The node lives in the main thread, which takes one event after the other: a frame that came, a line that was typed, a second
 //! that passed. Threads that read sockets and the prompt only send it events. Frames are sealed under the key in FOLDER/key, which
 //! the first process makes: a frame of whoever doesn't have it, or one that changed on its way, closes its stream.
 
-use std::collections::HashMap;
 use std::error::Error;
-use std::io::{self, BufRead, Read, Write};
+use std::io::{self, BufRead, Write};
 use std::net::{Ipv4Addr, Shutdown, SocketAddr, TcpListener, TcpStream};
 use std::sync::mpsc::{sync_channel, Receiver, RecvTimeoutError, SyncSender};
 use std::sync::Arc;
 use std::time::{Duration, Instant, SystemTime, UNIX_EPOCH};
 use std::{env, thread};
-use zomtagi::{FileStore, Frame, Key, Keys, Node, Value, SEAL_LEN};
+use zomtagi::{FileStore, Frame, Key, Node, Refusal, SealKeys, Value};
 
-/// The bytes of a frame's header, of which the last four say how many follow, and the most that may.
-const HEADER: usize = 20;
-const LONGEST: u32 = (1 << 24) - 20;
 const TICK: Duration = Duration::from_secs(1);
+/// In ticks.
+const MINUTE: usize = 60;
 
 /// How long a peer may take no byte, and how long a connection may bring none.
 const DEAF: Duration = Duration::from_secs(1);
 const DUMB: Duration = Duration::from_secs(300);
 
-/// How many connections are taken at once, and how many events wait: who sends more waits too.
+/// How many connections are taken at once; how many events wait: who sends more waits too; and how many frames wait for a peer:
+/// what comes on top of them is lost, and the peer counts as down.
 const MOST_CONNECTIONS: usize = 64;
 const MOST_EVENTS: usize = 1024;
+const MOST_FRAMES: usize = 1024;
+
+/// Nodes are numbered from 0 to 15.
+const MOST_NODES: u16 = 16;
+
+const WORDS: &str = "put NAME VALUE, get NAME, del NAME, resolve NAME, list, watch, root, add NODE, remove NODE, leave or quit";
 
 enum Event {
     /// A frame, and where it came from.
-    Frame(Vec<u8>, Arc<TcpStream>),
+    Frame(Frame, Arc<TcpStream>),
+    /// A peer that doesn't answer.
+    Down(u16),
     Line(String),
     /// The prompt ended.
     End,
@@ -45,16 +52,17 @@ fn main() -> Result<(), Box<dyn Error>> {
     let [node, nodes, port, folder] = words.as_slice() else {
         return Err("usage: cluster NODE NODES PORT FOLDER".into());
     };
-    let (node, nodes, port): (u16, u16, u16) = (node.parse()?, nodes.parse()?, port.parse()?);
+    let (number, nodes, port): (u16, u16, u16) = (node.parse()?, nodes.parse()?, port.parse()?);
     // (a service makes the file of a node once, by `create`, and then only opens it: docs/EMBEDDING.md)
-    let mut served = FileStore::open_or_create(format!("{folder}/node-{node}"), node)?;
-    served.set_keys(Some(Keys::read_or_create(format!("{folder}/key"))?));
+    let mut node = FileStore::open_or_create(format!("{folder}/node-{number}"), number)?;
+    node.set_keys(Some(SealKeys::read_or_create(format!("{folder}/key"))?));
     let (events, coming) = sync_channel(MOST_EVENTS);
-    listen(TcpListener::bind(("127.0.0.1", port + node))?, events.clone());
-    thread::spawn(move || read_lines(&events));
-    let seed = SystemTime::now().duration_since(UNIX_EPOCH)?.as_nanos() as u64;
-    let links = Links { port, streams: HashMap::new(), down: Vec::new() };
-    Driver { node: served, number: node, nodes, links, random: seed | 1, watch: None }.run(&coming)
+    listen(TcpListener::bind(("127.0.0.1", port + number))?, events.clone());
+    let prompt = events.clone();
+    thread::spawn(move || read_lines(&prompt));
+    let others = (0..nodes).filter(|it| *it != number).collect();
+    let links = (0..MOST_NODES).map(|to| link(to, port, events.clone())).collect();
+    Driver { node, others, links, ticks: 0, down: Vec::new(), watch: None }.run(&coming)
 }
 
 /// Takes connections; each has a thread that reads its frames.
@@ -69,7 +77,7 @@ fn listen(listener: TcpListener, events: SyncSender<Event>) {
             let (events, open) = (events.clone(), Arc::clone(&open));
             thread::spawn(move || {
                 let _open = open;
-                while let Ok(frame) = read_frame(&stream) {
+                while let Ok(Some(frame)) = Frame::read(&mut &*stream, true) {
                     if events.send(Event::Frame(frame, Arc::clone(&stream))).is_err() {
                         return;
                     }
@@ -79,18 +87,6 @@ fn listen(listener: TcpListener, events: SyncSender<Event>) {
     });
 }
 
-fn read_frame(mut stream: &TcpStream) -> io::Result<Vec<u8>> {
-    let mut frame = vec![0; HEADER];
-    stream.read_exact(&mut frame)?;
-    let len = u32::from_be_bytes([frame[16], frame[17], frame[18], frame[19]]);
-    let rest = u64::from(len) + SEAL_LEN as u64;
-    // (it takes memory as it comes)
-    if len > LONGEST || (stream.take(rest).read_to_end(&mut frame)? as u64) < rest {
-        return Err(io::ErrorKind::InvalidData.into());
-    }
-    Ok(frame)
-}
-
 fn read_lines(events: &SyncSender<Event>) {
     for line in io::stdin().lock().lines().map_while(Result::ok) {
         let _ = events.send(Event::Line(line));
@@ -98,128 +94,114 @@ fn read_lines(events: &SyncSender<Event>) {
     let _ = events.send(Event::End);
 }
 
-/// A connection to each peer to which something was sent.
-struct Links {
-    port: u16,
-    streams: HashMap<u16, TcpStream>,
-    /// The peers that turned out not to answer, which the node isn't told yet.
-    down: Vec<u16>,
-}
-
-impl Links {
-    fn send(&mut self, frame: &Frame) {
-        let to = frame.to();
-        for _attempt in 0..2 {
-            match self.stream(to).and_then(|stream| stream.write_all(frame.bytes())) {
-                Ok(()) => return,
-                // (the connection may be one to an earlier life of the peer: the second attempt makes another)
-                Err(_) => drop(self.streams.remove(&to)),
+/// Starts the thread that sends a peer its frames, so that a peer that takes none keeps nobody else waiting.
+fn link(to: u16, port: u16, events: SyncSender<Event>) -> SyncSender<Frame> {
+    let (frames, waiting) = sync_channel::<Frame>(MOST_FRAMES);
+    let address = SocketAddr::from((Ipv4Addr::LOCALHOST, port + to));
+    thread::spawn(move || {
+        let mut stream = None;
+        while let Ok(frame) = waiting.recv() {
+            // (the connection may be one to an earlier life of the peer: the second attempt makes another)
+            let is_sent = (0..2).any(|_| match stream.take().map_or_else(|| connect(&address), Ok) {
+                Ok(mut to) => to.write_all(frame.bytes()).map(|()| stream = Some(to)).is_ok(),
+                Err(_) => false,
+            });
+            if !is_sent {
+                waiting.try_iter().for_each(drop);
+                let _ = events.send(Event::Down(to));
             }
         }
-        self.down.push(to);
-    }
+    });
+    frames
+}
 
-    fn stream(&mut self, to: u16) -> io::Result<&mut TcpStream> {
-        if !self.streams.contains_key(&to) {
-            let address = SocketAddr::from((Ipv4Addr::LOCALHOST, self.port + to));
-            let stream = TcpStream::connect_timeout(&address, DEAF)?;
-            stream.set_nodelay(true)?;
-            stream.set_write_timeout(Some(DEAF))?;
-            self.streams.insert(to, stream);
-        }
-        Ok(self.streams.get_mut(&to).expect("it was put there"))
-    }
+fn connect(address: &SocketAddr) -> io::Result<TcpStream> {
+    let stream = TcpStream::connect_timeout(address, DEAF)?;
+    stream.set_nodelay(true)?;
+    stream.set_write_timeout(Some(DEAF))?;
+    Ok(stream)
 }
 
 struct Driver {
     node: Node,
-    number: u16,
-    nodes: u16,
-    links: Links,
-    random: u64,
+    /// The other nodes.
+    others: Vec<u16>,
+    /// What sends a node its frames, by number.
+    links: Vec<SyncSender<Frame>>,
+    /// How many ticks there were: in each it is the turn of one of the others.
+    ticks: usize,
+    /// Those to which a frame couldn't be sent.
+    down: Vec<u16>,
     watch: Option<u64>,
 }
 
 impl Driver {
     fn run(mut self, coming: &Receiver<Event>) -> Result<(), Box<dyn Error>> {
-        let life = self.node.life()?;
-        reply(&format!("node {} life {life}", self.number));
-        self.join()?;
-        let mut next = Instant::now() + TICK;
+        reply(&format!("node {} life {}", self.node.number(), self.node.life()));
+        let mut next = Instant::now();
         loop {
             // (before the next event, so that no flood of frames keeps the node from ticking)
             if Instant::now() >= next {
                 self.tick()?;
-                next += TICK;
+                next = Instant::now() + TICK;
             }
             match coming.recv_timeout(next.saturating_duration_since(Instant::now())) {
-                Ok(Event::Frame(frame, from)) => self.take(&frame, &from)?,
+                Ok(Event::Frame(frame, from)) => self.take(frame.bytes(), &from)?,
+                Ok(Event::Down(peer)) => self.down.push(peer),
                 Ok(Event::Line(line)) if line.trim() == "quit" => return Ok(()),
                 Ok(Event::Line(line)) => self.obey(&line)?,
                 Ok(Event::End) | Err(RecvTimeoutError::Disconnected) => return Ok(()),
                 Err(RecvTimeoutError::Timeout) => {}
             }
-            self.tell_down()?;
+            while let Some(peer) = self.down.pop() {
+                let frames = self.node.peer_down(peer)?;
+                self.send(frames);
+            }
         }
     }
 
-    /// A word of a xorshift generator.
-    fn word(&mut self) -> u64 {
-        self.random ^= self.random << 13;
-        self.random ^= self.random >> 7;
-        self.random ^= self.random << 17;
-        self.random
-    }
-
-    /// Another node, at random.
-    fn other(&mut self) -> Option<u16> {
-        let others = u64::from(self.nodes).checked_sub(1).filter(|others| *others > 0)?;
-        let choice = (self.word() % others) as u16;
-        Some(if choice < self.number { choice } else { choice + 1 })
-    }
-
     fn send(&mut self, frames: Vec<Frame>) {
-        frames.iter().for_each(|frame| self.links.send(frame));
+        for frame in frames {
+            let to = frame.to();
+            if self.links[to as usize].try_send(frame).is_err() {
+                self.down.push(to);
+            }
+        }
     }
 
     /// Tells another node of this life, and joins through it; both go to waste if it doesn't answer yet. The hello comes
     /// first: who hears of a new life has the node as a neighbour no longer.
-    fn join(&mut self) -> Result<(), zomtagi::Error> {
-        if let Some(contact) = self.other() {
-            let frames = self.node.hello(contact)?;
-            self.send(frames);
-            let word = self.word();
-            let frames = self.node.join(contact, word)?;
-            self.send(frames);
-        }
+    fn join(&mut self, contact: u16) -> Result<(), zomtagi::Error> {
+        let frames = self.node.hello(contact)?;
+        self.send(frames);
+        let frames = self.node.join(contact)?;
+        self.send(frames);
         Ok(())
     }
 
     fn take(&mut self, frame: &[u8], from: &TcpStream) -> Result<(), zomtagi::Error> {
-        let word = self.word();
-        match self.node.take(frame, word) {
+        match self.node.take(frame) {
             Ok((_taken, frames)) => self.send(frames),
             Err(error) if error.ends_node() => return Err(error),
-            // (no node of this cluster sealed it, or the bytes are no frame: where the next one begins isn't known)
-            Err(error) if matches!(error.number(), Some(10..=17)) => drop(from.shutdown(Shutdown::Both)),
+            Err(error) if error.ends_stream() => drop(from.shutdown(Shutdown::Both)),
             // (a frame is refused without harm, whatever it says)
             Err(_) => {}
         }
         Ok(())
     }
 
-    /// A second passed: the node ticks, and exchanges with another one, through which it joins again, since all its
-    /// neighbours may have gone.
+    /// A second passed: the node ticks, and exchanges with another one. As long as it has few neighbours it joins again: they
+    /// may have gone, or the frames of a join may have been lost. So it does each minute, since they may count it no longer.
     fn tick(&mut self) -> Result<(), zomtagi::Error> {
-        let word = self.word();
-        let frames = self.node.tick(word)?;
+        let frames = self.node.tick()?;
         self.send(frames);
-        if let Some(peer) = self.other() {
+        self.ticks += 1;
+        if let Some(peer) = self.others.get(self.ticks % self.others.len().max(1)).copied() {
             let frames = self.node.exchange(peer)?;
             self.send(frames);
-        }
-        if self.word() & 3 == 0 {
-            self.join()?;
+            if self.node.neighbours()?.len() < self.others.len().min(3) || self.ticks % MINUTE == 0 {
+                self.join(peer)?;
+            }
         }
         if let Some(watch) = self.watch {
             for key in self.node.changes(watch)?.keys {
@@ -229,37 +211,8 @@ impl Driver {
         Ok(())
     }
 
-    /// Tells the node of the peers that don't answer.
-    fn tell_down(&mut self) -> Result<(), zomtagi::Error> {
-        while let Some(peer) = self.links.down.pop() {
-            let word = self.word();
-            let frames = self.node.peer_down(peer, word)?;
-            self.send(frames);
-        }
-        Ok(())
-    }
-
     fn obey(&mut self, line: &str) -> Result<(), zomtagi::Error> {
-        let mut words = line.splitn(3, ' ');
-        let (verb, name, rest) = (words.next().unwrap_or(""), words.next().unwrap_or(""), words.next().unwrap_or(""));
-        let key = Key::new("app", "shared", name);
-        let done = match verb {
-            "put" => self.node.write_over(&key, &Value::text(rest)).map(|frames| self.send(frames)).map(|()| "ok".into()),
-            "del" => self.node.write_over(&key, &Value::tombstone()).map(|frames| self.send(frames)).map(|()| "ok".into()),
-            "get" => self.node.read(&key).map(|read| shown(&read.values)),
-            "list" => self
-                .node
-                .list(b"app", b"shared")
-                .map(|keys| keys.iter().map(|key| String::from_utf8_lossy(&key.name)).collect::<Vec<_>>().join(" ")),
-            "watch" => self.node.watch(b"app", b"shared", 1024).map(|watch| {
-                self.watch = Some(watch);
-                "ok".into()
-            }),
-            "root" => self.node.root().map(|root| root.iter().map(|byte| format!("{byte:02x}")).collect()),
-            "leave" => self.node.leave().map(|frames| self.send(frames)).map(|()| "ok".into()),
-            _ => Ok("put NAME VALUE, get NAME, del NAME, list, watch, root, leave or quit".into()),
-        };
-        match done {
+        match self.answer(line) {
             Ok(line) => reply(&line),
             // (what stops the node ends the process, which begins the next life once it is started again)
             Err(error) if error.ends_node() => return Err(error),
@@ -268,6 +221,55 @@ impl Driver {
         }
         Ok(())
     }
+
+    /// Does what a line asks for, and returns the answer.
+    fn answer(&mut self, line: &str) -> Result<String, zomtagi::Error> {
+        let mut words = line.splitn(3, ' ');
+        let (verb, name, rest) = (words.next().unwrap_or(""), words.next().unwrap_or(""), words.next().unwrap_or(""));
+        let key = Key::new("app", "shared", name);
+        let frames = match verb {
+            "put" => self.node.write_over(&key, &stamped(Some(rest)))?,
+            "del" => self.node.write_over(&key, &stamped(None))?,
+            "resolve" => self.node.resolve(&key, |read| read.lww().cloned())?,
+            "watch" => {
+                self.watch = Some(self.node.watch(b"app", b"shared", 1024)?);
+                Vec::new()
+            }
+            "add" | "remove" => self.change_members(verb == "add", name)?,
+            "leave" => self.node.leave()?,
+            "get" => return Ok(shown(&self.node.peek(&key)?)),
+            "list" => return self.names(),
+            "root" => return Ok(self.node.root()?.iter().map(|byte| format!("{byte:02x}")).collect()),
+            _ => return Ok(WORDS.into()),
+        };
+        self.send(frames);
+        Ok("ok".into())
+    }
+
+    /// Counts a node among the others from now on, or no longer, and then it is down.
+    fn change_members(&mut self, is_added: bool, number: &str) -> Result<Vec<Frame>, zomtagi::Error> {
+        let Ok(number @ 0..MOST_NODES) = number.parse() else {
+            return Err(Refusal::BadNode.into());
+        };
+        self.others.retain(|other| *other != number);
+        if is_added {
+            self.others.push(number);
+            return Ok(Vec::new());
+        }
+        self.node.peer_down(number)
+    }
+
+    /// The names that show a value.
+    fn names(&self) -> Result<String, zomtagi::Error> {
+        let keys = self.node.list(b"app", b"shared")?.into_iter().filter(|it| !it.is_deleted);
+        Ok(keys.map(|it| String::from_utf8_lossy(&it.key.name).into_owned()).collect::<Vec<_>>().join(" "))
+    }
+}
+
+/// A value, or the tombstone, with the milliseconds of the clock as its stamp: `resolve` goes by it.
+fn stamped(text: Option<&str>) -> Value {
+    let now = SystemTime::now().duration_since(UNIX_EPOCH).unwrap_or_default();
+    text.map_or_else(Value::tombstone, Value::text).with_stamp(now.as_millis() as u64)
 }
 
 /// Prints a line at once.

@@ -6,20 +6,20 @@
 //! `begun`; and `wrote C` once its write of that number, from 1, was acknowledged. If the file is in use, it exits with 3.
 
 use std::error::Error;
-use std::io::{self, ErrorKind, Write};
+use std::io::{self, Write};
 use std::process::exit;
-use zomtagi::{FileStore, Key, Value};
+use zomtagi::{FileStore, Key, Listed, Value};
 
 fn main() -> Result<(), Box<dyn Error>> {
     let path = std::env::args().nth(1).ok_or("usage: starts PATH")?;
     let mut node = match FileStore::open_or_create(path, 3) {
-        Err(zomtagi::Error::Io(error)) if error.kind() == ErrorKind::WouldBlock => exit(3),
+        Err(zomtagi::Error::InUse) => exit(3),
         served => served?,
     };
-    let life = node.life()?;
+    let life = node.life();
     tell(&format!("life {life}"))?;
-    for key in node.list(b"starts", b"lives")? {
-        let values = node.read(&key)?.values;
+    for Listed { key, .. } in node.list(b"starts", b"lives")? {
+        let values = node.peek(&key)?;
         let [Value { body: Some(count), .. }] = values.as_slice() else {
             return Err(format!("{key:?} has {values:?}").into());
         };

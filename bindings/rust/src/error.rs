@@ -1,52 +1,53 @@
+use crate::refusal::Refusal;
 use std::fmt;
 use std::io;
 
-/// Why a call was refused. Only `Refused`, `Damaged` and `BadBody` have a number.
+/// Why a call failed. What is printed of [`Error::Io`] and [`Error::Sync`] doesn't say the cause: `source()` has it, and `{:?}`
+/// prints it.
+///
+/// ```
+/// use zomtagi::{Key, Node, Value};
+///
+/// let mut node = Node::new(0, 1)?;
+/// match node.write_over(&Key::new("app", "flags", "colour"), &Value::text([0; 1025])) {
+///     Err(error) if error.ends_node() => panic!("it is to be served from its file again: {error}"),
+///     Err(error) => assert_eq!(error.to_string(), "2 ValueTooLong: a body has more than 1,024 bytes"),
+///     Ok(frames) => drop(frames),
+/// }
+/// # Ok::<(), zomtagi::Error>(())
+/// ```
 #[derive(Debug)]
 #[non_exhaustive]
 pub enum Error {
-    /// A refusal of the node, by its number; [`Error::name`] has its name. It is neither 31 nor 15.
-    Refused(u16),
+    /// A refusal of the library, except for 31 and 15, which say where.
+    Refused(Refusal),
     /// 31: from this offset on the bytes aren't what a file has there. All records before it are whole.
+    #[allow(missing_docs)]
     Damaged { at: u64 },
     /// 15: the field of the frame that begins at this offset is cut or breaks its rule, or is one too many.
+    #[allow(missing_docs)]
     BadBody { at: u64 },
+    /// The file is in use: another process, or another node of this one, holds its lock.
+    InUse,
     /// A call of the file failed that was no sync; or the store failed, which stops the node.
     Io(io::Error),
     /// A sync failed, so that what the disk holds isn't known. In a call of a node it stops the node.
     Sync(io::Error),
-    /// The gate at this offset of the file was open, and isn't: so says what stands behind it. All before it is whole.
+    /// The gate at this offset of the file was open, and isn't, or an append of many objects was cut off there: so says what
+    /// stands behind it. All before it is whole.
+    #[allow(missing_docs)]
     GateChanged { at: u64 },
     /// The context is of another node.
     OtherContext,
 }
 
-/// The numbers of refusals that the package deals with.
-pub(crate) const BAD_BODY: u16 = 15;
-pub(crate) const DAMAGED: u16 = 31;
-pub(crate) const STOPPED: u16 = 34;
-pub(crate) const NOTHING: u16 = 38;
-pub(crate) const SHORT_BUFFER: u16 = 81;
-pub(crate) const MEMORY: u16 = 99;
-
-/// The names of the refusals, as `docs/REFUSALS.md` has them.
-#[rustfmt::skip]
-const NAMES: [(u16, &str); 33] = [
-    (1, "BadName"), (2, "ValueTooLong"), (3, "BadNode"), (10, "Short"), (11, "BadMagic"), (12, "BadVersion"), (13, "BadKind"),
-    (14, "TooLong"), (15, "BadBody"), (16, "LeftOver"), (17, "BadSeal"), (18, "BadKey"), (20, "CounterSpent"), (21, "BadEntries"), (25, "StoreFull"),
-    (26, "WrongKey"), (27, "ObjectTooLarge"), (28, "BadWatch"), (29, "NoSuchWatch"), (31, "Damaged"), (32, "OtherNode"),
-    (33, "FileFull"), (34, "Stopped"), (35, "IncarnationSpent"), (36, "OldVersion"), (37, "Pending"), (38, "Nothing"),
-    (40, "NotAddressed"), (43, "NoSuchRead"), (80, "NoNode"), (81, "ShortBuffer"), (82, "BadLife"),
-    (99, "Memory"),
-];
-
 impl Error {
-    /// The number of a refusal, as the library gives it.
-    pub fn number(&self) -> Option<u16> {
+    /// The refusal of the library, if it is one.
+    pub fn refusal(&self) -> Option<Refusal> {
         match self {
-            Error::Refused(number) => Some(*number),
-            Error::Damaged { .. } => Some(DAMAGED),
-            Error::BadBody { .. } => Some(BAD_BODY),
+            Error::Refused(refusal) => Some(*refusal),
+            Error::Damaged { .. } => Some(Refusal::Damaged),
+            Error::BadBody { .. } => Some(Refusal::BadBody),
             _ => None,
         }
     }
@@ -54,38 +55,48 @@ impl Error {
     /// Whether the node is at its end, and is to be dropped: after 34, and what its store returned. After any other error it
     /// is as it was.
     pub fn ends_node(&self) -> bool {
-        matches!(self, Error::Refused(STOPPED) | Error::Io(_) | Error::Sync(_))
+        match self {
+            Error::Io(_) | Error::Sync(_) => true,
+            error => error.refusal().is_some_and(Refusal::ends_node),
+        }
     }
 
-    /// The name of the error.
-    pub fn name(&self) -> &'static str {
-        match self {
-            Error::Refused(number) => NAMES.iter().find(|known| known.0 == *number).map_or("Unknown", |known| known.1),
-            Error::Damaged { .. } => "Damaged",
-            Error::BadBody { .. } => "BadBody",
-            Error::Io(_) => "Io",
-            Error::Sync(_) => "Sync",
-            Error::GateChanged { .. } => "GateChanged",
-            Error::OtherContext => "OtherContext",
-        }
+    /// Whether the stream that the bytes came from is to be closed: they are no frame, or no key of the cluster sealed them, so
+    /// that where the next frame begins isn't known.
+    pub fn ends_stream(&self) -> bool {
+        self.refusal().is_some_and(Refusal::ends_stream)
     }
 }
 
 impl fmt::Display for Error {
     fn fmt(&self, out: &mut fmt::Formatter<'_>) -> fmt::Result {
         match self {
-            Error::Refused(number) => write!(out, "{number} {}", self.name()),
-            Error::Damaged { at } => write!(out, "{DAMAGED} {} at {at}", self.name()),
-            Error::BadBody { at } => write!(out, "{BAD_BODY} {} at {at}", self.name()),
-            Error::Io(error) => write!(out, "the store failed: {error}"),
-            Error::Sync(error) => write!(out, "a sync failed: {error}"),
-            Error::GateChanged { at } => write!(out, "the gate at {at} was changed"),
+            Error::Refused(refusal) => refusal.fmt(out),
+            Error::Damaged { at } => write!(out, "{}, at {at}", Refusal::Damaged),
+            Error::BadBody { at } => write!(out, "{}, at {at}", Refusal::BadBody),
+            Error::InUse => write!(out, "the file is in use"),
+            Error::Io(_) => write!(out, "a call of the file failed, or the store did"),
+            Error::Sync(_) => write!(out, "a sync of the file failed"),
+            Error::GateChanged { at } => write!(out, "the gate at {at} was changed, or many writes at once were cut off"),
             Error::OtherContext => write!(out, "the context is of another node"),
         }
     }
 }
 
-impl std::error::Error for Error {}
+impl std::error::Error for Error {
+    fn source(&self) -> Option<&(dyn std::error::Error + 'static)> {
+        match self {
+            Error::Io(error) | Error::Sync(error) => Some(error),
+            _ => None,
+        }
+    }
+}
+
+impl From<Refusal> for Error {
+    fn from(refusal: Refusal) -> Error {
+        Error::Refused(refusal)
+    }
+}
 
 impl From<io::Error> for Error {
     fn from(error: io::Error) -> Error {

@@ -1,6 +1,7 @@
-use crate::error::{Error, DAMAGED, MEMORY, SHORT_BUFFER};
+use crate::error::Error;
 use crate::node::{answered, damage, Node, Store};
 use crate::raw::{zomtagi_clean_copy, zomtagi_empty_file};
+use crate::refusal::Refusal;
 use std::ffi::OsString;
 use std::fs::{self, File, OpenOptions, Permissions};
 use std::io::{self, BufReader, ErrorKind, Read, Seek, SeekFrom};
@@ -59,7 +60,7 @@ impl FileStore {
     /// Serves the node from the file at the path, in its next life. The file is replaced by a copy of itself, which takes as much
     /// room on the disk until it is done.
     ///
-    /// Refused with [`Error::Io`] of the kind `NotFound` if there is no file, `WouldBlock` while its lock is held, and
+    /// Refused with [`Error::InUse`] while its lock is held; [`Error::Io`] of the kind `NotFound` if there is no file, and
     /// `InvalidInput` if it isn't a regular file or has a second name (a hard link); [`Error::GateChanged`]; as `zomtagi_serve`
     /// is; and with [`Error::Io`] or [`Error::Sync`] if the copy can't be made. It is then as it was.
     pub fn open(path: impl AsRef<Path>, node: u16) -> Result<Node, Error> {
@@ -141,7 +142,7 @@ struct Beside(PathBuf);
 
 impl Beside {
     /// Makes a file of this name, for its owner alone, and takes its lock.
-    fn make(path: PathBuf) -> io::Result<(Beside, File)> {
+    fn make(path: PathBuf) -> Result<(Beside, File), Error> {
         let file = OpenOptions::new().read(true).write(true).create_new(true).mode(0o600).open(&path)?;
         let beside = Beside(path);
         lock(&file)?;
@@ -149,11 +150,11 @@ impl Beside {
     }
 
     /// The same, of a name that nobody else has.
-    fn make_new(path: &Path) -> io::Result<(Beside, File)> {
+    fn make_new(path: &Path) -> Result<(Beside, File), Error> {
         let mut number = 0;
         loop {
             match Beside::make(with_end(path, &format!("{NEW}{}-{number}", process::id()))) {
-                Err(error) if error.kind() == ErrorKind::AlreadyExists => number += 1,
+                Err(Error::Io(error)) if error.kind() == ErrorKind::AlreadyExists => number += 1,
                 made => return made,
             }
         }
@@ -181,23 +182,23 @@ fn invalid(why: &str) -> io::Error {
 }
 
 /// Takes the lock of an open file.
-fn lock(file: &File) -> io::Result<()> {
+fn lock(file: &File) -> Result<(), Error> {
     if unsafe { flock(file.as_raw_fd(), EXCLUSIVE_OR_FAIL) } == 0 {
         return Ok(());
     }
-    Err(match io::Error::last_os_error() {
-        error if error.kind() == ErrorKind::WouldBlock => io::Error::new(error.kind(), "the file is in use: its lock is held"),
-        error => error,
-    })
+    match io::Error::last_os_error() {
+        error if error.kind() == ErrorKind::WouldBlock => Err(Error::InUse),
+        error => Err(error.into()),
+    }
 }
 
 /// The file at the path, under its lock, and the path without links.
-fn locked_at(path: &Path) -> io::Result<(File, PathBuf)> {
+fn locked_at(path: &Path) -> Result<(File, PathBuf), Error> {
     for _ in 0..MOST_TURNS {
         let path = path.canonicalize()?;
         let file = OpenOptions::new().read(true).write(true).custom_flags(NONBLOCKING).open(&path)?;
         if !file.metadata()?.is_file() {
-            return Err(invalid("it is no regular file"));
+            return Err(invalid("it is no regular file").into());
         }
         lock(&file)?;
         if is_at(&file, &path)? {
@@ -205,7 +206,7 @@ fn locked_at(path: &Path) -> io::Result<(File, PathBuf)> {
             return Ok((file, path));
         }
     }
-    Err(io::Error::new(ErrorKind::WouldBlock, "the file is being replaced again and again"))
+    Err(Error::InUse) // (it is being replaced again and again)
 }
 
 /// Whether the open file is the one of this name.
@@ -346,11 +347,11 @@ fn clean_copy(node: u16, bytes: &[u8]) -> Result<Vec<u8>, Error> {
     loop {
         copy.resize(len, 0);
         let (from, to) = (bytes.as_ptr(), copy.as_mut_ptr());
-        match unsafe { zomtagi_clean_copy(from, bytes.len(), node, to, copy.len(), &mut len) } {
-            SHORT_BUFFER => {}
-            DAMAGED => return Err(damage(node, bytes)),
-            number => {
-                answered(number)?;
+        match answered(unsafe { zomtagi_clean_copy(from, bytes.len(), node, to, copy.len(), &mut len) }) {
+            Err(Error::Refused(Refusal::ShortBuffer)) => {}
+            Err(Error::Refused(Refusal::Damaged)) => return Err(damage(node, bytes)),
+            answer => {
+                answer?;
                 copy.truncate(len);
                 return Ok(copy);
             }
@@ -378,7 +379,7 @@ fn whole_record(reader: &mut impl Read, front: &[u8], node: u16) -> Result<Optio
     let gate = alone.last_mut().map(|gate| replace(gate, CLOSED));
     match Node::of_bytes(node, &alone) {
         Err(Error::Damaged { .. }) => Ok(None),
-        Err(error @ Error::Refused(MEMORY)) => Err(error),
+        Err(error @ Error::Refused(Refusal::Memory)) => Err(error),
         _ => Ok(gate),
     }
 }

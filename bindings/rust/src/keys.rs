@@ -10,7 +10,7 @@ use std::process;
 use std::sync::atomic::{compiler_fence, AtomicU32, Ordering};
 
 /// The length of a key.
-pub const KEY_LEN: usize = 32;
+pub const SEAL_KEY_LEN: usize = 32;
 
 /// How many bytes a sealed frame has more than the frame.
 pub const SEAL_LEN: usize = 16;
@@ -21,50 +21,52 @@ pub const SEAL_LEN: usize = 16;
 /// nodes talk: give each node the new key as the previous one; once all have it, make it the current one, and the old one the
 /// previous; then leave the old one out.
 ///
-/// Keys are never printed, and are wiped when they are dropped.
-pub struct Keys {
+/// They are never printed, and are wiped when they are dropped.
+pub struct SealKeys {
     /// The current key, and behind it the previous one, if there is one.
     bytes: Vec<u8>,
 }
 
-impl Keys {
+impl SealKeys {
     /// One key: 32 bytes of a source of random numbers.
-    pub fn new(current: [u8; KEY_LEN]) -> Keys {
-        Keys { bytes: current.to_vec() }
+    pub fn new(current: [u8; SEAL_KEY_LEN]) -> SealKeys {
+        SealKeys { bytes: current.to_vec() }
     }
 
     /// Two keys, of which the first seals.
-    pub fn with_previous(current: [u8; KEY_LEN], previous: [u8; KEY_LEN]) -> Keys {
-        Keys { bytes: [current, previous].concat() }
+    pub fn with_previous(current: [u8; SEAL_KEY_LEN], previous: [u8; SEAL_KEY_LEN]) -> SealKeys {
+        SealKeys { bytes: [current, previous].concat() }
     }
 
     /// Reads a file of 32 bytes, the current key, or 64, behind it the previous one. Anything else in it is 18 `BadKey`, and a
     /// file that others than its owner may read or change is an [`Error::Io`].
-    pub fn read(path: impl AsRef<Path>) -> Result<Keys, Error> {
+    pub fn read(path: impl AsRef<Path>) -> Result<SealKeys, Error> {
         let file = File::open(path)?;
         if file.metadata()?.mode() & 0o077 != 0 {
             return Err(io::Error::new(ErrorKind::PermissionDenied, "a file of keys must have mode 0600").into());
         }
         // (with its room from the start, so that no bytes stay behind where it grew; one byte more is too many)
-        let mut keys = Keys { bytes: Vec::with_capacity(2 * KEY_LEN + 1) };
-        file.take(2 * KEY_LEN as u64 + 1).read_to_end(&mut keys.bytes)?;
+        let mut keys = SealKeys { bytes: Vec::with_capacity(2 * SEAL_KEY_LEN + 1) };
+        file.take(2 * SEAL_KEY_LEN as u64 + 1).read_to_end(&mut keys.bytes)?;
         keys.seal_of(&[])?;
         Ok(keys)
     }
 
     /// Reads the file; if there is none, makes it first, of mode 0600, with a key out of `/dev/urandom`. Of several processes
     /// that do so at once, all get the same key.
-    pub fn read_or_create(path: impl AsRef<Path>) -> Result<Keys, Error> {
+    pub fn read_or_create(path: impl AsRef<Path>) -> Result<SealKeys, Error> {
         let path = path.as_ref();
-        match Keys::read(path) {
-            Err(Error::Io(error)) if error.kind() == ErrorKind::NotFound => Keys::create(path).and_then(|()| Keys::read(path)),
+        match SealKeys::read(path) {
+            Err(Error::Io(error)) if error.kind() == ErrorKind::NotFound => {
+                SealKeys::create(path).and_then(|()| SealKeys::read(path))
+            }
             read => read,
         }
     }
 
     /// Makes a file with a new key under a name of its own, and gives it the path, unless another process was faster.
     fn create(path: &Path) -> Result<(), Error> {
-        let mut key = Keys::new([0; KEY_LEN]);
+        let mut key = SealKeys::new([0; SEAL_KEY_LEN]);
         File::open("/dev/urandom")?.read_exact(&mut key.bytes)?;
         static NEXT: AtomicU32 = AtomicU32::new(0);
         let mut new = path.as_os_str().to_owned();
@@ -100,7 +102,7 @@ impl Keys {
     }
 }
 
-impl Drop for Keys {
+impl Drop for SealKeys {
     fn drop(&mut self) {
         for byte in &mut self.bytes {
             // (a plain write to what is freed next might be left out)
@@ -110,8 +112,8 @@ impl Drop for Keys {
     }
 }
 
-impl fmt::Debug for Keys {
+impl fmt::Debug for SealKeys {
     fn fmt(&self, out: &mut fmt::Formatter<'_>) -> fmt::Result {
-        out.write_str("Keys { .. }")
+        out.write_str("SealKeys { .. }")
     }
 }

@@ -1,7 +1,7 @@
 //! A node of a cluster in your program: you bring a transport, a clock and a disk.
 //!
 //! The node is the proved one of the static library `node_export`. What this crate adds isn't proved, and is small: it
-//! copies buffers, executes on a file what the node asks to be stored, and turns numbers into errors.
+//! copies buffers, executes on a file what the node asks to be stored, and turns numbers into errors. It starts no thread.
 //!
 //! ```
 //! use zomtagi::{Key, Node, Value};
@@ -13,7 +13,7 @@
 //! let mut frames = zero.exchange(1)?;
 //! while let Some(frame) = frames.pop() {
 //!     let node = if frame.to() == 0 { &mut zero } else { &mut one };
-//!     frames.extend(node.take(frame.bytes(), 7)?.1); // (7 stands for a random word)
+//!     frames.extend(node.take(frame.bytes())?.1);
 //! }
 //! let read = one.read(&colour)?;
 //! assert_eq!(read.values, [Value::text("red"), Value::text("blue")]); // siblings
@@ -22,15 +22,19 @@
 //! # Ok::<(), zomtagi::Error>(())
 //! ```
 
+#![warn(missing_docs)]
+
 mod error;
 mod file;
 mod keys;
 mod node;
 mod raw;
+mod refusal;
 mod types;
 
 pub use error::Error;
 pub use file::FileStore;
-pub use keys::{Keys, KEY_LEN, SEAL_LEN};
+pub use keys::{SealKeys, SEAL_KEY_LEN, SEAL_LEN};
 pub use node::{Node, Store};
-pub use types::{Changes, Context, Frame, Key, Read, Taken, Value};
+pub use refusal::Refusal;
+pub use types::{Changes, Context, Frame, FullPrefix, Key, Listed, Read, Taken, Value};

@@ -1,12 +1,45 @@
-use crate::error::{Error, BAD_BODY, DAMAGED, NOTHING, SHORT_BUFFER, STOPPED};
-use crate::keys::Keys;
+use crate::error::Error;
+use crate::keys::SealKeys;
 use crate::raw::*;
-use crate::types::{Changes, Context, Frame, Key, Read, Taken, Value};
+use crate::refusal::Refusal;
+use crate::types::{key_of, Changes, Context, Frame, FullPrefix, Key, Listed, Read, Taken, Value};
+use std::cell::{RefCell, UnsafeCell};
+use std::collections::hash_map::RandomState;
+use std::fmt;
+use std::hash::{BuildHasher, Hasher};
 use std::mem::{forget, take};
 use std::sync::{Arc, Mutex};
 
 /// What executes what a node asks to be stored. After `Ok` all of it is durable.
-pub trait Store {
+///
+/// [`FileStore`](crate::FileStore) is one. This one keeps the file in memory:
+///
+/// ```
+/// use std::sync::{Arc, Mutex};
+/// use zomtagi::{Error, Key, Node, Store, Value};
+///
+/// struct InMemory(Arc<Mutex<Vec<u8>>>);
+///
+/// impl Store for InMemory {
+///     fn append(&mut self, gate: u64, record: &[u8]) -> Result<(), Error> {
+///         let mut file = self.0.lock().unwrap();
+///         file.truncate(gate as usize);
+///         file.extend(record);
+///         Ok(())
+///     }
+/// }
+///
+/// let empty = b"PMNODE02\0\x03\0"; // the file of node 3, which had no life yet
+/// let file = Arc::new(Mutex::new(empty.to_vec()));
+/// let mut node = Node::serve(3, empty, InMemory(Arc::clone(&file)))?;
+/// let colour = Key::new("app", "flags", "colour");
+/// node.write_over(&colour, &Value::text("red"))?;
+/// let bytes = file.lock().unwrap().clone();
+/// let next = Node::serve(3, &bytes, InMemory(file))?;
+/// assert_eq!((next.life(), next.peek(&colour)?), (2, vec![Value::text("red")]));
+/// # Ok::<(), zomtagi::Error>(())
+/// ```
+pub trait Store: Send {
     /// Writes all bytes of the record but the first at the offset after the gate, syncs, writes the first over the gate, and
     /// syncs. If the first write fails, as on a full disk, a store may make it again, whole, before it goes on; `FileStore`
     /// repeats nothing. If this returns an error, or panics, the node is stopped, and is served from the file again. What the
@@ -15,14 +48,19 @@ pub trait Store {
     fn append(&mut self, gate: u64, record: &[u8]) -> Result<(), Error>;
 }
 
-/// A node. It isn't `Send`: keep it in one thread, and send that thread what happens.
+/// A node. It may move to another thread, and starts none; it isn't shared by several: send its thread what happens.
+///
+/// Its steps want random words. They come from std's `RandomState`, unless [`Node::set_words`] says otherwise.
 pub struct Node {
-    slot: Slot,
+    /// (an export that only tells writes the slot too)
+    slot: UnsafeCell<Slot>,
     store: Option<Box<dyn Store>>,
-    keys: Option<Keys>,
+    keys: Option<SealKeys>,
+    is_keeping: bool,
+    words: Box<dyn FnMut() -> u64 + Send>,
     /// The contexts that were dropped, and are to be forgotten.
     dropped: Arc<Mutex<Vec<u64>>>,
-    buffer: Vec<u8>,
+    buffer: RefCell<Vec<u8>>,
     /// Whether a step was made whose reply couldn't be handed out.
     is_stopped: bool,
 }
@@ -38,29 +76,33 @@ macro_rules! of_key {
 
 /// The answer of an export.
 pub(crate) fn answered(number: u16) -> Result<(), Error> {
-    if number == 0 {
-        Ok(())
-    } else {
-        Err(Error::Refused(number))
+    match number {
+        0 => Ok(()),
+        number => Err(Refusal::of(number).into()),
     }
 }
 
 /// The refusal of the bytes of a file that is damaged.
 pub(crate) fn damage(node: u16, bytes: &[u8]) -> Error {
     let mut at = 0;
-    match unsafe { zomtagi_check_file(bytes.as_ptr(), bytes.len(), node, &mut at) } {
-        DAMAGED => Error::Damaged { at: at as u64 },
-        number => Error::Refused(number),
+    match Refusal::of(unsafe { zomtagi_check_file(bytes.as_ptr(), bytes.len(), node, &mut at) }) {
+        Refusal::Damaged => Error::Damaged { at: at as u64 },
+        refusal => refusal.into(),
     }
 }
 
 /// The refusal of the bytes of a frame whose body is at fault.
 fn bad_body(frame: &[u8]) -> Error {
     let mut at = 0;
-    match unsafe { zomtagi_check_frame(frame.as_ptr(), frame.len(), &mut at) } {
-        BAD_BODY => Error::BadBody { at: at as u64 },
-        number => Error::Refused(number),
+    match Refusal::of(unsafe { zomtagi_check_frame(frame.as_ptr(), frame.len(), &mut at) }) {
+        Refusal::BadBody => Error::BadBody { at: at as u64 },
+        refusal => refusal.into(),
     }
+}
+
+/// A word of a hash under a key that the operating system began, another one each time.
+fn random_word() -> u64 {
+    RandomState::new().build_hasher().finish()
 }
 
 impl Node {
@@ -68,7 +110,7 @@ impl Node {
     /// greater one.
     pub fn new(node: u16, life: u32) -> Result<Node, Error> {
         let mut made = Node::empty();
-        answered(unsafe { zomtagi_new(&mut made.slot, node, life) })?;
+        answered(unsafe { zomtagi_new(made.slot.get_mut(), node, life) })?;
         Ok(made)
     }
 
@@ -81,9 +123,9 @@ impl Node {
     /// A node that is served from these bytes, once the record of its life is stored.
     pub(crate) fn of_bytes(node: u16, bytes: &[u8]) -> Result<Node, Error> {
         let mut made = Node::empty();
-        match unsafe { zomtagi_serve(&mut made.slot, bytes.as_ptr(), bytes.len(), node) } {
-            DAMAGED => Err(damage(node, bytes)),
-            number => answered(number).map(|()| made),
+        match answered(unsafe { zomtagi_serve(made.slot.get_mut(), bytes.as_ptr(), bytes.len(), node) }) {
+            Err(Error::Refused(Refusal::Damaged)) => Err(damage(node, bytes)),
+            served => served.map(|()| made),
         }
     }
 
@@ -95,24 +137,45 @@ impl Node {
     }
 
     fn empty() -> Node {
-        Node { slot: Slot::EMPTY, store: None, keys: None, dropped: Arc::default(), buffer: vec![0; 4096], is_stopped: false }
+        Node {
+            slot: UnsafeCell::new(Slot::EMPTY),
+            store: None,
+            keys: None,
+            is_keeping: false,
+            words: Box::new(random_word),
+            dropped: Arc::default(),
+            buffer: RefCell::new(vec![0; 4096]),
+            is_stopped: false,
+        }
     }
 
     /// Seals each frame from now on, and takes only what opens: [`Frame::bytes`] are sealed, and [`Node::take`] refuses other
     /// bytes with 17 `BadSeal`, and the node never sees them. `None` as it began: frames go out and are taken as they are.
-    pub fn set_keys(&mut self, keys: Option<Keys>) {
+    pub fn set_keys(&mut self, keys: Option<SealKeys>) {
         self.keys = keys;
+    }
+
+    /// Keeps what comes from now on: [`Node::take`] stores each object that was fresh, so that the node shows it in its next life
+    /// from the start. That takes two syncs for each such frame, during which the node does nothing else: a node that others
+    /// overwhelm with writes falls behind. As it began, what came is stored only by [`Node::keep`], or with a write of its key, and
+    /// after a restart comes again by exchanges.
+    pub fn set_keeping(&mut self, is_keeping: bool) {
+        self.is_keeping = is_keeping;
+    }
+
+    /// Takes the words of later steps from here. They should be random; a test that makes the same calls with the same words gets
+    /// the same frames.
+    pub fn set_words(&mut self, words: impl FnMut() -> u64 + Send + 'static) {
+        self.words = Box::new(words);
     }
 
     /// What the node shows under a key.
     pub fn read(&mut self, key: &Key) -> Result<Read, Error> {
         let reply = self.step(|slot| of_key!(zomtagi_read, slot, key))?;
         let mut number = 0;
-        answered(unsafe { zomtagi_keep_context(&mut self.slot, &mut number) })?;
+        answered(unsafe { zomtagi_keep_context(self.slot.get_mut(), &mut number) })?;
         let context = Context { number, dropped: Arc::clone(&self.dropped) };
-        let mut fields = Fields(&reply[1..]);
-        let values = (0..fields.number()).map(|_| fields.value()).collect();
-        Ok(Read { values, context })
+        Ok(Read { values: Fields(&reply[1..]).values(), context })
     }
 
     /// Writes a value, which replaces what the context's read has shown, or nothing. Returns the frames to send.
@@ -134,20 +197,47 @@ impl Node {
         self.frames()
     }
 
+    /// Reads a key, and if it shows several values, writes the one that is chosen in their place; they stay if `None` is. Of one
+    /// value, or none, nothing is asked. Nodes that
+    /// choose alike of what they are shown, as by [`Read::lww`], end with equal values. Returns the frames to send.
+    ///
+    /// ```
+    /// use zomtagi::{Key, Node, Value};
+    ///
+    /// let (mut node, colour) = (Node::new(0, 1)?, Key::new("app", "flags", "colour"));
+    /// node.write(&colour, &Value { stamp: 1, body: Some(b"red".to_vec()) }, None)?;
+    /// node.write(&colour, &Value { stamp: 2, body: Some(b"blue".to_vec()) }, None)?;
+    /// node.resolve(&colour, |read| read.lww().cloned())?;
+    /// assert_eq!(node.read(&colour)?.values, [Value { stamp: 2, body: Some(b"blue".to_vec()) }]);
+    /// # Ok::<(), zomtagi::Error>(())
+    /// ```
+    pub fn resolve(&mut self, key: &Key, choose: impl FnOnce(&Read) -> Option<Value>) -> Result<Vec<Frame>, Error> {
+        let read = self.read(key)?;
+        if read.values.len() < 2 {
+            return Ok(Vec::new());
+        }
+        match choose(&read) {
+            Some(chosen) => self.write(key, &chosen, Some(&read.context)),
+            None => Ok(Vec::new()),
+        }
+    }
+
     /// Stores what the node holds under a key, whoever wrote it.
     pub fn keep(&mut self, key: &Key) -> Result<(), Error> {
         self.step(|slot| of_key!(zomtagi_keep, slot, key))?;
         Ok(())
     }
 
-    /// Takes a frame that came, sealed if keys are set. The word is a random number.
-    pub fn take(&mut self, bytes: &[u8], word: u64) -> Result<(Taken, Vec<Frame>), Error> {
+    /// Takes a frame that came, sealed if keys are set. Returns what came of it, and the frames to send. If what it brought should
+    /// be stored and isn't, the call fails, and the node has taken it all the same.
+    pub fn take(&mut self, bytes: &[u8]) -> Result<(Taken, Vec<Frame>), Error> {
         let frame = match &self.keys {
             Some(keys) => keys.open(bytes)?,
             None => bytes,
         };
+        let word = (self.words)();
         let reply = match self.step(|slot| unsafe { zomtagi_take(slot, frame.as_ptr(), frame.len(), word) }) {
-            Err(Error::Refused(BAD_BODY)) => return Err(bad_body(frame)),
+            Err(Error::Refused(Refusal::BadBody)) => return Err(bad_body(frame)),
             reply => reply?,
         };
         let taken = match reply[0] {
@@ -155,23 +245,30 @@ impl Node {
             5 => Taken::Stale,
             _ => Taken::Taken,
         };
-        Ok((taken, self.frames()?))
+        let (frames, key) = (self.frames()?, key_of(frame));
+        if let (true, Taken::Fresh, Some(key)) = (self.is_keeping, taken, key) {
+            self.keep(&key)?;
+        }
+        Ok((taken, frames))
     }
 
-    /// Time passes. The word is a random number. Returns the frames to send.
-    pub fn tick(&mut self, word: u64) -> Result<Vec<Frame>, Error> {
+    /// Time passes. Returns the frames to send.
+    pub fn tick(&mut self) -> Result<Vec<Frame>, Error> {
+        let word = (self.words)();
         self.step(|slot| unsafe { zomtagi_tick(slot, word) })?;
         self.frames()
     }
 
-    /// Joins the cluster through a contact. The word is a random number. Returns the frames to send.
-    pub fn join(&mut self, contact: u16, word: u64) -> Result<Vec<Frame>, Error> {
+    /// Joins the cluster through a contact. Returns the frames to send.
+    pub fn join(&mut self, contact: u16) -> Result<Vec<Frame>, Error> {
+        let word = (self.words)();
         self.step(|slot| unsafe { zomtagi_join(slot, contact, word) })?;
         self.frames()
     }
 
-    /// A peer doesn't answer. The word is a random number. Returns the frames to send.
-    pub fn peer_down(&mut self, peer: u16, word: u64) -> Result<Vec<Frame>, Error> {
+    /// A peer doesn't answer. Returns the frames to send.
+    pub fn peer_down(&mut self, peer: u16) -> Result<Vec<Frame>, Error> {
+        let word = (self.words)();
         self.step(|slot| unsafe { zomtagi_peer_down(slot, peer, word) })?;
         self.frames()
     }
@@ -195,7 +292,8 @@ impl Node {
         self.frames()
     }
 
-    /// Watches a full prefix, the last `capacity` changes of it, 1 to 1,024. Returns the number of the watch.
+    /// Watches a full prefix, the last `capacity` changes of it, 1 to 1,024. Returns the number of the watch. A life has 16 watches at
+    /// most; none ends before it.
     pub fn watch(&mut self, prefix: &[u8], sub: &[u8], capacity: usize) -> Result<u64, Error> {
         let reply =
             self.step(|slot| unsafe { zomtagi_watch(slot, prefix.as_ptr(), prefix.len(), sub.as_ptr(), sub.len(), capacity) })?;
@@ -211,30 +309,92 @@ impl Node {
         Ok(Changes { missed, keys })
     }
 
-    /// The keys under a full prefix, in order.
-    pub fn list(&mut self, prefix: &[u8], sub: &[u8]) -> Result<Vec<Key>, Error> {
-        let bytes = self.fetch(|slot, buffer, size, len| unsafe {
+    /// The full prefixes that hold a key, in order.
+    ///
+    /// What a node holds may not be stored yet. This and the calls below that take `&self` are no steps: a node that is stopped
+    /// tells it too.
+    pub fn prefixes(&self) -> Result<Vec<FullPrefix>, Error> {
+        let bytes = self.told(|slot, buffer, size, len| unsafe { zomtagi_prefixes(slot, buffer, size, len) })?;
+        let (mut fields, mut prefixes) = (Fields(&bytes), Vec::new());
+        while !fields.0.is_empty() {
+            prefixes.push((fields.name(), fields.name()));
+        }
+        Ok(prefixes)
+    }
+
+    /// The keys under a full prefix, in order, each with whether all that is shown under it was deleted.
+    ///
+    /// ```
+    /// use zomtagi::{Key, Node, Value};
+    ///
+    /// let mut node = Node::new(0, 1)?;
+    /// node.write_over(&Key::new("app", "flags", "colour"), &Value::text("red"))?;
+    /// node.write_over(&Key::new("app", "flags", "size"), &Value::tombstone())?;
+    /// let there = node.list(b"app", b"flags")?.into_iter().filter(|it| !it.is_deleted).map(|it| it.key);
+    /// assert_eq!(there.collect::<Vec<_>>(), [Key::new("app", "flags", "colour")]);
+    /// assert_eq!(node.prefixes()?, [(b"app".to_vec(), b"flags".to_vec())]);
+    /// # Ok::<(), zomtagi::Error>(())
+    /// ```
+    pub fn list(&self, prefix: &[u8], sub: &[u8]) -> Result<Vec<Listed>, Error> {
+        let bytes = self.told(|slot, buffer, size, len| unsafe {
             zomtagi_list(slot, prefix.as_ptr(), prefix.len(), sub.as_ptr(), sub.len(), buffer, size, len)
         })?;
-        let bytes = bytes.unwrap_or_default();
         let (mut fields, mut keys) = (Fields(&bytes), Vec::new());
         while !fields.0.is_empty() {
-            keys.push(fields.key());
+            let is_deleted = fields.take(1)[0] == 1;
+            keys.push(Listed { key: fields.key(), is_deleted });
         }
         Ok(keys)
     }
 
-    /// The root of the tree over all that the node holds: nodes with equal roots hold the same.
-    pub fn root(&mut self) -> Result<[u8; 32], Error> {
-        let bytes = self.fetch(|slot, buffer, size, len| unsafe { zomtagi_root(slot, buffer, size, len) })?;
-        Ok(bytes.unwrap_or_default().try_into().expect("a root has 32 bytes"))
+    /// What the node shows under a key, without a context for a later write.
+    pub fn peek(&self, key: &Key) -> Result<Vec<Value>, Error> {
+        let bytes = self.told(|slot, buffer, size, len| of_key!(zomtagi_peek, slot, key, buffer, size, len))?;
+        Ok(Fields(&bytes).values())
     }
 
-    /// The life that the node is in.
-    pub fn life(&mut self) -> Result<u32, Error> {
-        let (mut number, mut life, mut is_stopped) = (0, 0, 0);
-        answered(unsafe { zomtagi_about(&mut self.slot, &mut number, &mut life, &mut is_stopped) })?;
-        Ok(life)
+    /// Its neighbours, at most 4, the one of longest standing first. A node without neighbours hears of no write: join. Nor does one
+    /// whose neighbours were told that it is down: it isn't told of that, so join again now and then.
+    pub fn neighbours(&self) -> Result<Vec<u16>, Error> {
+        let bytes = self.told(|slot, buffer, size, len| unsafe { zomtagi_neighbours(slot, buffer, size, len) })?;
+        Ok(bytes.chunks_exact(2).map(|it| u16::from_be_bytes([it[0], it[1]])).collect())
+    }
+
+    /// The root of the tree over all that the node holds: nodes with equal roots hold the same.
+    pub fn root(&self) -> Result<[u8; 32], Error> {
+        let bytes = self.told(|slot, buffer, size, len| unsafe { zomtagi_root(slot, buffer, size, len) })?;
+        Ok(bytes.try_into().expect("a root has 32 bytes"))
+    }
+
+    /// Its number.
+    pub fn number(&self) -> u16 {
+        self.info().number
+    }
+
+    /// The life that it is in.
+    pub fn life(&self) -> u32 {
+        self.info().life
+    }
+
+    /// Whether it is to be dropped, and served from its file again.
+    pub fn is_stopped(&self) -> bool {
+        self.is_stopped || self.info().is_stopped != 0
+    }
+
+    /// How many keys it holds, deleted ones too, of at most 8,192.
+    pub fn key_count(&self) -> usize {
+        self.info().keys
+    }
+
+    /// How many bytes its file has; `None` if it has none.
+    pub fn file_len(&self) -> Option<u64> {
+        Some(self.info().gate as u64 + 1).filter(|_| self.store.is_some())
+    }
+
+    fn info(&self) -> NodeInfo {
+        let mut info = NodeInfo::default();
+        unsafe { zomtagi_about(self.slot.get(), &mut info) };
+        info
     }
 
     /// The number of a context of this node, 0 for none.
@@ -247,23 +407,23 @@ impl Node {
     }
 
     /// Asks for a step, has stored what it stores, and returns the bytes of its reply.
-    fn step(&mut self, ask: impl FnOnce(&mut Slot) -> u16) -> Result<Vec<u8>, Error> {
+    fn step(&mut self, ask: impl FnOnce(*mut Slot) -> u16) -> Result<Vec<u8>, Error> {
         if self.is_stopped {
-            return Err(Error::Refused(STOPPED));
+            return Err(Refusal::Stopped.into());
         }
         self.forget_dropped();
-        answered(ask(&mut self.slot))?;
+        answered(ask(self.slot.get_mut()))?;
         self.store_record()?;
         let reply = self.fetch(|slot, buffer, size, len| unsafe { zomtagi_reply(slot, buffer, size, len) });
         // (the caller never gets the frames of such a step, and while they are pending the library makes no other)
         self.is_stopped = !matches!(reply, Ok(Some(_)));
-        reply?.ok_or(Error::Refused(NOTHING))
+        reply?.ok_or(Error::Refused(Refusal::Nothing))
     }
 
     fn forget_dropped(&mut self) {
         let dropped = self.dropped.lock().map(|mut dropped| take(&mut *dropped)).unwrap_or_default();
         for number in dropped {
-            unsafe { zomtagi_forget_context(&mut self.slot, number) };
+            unsafe { zomtagi_forget_context(self.slot.get_mut(), number) };
         }
     }
 
@@ -274,10 +434,10 @@ impl Node {
         let (Some(record), Some(store)) = (record, &mut self.store) else {
             return Ok(());
         };
-        let pending = Pending(&mut self.slot);
+        let pending = Pending(self.slot.get_mut());
         store.append(gate as u64, &record)?;
         forget(pending);
-        answered(unsafe { zomtagi_stored(&mut self.slot, 1) })
+        answered(unsafe { zomtagi_stored(self.slot.get_mut(), 1) })
     }
 
     /// The frames that the last step sends.
@@ -288,22 +448,35 @@ impl Node {
                 Some(keys) => keys.seal(&frame)?,
                 None => frame,
             }));
-            answered(unsafe { zomtagi_sent(&mut self.slot) })?;
+            answered(unsafe { zomtagi_sent(self.slot.get_mut()) })?;
         }
         Ok(frames)
     }
 
+    /// The bytes that an export hands out, which always has some.
+    fn told(&self, ask: impl FnMut(*mut Slot, *mut u8, usize, &mut usize) -> u16) -> Result<Vec<u8>, Error> {
+        self.fetch(ask).map(Option::unwrap_or_default)
+    }
+
     /// The bytes that an export hands out, if there are any.
-    fn fetch(&mut self, mut ask: impl FnMut(&mut Slot, *mut u8, usize, &mut usize) -> u16) -> Result<Option<Vec<u8>>, Error> {
+    fn fetch(&self, mut ask: impl FnMut(*mut Slot, *mut u8, usize, &mut usize) -> u16) -> Result<Option<Vec<u8>>, Error> {
+        let mut buffer = self.buffer.borrow_mut();
         loop {
             let mut len = 0;
-            match ask(&mut self.slot, self.buffer.as_mut_ptr(), self.buffer.len(), &mut len) {
-                0 => return Ok(Some(self.buffer[..len].to_vec())),
-                SHORT_BUFFER => self.buffer.resize(len, 0),
-                NOTHING => return Ok(None),
-                number => return Err(Error::Refused(number)),
+            match answered(ask(self.slot.get(), buffer.as_mut_ptr(), buffer.len(), &mut len)) {
+                Ok(()) => return Ok(Some(buffer[..len].to_vec())),
+                Err(Error::Refused(Refusal::ShortBuffer)) => buffer.resize(len, 0),
+                Err(Error::Refused(Refusal::Nothing)) => return Ok(None),
+                Err(error) => return Err(error),
             }
         }
+    }
+}
+
+impl fmt::Debug for Node {
+    fn fmt(&self, out: &mut fmt::Formatter<'_>) -> fmt::Result {
+        let NodeInfo { number, life, .. } = self.info();
+        out.debug_struct("Node").field("number", &number).field("life", &life).finish_non_exhaustive()
     }
 }
 
@@ -318,7 +491,7 @@ impl Drop for Pending<'_> {
 
 impl Drop for Node {
     fn drop(&mut self) {
-        unsafe { zomtagi_free(&mut self.slot) };
+        unsafe { zomtagi_free(self.slot.get_mut()) };
     }
 }
 
@@ -348,12 +521,18 @@ impl Fields<'_> {
         Value { stamp, body }
     }
 
-    /// A key as a frame has it: each part with its length in two bytes.
+    /// How many values there are, and each.
+    fn values(&mut self) -> Vec<Value> {
+        (0..self.number()).map(|_| self.value()).collect()
+    }
+
+    /// A part of a key as a frame has it: with its length in two bytes.
+    fn name(&mut self) -> Vec<u8> {
+        let len = u16::from_be_bytes(self.take(2).try_into().expect("it has two bytes"));
+        self.take(len as usize).to_vec()
+    }
+
     fn key(&mut self) -> Key {
-        let mut part = || {
-            let len = u16::from_be_bytes(self.take(2).try_into().expect("it has two bytes"));
-            self.take(len as usize).to_vec()
-        };
-        Key { prefix: part(), sub: part(), name: part() }
+        Key { prefix: self.name(), sub: self.name(), name: self.name() }
     }
 }

@@ -11,11 +11,26 @@ impl Slot {
     pub const EMPTY: Slot = Slot { full: false, node: std::ptr::null_mut() };
 }
 
+/// A node may move to another thread: the library keeps nothing beside it, neither for a thread nor for all of them, and takes
+/// and frees its memory by `malloc` and `free`, from any thread.
+unsafe impl Send for Slot {}
+
+/// What is told of a node.
+#[repr(C)]
+#[derive(Default)]
+pub struct NodeInfo {
+    pub number: u16,
+    pub is_stopped: u8,
+    pub life: u32,
+    pub keys: usize,
+    pub gate: usize,
+}
+
 macro_rules! exports {
     ($($name:ident($($argument:ident: $type:ty),*);)*) => {
         extern "C" {
-            $(pub fn $name(slot: &mut Slot, $($argument: $type),*) -> u16;)*
-            pub fn zomtagi_free(slot: &mut Slot);
+            $(pub fn $name(slot: *mut Slot, $($argument: $type),*) -> u16;)*
+            pub fn zomtagi_free(slot: *mut Slot);
             pub fn zomtagi_empty_file(node: u16, buffer: *mut u8, size: usize, len: &mut usize) -> u16;
             pub fn zomtagi_clean_copy(bytes: *const u8, len: usize, node: u16, buffer: *mut u8, size: usize,
                 copy_len: &mut usize) -> u16;
@@ -57,8 +72,12 @@ exports! {
     zomtagi_sent();
     zomtagi_keep_context(number: &mut u64);
     zomtagi_forget_context(number: u64);
+    zomtagi_prefixes(buffer: *mut u8, size: usize, len: &mut usize);
     zomtagi_list(prefix: *const u8, prefix_len: usize, sub: *const u8, sub_len: usize, buffer: *mut u8, size: usize,
         len: &mut usize);
     zomtagi_root(buffer: *mut u8, size: usize, len: &mut usize);
-    zomtagi_about(number: &mut u16, life: &mut u32, is_stopped: &mut u8);
+    zomtagi_peek(prefix: *const u8, prefix_len: usize, sub: *const u8, sub_len: usize, key: *const u8, key_len: usize,
+        buffer: *mut u8, size: usize, len: &mut usize);
+    zomtagi_neighbours(buffer: *mut u8, size: usize, len: &mut usize);
+    zomtagi_about(info: &mut NodeInfo);
 }

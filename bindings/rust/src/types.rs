@@ -1,29 +1,61 @@
+use crate::keys::SEAL_LEN;
+use std::fmt;
+use std::io::{self, Read as _};
 use std::sync::{Arc, Mutex};
 
 /// A key: two prefixes of 1 to 64 bytes, and a name of 1 to 256.
+///
+/// ```
+/// let key = zomtagi::Key::new("app", "flags", "colour");
+/// assert_eq!(key.to_string(), "app/flags/colour");
+/// ```
 #[derive(Clone, Debug, PartialEq, Eq, PartialOrd, Ord, Hash)]
 pub struct Key {
+    /// The first part of its full prefix.
     pub prefix: Vec<u8>,
+    /// The second part of its full prefix.
     pub sub: Vec<u8>,
+    /// Its name under the full prefix.
     pub name: Vec<u8>,
 }
 
 impl Key {
+    /// The key of these parts. Whether they are too long is said by the call that gets it.
     pub fn new(prefix: impl AsRef<[u8]>, sub: impl AsRef<[u8]>, name: impl AsRef<[u8]>) -> Key {
         Key { prefix: prefix.as_ref().to_vec(), sub: sub.as_ref().to_vec(), name: name.as_ref().to_vec() }
     }
 }
 
+impl fmt::Display for Key {
+    fn fmt(&self, out: &mut fmt::Formatter<'_>) -> fmt::Result {
+        let text = String::from_utf8_lossy;
+        write!(out, "{}/{}/{}", text(&self.prefix), text(&self.sub), text(&self.name))
+    }
+}
+
+/// The two prefixes that keys have in common: the prefix and the sub-prefix.
+pub type FullPrefix = (Vec<u8>, Vec<u8>);
+
 /// What a write stores: a stamp of the writer's choice, which the store never reads, and a body of up to 1,024 bytes, or none
 /// for a tombstone.
+///
+/// ```
+/// use zomtagi::Value;
+///
+/// assert_eq!(Value::text("red").body.as_deref(), Some(&b"red"[..]));
+/// assert!(Value::tombstone().is_tombstone());
+/// assert!(Value::tombstone().with_stamp(2) > Value::text("red").with_stamp(1)); // by stamp, then by body
+/// ```
 #[derive(Clone, Debug, PartialEq, Eq, PartialOrd, Ord, Hash)]
 pub struct Value {
+    /// What the writer says of its time or version.
     pub stamp: u64,
+    /// The bytes, or none for a tombstone.
     pub body: Option<Vec<u8>>,
 }
 
 impl Value {
-    /// A value of these bytes, with stamp 0.
+    /// A value of these bytes, text or not, with stamp 0.
     pub fn text(bytes: impl AsRef<[u8]>) -> Value {
         Value { stamp: 0, body: Some(bytes.as_ref().to_vec()) }
     }
@@ -31,6 +63,16 @@ impl Value {
     /// A tombstone, with stamp 0.
     pub fn tombstone() -> Value {
         Value { stamp: 0, body: None }
+    }
+
+    /// The same with this stamp.
+    pub fn with_stamp(self, stamp: u64) -> Value {
+        Value { stamp, ..self }
+    }
+
+    /// Whether it has no body: a delete wrote it.
+    pub fn is_tombstone(&self) -> bool {
+        self.body.is_none()
     }
 }
 
@@ -53,14 +95,41 @@ impl Drop for Context {
 /// What a node shows under a key: its siblings, and the context of the read.
 #[derive(Debug)]
 pub struct Read {
+    /// The siblings, by writer and of each writer the newest first; none if nothing was ever written.
     pub values: Vec<Value>,
+    /// For a write that replaces just these.
     pub context: Context,
 }
 
-/// The changes under a full prefix that a watch noted, oldest first, and how many it had missed.
+impl Read {
+    /// The last writer's value: that of the greatest stamp, and then of the greatest body, where a tombstone is least. It goes by
+    /// the stamps that writers gave, as by [`Value::with_stamp`]: of values with stamp 0 the greatest body is chosen.
+    pub fn lww(&self) -> Option<&Value> {
+        self.values.iter().max()
+    }
+
+    /// The value of the greatest body, where a tombstone is least, and then of the greatest stamp.
+    pub fn greatest(&self) -> Option<&Value> {
+        self.values.iter().max_by_key(|value| (&value.body, value.stamp))
+    }
+}
+
+/// A key that a node holds.
+#[derive(Clone, Debug, PartialEq, Eq)]
+pub struct Listed {
+    /// The key.
+    pub key: Key,
+    /// Whether all that is shown under it was deleted.
+    pub is_deleted: bool,
+}
+
+/// The changes under a full prefix that a watch noted, oldest first, and how many it had missed. A key stands there once for each
+/// change, whoever wrote it, this node too.
 #[derive(Debug, PartialEq, Eq)]
 pub struct Changes {
+    /// How many changes it had no room for.
     pub missed: u64,
+    /// The key of each other change.
     pub keys: Vec<Key>,
 }
 
@@ -75,18 +144,102 @@ pub enum Taken {
     Stale,
 }
 
-/// A frame to send.
+/// A frame, to send or as it came.
 #[derive(Clone, Debug, PartialEq, Eq)]
 pub struct Frame(pub(crate) Vec<u8>);
 
 impl Frame {
+    /// The length of a frame's header, of which the last four bytes say how many follow, and the most that may.
+    const HEADER: usize = 20;
+    const MOST: u32 = (1 << 24) - Frame::HEADER as u32;
+
+    /// The node that sent it, as it says itself: only a sealed frame that was taken is known to come from the cluster.
+    pub fn from(&self) -> u16 {
+        u16::from_be_bytes([self.0[4], self.0[5]])
+    }
+
     /// The node to which it is addressed.
     pub fn to(&self) -> u16 {
         u16::from_be_bytes([self.0[6], self.0[7]])
     }
 
-    /// What is sent: the frame, and behind it its seal, if the node has keys.
+    /// What is sent, and what [`Node::take`](crate::Node::take) takes: the frame, and behind it its seal, if the node has keys.
     pub fn bytes(&self) -> &[u8] {
         &self.0
     }
+
+    /// The key of the object in it; `None` if its kind has none. Of a frame that came fresh it is what [`Node::keep`](crate::Node::keep)
+    /// stores.
+    ///
+    /// ```
+    /// use zomtagi::{Key, Node, Value};
+    ///
+    /// let (mut zero, mut one) = (Node::new(0, 1)?, Node::new(1, 1)?);
+    /// let join = one.join(0)?.remove(0);
+    /// assert_eq!(join.key(), None);
+    /// zero.take(join.bytes())?;
+    /// let gossip = zero.write_over(&Key::new("app", "flags", "colour"), &Value::text("red"))?.remove(0);
+    /// assert_eq!(gossip.key(), Some(Key::new("app", "flags", "colour")));
+    /// # Ok::<(), zomtagi::Error>(())
+    /// ```
+    pub fn key(&self) -> Option<Key> {
+        key_of(&self.0)
+    }
+
+    /// Reads the next frame of a stream on which frames stand one behind the other, each with its seal if they are sealed; `None`
+    /// where the stream ends. It takes memory as bytes come. Whether they are a frame is said by who takes them.
+    ///
+    /// Fails with `UnexpectedEof` if the stream ends within a frame, and with `InvalidData` if its header says that it is longer
+    /// than any: close the stream then.
+    ///
+    /// ```
+    /// use zomtagi::{Frame, Node};
+    ///
+    /// let frames = Node::new(0, 1)?.hello(1)?;
+    /// let mut stream = frames[0].bytes();
+    /// assert_eq!(Frame::read(&mut stream, false)?.as_ref(), frames.first());
+    /// assert_eq!(Frame::read(&mut stream, false)?, None);
+    /// # Ok::<(), zomtagi::Error>(())
+    /// ```
+    pub fn read(stream: &mut impl io::Read, are_sealed: bool) -> io::Result<Option<Frame>> {
+        let mut bytes = Vec::with_capacity(128);
+        if !read_up_to(stream, Frame::HEADER, &mut bytes)? {
+            return Ok(None);
+        }
+        let len = u32::from_be_bytes([bytes[16], bytes[17], bytes[18], bytes[19]]);
+        if len > Frame::MOST {
+            return Err(io::Error::new(io::ErrorKind::InvalidData, "a frame that is longer than any"));
+        }
+        let seal = if are_sealed { SEAL_LEN } else { 0 };
+        if !read_up_to(stream, len as usize + seal, &mut bytes)? && len as usize + seal > 0 {
+            return Err(io::ErrorKind::UnexpectedEof.into());
+        }
+        Ok(Some(Frame(bytes)))
+    }
+}
+
+/// The key of the object in a frame: it stands behind the header, in a GOSSIP behind two bytes more.
+pub(crate) fn key_of(frame: &[u8]) -> Option<Key> {
+    let start = match frame.get(3)? {
+        1 => Frame::HEADER + 2,
+        17 => Frame::HEADER,
+        _ => return None,
+    };
+    let mut rest = frame.get(start..)?;
+    let mut name = || {
+        let (len, behind) = rest.split_first_chunk::<2>()?;
+        let (name, behind) = behind.split_at_checked(u16::from_be_bytes(*len) as usize)?;
+        rest = behind;
+        Some(name.to_vec())
+    };
+    Some(Key { prefix: name()?, sub: name()?, name: name()? })
+}
+
+/// Reads as many bytes; or says that there are none.
+fn read_up_to(stream: &mut impl io::Read, len: usize, bytes: &mut Vec<u8>) -> io::Result<bool> {
+    let read = io::Read::take(&mut *stream, len as u64).read_to_end(bytes)?;
+    if 0 < read && read < len {
+        return Err(io::ErrorKind::UnexpectedEof.into());
+    }
+    Ok(read > 0)
 }

@@ -3,13 +3,12 @@
 
 mod common;
 
-use common::{held, key, kind, write, Folder};
+use common::{held, is_in_use, key, write, Folder};
 use std::cell::{Cell, RefCell};
 use std::collections::{BTreeSet, HashMap};
 use std::env;
 use std::ffi::{c_char, c_int, c_void};
 use std::fs::{self, File};
-use std::io::ErrorKind::WouldBlock;
 use std::mem::{transmute, ManuallyDrop};
 use std::os::fd::FromRawFd;
 use std::os::unix::fs::{symlink, FileExt, MetadataExt};
@@ -18,7 +17,7 @@ use std::process::Command;
 use std::sync::mpsc::{channel, Sender};
 use std::sync::{Mutex, MutexGuard, PoisonError};
 use std::thread;
-use zomtagi::{Error, FileStore, Node, Value};
+use zomtagi::{Error, FileStore, Node, Refusal, Value};
 
 extern "C" {
     fn dlsym(handle: *mut c_void, name: *const c_char) -> *mut c_void;
@@ -180,7 +179,11 @@ fn alone() -> MutexGuard<'static, ()> {
 
 /// Whether the error is the one for this call.
 fn is_told(error: &Error, call: &str) -> bool {
-    error.name() == if call.ends_with("sync") { "Sync" } else { "Io" }
+    if call.ends_with("sync") {
+        matches!(error, Error::Sync(_))
+    } else {
+        matches!(error, Error::Io(_))
+    }
 }
 
 #[test]
@@ -192,14 +195,14 @@ fn a_file_that_is_not_made_leaves_nothing() {
             let path = folder.at("node");
             let (made, call) = while_one(number, Fate::Fails(error), false, || FileStore::create(&path, 3));
             match made {
-                Ok(mut node) => assert_eq!(node.life().unwrap(), 1),
+                Ok(node) => assert_eq!(node.life(), 1),
                 Err(error) => {
                     assert!(is_told(&error, call), "{call}: {error}");
                     assert_eq!(folder.names(), [""; 0], "{call}");
-                    assert_eq!(FileStore::create(&path, 3).unwrap().life().unwrap(), 1);
+                    assert_eq!(FileStore::create(&path, 3).unwrap().life(), 1);
                 }
             }
-            assert_eq!(FileStore::open(&path, 3).unwrap().life().unwrap(), 2);
+            assert_eq!(FileStore::open(&path, 3).unwrap().life(), 2);
             assert_eq!(folder.names(), ["node"], "{call}");
             if call.is_empty() {
                 assert!(number > 8);
@@ -219,7 +222,7 @@ fn a_file_that_is_not_opened_is_as_it_was() {
             write(&mut FileStore::create(&path, 3).unwrap(), 0..3);
             let (opened, call) = while_one(number, Fate::Fails(error), false, || FileStore::open(&path, 3));
             let life = match opened {
-                Ok(mut node) => node.life().unwrap(),
+                Ok(node) => node.life(),
                 Err(error) => {
                     assert!(is_told(&error, call), "{call}: {error}");
                     assert_eq!(folder.names(), ["node"], "{call}");
@@ -227,7 +230,7 @@ fn a_file_that_is_not_opened_is_as_it_was() {
                 }
             };
             let mut node = FileStore::open(&path, 3).unwrap();
-            assert!(node.life().unwrap() > life, "{call}");
+            assert!(node.life() > life, "{call}");
             assert_eq!(held(&mut node), [0, 1, 2]);
             assert_eq!(folder.names(), ["node"], "{call}");
             if call.is_empty() {
@@ -249,11 +252,11 @@ fn a_write_that_fails_is_in_the_file_or_not() {
         let act = || node.write_over(&key(3), &Value::text("value 3")).map(drop);
         let (written, call) = while_one(number, Fate::Fails(ENOSPC), false, act);
         assert!(is_told(&written.unwrap_err(), call), "{call}");
-        assert_eq!(node.tick(7).unwrap_err().to_string(), "34 Stopped");
+        assert_eq!(node.tick().unwrap_err().refusal(), Some(Refusal::Stopped));
         drop(node);
         let mut node = FileStore::open(&path, 3).unwrap();
         assert!(held(&mut node).starts_with(&[0, 1, 2]));
-        assert_eq!(node.life().unwrap(), 2);
+        assert_eq!(node.life(), 2);
     }
 }
 
@@ -291,8 +294,8 @@ fn a_process_that_dies_while_it_makes_a_file_leaves_none_or_a_file() {
         let is_there = path.exists();
         // (what the processes before have left is in nobody's way)
         let made = if is_there { FileStore::open(&path, 3) } else { FileStore::create(&path, 3) };
-        assert_eq!(made.unwrap().life().unwrap(), 1 + u32::from(is_there), "call {number}");
-        assert_eq!(FileStore::open(&path, 3).unwrap().life().unwrap(), 2 + u32::from(is_there), "call {number}");
+        assert_eq!(made.unwrap().life(), 1 + u32::from(is_there), "call {number}");
+        assert_eq!(FileStore::open(&path, 3).unwrap().life(), 2 + u32::from(is_there), "call {number}");
         fs::remove_file(&path).unwrap();
         if !is_dead {
             assert!(number > 8);
@@ -312,8 +315,8 @@ fn a_process_that_dies_while_it_opens_a_file_leaves_it() {
         let is_dead = dies("open", &path, number);
         life += u32::from(!is_dead);
         let mut node = FileStore::open(&path, 3).unwrap();
-        assert!(node.life().unwrap() > life, "call {number}");
-        life = node.life().unwrap();
+        assert!(node.life() > life, "call {number}");
+        life = node.life();
         assert_eq!(held(&mut node), [0, 1, 2], "call {number}");
         assert_eq!(folder.names(), ["node"], "call {number}");
         if !is_dead {
@@ -332,7 +335,7 @@ fn a_process_that_dies_while_it_writes_leaves_what_was_written() {
         write(&mut FileStore::create(&path, 3).unwrap(), 0..3);
         assert_eq!(dies("write", &path, number), number < 5);
         let mut node = FileStore::open(&path, 3).unwrap();
-        assert_eq!(node.life().unwrap(), 3);
+        assert_eq!(node.life(), 3);
         assert_eq!(held(&mut node), if number < 4 { vec![0, 1, 2] } else { vec![0, 1, 2, 3] }, "call {number}");
     }
 }
@@ -373,10 +376,10 @@ fn who_locks_a_file_that_was_replaced_opens_the_new_one() {
         });
         let opened = FileStore::open(&path, 3);
         if is_held {
-            assert_eq!(kind(opened), Some(WouldBlock));
+            assert!(is_in_use(opened));
         } else {
             let mut node = opened.unwrap();
-            assert_eq!((node.life().unwrap(), held(&mut node)), (3, vec![0]));
+            assert_eq!((node.life(), held(&mut node)), (3, vec![0]));
         }
     }
 }
@@ -390,15 +393,15 @@ fn of_two_that_make_a_file_the_other_one_is_refused_or_opens_it() {
             let path = folder.at("node");
             let at = path.clone();
             let _end = before_next(call, is_held, move || {
-                let mut node = FileStore::open_or_create(at, 3).unwrap();
-                assert_eq!(node.life().unwrap(), 1);
+                let node = FileStore::open_or_create(at, 3).unwrap();
+                assert_eq!(node.life(), 1);
                 node
             });
             let other = FileStore::open_or_create(&path, 3);
             if is_held {
-                assert_eq!(kind(other), Some(WouldBlock), "{call}");
+                assert!(is_in_use(other), "{call}");
             } else {
-                assert_eq!(other.unwrap().life().unwrap(), 2, "{call}");
+                assert_eq!(other.unwrap().life(), 2, "{call}");
             }
             assert_eq!(folder.names(), ["node"]);
         }
@@ -437,18 +440,19 @@ fn a_node_that_is_served_after_a_failed_sync_rests_on_what_the_disk_holds() {
         }
         let act = || node.write(&key(9), &wide, None).map(drop);
         let (written, call) = while_one(number, Fate::Fails(EIO), true, act);
-        assert_eq!((written.unwrap_err().name(), call), ("Sync", "fdatasync"));
+        assert!(matches!(written, Err(Error::Sync(_))));
+        assert_eq!(call, "fdatasync");
         drop(node);
         // Without a restart of the machine.
         let mut node = FileStore::open(&path, 3).unwrap();
-        assert_eq!(node.life().unwrap(), 2);
+        assert_eq!(node.life(), 2);
         write(&mut node, 3..6);
         let shown = node.read(&key(9)).unwrap().values.len();
         drop(node);
         let image = folder.at("image");
         fs::write(&image, on_disk(&path)).unwrap();
         let mut node = FileStore::open(&image, 3).unwrap();
-        assert_eq!(node.life().unwrap(), 3);
+        assert_eq!(node.life(), 3);
         assert_eq!((held(&mut node), node.read(&key(9)).unwrap().values.len()), (vec![0, 1, 2, 3, 4, 5], shown));
         assert_eq!(fs::read(&path).unwrap(), on_disk(&path));
     }
@@ -469,7 +473,7 @@ fn each_opening_syncs_the_copy_before_it_takes_the_place_of_the_file() {
         Box::new(move || {
             // (the file is as it was, and locked, and the disk has another one beside it, whole)
             assert_eq!(fs::read(&seen).unwrap(), before);
-            assert_eq!(kind(FileStore::open(&seen, 3)), Some(WouldBlock));
+            assert!(is_in_use(FileStore::open(&seen, 3)));
             let folder = seen.parent().unwrap();
             let names = fs::read_dir(folder).unwrap().map(|entry| entry.unwrap().path());
             let beside: Vec<PathBuf> = names.filter(|path| *path != seen).collect();
@@ -477,6 +481,6 @@ fn each_opening_syncs_the_copy_before_it_takes_the_place_of_the_file() {
             assert!(fs::read(&beside[0]).unwrap() == on_disk(&beside[0]) && on_disk(&beside[0]).starts_with(&before[..52]));
         }),
     )));
-    assert_eq!(FileStore::open(&path, 3).unwrap().life().unwrap(), 2);
+    assert_eq!(FileStore::open(&path, 3).unwrap().life(), 2);
     assert!(BEFORE.take().is_none());
 }

@@ -1,8 +1,8 @@
-//! `examples/cluster.rs` as a process, beside peers and clients that misbehave. `cargo test` builds the example first.
+//! `examples/cluster.rs` as a process, beside peers and clients that misbehave.
 
 mod common;
 
-use common::Folder;
+use common::{example, Folder};
 use std::fs;
 use std::io::{BufRead, BufReader, ErrorKind, Read, Write};
 use std::net::{TcpListener, TcpStream};
@@ -12,7 +12,7 @@ use std::sync::atomic::{AtomicU16, Ordering};
 use std::sync::mpsc::{channel, Receiver};
 use std::thread;
 use std::time::{Duration, Instant};
-use zomtagi::{Keys, SEAL_LEN};
+use zomtagi::{SealKeys, SEAL_LEN};
 
 const SOON: Duration = Duration::from_secs(20);
 
@@ -24,30 +24,27 @@ struct Process {
     port: u16,
     /// Where node 1 listens, and the keys that the process made.
     peer: TcpListener,
-    keys: Keys,
+    keys: SealKeys,
     _folder: Folder,
 }
 
 impl Process {
     fn start(name: &str) -> Process {
-        let program = std::env::current_exe().unwrap().parent().unwrap().join("../examples/cluster");
-        let made = fs::metadata(&program).and_then(|found| found.modified()).ok();
-        let source = fs::metadata(concat!(env!("CARGO_MANIFEST_DIR"), "/examples/cluster.rs")).unwrap().modified().unwrap();
-        assert!(
-            made > Some(source),
-            "cargo build --example cluster, with --release if the tests are, makes {}",
-            program.display()
-        );
+        Process::start_of(name, 2)
+    }
+
+    fn start_of(name: &str, nodes: u16) -> Process {
+        let program = example("cluster");
         let (port, peer) = ports();
         let folder = Folder::new(name);
-        let words = ["0".into(), "2".into(), port.to_string(), folder.at("").display().to_string()];
+        let words = ["0".into(), nodes.to_string(), port.to_string(), folder.at("").display().to_string()];
         let mut child = Command::new(program).args(words).stdin(Stdio::piped()).stdout(Stdio::piped()).spawn().unwrap();
         let (told, lines) = channel();
         let printed = BufReader::new(child.stdout.take().unwrap());
         thread::spawn(move || printed.lines().map_while(Result::ok).try_for_each(|line| told.send(line)));
         let prompt = child.stdin.take().unwrap();
         assert_eq!(lines.recv_timeout(SOON).unwrap(), "node 0 life 1");
-        let keys = Keys::read(folder.at("key")).unwrap();
+        let keys = SealKeys::read(folder.at("key")).unwrap();
         Process { child, prompt, lines, port, peer, keys, _folder: folder }
     }
 
@@ -120,9 +117,12 @@ fn is_closed(mut stream: &TcpStream) -> bool {
 #[test]
 fn a_value_that_is_refused_ends_nothing() {
     let mut process = Process::start("refused-values");
-    assert_eq!(process.ask(&format!("put long {}", "x".repeat(1025))), "error 2 ValueTooLong");
-    assert_eq!(process.ask("put  nameless"), "error 1 BadName");
-    assert_eq!(process.ask(&format!("put {} x", "x".repeat(257))), "error 1 BadName");
+    assert_eq!(
+        process.ask(&format!("put long {}", "x".repeat(1025))),
+        "error 2 ValueTooLong: a body has more than 1,024 bytes"
+    );
+    assert_eq!(process.ask("put  nameless"), "error 1 BadName: a part of a key is empty or too long");
+    assert_eq!(process.ask(&format!("put {} x", "x".repeat(257))), "error 1 BadName: a part of a key is empty or too long");
     assert_eq!(process.ask("put short x"), "ok");
     assert_eq!(process.ask("get short"), "x");
 }
@@ -139,7 +139,7 @@ fn a_stream_with_bytes_that_are_no_frame_is_closed() {
         bytes[at] = before;
     }
     // So is one with a frame that no key of the cluster sealed.
-    for bytes in [[&bytes[..], &[0; SEAL_LEN]].concat(), Keys::new([7; 32]).seal(&bytes).unwrap()] {
+    for bytes in [[&bytes[..], &[0; SEAL_LEN]].concat(), SealKeys::new([7; 32]).seal(&bytes).unwrap()] {
         let mut stream = process.connect();
         stream.write_all(&bytes).unwrap();
         assert!(is_closed(&stream));
@@ -209,15 +209,32 @@ fn a_flood_of_frames_does_not_keep_it_from_ticking() {
     came.set_read_timeout(Some(SOON)).unwrap();
     let (mut came, mut exchanges) = (BufReader::with_capacity(1 << 20, came), 0);
     while exchanges < 3 {
-        let mut header = [0; 20];
-        came.read_exact(&mut header).unwrap();
-        let mut body = vec![0; u32::from_be_bytes(header[16..].try_into().unwrap()) as usize + SEAL_LEN];
-        came.read_exact(&mut body).unwrap();
-        exchanges += u32::from(header[3] == 12);
+        exchanges += u32::from(next_kind(&mut came) == 12);
         assert!(began.elapsed() < SOON, "{exchanges} exchanges");
     }
     // (nor are more frames read than it takes)
     assert!(process.memory() - before < 30_000, "{} kB", process.memory() - before);
+}
+
+/// The kind of the next frame.
+fn next_kind(came: &mut impl Read) -> u8 {
+    let mut header = [0; 20];
+    came.read_exact(&mut header).unwrap();
+    let mut body = vec![0; u32::from_be_bytes(header[16..].try_into().unwrap()) as usize + SEAL_LEN];
+    came.read_exact(&mut body).unwrap();
+    header[3]
+}
+
+#[test]
+fn exchanges_go_round_while_it_joins_again_and_again() {
+    // Node 2 isn't there, so node 0 has one neighbour at most, and joins again each second. Exchanges are of kind 12.
+    let process = Process::start_of("turns", 3);
+    let (mut came, _) = process.peer.accept().unwrap();
+    came.set_read_timeout(Some(SOON)).unwrap();
+    let began = Instant::now();
+    while next_kind(&mut came) != 12 {
+        assert!(began.elapsed() < SOON);
+    }
 }
 
 #[test]

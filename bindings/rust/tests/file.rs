@@ -2,14 +2,14 @@
 
 mod common;
 
-use common::{held, key, kind, write, Folder};
+use common::{held, is_in_use, key, kind, write, Folder};
 use std::fs::{self, File, OpenOptions, Permissions};
-use std::io::ErrorKind::{AlreadyExists, InvalidInput, NotFound, WouldBlock};
+use std::io::ErrorKind::{AlreadyExists, InvalidInput, NotFound};
 use std::os::unix::fs::{chown, symlink, FileExt, MetadataExt, PermissionsExt};
 use std::path::{Path, PathBuf};
 use std::sync::Barrier;
 use std::thread;
-use zomtagi::{Error, FileStore, Node, Store, Value};
+use zomtagi::{Error, FileStore, Node, Refusal, Store, Value};
 
 extern "C" {
     fn mkfifo(path: *const std::ffi::c_char, mode: u32) -> i32;
@@ -29,7 +29,7 @@ impl Store for Nowhere {
 fn three_lives(path: &Path) {
     for number in 0..3 {
         let mut node = FileStore::open_or_create(path, 3).unwrap();
-        assert_eq!(node.life().unwrap(), 1 + number as u32);
+        assert_eq!(node.life(), 1 + number as u32);
         write(&mut node, number..number + 1);
     }
 }
@@ -46,7 +46,7 @@ fn a_file_that_is_there_is_not_made_again() {
     let folder = Folder::new("there");
     let path = folder.at("node");
     let mut node = FileStore::create(&path, 3).unwrap();
-    assert_eq!(node.life().unwrap(), 1);
+    assert_eq!(node.life(), 1);
     write(&mut node, 0..2);
     drop(node);
     let bytes = fs::read(&path).unwrap();
@@ -54,12 +54,12 @@ fn a_file_that_is_there_is_not_made_again() {
     assert_eq!((fs::read(&path).unwrap(), folder.names()), (bytes, vec!["node".into()]));
     for life in [2, 3] {
         let mut node = if life == 2 { FileStore::open(&path, 3) } else { FileStore::open_or_create(&path, 3) }.unwrap();
-        assert_eq!((node.life().unwrap(), held(&mut node)), (life, vec![0, 1]));
+        assert_eq!((node.life(), held(&mut node)), (life, vec![0, 1]));
     }
     // (also if it is empty: what was in it is lost)
     fs::write(&path, "").unwrap();
     assert_eq!(kind(FileStore::create(&path, 3)), Some(AlreadyExists));
-    assert_eq!(FileStore::open_or_create(&path, 3).err().unwrap().to_string(), "31 Damaged at 0");
+    assert!(matches!(FileStore::open_or_create(&path, 3), Err(Error::Damaged { at: 0 })));
     assert_eq!(fs::read(&path).unwrap(), b"");
 }
 
@@ -68,13 +68,13 @@ fn what_is_refused_leaves_no_file() {
     let folder = Folder::new("refused");
     let path = folder.at("node");
     for refused in [FileStore::create(&path, 16), FileStore::open_or_create(&path, 16)] {
-        assert_eq!(refused.err().unwrap().to_string(), "3 BadNode");
+        assert_eq!(refused.err().unwrap().refusal(), Some(Refusal::BadNode));
         assert_eq!(folder.names(), [""; 0]);
     }
-    assert_eq!(FileStore::create(&path, 3).unwrap().life().unwrap(), 1);
+    assert_eq!(FileStore::create(&path, 3).unwrap().life(), 1);
     let bytes = fs::read(&path).unwrap();
-    assert_eq!(FileStore::open(&path, 4).err().unwrap().to_string(), "32 OtherNode");
-    assert_eq!(FileStore::open(&path, 16).err().unwrap().to_string(), "3 BadNode");
+    assert_eq!(FileStore::open(&path, 4).err().unwrap().refusal(), Some(Refusal::OtherNode));
+    assert_eq!(FileStore::open(&path, 16).err().unwrap().refusal(), Some(Refusal::BadNode));
     assert_eq!((fs::read(&path).unwrap(), folder.names()), (bytes, vec!["node".into()]));
 }
 
@@ -83,13 +83,13 @@ fn a_file_that_is_served_is_not_opened() {
     let folder = Folder::new("served");
     let path = folder.at("node");
     let made = FileStore::create(&path, 3).unwrap();
-    assert_eq!(kind(FileStore::open(&path, 3)), Some(WouldBlock));
+    assert!(is_in_use(FileStore::open(&path, 3)));
     drop(made);
     let opened = FileStore::open(&path, 3).unwrap();
-    assert_eq!(kind(FileStore::open(&path, 3)), Some(WouldBlock));
-    assert_eq!(kind(FileStore::open_or_create(&path, 3)), Some(WouldBlock));
+    assert!(is_in_use(FileStore::open(&path, 3)));
+    assert!(is_in_use(FileStore::open_or_create(&path, 3)));
     drop(opened);
-    assert_eq!(FileStore::open(&path, 3).unwrap().life().unwrap(), 3);
+    assert_eq!(FileStore::open(&path, 3).unwrap().life(), 3);
     assert_eq!(folder.names(), ["node"]);
 }
 
@@ -105,9 +105,9 @@ fn of_many_that_start_at_once_one_gets_the_file() {
                 let node = FileStore::open_or_create(&path, 3);
                 barrier.wait();
                 match node {
-                    Ok(mut node) => Some(node.life().unwrap()),
+                    Ok(node) => Some(node.life()),
                     refused => {
-                        assert_eq!(kind(refused), Some(WouldBlock));
+                        assert!(is_in_use(refused));
                         None
                     }
                 }
@@ -130,8 +130,8 @@ fn a_link_stays_a_link() {
     assert_eq!(kind(FileStore::create(&link, 3)), Some(AlreadyExists));
     assert_eq!((folder.names(), other.names()), (vec!["link".into()], vec![]));
     drop(FileStore::create(&path, 3).unwrap());
-    assert_eq!(FileStore::open(&link, 3).unwrap().life().unwrap(), 2);
-    assert_eq!(FileStore::open(&path, 3).unwrap().life().unwrap(), 3);
+    assert_eq!(FileStore::open(&link, 3).unwrap().life(), 2);
+    assert_eq!(FileStore::open(&path, 3).unwrap().life(), 3);
     assert_eq!(fs::read_link(&link).unwrap(), path);
     assert_eq!((folder.names(), other.names()), (vec!["link".into()], vec!["node".into()]));
 }
@@ -144,7 +144,7 @@ fn a_file_with_a_second_name_is_not_opened() {
     assert_eq!(kind(FileStore::open(folder.at("node"), 3)), Some(InvalidInput));
     assert_eq!(kind(FileStore::open(folder.at("other"), 3)), Some(InvalidInput));
     fs::remove_file(folder.at("other")).unwrap();
-    assert_eq!(FileStore::open(folder.at("node"), 3).unwrap().life().unwrap(), 2);
+    assert_eq!(FileStore::open(folder.at("node"), 3).unwrap().life(), 2);
 }
 
 #[test]
@@ -153,8 +153,10 @@ fn what_is_no_regular_file_is_refused_at_once() {
     let pipe = folder.at("pipe");
     assert_eq!(unsafe { mkfifo(std::ffi::CString::new(pipe.to_str().unwrap()).unwrap().as_ptr(), 0o600) }, 0);
     for path in [&pipe, Path::new("/dev/null")] {
-        let error = FileStore::open(path, 3).err().unwrap().to_string();
-        assert!(error.contains("no regular file"), "{error}");
+        let Err(Error::Io(error)) = FileStore::open(path, 3) else {
+            panic!("it was opened");
+        };
+        assert_eq!(error.to_string(), "it is no regular file");
     }
     assert!(FileStore::open(folder.at(""), 3).is_err());
     assert_eq!(folder.names(), ["pipe"]);
@@ -213,7 +215,7 @@ impl Store for Again {
 /// The life and the keys of a node that is served from the file as it is now.
 fn served(path: &Path) -> (u32, Vec<usize>) {
     let mut node = Node::serve(3, &fs::read(path).unwrap(), Nowhere).unwrap();
-    (node.life().unwrap(), held(&mut node))
+    (node.life(), held(&mut node))
 }
 
 #[test]
@@ -240,7 +242,7 @@ fn a_changed_byte_is_told_by_the_gate_before_its_record() {
     let refused = |bytes: &[u8]| {
         fs::write(&path, bytes).unwrap();
         let error = FileStore::open(&path, 3).err().unwrap();
-        assert_eq!((error.number(), error.name(), fs::read(&path).unwrap()), (Some(31), "Damaged", bytes.to_vec()));
+        assert_eq!((error.refusal(), fs::read(&path).unwrap()), (Some(Refusal::Damaged), bytes.to_vec()));
         match error {
             Error::Damaged { at } => at as usize,
             other => panic!("{other}"),
@@ -282,7 +284,7 @@ fn a_changed_gate_is_found() {
                 // Nothing stands behind it.
                 assert_eq!(held(&mut result.unwrap()), [0, 1, 2]);
             } else if number == last {
-                assert_eq!(result.err().unwrap().to_string(), format!("31 Damaged at {at}"));
+                assert!(matches!(result, Err(Error::Damaged { at: told }) if told == *at as u64));
             } else if number == before && bit == 0 {
                 // Just this a crash leaves before the gate is opened.
                 assert_eq!(held(&mut result.unwrap()), [0, 1]);
@@ -337,7 +339,7 @@ fn what_a_crash_leaves_behind_the_closed_gate_is_no_changed_gate() {
             }
             fs::write(&path, &left).unwrap();
             let mut node = FileStore::open(&path, 3).unwrap();
-            assert_eq!((node.life().unwrap(), held(&mut node)), (4, vec![0, 1]));
+            assert_eq!((node.life(), held(&mut node)), (4, vec![0, 1]));
             // (what counted for nothing isn't in the copy)
             assert_eq!(fs::metadata(&path).unwrap().len(), gate as u64 + 43);
         }
@@ -348,14 +350,14 @@ fn what_a_crash_leaves_behind_the_closed_gate_is_no_changed_gate() {
     let life = &fs::read(&path).unwrap()[gate..];
     left[gate..gate + life.len()].copy_from_slice(life);
     fs::write(&path, &left).unwrap();
-    assert_eq!(FileStore::open(&path, 3).unwrap().life().unwrap(), 5);
+    assert_eq!(FileStore::open(&path, 3).unwrap().life(), 5);
     assert!(fs::read(&path).unwrap().starts_with(&whole));
 }
 
 /// What is told of a node that was served, or not.
 fn told(result: Result<Node, Error>) -> String {
     match result {
-        Ok(mut node) => format!("{:?} {:?}", node.life().unwrap(), node.root().unwrap()),
+        Ok(node) => format!("{:?} {:?}", node.life(), node.root().unwrap()),
         Err(error) => error.to_string(),
     }
 }
@@ -404,7 +406,7 @@ fn each_opening_puts_a_copy_in_the_place_of_the_file() {
     let mut inodes = vec![];
     for life in 1..4 {
         let mut node = FileStore::open_or_create(&path, 3).unwrap();
-        assert_eq!(node.life().unwrap(), life);
+        assert_eq!(node.life(), life);
         node.write(&key(0), &Value::text(format!("value {life}")), None).unwrap();
         inodes.push(fs::metadata(&path).unwrap().ino());
     }

@@ -4,7 +4,7 @@ mod common;
 
 use common::Folder;
 use std::fs::{self, OpenOptions};
-use zomtagi::FileStore;
+use zomtagi::{Error, FileStore};
 
 /// The most memory that this process had so far, in kB.
 fn most() -> u64 {
@@ -28,13 +28,14 @@ fn a_hole_takes_no_memory() {
     };
     // Behind the closed gate, also where a length stands that no record has.
     for behind in ["", "\x7f\x7f\x7f\x7f"] {
-        assert_eq!(with_hole(&[&bytes, behind.as_bytes()].concat()).unwrap().life().unwrap(), 2);
+        assert_eq!(with_hole(&[&bytes, behind.as_bytes()].concat()).unwrap().life(), 2);
         assert_eq!(fs::metadata(&path).unwrap().len(), 11 + 2 * 42);
     }
     // Behind an open gate, where zeros are a record of no bytes.
     for behind in ["\x01", "\x01\x7f\x7f\x7f\x7f"] {
         let gate = bytes.len() - 1;
         let bytes = [&bytes[..gate], behind.as_bytes()].concat();
-        assert_eq!(with_hole(&bytes).err().unwrap().to_string(), format!("31 Damaged at {gate}"));
+        let refused = with_hole(&bytes).err();
+        assert!(matches!(refused, Some(Error::Damaged { at }) if at == gate as u64), "{refused:?}");
     }
 }

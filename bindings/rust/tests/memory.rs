@@ -3,7 +3,7 @@
 use std::cell::Cell;
 use std::ffi::c_void;
 use std::ptr::null_mut;
-use zomtagi::{Error, Key, Node, Store, Value};
+use zomtagi::{Error, Key, Node, Refusal, Store, Value};
 
 extern "C" {
     fn __libc_malloc(size: usize) -> *mut c_void;
@@ -37,8 +37,8 @@ fn a_reply_that_is_refused_memory_stops_the_node() {
     let colour = Key::new("app", "flags", "colour");
     let mut node = Node::serve(3, b"PMNODE02\0\x03\0", Refusing).unwrap();
     IS_REFUSED.set(false);
-    node.join(0, 7).unwrap();
-    assert_eq!(node.write_over(&colour, &Value::text("red")).unwrap_err().to_string(), "99 Memory");
-    assert_eq!(node.write_over(&colour, &Value::text("red")).unwrap_err().to_string(), "34 Stopped");
-    assert_eq!(node.tick(1).unwrap_err().to_string(), "34 Stopped");
+    node.join(0).unwrap();
+    assert_eq!(node.write_over(&colour, &Value::text("red")).unwrap_err().refusal(), Some(Refusal::Memory));
+    assert_eq!(node.write_over(&colour, &Value::text("red")).unwrap_err().refusal(), Some(Refusal::Stopped));
+    assert_eq!(node.tick().unwrap_err().refusal(), Some(Refusal::Stopped));
 }

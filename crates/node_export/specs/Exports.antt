@@ -1,7 +1,7 @@
 -- What the exports return, and what they hand out, by the node in the slot, if there is one, or of
 -- bytes alone. The rule is our own.
-use Rattle.std.specs.Prelude.{◌≡◌, ◌≢◌, ◌⊎◌, ◌<◌, ℕ, List, ◌++◌, length, drop, Bool, true, false, nat_lt, Option, Some, None, Result, Ok, Err}
-use Rattle.std.specs.Option.{option_map}
+use Rattle.std.specs.Prelude.{◌≡◌, ◌≢◌, ◌⊎◌, ◌<◌, ℕ, List, ◌++◌, length, drop, Bool, true, false, nat_lt, Option, Some, None, Result, Ok, Err, if◌then◌else◌}
+use Rattle.std.specs.Option.{option_map, unwrap_or}
 use Rattle.meta_types.specs.Name.{IsFullPrefix, IsKey, Key, Prefix}
 use Rattle.meta_types.specs.Value.{IsBody, ValueParts}
 use Rattle.meta_types.specs.declared.fault.TypeFault.TheVariants.{BadName, ValueTooLong}
@@ -23,7 +23,8 @@ use Rattle.node_hosted.specs.declared.fault.HostFault.{HostFault}
 use Rattle.node_hosted.specs.declared.fault.HostFault.TheVariants.{Argument, Memory, NoSuchRead}
 use Rattle.sealed_frames.specs.Seal.{IsSealed, frame_in, seal_of}
 use Rattle.sealed_frames.specs.declared.key.Keys.{Keys}
-use Rattle.node_export.specs.Spelling.{list_bytes, reply_bytes}
+use Rattle.node_export.specs.Spelling.{list_bytes, nodes_bytes, prefixes_bytes, reply_bytes, shown_bytes}
+use Rattle.node_export.specs.declared.reading.About.{About}
 
 -- the number of how a call ended: 0, or that of its refusal
 abbrev pub answer_of : {A : Type 0} → Result A HostFault → ℕ
@@ -169,14 +170,47 @@ HandsReply n old new before len answer =
     Hands (handed_reply_bytes n) old new before len answer
     ⊎ (HandsNothing 99 old new before len answer × (handed_reply n ≢ None))
 
--- the keys under a full prefix; 1 if that is out of range; or memory ran out
-pub record HandsList (prefix : Prefix) (n : HostedParts) (old new : List ℕ)
-    (before len answer : ℕ) : Type 0 where
-  pub lawful : IsFullPrefix prefix → Hands (Some (list_bytes prefix n.state.table)) old new before
-      len answer
+-- these bytes; or memory ran out for them
+abbrev pub HandsMade : List ℕ → List ℕ → List ℕ → ℕ → ℕ → ℕ → Type 0
+HandsMade bytes old new before len answer =
+    Hands (Some bytes) old new before len answer ⊎ HandsNothing 99 old new before len answer
+
+-- the same of something that is named; 1 if the name is out of range; or memory ran out
+pub record HandsNamed (in_range : Type 0) (bytes old new : List ℕ) (before len answer : ℕ)
+    : Type 0 where
+  pub lawful : in_range → HandsMade bytes old new before len answer
+  pub unlawful : (in_range → ⊥) → HandsNothing 1 old new before len answer
       ⊎ HandsNothing 99 old new before len answer
-  pub unlawful : (IsFullPrefix prefix → ⊥) → HandsNothing 1 old new before len answer
-      ⊎ HandsNothing 99 old new before len answer
+
+-- the full prefixes of the node's table
+abbrev pub HandsPrefixes : HostedParts → List ℕ → List ℕ → ℕ → ℕ → ℕ → Type 0
+HandsPrefixes n old new before len answer =
+    HandsMade (prefixes_bytes n.state.table) old new before len answer
+
+-- the keys under a full prefix
+abbrev pub HandsList : Prefix → HostedParts → List ℕ → List ℕ → ℕ → ℕ → ℕ → Type 0
+HandsList prefix n old new before len answer =
+    HandsNamed (IsFullPrefix prefix) (list_bytes prefix n.state.table) old new before len answer
+
+-- the values that are shown under a key
+abbrev pub HandsShown : Key → HostedParts → List ℕ → List ℕ → ℕ → ℕ → ℕ → Type 0
+HandsShown key n old new before len answer =
+    HandsNamed (IsKey key) (shown_bytes key n.state.table) old new before len answer
+
+-- the nodes of its active view
+abbrev pub HandsNeighbours : HostedParts → List ℕ → List ℕ → ℕ → ℕ → ℕ → Type 0
+HandsNeighbours n old new before len answer =
+    HandsMade (nodes_bytes n.state.overlay.views.active) old new before len answer
+
+-- what is told of a node
+abbrev pub about_of : HostedParts → About
+about_of n = record {
+  number = n.state.node;
+  is_stopped = if n.stopped then 1 else 0;
+  life = n.state.incarnation;
+  keys = length n.state.table;
+  gate = unwrap_or n.gate 0;
+}
 
 -- the program sent the next frame, if there is one
 abbrev pub Sends : HostedParts → HostedParts → ℕ → Type 0

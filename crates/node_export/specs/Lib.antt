@@ -3,7 +3,7 @@
 pub mod Held
 -- what a call does with the node that a slot lends it
 pub mod Lending
--- the bytes of a reply and of a list of keys
+-- the bytes of a reply, and of what is told without a step
 pub mod Spelling
 -- what each export does with the node in the slot, and what it returns and hands out
 pub mod Exports

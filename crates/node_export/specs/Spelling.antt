@@ -1,12 +1,13 @@
--- The bytes of a reply and of a list of keys, as a program is handed them. Numbers have their
--- highest byte first. The rule is our own.
-use Rattle.std.specs.Prelude.{ℕ, List, [], ◌∷◌, ◌++◌, length, Option, Some, None}
-use Rattle.std.specs.Int.{w64, to_be_bytes}
-use Rattle.std.specs.List.{flat_map}
-use Rattle.meta_types.specs.Name.{Prefix}
+-- The bytes of a reply, and of what is told without a step, as a program is handed them. Numbers
+-- have their highest byte first. The rule is our own.
+use Rattle.std.specs.Prelude.{ℕ, Bool, List, [], ◌∷◌, ◌++◌, length, not, Option, Some, None, is_some, if◌then◌else◌}
+use Rattle.std.specs.Int.{w16, w64, to_be_bytes}
+use Rattle.std.specs.List.{flat_map, list_all}
+use Rattle.meta_types.specs.Name.{Key, Prefix}
 use Rattle.meta_types.specs.Value.{ValueParts}
-use Rattle.frame_fields.specs.Field.{key}
-use Rattle.meta_store.specs.Table.{Table, keys_under}
+use Rattle.dvvset.specs.Clock.{values_of}
+use Rattle.frame_fields.specs.Field.{key, prefix}
+use Rattle.meta_store.specs.Table.{Table, keys_under, object_at, prefixes_of}
 use Rattle.subscriptions.specs.declared.change.Change.{Change}
 use Rattle.node_events.specs.declared.reply.Reply.{Reply}
 use Rattle.node_events.specs.declared.reply.Reply.TheVariants.{Looked, Wrote, Took, TookFresh, TookStale, Done, Watching, Changed}
@@ -47,6 +48,32 @@ reply_bytes Done = 6 ∷ []
 reply_bytes (Watching number) = 7 ∷ word number
 reply_bytes (Changed missed changes) = 8 ∷ (word missed ++ changes_bytes changes)
 
--- the keys of a table under a full prefix, in order, each as in a frame
+-- ---- what is told without a step
+
+-- the full prefixes of a table, in order, each as in a frame
+abbrev pub prefixes_bytes : Table → List ℕ
+prefixes_bytes held = flat_map prefix.spell (prefixes_of held)
+
+-- a value without a body, as a deletion writes it
+abbrev pub is_tombstone : ValueParts → Bool
+is_tombstone value = not (is_some value.body)
+
+-- all values that a table shows under a key are those of deletions
+abbrev pub is_deleted : Table → Key → Bool
+is_deleted held named = list_all is_tombstone (values_of (object_at held named))
+
+-- 1 if the key is deleted, else 0, and the key as in a frame
+abbrev pub marked_key : Table → Key → List ℕ
+marked_key held named = (if is_deleted held named then 1 else 0) ∷ key.spell named
+
+-- the keys of a table under a full prefix, in order, each with its mark
 abbrev pub list_bytes : Prefix → Table → List ℕ
-list_bytes prefix held = flat_map key.spell (keys_under prefix held)
+list_bytes under held = flat_map (marked_key held) (keys_under under held)
+
+-- what a table shows under a key
+abbrev pub shown_bytes : Key → Table → List ℕ
+shown_bytes named held = values_bytes (values_of (object_at held named))
+
+-- the numbers of nodes, each in 2 bytes
+abbrev pub nodes_bytes : List ℕ → List ℕ
+nodes_bytes nodes = flat_map (to_be_bytes w16) nodes

@@ -30,4 +30,5 @@ mod steps;
 mod writing;
 
 pub use numbers::{BAD_LIFE, NO_NODE, OK, SHORT_BUFFER};
+pub use reading::About;
 pub use slot::Slot;

@@ -40,7 +40,7 @@ pub(crate) fn spell_reply(alloc: Global, reply: &Reply) -> Result<Vec<u8>, Alloc
 }
 
 /// Adds the number of values, and each value.
-fn add_values(bytes: &mut Vec<u8>, values: &[Value]) -> Result<(), AllocError>
+pub(crate) fn add_values(bytes: &mut Vec<u8>, values: &[Value]) -> Result<(), AllocError>
     ensures { OnOk result (bytes.new.items ≡ bytes.old.items ++ values_bytes values.now) }
 {
     write_u64(bytes, values.len() as u64)?;

@@ -61,3 +61,17 @@ pub fn kind(result: Result<Node, zomtagi::Error>) -> Option<std::io::ErrorKind> 
         _ => None,
     }
 }
+
+/// Whether a file wasn't opened because its lock is held.
+pub fn is_in_use(result: Result<Node, zomtagi::Error>) -> bool {
+    matches!(result, Err(zomtagi::Error::InUse))
+}
+
+/// The program of an example. `cargo test` builds it first; `cargo test --test NAME` doesn't.
+pub fn example(name: &str) -> PathBuf {
+    let program = std::env::current_exe().unwrap().parent().unwrap().join(format!("../examples/{name}"));
+    let made = fs::metadata(&program).and_then(|found| found.modified()).ok();
+    let source = fs::metadata(format!("{}/examples/{name}.rs", env!("CARGO_MANIFEST_DIR"))).unwrap().modified().unwrap();
+    assert!(made > Some(source), "cargo build --example {name}, with --release if the tests are, makes {}", program.display());
+    program
+}
