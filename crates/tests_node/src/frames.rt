@@ -1,4 +1,5 @@
-//! Frames that come, as bytes. They go from node 1 to node 0, and their key is p/s/k.
+//! Frames that come, as bytes. They go from node 1 to node 0, where their names tell no other, and
+//! their key is p/s/k.
 
 pub const JOIN: &[u8] = b"PT\x02\x05\0\x01\0\0\0\0\0\0\0\0\0\x01\0\0\0\0";
 
@@ -34,6 +35,10 @@ pub const GOSSIP_OF_THE_LAST: &[u8] = b"PT\x02\x01\0\x01\0\0\0\0\0\0\0\0\0\x01\0
 
 /// IHAVE of the first write of node 1, in round 5.
 pub const IHAVE: &[u8] = b"PT\x02\x02\0\x01\0\0\0\0\0\0\0\0\0\x01\0\0\0\x1b\
+\0\x05\0\x01p\0\x01s\0\x01k\0\x01\0\x01\0\0\0\x01\0\0\0\0\0\0\0\x01";
+
+/// The same from node 2.
+pub const IHAVE_OF_2: &[u8] = b"PT\x02\x02\0\x02\0\0\0\0\0\0\0\0\0\x01\0\0\0\x1b\
 \0\x05\0\x01p\0\x01s\0\x01k\0\x01\0\x01\0\0\0\x01\0\0\0\0\0\0\0\x01";
 
 /// GRAFT of the first write of node 1, in round 5.

@@ -11,6 +11,8 @@
 #[cfg(test)]
 mod acts;
 #[cfg(test)]
+mod attempts;
+#[cfg(test)]
 mod calling;
 #[cfg(test)]
 mod copies;
@@ -46,6 +48,8 @@ mod resolving;
 mod rows;
 #[cfg(test)]
 mod running;
+#[cfg(test)]
+mod sameness;
 #[cfg(test)]
 mod sent;
 #[cfg(test)]

@@ -18,12 +18,16 @@ pub fn new_node(rt: &impl Abort, alloc: Global) -> NodeState {
     }
 }
 
-/// Puts a copy in the place of the node.
-fn go_on_as_copy(rt: &impl Abort, node: &mut NodeState) {
-    let copy = match node.copy() {
+pub fn copy_of(rt: &impl Abort, node: &NodeState) -> NodeState {
+    match node.copy() {
         Ok(copy) => copy,
         Err(_) => node.copy().expect(rt, "memory once more"),
-    };
+    }
+}
+
+/// Puts a copy in the place of the node.
+fn go_on_as_copy(rt: &impl Abort, node: &mut NodeState) {
+    let copy = copy_of(rt, node);
     drop(replace(node, copy));
 }
 
