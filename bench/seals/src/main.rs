@@ -5,7 +5,7 @@ use hmac::{Hmac, Mac};
 use sha2::Sha256;
 use std::hint::black_box;
 use std::time::Instant;
-use zomtagi::Keys;
+use zomtagi::SealKeys;
 
 const KEY: [u8; 32] = [7; 32];
 const SEAL_LEN: usize = 16;
@@ -45,7 +45,7 @@ fn median(mut call: impl FnMut()) -> u128 {
 }
 
 fn main() {
-    let (keys, plain) = (Keys::new(KEY), Plain(Code::new_from_slice(&KEY).expect("any length is a key")));
+    let (keys, plain) = (SealKeys::new(KEY), Plain(Code::new_from_slice(&KEY).expect("any length is a key")));
     for len in [100, 1_000, 16_000] {
         let frame = vec![3; len];
         let sealed = keys.seal(&frame).expect("memory");
