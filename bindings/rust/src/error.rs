@@ -43,6 +43,15 @@ pub enum Error {
 
 impl Error {
     /// The refusal of the library, if it is one.
+    ///
+    /// ```
+    /// # use zomtagi::{Error, Node, Refusal};
+    /// let refused = Node::new(1, 1)?.join(1).unwrap_err(); // through itself
+    /// assert_eq!(refused.refusal(), Some(Refusal::BadNode));
+    /// assert_eq!(Error::Damaged { at: 11 }.refusal(), Some(Refusal::Damaged));
+    /// assert_eq!(Error::InUse.refusal(), None); // the lock of the file, not the library
+    /// # Ok::<(), zomtagi::Error>(())
+    /// ```
     pub fn refusal(&self) -> Option<Refusal> {
         match self {
             Error::Refused(refusal) => Some(*refusal),
@@ -54,6 +63,14 @@ impl Error {
 
     /// Whether the node is at its end, and is to be dropped: after 34, and what its store returned. After any other error it
     /// is as it was.
+    ///
+    /// ```
+    /// # use std::io;
+    /// # use zomtagi::{Error, Refusal};
+    /// assert!(Error::Io(io::Error::other("the disk is full")).ends_node()); // what its store returned
+    /// assert!(Error::Refused(Refusal::Stopped).ends_node()); // what each later step returns
+    /// assert!(!Error::Refused(Refusal::ValueTooLong).ends_node());
+    /// ```
     pub fn ends_node(&self) -> bool {
         match self {
             Error::Io(_) | Error::Sync(_) => true,
@@ -63,6 +80,15 @@ impl Error {
 
     /// Whether the stream that the bytes came from is to be closed: they are no frame, or no key of the cluster sealed them, so
     /// that where the next frame begins isn't known.
+    ///
+    /// ```
+    /// # use zomtagi::Node;
+    /// let mut node = Node::new(0, 1)?;
+    /// assert!(node.take(b"GET / HTTP/1.1\r\n\r\n").unwrap_err().ends_stream());
+    /// let astray = Node::new(1, 1)?.hello(2)?.remove(0);
+    /// assert!(!node.take(astray.bytes()).unwrap_err().ends_stream()); // a frame, for another node
+    /// # Ok::<(), zomtagi::Error>(())
+    /// ```
     pub fn ends_stream(&self) -> bool {
         self.refusal().is_some_and(Refusal::ends_stream)
     }

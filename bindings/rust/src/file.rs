@@ -52,6 +52,21 @@ const MOST_PAYLOAD: u32 = 1 << 24;
 ///   linked to the path, which fails if anything is there, and loses that name. So the path never names half a file. If a crash
 ///   leaves both names, the next opening removes the other one. With any other second name (a hard link) the file isn't opened:
 ///   that name would stay the old file, from which a life could begin again.
+///
+/// ```
+/// use zomtagi::{FileStore, Key, Value};
+///
+/// # let folder = std::env::temp_dir().join(format!("zomtagi-doc-store-{}", std::process::id()));
+/// # std::fs::create_dir(&folder)?;
+/// let (path, colour) = (folder.join("node-3"), Key::new("app", "flags", "colour"));
+/// let mut node = FileStore::create(&path, 3)?; // once
+/// node.write_over(&colour, &Value::text("red"))?; // returns once it is in the file
+/// drop(node);
+/// let node = FileStore::open(&path, 3)?; // from then on
+/// assert_eq!((node.life(), node.peek(&colour)?), (2, vec![Value::text("red")]));
+/// # std::fs::remove_dir_all(folder)?;
+/// # Ok::<(), zomtagi::Error>(())
+/// ```
 pub struct FileStore {
     file: File,
 }
@@ -63,6 +78,20 @@ impl FileStore {
     /// Refused with [`Error::InUse`] while its lock is held; [`Error::Io`] of the kind `NotFound` if there is no file, and
     /// `InvalidInput` if it isn't a regular file or has a second name (a hard link); [`Error::GateChanged`]; as `zomtagi_serve`
     /// is; and with [`Error::Io`] or [`Error::Sync`] if the copy can't be made. It is then as it was.
+    ///
+    /// ```
+    /// # use zomtagi::{Error, FileStore, Refusal};
+    /// # let folder = std::env::temp_dir().join(format!("zomtagi-doc-open-{}", std::process::id()));
+    /// # std::fs::create_dir(&folder)?;
+    /// # let path = folder.join("node-3");
+    /// let node = FileStore::create(&path, 3)?;
+    /// assert!(matches!(FileStore::open(&path, 3), Err(Error::InUse)));
+    /// drop(node);
+    /// assert_eq!(FileStore::open(&path, 3)?.life(), 2);
+    /// assert_eq!(FileStore::open(&path, 4).unwrap_err().refusal(), Some(Refusal::OtherNode));
+    /// # std::fs::remove_dir_all(folder)?;
+    /// # Ok::<(), zomtagi::Error>(())
+    /// ```
     pub fn open(path: impl AsRef<Path>, node: u16) -> Result<Node, Error> {
         let (old, path) = locked_at(path.as_ref())?;
         let records = Records::read(&old, node)?;
@@ -89,6 +118,19 @@ impl FileStore {
     ///
     /// Refused with 3 `BadNode`; [`Error::Io`] of the kind `AlreadyExists` if anything is at the path, also a link that leads
     /// nowhere; and with [`Error::Io`] or [`Error::Sync`] if the file can't be made. No file is made then.
+    ///
+    /// ```
+    /// # use std::io::ErrorKind;
+    /// # use zomtagi::{Error, FileStore};
+    /// # let folder = std::env::temp_dir().join(format!("zomtagi-doc-create-{}", std::process::id()));
+    /// # std::fs::create_dir(&folder)?;
+    /// # let path = folder.join("node-3");
+    /// assert_eq!(FileStore::create(&path, 3)?.life(), 1);
+    /// let again = FileStore::create(&path, 3);
+    /// assert!(matches!(again, Err(Error::Io(error)) if error.kind() == ErrorKind::AlreadyExists));
+    /// # std::fs::remove_dir_all(folder)?;
+    /// # Ok::<(), zomtagi::Error>(())
+    /// ```
     pub fn create(path: impl AsRef<Path>, node: u16) -> Result<Node, Error> {
         let bytes = empty_file(node)?;
         let path = in_folder(path.as_ref())?;
@@ -105,6 +147,19 @@ impl FileStore {
 
     /// [`open`](FileStore::open), and if there is no file, [`create`](FileStore::create): so a file that was lost, or a path that
     /// is mistyped or not mounted, begins with life 1 again. Call it only if that can't be.
+    ///
+    /// ```
+    /// # use zomtagi::FileStore;
+    /// # let folder = std::env::temp_dir().join(format!("zomtagi-doc-open-or-create-{}", std::process::id()));
+    /// # std::fs::create_dir(&folder)?;
+    /// # let path = folder.join("node-3");
+    /// assert_eq!(FileStore::open_or_create(&path, 3)?.life(), 1);
+    /// assert_eq!(FileStore::open_or_create(&path, 3)?.life(), 2);
+    /// std::fs::remove_file(&path)?;
+    /// assert_eq!(FileStore::open_or_create(&path, 3)?.life(), 1); // what must not be: a second life 1
+    /// # std::fs::remove_dir_all(folder)?;
+    /// # Ok::<(), zomtagi::Error>(())
+    /// ```
     pub fn open_or_create(path: impl AsRef<Path>, node: u16) -> Result<Node, Error> {
         let is = |result: &Result<Node, Error>, kind| matches!(result, Err(Error::Io(error)) if error.kind() == kind);
         let opened = FileStore::open(&path, node);

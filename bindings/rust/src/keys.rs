@@ -22,6 +22,19 @@ pub const SEAL_LEN: usize = 16;
 /// previous; then leave the old one out.
 ///
 /// They are never printed, and are wiped when they are dropped.
+///
+/// ```
+/// use zomtagi::SealKeys;
+///
+/// let (old, new) = ([1; 32], [2; 32]); // (yours are random)
+/// let rounds =
+///     [SealKeys::new(old), SealKeys::with_previous(old, new), SealKeys::with_previous(new, old), SealKeys::new(new)];
+/// for (before, after) in rounds.iter().zip(&rounds[1..]) {
+///     assert_eq!(before.open(&after.seal(b"frame")?)?, b"frame"); // nodes of either round hear each other
+///     assert_eq!(after.open(&before.seal(b"frame")?)?, b"frame");
+/// }
+/// # Ok::<(), zomtagi::Error>(())
+/// ```
 pub struct SealKeys {
     /// The current key, and behind it the previous one, if there is one.
     bytes: Vec<u8>,
@@ -29,17 +42,50 @@ pub struct SealKeys {
 
 impl SealKeys {
     /// One key: 32 bytes of a source of random numbers.
+    ///
+    /// ```
+    /// # use zomtagi::{SealKeys, SEAL_KEY_LEN};
+    /// let keys = SealKeys::new([7; SEAL_KEY_LEN]); // (yours is random)
+    /// assert_eq!(keys.open(&keys.seal(b"frame")?)?, b"frame");
+    /// assert_eq!(format!("{keys:?}"), "SealKeys { .. }");
+    /// # Ok::<(), zomtagi::Error>(())
+    /// ```
     pub fn new(current: [u8; SEAL_KEY_LEN]) -> SealKeys {
         SealKeys { bytes: current.to_vec() }
     }
 
     /// Two keys, of which the first seals.
+    ///
+    /// ```
+    /// # use zomtagi::SealKeys;
+    /// let (current, previous) = ([2; 32], [1; 32]); // (yours are random)
+    /// let keys = SealKeys::with_previous(current, previous);
+    /// assert_eq!(keys.seal(b"frame")?, SealKeys::new(current).seal(b"frame")?);
+    /// assert_eq!(keys.open(&SealKeys::new(previous).seal(b"frame")?)?, b"frame");
+    /// # Ok::<(), zomtagi::Error>(())
+    /// ```
     pub fn with_previous(current: [u8; SEAL_KEY_LEN], previous: [u8; SEAL_KEY_LEN]) -> SealKeys {
         SealKeys { bytes: [current, previous].concat() }
     }
 
     /// Reads a file of 32 bytes, the current key, or 64, behind it the previous one. Anything else in it is 18 `BadKey`, and a
     /// file that others than its owner may read or change is an [`Error::Io`].
+    ///
+    /// ```
+    /// # use std::fs::{self, Permissions};
+    /// # use std::os::unix::fs::PermissionsExt;
+    /// # use zomtagi::{Error, SealKeys};
+    /// # let folder = std::env::temp_dir().join(format!("zomtagi-doc-read-{}", std::process::id()));
+    /// # fs::create_dir(&folder)?;
+    /// # let path = folder.join("cluster.key");
+    /// # SealKeys::read_or_create(&path)?;
+    /// let keys = SealKeys::read(&path)?;
+    /// assert_eq!(keys.open(&keys.seal(b"frame")?)?, b"frame");
+    /// fs::set_permissions(&path, Permissions::from_mode(0o644))?; // others may read it
+    /// assert!(matches!(SealKeys::read(&path), Err(Error::Io(_))));
+    /// # fs::remove_dir_all(folder)?;
+    /// # Ok::<(), zomtagi::Error>(())
+    /// ```
     pub fn read(path: impl AsRef<Path>) -> Result<SealKeys, Error> {
         let file = File::open(path)?;
         if file.metadata()?.mode() & 0o077 != 0 {
@@ -54,6 +100,17 @@ impl SealKeys {
 
     /// Reads the file; if there is none, makes it first, of mode 0600, with a key out of `/dev/urandom`. Of several processes
     /// that do so at once, all get the same key.
+    ///
+    /// ```
+    /// # use zomtagi::SealKeys;
+    /// # let folder = std::env::temp_dir().join(format!("zomtagi-doc-read-or-create-{}", std::process::id()));
+    /// # std::fs::create_dir(&folder)?;
+    /// # let path = folder.join("cluster.key");
+    /// let (made, read) = (SealKeys::read_or_create(&path)?, SealKeys::read_or_create(&path)?);
+    /// assert_eq!(read.open(&made.seal(b"frame")?)?, b"frame"); // they are the same
+    /// # std::fs::remove_dir_all(folder)?;
+    /// # Ok::<(), zomtagi::Error>(())
+    /// ```
     pub fn read_or_create(path: impl AsRef<Path>) -> Result<SealKeys, Error> {
         let path = path.as_ref();
         match SealKeys::read(path) {
@@ -81,11 +138,31 @@ impl SealKeys {
     }
 
     /// The bytes that are sent for a frame: the frame, and its seal of 16 bytes behind it.
+    ///
+    /// ```
+    /// # use zomtagi::{Node, SealKeys, SEAL_LEN};
+    /// # let keys = SealKeys::new([7; 32]);
+    /// let frame = Node::new(0, 1)?.hello(1)?.remove(0);
+    /// let sealed = keys.seal(frame.bytes())?;
+    /// assert!(sealed.starts_with(frame.bytes())); // anyone can read it
+    /// assert_eq!(sealed.len(), frame.bytes().len() + SEAL_LEN);
+    /// # Ok::<(), zomtagi::Error>(())
+    /// ```
     pub fn seal(&self, frame: &[u8]) -> Result<Vec<u8>, Error> {
         Ok([frame, &self.seal_of(frame)?].concat())
     }
 
     /// The frame in bytes that were sealed under one of the keys. Refused with 17 `BadSeal`.
+    ///
+    /// ```
+    /// # use zomtagi::{Refusal, SealKeys};
+    /// # let keys = SealKeys::new([7; 32]);
+    /// let mut sealed = keys.seal(b"frame")?;
+    /// assert_eq!(keys.open(&sealed)?, b"frame");
+    /// sealed[0] ^= 1; // a bit changes on the way
+    /// assert_eq!(keys.open(&sealed).unwrap_err().refusal(), Some(Refusal::BadSeal));
+    /// # Ok::<(), zomtagi::Error>(())
+    /// ```
     pub fn open<'a>(&self, bytes: &'a [u8]) -> Result<&'a [u8], Error> {
         let mut len = 0;
         answered(unsafe { zomtagi_open(self.bytes.as_ptr(), self.bytes.len(), bytes.as_ptr(), bytes.len(), &mut len) })?;

@@ -23,6 +23,7 @@
 //! ```
 
 #![warn(missing_docs)]
+#![doc(test(attr(deny(warnings))))]
 
 mod error;
 mod file;

@@ -51,6 +51,20 @@ pub trait Store: Send {
 /// A node. It may move to another thread, and starts none; it isn't shared by several: send its thread what happens.
 ///
 /// Its steps want random words. They come from std's `RandomState`, unless [`Node::set_words`] says otherwise.
+///
+/// ```
+/// use zomtagi::{Key, Node, Value};
+///
+/// let (mut zero, mut one) = (Node::new(0, 1)?, Node::new(1, 1)?);
+/// let join = one.join(0)?.remove(0);
+/// zero.take(join.bytes())?; // in place of a network: they are neighbours now
+/// let colour = Key::new("app", "flags", "colour");
+/// for frame in zero.write_over(&colour, &Value::text("red"))? {
+///     one.take(frame.bytes())?;
+/// }
+/// assert_eq!(one.peek(&colour)?, [Value::text("red")]);
+/// # Ok::<(), zomtagi::Error>(())
+/// ```
 pub struct Node {
     /// (an export that only tells writes the slot too)
     slot: UnsafeCell<Slot>,
@@ -108,6 +122,15 @@ fn random_word() -> u64 {
 impl Node {
     /// A node without a file, in the life of this number, from 1. See to it that it never had a life of this number or a
     /// greater one.
+    ///
+    /// ```
+    /// # use zomtagi::{Node, Refusal};
+    /// let node = Node::new(3, 1)?;
+    /// assert_eq!((node.number(), node.life(), node.key_count()), (3, 1, 0));
+    /// assert_eq!(Node::new(16, 1).unwrap_err().refusal(), Some(Refusal::BadNode));
+    /// assert_eq!(Node::new(3, 0).unwrap_err().refusal(), Some(Refusal::BadLife));
+    /// # Ok::<(), zomtagi::Error>(())
+    /// ```
     pub fn new(node: u16, life: u32) -> Result<Node, Error> {
         let mut made = Node::empty();
         answered(unsafe { zomtagi_new(made.slot.get_mut(), node, life) })?;
@@ -116,6 +139,23 @@ impl Node {
 
     /// A node in its next life, served from the bytes of its file, of which `store` keeps the rest. The record of the life is
     /// stored before this returns.
+    ///
+    /// ```
+    /// # use zomtagi::{Error, Node, Refusal, Store};
+    /// struct Nowhere; // a store that keeps nothing
+    ///
+    /// impl Store for Nowhere {
+    ///     fn append(&mut self, _gate: u64, _record: &[u8]) -> Result<(), Error> {
+    ///         Ok(())
+    ///     }
+    /// }
+    ///
+    /// let empty = b"PMNODE02\0\x03\0"; // the file of node 3, which had no life yet
+    /// assert_eq!(Node::serve(3, empty, Nowhere)?.life(), 1);
+    /// assert_eq!(Node::serve(4, empty, Nowhere).unwrap_err().refusal(), Some(Refusal::OtherNode));
+    /// assert!(matches!(Node::serve(3, &empty[..10], Nowhere), Err(Error::Damaged { at: 10 }))); // it ends there
+    /// # Ok::<(), zomtagi::Error>(())
+    /// ```
     pub fn serve(node: u16, bytes: &[u8], store: impl Store + 'static) -> Result<Node, Error> {
         Node::of_bytes(node, bytes)?.stored_in(store)
     }
@@ -151,6 +191,18 @@ impl Node {
 
     /// Seals each frame from now on, and takes only what opens: [`Frame::bytes`] are sealed, and [`Node::take`] refuses other
     /// bytes with 17 `BadSeal`, and the node never sees them. `None` as it began: frames go out and are taken as they are.
+    ///
+    /// ```
+    /// # use zomtagi::{Node, Refusal, SealKeys};
+    /// # let (mut zero, mut one) = (Node::new(0, 1)?, Node::new(1, 1)?);
+    /// zero.set_keys(Some(SealKeys::new([7; 32]))); // (yours is random)
+    /// let bare = one.hello(0)?.remove(0);
+    /// assert_eq!(zero.take(bare.bytes()).unwrap_err().refusal(), Some(Refusal::BadSeal));
+    /// one.set_keys(Some(SealKeys::new([7; 32])));
+    /// let sealed = one.hello(0)?.remove(0);
+    /// zero.take(sealed.bytes())?;
+    /// # Ok::<(), zomtagi::Error>(())
+    /// ```
     pub fn set_keys(&mut self, keys: Option<SealKeys>) {
         self.keys = keys;
     }
@@ -159,17 +211,59 @@ impl Node {
     /// from the start. That takes two syncs for each such frame, during which the node does nothing else: a node that others
     /// overwhelm with writes falls behind. As it began, what came is stored only by [`Node::keep`], or with a write of its key, and
     /// after a restart comes again by exchanges.
+    ///
+    /// ```
+    /// # use zomtagi::{FileStore, Key, Node, Value};
+    /// # let folder = std::env::temp_dir().join(format!("zomtagi-doc-set-keeping-{}", std::process::id()));
+    /// # std::fs::create_dir(&folder)?;
+    /// # let path = folder.join("node-1");
+    /// # let (mut zero, mut one) = (Node::new(0, 1)?, FileStore::create(&path, 1)?);
+    /// # zero.take(one.join(0)?[0].bytes())?;
+    /// # let colour = Key::new("app", "flags", "colour");
+    /// one.set_keeping(true);
+    /// let gossip = zero.write_over(&colour, &Value::text("red"))?.remove(0);
+    /// one.take(gossip.bytes())?;
+    /// drop(one);
+    /// assert_eq!(FileStore::open(&path, 1)?.peek(&colour)?, [Value::text("red")]);
+    /// # std::fs::remove_dir_all(folder)?;
+    /// # Ok::<(), zomtagi::Error>(())
+    /// ```
     pub fn set_keeping(&mut self, is_keeping: bool) {
         self.is_keeping = is_keeping;
     }
 
     /// Takes the words of later steps from here. They should be random; a test that makes the same calls with the same words gets
     /// the same frames.
+    ///
+    /// ```
+    /// # use zomtagi::{Error, Node};
+    /// let shuffle = |word| {
+    ///     let mut node = Node::new(0, 1)?;
+    ///     for peer in 1..4 {
+    ///         node.take(Node::new(peer, 1)?.join(0)?[0].bytes())?;
+    ///     }
+    ///     node.set_words(move || word);
+    ///     (0..10).map(|_| node.tick()).collect::<Result<Vec<_>, Error>>() // the tenth goes to a neighbour by chance
+    /// };
+    /// assert_eq!(shuffle(1)?, shuffle(1)?);
+    /// assert_ne!(shuffle(1)?, shuffle(2)?);
+    /// # Ok::<(), zomtagi::Error>(())
+    /// ```
     pub fn set_words(&mut self, words: impl FnMut() -> u64 + Send + 'static) {
         self.words = Box::new(words);
     }
 
     /// What the node shows under a key.
+    ///
+    /// ```
+    /// # use zomtagi::{Key, Node, Value};
+    /// # let (mut node, colour) = (Node::new(0, 1)?, Key::new("app", "flags", "colour"));
+    /// assert_eq!(node.read(&colour)?.values, []);
+    /// node.write(&colour, &Value::text("red"), None)?;
+    /// node.write(&colour, &Value::text("blue"), None)?;
+    /// assert_eq!(node.read(&colour)?.values, [Value::text("blue"), Value::text("red")]);
+    /// # Ok::<(), zomtagi::Error>(())
+    /// ```
     pub fn read(&mut self, key: &Key) -> Result<Read, Error> {
         let reply = self.step(|slot| of_key!(zomtagi_read, slot, key))?;
         let mut number = 0;
@@ -179,6 +273,18 @@ impl Node {
     }
 
     /// Writes a value, which replaces what the context's read has shown, or nothing. Returns the frames to send.
+    ///
+    /// ```
+    /// # use zomtagi::{Key, Node, Value};
+    /// # let (mut node, colour) = (Node::new(0, 1)?, Key::new("app", "flags", "colour"));
+    /// node.write(&colour, &Value::text("red"), None)?;
+    /// node.write(&colour, &Value::text("blue"), None)?; // beside it
+    /// let read = node.read(&colour)?;
+    /// node.write(&colour, &Value::text("green"), Some(&read.context))?; // in the place of both
+    /// node.write(&colour, &Value::text("grey"), Some(&read.context))?; // beside green, which that read hasn't shown
+    /// assert_eq!(node.peek(&colour)?, [Value::text("grey"), Value::text("green")]);
+    /// # Ok::<(), zomtagi::Error>(())
+    /// ```
     pub fn write(&mut self, key: &Key, value: &Value, context: Option<&Context>) -> Result<Vec<Frame>, Error> {
         let context = self.number_of(context)?;
         self.step(|slot| match &value.body {
@@ -189,6 +295,16 @@ impl Node {
     }
 
     /// Writes a value over all that the node shows. Returns the frames to send.
+    ///
+    /// ```
+    /// # use zomtagi::{Key, Node, Value};
+    /// # let (mut node, colour) = (Node::new(0, 1)?, Key::new("app", "flags", "colour"));
+    /// node.write(&colour, &Value::text("red"), None)?;
+    /// node.write(&colour, &Value::text("blue"), None)?;
+    /// node.write_over(&colour, &Value::tombstone())?; // a delete
+    /// assert_eq!(node.peek(&colour)?, [Value::tombstone()]);
+    /// # Ok::<(), zomtagi::Error>(())
+    /// ```
     pub fn write_over(&mut self, key: &Key, value: &Value) -> Result<Vec<Frame>, Error> {
         self.step(|slot| match &value.body {
             Some(body) => of_key!(zomtagi_write_over, slot, key, body.as_ptr(), body.len(), value.stamp),
@@ -198,17 +314,16 @@ impl Node {
     }
 
     /// Reads a key, and if it shows several values, writes the one that is chosen in their place; they stay if `None` is. Of one
-    /// value, or none, nothing is asked. Nodes that
-    /// choose alike of what they are shown, as by [`Read::lww`], end with equal values. Returns the frames to send.
+    /// value, or none, nothing is asked. Nodes that choose alike of what they are shown, as by [`Read::lww`], end with equal
+    /// values. Returns the frames to send.
     ///
     /// ```
-    /// use zomtagi::{Key, Node, Value};
-    ///
-    /// let (mut node, colour) = (Node::new(0, 1)?, Key::new("app", "flags", "colour"));
-    /// node.write(&colour, &Value { stamp: 1, body: Some(b"red".to_vec()) }, None)?;
-    /// node.write(&colour, &Value { stamp: 2, body: Some(b"blue".to_vec()) }, None)?;
+    /// # use zomtagi::{Key, Node, Value};
+    /// # let (mut node, colour) = (Node::new(0, 1)?, Key::new("app", "flags", "colour"));
+    /// node.write(&colour, &Value::text("red").with_stamp(1), None)?;
+    /// node.write(&colour, &Value::text("blue").with_stamp(2), None)?;
     /// node.resolve(&colour, |read| read.lww().cloned())?;
-    /// assert_eq!(node.read(&colour)?.values, [Value { stamp: 2, body: Some(b"blue".to_vec()) }]);
+    /// assert_eq!(node.peek(&colour)?, [Value::text("blue").with_stamp(2)]);
     /// # Ok::<(), zomtagi::Error>(())
     /// ```
     pub fn resolve(&mut self, key: &Key, choose: impl FnOnce(&Read) -> Option<Value>) -> Result<Vec<Frame>, Error> {
@@ -223,6 +338,23 @@ impl Node {
     }
 
     /// Stores what the node holds under a key, whoever wrote it.
+    ///
+    /// ```
+    /// # use zomtagi::{FileStore, Key, Node, Value};
+    /// # let folder = std::env::temp_dir().join(format!("zomtagi-doc-keep-{}", std::process::id()));
+    /// # std::fs::create_dir(&folder)?;
+    /// # let path = folder.join("node-1");
+    /// # let (mut zero, mut one) = (Node::new(0, 1)?, FileStore::create(&path, 1)?);
+    /// # zero.take(one.join(0)?[0].bytes())?;
+    /// # let colour = Key::new("app", "flags", "colour");
+    /// let gossip = zero.write_over(&colour, &Value::text("red"))?.remove(0);
+    /// one.take(gossip.bytes())?; // node 1 shows it, but its file doesn't have it
+    /// one.keep(&colour)?;
+    /// drop(one);
+    /// assert_eq!(FileStore::open(&path, 1)?.peek(&colour)?, [Value::text("red")]);
+    /// # std::fs::remove_dir_all(folder)?;
+    /// # Ok::<(), zomtagi::Error>(())
+    /// ```
     pub fn keep(&mut self, key: &Key) -> Result<(), Error> {
         self.step(|slot| of_key!(zomtagi_keep, slot, key))?;
         Ok(())
@@ -230,6 +362,17 @@ impl Node {
 
     /// Takes a frame that came, sealed if keys are set. Returns what came of it, and the frames to send. If what it brought should
     /// be stored and isn't, the call fails, and the node has taken it all the same.
+    ///
+    /// ```
+    /// # use zomtagi::{Node, Refusal, Taken};
+    /// # let (mut zero, mut one) = (Node::new(0, 1)?, Node::new(1, 1)?);
+    /// let ask = one.exchange(0)?.remove(0);
+    /// let (taken, answers) = zero.take(ask.bytes())?;
+    /// assert_eq!((taken, answers), (Taken::Taken, vec![])); // both hold nothing: there is no answer
+    /// let refused = one.take(ask.bytes()).unwrap_err();
+    /// assert_eq!(refused.refusal(), Some(Refusal::NotAddressed)); // it is for node 0
+    /// # Ok::<(), zomtagi::Error>(())
+    /// ```
     pub fn take(&mut self, bytes: &[u8]) -> Result<(Taken, Vec<Frame>), Error> {
         let frame = match &self.keys {
             Some(keys) => keys.open(bytes)?,
@@ -253,6 +396,19 @@ impl Node {
     }
 
     /// Time passes. Returns the frames to send.
+    ///
+    /// ```
+    /// # use zomtagi::Node;
+    /// # let (mut zero, mut one) = (Node::new(0, 1)?, Node::new(1, 1)?);
+    /// # zero.take(one.join(0)?[0].bytes())?;
+    /// assert_eq!(zero.neighbours()?, [1]);
+    /// for _ in 0..9 {
+    ///     assert_eq!(zero.tick()?, []);
+    /// }
+    /// let shuffle = zero.tick()?.remove(0); // each tenth tick
+    /// assert_eq!(shuffle.to(), 1);
+    /// # Ok::<(), zomtagi::Error>(())
+    /// ```
     pub fn tick(&mut self) -> Result<Vec<Frame>, Error> {
         let word = (self.words)();
         self.step(|slot| unsafe { zomtagi_tick(slot, word) })?;
@@ -260,6 +416,16 @@ impl Node {
     }
 
     /// Joins the cluster through a contact. Returns the frames to send.
+    ///
+    /// ```
+    /// # use zomtagi::Node;
+    /// let (mut zero, mut one) = (Node::new(0, 1)?, Node::new(1, 1)?);
+    /// for frame in one.join(0)? {
+    ///     zero.take(frame.bytes())?;
+    /// }
+    /// assert_eq!((zero.neighbours()?, one.neighbours()?), (vec![1], vec![0]));
+    /// # Ok::<(), zomtagi::Error>(())
+    /// ```
     pub fn join(&mut self, contact: u16) -> Result<Vec<Frame>, Error> {
         let word = (self.words)();
         self.step(|slot| unsafe { zomtagi_join(slot, contact, word) })?;
@@ -267,6 +433,16 @@ impl Node {
     }
 
     /// A peer doesn't answer. Returns the frames to send.
+    ///
+    /// ```
+    /// # use zomtagi::Node;
+    /// # let (mut zero, mut one) = (Node::new(0, 1)?, Node::new(1, 1)?);
+    /// # zero.take(one.join(0)?[0].bytes())?;
+    /// assert_eq!(zero.neighbours()?, [1]);
+    /// zero.peer_down(1)?;
+    /// assert_eq!(zero.neighbours()?, []); // nobody is in reserve
+    /// # Ok::<(), zomtagi::Error>(())
+    /// ```
     pub fn peer_down(&mut self, peer: u16) -> Result<Vec<Frame>, Error> {
         let word = (self.words)();
         self.step(|slot| unsafe { zomtagi_peer_down(slot, peer, word) })?;
@@ -274,6 +450,20 @@ impl Node {
     }
 
     /// Begins an exchange with a peer, after which both hold what either held. Returns the frames to send.
+    ///
+    /// ```
+    /// # use zomtagi::{Key, Node, Value};
+    /// # let (mut zero, mut one) = (Node::new(0, 1)?, Node::new(1, 1)?);
+    /// zero.write_over(&Key::new("app", "flags", "colour"), &Value::text("red"))?;
+    /// one.write_over(&Key::new("app", "flags", "size"), &Value::text("large"))?;
+    /// let mut frames = zero.exchange(1)?;
+    /// while let Some(frame) = frames.pop() {
+    ///     let node = if frame.to() == 0 { &mut zero } else { &mut one };
+    ///     frames.extend(node.take(frame.bytes())?.1);
+    /// }
+    /// assert_eq!((zero.key_count(), zero.root()?), (2, one.root()?));
+    /// # Ok::<(), zomtagi::Error>(())
+    /// ```
     pub fn exchange(&mut self, peer: u16) -> Result<Vec<Frame>, Error> {
         self.step(|slot| unsafe { zomtagi_exchange(slot, peer) })?;
         self.frames()
@@ -281,12 +471,38 @@ impl Node {
 
     /// Tells a peer which life the node is in. Say it before the join: a peer that hears of a new life has the node as a
     /// neighbour no longer. Returns the frames to send.
+    ///
+    /// ```
+    /// # use zomtagi::Node;
+    /// # let (mut zero, mut one) = (Node::new(0, 1)?, Node::new(1, 1)?);
+    /// # zero.take(one.hello(0)?[0].bytes())?;
+    /// # zero.take(one.join(0)?[0].bytes())?;
+    /// assert_eq!(zero.neighbours()?, [1]);
+    /// let mut one = Node::new(1, 2)?; // it began anew, and knows nobody
+    /// zero.take(one.hello(0)?[0].bytes())?;
+    /// assert_eq!(zero.neighbours()?, []);
+    /// zero.take(one.join(0)?[0].bytes())?;
+    /// assert_eq!(zero.neighbours()?, [1]);
+    /// # Ok::<(), zomtagi::Error>(())
+    /// ```
     pub fn hello(&mut self, peer: u16) -> Result<Vec<Frame>, Error> {
         self.step(|slot| unsafe { zomtagi_hello(slot, peer) })?;
         self.frames()
     }
 
     /// Leaves the cluster. Returns the frames to send.
+    ///
+    /// ```
+    /// # use zomtagi::Node;
+    /// # let (mut zero, mut one) = (Node::new(0, 1)?, Node::new(1, 1)?);
+    /// # zero.take(one.join(0)?[0].bytes())?;
+    /// assert_eq!(zero.neighbours()?, [1]);
+    /// for frame in one.leave()? {
+    ///     zero.take(frame.bytes())?;
+    /// }
+    /// assert_eq!(zero.neighbours()?, []);
+    /// # Ok::<(), zomtagi::Error>(())
+    /// ```
     pub fn leave(&mut self) -> Result<Vec<Frame>, Error> {
         self.step(|slot| unsafe { zomtagi_leave(slot) })?;
         self.frames()
@@ -294,6 +510,16 @@ impl Node {
 
     /// Watches a full prefix, the last `capacity` changes of it, 1 to 1,024. Returns the number of the watch. A life has 16 watches at
     /// most; none ends before it.
+    ///
+    /// ```
+    /// # use zomtagi::{Key, Node, Refusal, Value};
+    /// # let (mut node, colour) = (Node::new(0, 1)?, Key::new("app", "flags", "colour"));
+    /// let flags = node.watch(b"app", b"flags", 8)?;
+    /// node.write_over(&colour, &Value::text("red"))?;
+    /// assert_eq!(node.changes(flags)?.keys, [colour]);
+    /// assert_eq!(node.watch(b"app", b"flags", 0).unwrap_err().refusal(), Some(Refusal::BadWatch));
+    /// # Ok::<(), zomtagi::Error>(())
+    /// ```
     pub fn watch(&mut self, prefix: &[u8], sub: &[u8], capacity: usize) -> Result<u64, Error> {
         let reply =
             self.step(|slot| unsafe { zomtagi_watch(slot, prefix.as_ptr(), prefix.len(), sub.as_ptr(), sub.len(), capacity) })?;
@@ -301,6 +527,18 @@ impl Node {
     }
 
     /// What a watch has noted since it was asked last.
+    ///
+    /// ```
+    /// # use zomtagi::{Changes, Key, Node, Value};
+    /// # let (mut node, colour) = (Node::new(0, 1)?, Key::new("app", "flags", "colour"));
+    /// let flags = node.watch(b"app", b"flags", 2)?;
+    /// for text in ["red", "green", "blue"] {
+    ///     node.write_over(&colour, &Value::text(text))?;
+    /// }
+    /// assert_eq!(node.changes(flags)?, Changes { missed: 1, keys: vec![colour.clone(), colour] });
+    /// assert_eq!(node.changes(flags)?, Changes { missed: 0, keys: vec![] });
+    /// # Ok::<(), zomtagi::Error>(())
+    /// ```
     pub fn changes(&mut self, number: u64) -> Result<Changes, Error> {
         let reply = self.step(|slot| unsafe { zomtagi_changes(slot, number) })?;
         let mut fields = Fields(&reply[1..]);
@@ -313,6 +551,17 @@ impl Node {
     ///
     /// What a node holds may not be stored yet. This and the calls below that take `&self` are no steps: a node that is stopped
     /// tells it too.
+    ///
+    /// ```
+    /// # use zomtagi::{Key, Node, Value};
+    /// # let mut node = Node::new(0, 1)?;
+    /// for (sub, name) in [("limits", "users"), ("flags", "colour"), ("flags", "size")] {
+    ///     node.write_over(&Key::new("app", sub, name), &Value::text("1"))?;
+    /// }
+    /// let prefix = |sub: &str| (b"app".to_vec(), sub.as_bytes().to_vec());
+    /// assert_eq!(node.prefixes()?, [prefix("flags"), prefix("limits")]);
+    /// # Ok::<(), zomtagi::Error>(())
+    /// ```
     pub fn prefixes(&self) -> Result<Vec<FullPrefix>, Error> {
         let bytes = self.told(|slot, buffer, size, len| unsafe { zomtagi_prefixes(slot, buffer, size, len) })?;
         let (mut fields, mut prefixes) = (Fields(&bytes), Vec::new());
@@ -325,14 +574,12 @@ impl Node {
     /// The keys under a full prefix, in order, each with whether all that is shown under it was deleted.
     ///
     /// ```
-    /// use zomtagi::{Key, Node, Value};
-    ///
-    /// let mut node = Node::new(0, 1)?;
-    /// node.write_over(&Key::new("app", "flags", "colour"), &Value::text("red"))?;
+    /// # use zomtagi::{Key, Node, Value};
+    /// # let (mut node, colour) = (Node::new(0, 1)?, Key::new("app", "flags", "colour"));
+    /// node.write_over(&colour, &Value::text("red"))?;
     /// node.write_over(&Key::new("app", "flags", "size"), &Value::tombstone())?;
     /// let there = node.list(b"app", b"flags")?.into_iter().filter(|it| !it.is_deleted).map(|it| it.key);
-    /// assert_eq!(there.collect::<Vec<_>>(), [Key::new("app", "flags", "colour")]);
-    /// assert_eq!(node.prefixes()?, [(b"app".to_vec(), b"flags".to_vec())]);
+    /// assert_eq!(there.collect::<Vec<_>>(), [colour]);
     /// # Ok::<(), zomtagi::Error>(())
     /// ```
     pub fn list(&self, prefix: &[u8], sub: &[u8]) -> Result<Vec<Listed>, Error> {
@@ -348,6 +595,15 @@ impl Node {
     }
 
     /// What the node shows under a key, without a context for a later write.
+    ///
+    /// ```
+    /// # use zomtagi::{Key, Node, Value};
+    /// # let (mut node, colour) = (Node::new(0, 1)?, Key::new("app", "flags", "colour"));
+    /// node.write_over(&colour, &Value::text("red"))?;
+    /// let shared = &node; // (a read would want it for itself)
+    /// assert_eq!(shared.peek(&colour)?, [Value::text("red")]);
+    /// # Ok::<(), zomtagi::Error>(())
+    /// ```
     pub fn peek(&self, key: &Key) -> Result<Vec<Value>, Error> {
         let bytes = self.told(|slot, buffer, size, len| of_key!(zomtagi_peek, slot, key, buffer, size, len))?;
         Ok(Fields(&bytes).values())
@@ -355,38 +611,117 @@ impl Node {
 
     /// Its neighbours, at most 4, the one of longest standing first. A node without neighbours hears of no write: join. Nor does one
     /// whose neighbours were told that it is down: it isn't told of that, so join again now and then.
+    ///
+    /// ```
+    /// # use zomtagi::Node;
+    /// let mut node = Node::new(0, 1)?;
+    /// for peer in [3, 1, 2] {
+    ///     let join = Node::new(peer, 1)?.join(0)?.remove(0);
+    ///     node.take(join.bytes())?;
+    /// }
+    /// assert_eq!(node.neighbours()?, [3, 1, 2]);
+    /// # Ok::<(), zomtagi::Error>(())
+    /// ```
     pub fn neighbours(&self) -> Result<Vec<u16>, Error> {
         let bytes = self.told(|slot, buffer, size, len| unsafe { zomtagi_neighbours(slot, buffer, size, len) })?;
         Ok(bytes.chunks_exact(2).map(|it| u16::from_be_bytes([it[0], it[1]])).collect())
     }
 
     /// The root of the tree over all that the node holds: nodes with equal roots hold the same.
+    ///
+    /// ```
+    /// # use zomtagi::{Key, Node, Value};
+    /// # let (mut zero, one) = (Node::new(0, 1)?, Node::new(1, 1)?);
+    /// assert_eq!(zero.root()?, one.root()?); // both hold nothing
+    /// zero.write_over(&Key::new("app", "flags", "colour"), &Value::text("red"))?;
+    /// assert_ne!(zero.root()?, one.root()?);
+    /// # Ok::<(), zomtagi::Error>(())
+    /// ```
     pub fn root(&self) -> Result<[u8; 32], Error> {
         let bytes = self.told(|slot, buffer, size, len| unsafe { zomtagi_root(slot, buffer, size, len) })?;
         Ok(bytes.try_into().expect("a root has 32 bytes"))
     }
 
     /// Its number.
+    ///
+    /// ```
+    /// # use zomtagi::Node;
+    /// let node = Node::new(3, 1)?;
+    /// assert_eq!(node.number(), 3);
+    /// assert_eq!(format!("{node:?}"), "Node { number: 3, life: 1, .. }");
+    /// # Ok::<(), zomtagi::Error>(())
+    /// ```
     pub fn number(&self) -> u16 {
         self.info().number
     }
 
     /// The life that it is in.
+    ///
+    /// ```
+    /// # use zomtagi::FileStore;
+    /// # let folder = std::env::temp_dir().join(format!("zomtagi-doc-life-{}", std::process::id()));
+    /// # std::fs::create_dir(&folder)?;
+    /// # let path = folder.join("node-3");
+    /// assert_eq!(FileStore::create(&path, 3)?.life(), 1);
+    /// assert_eq!(FileStore::open(&path, 3)?.life(), 2);
+    /// assert_eq!(FileStore::open(&path, 3)?.life(), 3);
+    /// # std::fs::remove_dir_all(folder)?;
+    /// # Ok::<(), zomtagi::Error>(())
+    /// ```
     pub fn life(&self) -> u32 {
         self.info().life
     }
 
     /// Whether it is to be dropped, and served from its file again.
+    ///
+    /// ```
+    /// # use std::{io, mem::take};
+    /// # use zomtagi::{Error, Key, Node, Refusal, Store, Value};
+    /// # struct Failing(bool);
+    /// # impl Store for Failing {
+    /// #     fn append(&mut self, _gate: u64, _record: &[u8]) -> Result<(), Error> {
+    /// #         if take(&mut self.0) { Ok(()) } else { Err(io::Error::other("the disk is full").into()) }
+    /// #     }
+    /// # }
+    /// # let (empty, store, colour) = (b"PMNODE02\0\x03\0", Failing(true), Key::new("app", "flags", "colour"));
+    /// let mut node = Node::serve(3, empty, store)?; // of a store that fails from its second record on
+    /// assert!(!node.is_stopped());
+    /// assert!(node.write_over(&colour, &Value::text("red")).unwrap_err().ends_node());
+    /// assert!(node.is_stopped());
+    /// assert_eq!(node.tick().unwrap_err().refusal(), Some(Refusal::Stopped));
+    /// # Ok::<(), zomtagi::Error>(())
+    /// ```
     pub fn is_stopped(&self) -> bool {
         self.is_stopped || self.info().is_stopped != 0
     }
 
     /// How many keys it holds, deleted ones too, of at most 8,192.
+    ///
+    /// ```
+    /// # use zomtagi::{Key, Node, Value};
+    /// # let (mut node, colour) = (Node::new(0, 1)?, Key::new("app", "flags", "colour"));
+    /// node.write_over(&colour, &Value::text("red"))?;
+    /// node.write_over(&colour, &Value::tombstone())?;
+    /// assert_eq!(node.key_count(), 1);
+    /// # Ok::<(), zomtagi::Error>(())
+    /// ```
     pub fn key_count(&self) -> usize {
         self.info().keys
     }
 
     /// How many bytes its file has; `None` if it has none.
+    ///
+    /// ```
+    /// # use zomtagi::{FileStore, Node};
+    /// # let folder = std::env::temp_dir().join(format!("zomtagi-doc-file-len-{}", std::process::id()));
+    /// # std::fs::create_dir(&folder)?;
+    /// # let path = folder.join("node-3");
+    /// let node = FileStore::create(&path, 3)?;
+    /// assert_eq!(node.file_len(), Some(std::fs::metadata(&path)?.len()));
+    /// assert_eq!(Node::new(3, 1)?.file_len(), None);
+    /// # std::fs::remove_dir_all(folder)?;
+    /// # Ok::<(), zomtagi::Error>(())
+    /// ```
     pub fn file_len(&self) -> Option<u64> {
         Some(self.info().gate as u64 + 1).filter(|_| self.store.is_some())
     }

@@ -27,6 +27,12 @@ macro_rules! refusals {
 
         impl Refusal {
             /// The refusal of this number.
+            ///
+            /// ```
+            /// # use zomtagi::Refusal;
+            /// assert_eq!(Refusal::of(1), Refusal::BadName);
+            /// assert_eq!(Refusal::of(1000), Refusal::Unknown(1000));
+            /// ```
             pub fn of(number: u16) -> Refusal {
                 match number {
                     $($number => Refusal::$name,)*
@@ -35,6 +41,12 @@ macro_rules! refusals {
             }
 
             /// Its number, as the library gives it. A number keeps its meaning.
+            ///
+            /// ```
+            /// # use zomtagi::Refusal;
+            /// assert_eq!(Refusal::BadName.number(), 1);
+            /// assert_eq!(Refusal::of(1000).number(), 1000);
+            /// ```
             pub fn number(self) -> u16 {
                 match self {
                     $(Refusal::$name => $number,)*
@@ -43,6 +55,12 @@ macro_rules! refusals {
             }
 
             /// Its name, as `docs/REFUSALS.md` has it.
+            ///
+            /// ```
+            /// # use zomtagi::Refusal;
+            /// assert_eq!(Refusal::BadName.name(), "BadName");
+            /// assert_eq!(Refusal::of(1000).name(), "Unknown");
+            /// ```
             pub fn name(self) -> &'static str {
                 match self {
                     $(Refusal::$name => stringify!($name),)*
@@ -51,6 +69,11 @@ macro_rules! refusals {
             }
 
             /// What it means, in a few words.
+            ///
+            /// ```
+            /// # use zomtagi::Refusal;
+            /// assert_eq!(Refusal::BadName.meaning(), "a part of a key is empty or too long");
+            /// ```
             pub fn meaning(self) -> &'static str {
                 match self {
                     $(Refusal::$name => $meaning,)*
@@ -101,12 +124,24 @@ refusals! {
 
 impl Refusal {
     /// Whether the node is at its end, and is to be dropped.
+    ///
+    /// ```
+    /// # use zomtagi::Refusal;
+    /// assert!(Refusal::Stopped.ends_node());
+    /// assert!(!Refusal::StoreFull.ends_node()); // the write wasn't made, and the node goes on
+    /// ```
     pub fn ends_node(self) -> bool {
         self == Refusal::Stopped
     }
 
     /// Whether it says that bytes of a stream are no frame of the cluster, so that where the next frame begins isn't known: close
     /// the stream that they came from.
+    ///
+    /// ```
+    /// # use zomtagi::Refusal;
+    /// assert!(Refusal::BadMagic.ends_stream());
+    /// assert!(!Refusal::NotAddressed.ends_stream()); // a frame, for another node
+    /// ```
     pub fn ends_stream(self) -> bool {
         matches!(self.number(), 10..=17)
     }
