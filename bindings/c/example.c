@@ -5,6 +5,7 @@
 #include "zomtagi.h"
 
 #include <fcntl.h>
+#include <stdbool.h>
 #include <stdio.h>
 #include <stdlib.h>
 #include <string.h>
@@ -19,7 +20,7 @@ static size_t size = 16, len;
 
 /* A node, and the file that is kept for it, -1 for none. */
 struct member {
-    zomtagi_slot slot;
+    zomtagi_slot *slot;
     int file;
 };
 
@@ -42,8 +43,9 @@ static void accepted(const char *call, uint16_t number)
 /* Makes the buffer this large. */
 static void make_room(size_t wanted)
 {
-    buffer = realloc(buffer, wanted);
-    must("there is no memory", buffer != NULL);
+    uint8_t *grown = realloc(buffer, wanted);
+    must("there is no memory", grown != NULL);
+    buffer = grown;
     size = wanted;
 }
 
@@ -94,21 +96,21 @@ static void store(struct member *member)
     size_t gate;
     uint16_t number;
     do {
-        number = zomtagi_record(&member->slot, &gate, buffer, size, &len);
+        number = zomtagi_record(member->slot, &gate, buffer, size, &len);
     } while (has_grown(number));
     if (number == ZOMTAGI_NOTHING) {
         return;
     }
     accepted("zomtagi_record", number);
     bool is_stored = append(member->file, gate);
-    accepted("zomtagi_stored", zomtagi_stored(&member->slot, is_stored));
+    accepted("zomtagi_stored", zomtagi_stored(member->slot, is_stored));
     must("the record was not stored, so the node is stopped", is_stored);
 }
 
 /* Stores what the last step stores, and carries its frames, and those that answer them. */
 static void carry(struct member *members, int from)
 {
-    zomtagi_slot *slot = &members[from].slot;
+    zomtagi_slot *slot = members[from].slot;
     store(&members[from]);
     for (;;) {
         uint16_t number;
@@ -121,7 +123,7 @@ static void carry(struct member *members, int from)
         accepted("zomtagi_frame", number);
         int to = buffer[6] << 8 | buffer[7];
         accepted("zomtagi_sent", zomtagi_sent(slot));
-        accepted("zomtagi_take", zomtagi_take(&members[to].slot, buffer, len, word()));
+        accepted("zomtagi_take", zomtagi_take(members[to].slot, buffer, len, word()));
         carry(members, to);
     }
 }
@@ -135,7 +137,7 @@ static void serve_new(struct member *member, uint16_t node)
     accepted("zomtagi_empty_file", zomtagi_empty_file(node, buffer, size, &len));
     must("the file was not written",
          write_at(member->file, 0, buffer, len) && fdatasync(member->file) == 0);
-    accepted("zomtagi_serve", zomtagi_serve(&member->slot, buffer, len, node));
+    accepted("zomtagi_serve", zomtagi_serve(member->slot, buffer, len, node));
     store(member);
 }
 
@@ -153,7 +155,7 @@ static size_t read_file(int file)
 static void serve_again(struct member *member, uint16_t node)
 {
     size_t end = read_file(member->file);
-    accepted("zomtagi_serve", zomtagi_serve(&member->slot, buffer, end, node));
+    accepted("zomtagi_serve", zomtagi_serve(member->slot, buffer, end, node));
     store(member);
 }
 
@@ -179,8 +181,8 @@ static uint64_t number_at(const uint8_t *bytes)
 static void print_about(struct member *member)
 {
     zomtagi_node_info info;
-    accepted("zomtagi_about", zomtagi_about(&member->slot, &info));
-    accepted("zomtagi_neighbours", zomtagi_neighbours(&member->slot, buffer, size, &len));
+    accepted("zomtagi_about", zomtagi_about(member->slot, &info));
+    accepted("zomtagi_neighbours", zomtagi_neighbours(member->slot, buffer, size, &len));
     printf("node %d has %zu keys, %zu neighbours\n", info.number, info.keys, len / 2);
 }
 
@@ -188,11 +190,11 @@ static void print_about(struct member *member)
 static void print_read(struct member *member)
 {
     zomtagi_node_info info;
-    accepted("zomtagi_about", zomtagi_about(&member->slot, &info));
-    accepted("zomtagi_read", zomtagi_read(&member->slot, COLOUR));
+    accepted("zomtagi_about", zomtagi_about(member->slot, &info));
+    accepted("zomtagi_read", zomtagi_read(member->slot, COLOUR));
     uint16_t number;
     do {
-        number = zomtagi_reply(&member->slot, buffer, size, &len);
+        number = zomtagi_reply(member->slot, buffer, size, &len);
     } while (has_grown(number));
     accepted("zomtagi_reply", number);
     printf("node %d, life %u:", info.number, (unsigned)info.life);
@@ -213,8 +215,9 @@ static void print_read(struct member *member)
 
 int main(void)
 {
-    struct member members[2] = {{{0}, -1}, {{0}, -1}};
-    zomtagi_slot *zero = &members[0].slot, *one = &members[1].slot;
+    struct member members[2] = {{zomtagi_slot_new(), -1}, {zomtagi_slot_new(), -1}};
+    zomtagi_slot *zero = members[0].slot, *one = members[1].slot;
+    must("there is no memory", zero != NULL && one != NULL);
     make_room(size);
     accepted("zomtagi_new", zomtagi_new(zero, 0, 1));
     serve_new(&members[1], 1);
@@ -246,13 +249,13 @@ int main(void)
     zomtagi_free(one);
     uint16_t number = zomtagi_tick(one, word());
     printf("after zomtagi_free: %d %s\n", number, zomtagi_refusal_name(number));
-    must("a slot without a node answers 80", number == ZOMTAGI_NO_NODE);
+    must("an empty slot answers 80", number == ZOMTAGI_NO_NODE);
     serve_again(&members[1], 1);
     print_read(&members[1]);
     print_damage(&members[1], 1, 60);
 
-    zomtagi_free(one);
-    zomtagi_free(zero);
+    zomtagi_slot_drop(one);
+    zomtagi_slot_drop(zero);
     close(members[1].file);
     free(buffer);
     return 0;

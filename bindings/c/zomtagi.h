@@ -3,11 +3,12 @@
  * transport, a clock and a disk. docs/EMBEDDING.md says how the exports are used together, and
  * example.c beside this file is a program that uses them.
  *
- *     zomtagi_slot slot = {0};
- *     zomtagi_serve(&slot, file, file_len, 3);
- *     ... store zomtagi_record, then zomtagi_stored(&slot, 1) ...
- *     zomtagi_tick(&slot, random_word());
+ *     zomtagi_slot *slot = zomtagi_slot_new();
+ *     zomtagi_serve(slot, file, file_len, 3);
+ *     ... store zomtagi_record, then zomtagi_stored(slot, 1) ...
+ *     zomtagi_tick(slot, random_word());
  *     ... the same, then zomtagi_reply, and zomtagi_frame with zomtagi_sent until it is 38 ...
+ *     zomtagi_slot_drop(slot);
  *
  * An export returns 0, or the number of a refusal. Refusals are listed in their order: if several
  * apply, the first is returned. Only exports that list 99 Memory return it. It may come in place of
@@ -18,31 +19,25 @@
 #ifndef ZOMTAGI_H
 #define ZOMTAGI_H
 
-#include <stdbool.h>
 #include <stddef.h>
 #include <stdint.h>
+#include <stdlib.h>
 
 #ifdef __cplusplus
 extern "C" {
 #endif
 
 /*
- * A place for one node. It begins as zeros. You must keep these rules, which nothing checks:
+ * A place for one node, which zomtagi_slot_new makes. A program has only pointers to it: a copy by
+ * value doesn't compile. You must keep these rules, which nothing checks:
  *
- * - Only the exports change a slot, and nobody looks into it. You may move it by copying its bytes,
- *   if you don't use the old place again: only one copy of a full slot may be used.
  * - A slot has one call at a time, from any thread. After a fork only one of the two processes may
  *   use it.
- * - A full slot is freed once, by zomtagi_free, or it leaks. A slot that was freed is empty: an
- *   export that needs a node returns 80, zomtagi_free does nothing, and zomtagi_new or
- *   zomtagi_serve may fill the slot again.
+ * - A slot isn't used after zomtagi_slot_drop.
  * - A pointer points to as many bytes as its length says. Only if that is 0 may it be NULL. What an
- *   export writes (slot, buffer, len, gate, number ..) overlaps nothing else that it is given.
+ *   export writes (buffer, len, gate, number ..) overlaps nothing else that it is given.
  */
-typedef struct zomtagi_slot {
-    bool full;
-    void *node;
-} zomtagi_slot;
+typedef struct zomtagi_slot zomtagi_slot;
 
 /*
  * The numbers of refusals, and what they mean. Only the exports have 80 to 82. A number keeps its
@@ -133,6 +128,12 @@ static inline const char *zomtagi_refusal_name(uint16_t number) {
 
 /* ---- making and freeing ---- */
 
+/* Returns an empty slot, or NULL if memory ran out. */
+static inline zomtagi_slot *zomtagi_slot_new(void) {
+    /* (two words of zeros: a flag, and where the node is) */
+    return (zomtagi_slot *)calloc(2, sizeof(void *));
+}
+
 /*
  * Puts a node without a file into the slot, in the life of this number; it holds nothing. A node
  * that was in the slot is freed. Make sure that the node never had a life of this number or a
@@ -152,8 +153,19 @@ uint16_t zomtagi_new(zomtagi_slot *slot, uint16_t node, uint32_t life);
  */
 uint16_t zomtagi_serve(zomtagi_slot *slot, const uint8_t *bytes, size_t bytes_len, uint16_t node);
 
-/* Frees the node in the slot, if there is one. The slot is empty afterwards. */
+/*
+ * Frees the node in the slot, if there is one. The slot is empty afterwards, as a new one is: an
+ * export that needs a node returns 80.
+ */
 void zomtagi_free(zomtagi_slot *slot);
+
+/* Frees the slot, and the node in it; of NULL it does nothing. */
+static inline void zomtagi_slot_drop(zomtagi_slot *slot) {
+    if (slot != NULL) {
+        zomtagi_free(slot);
+        free(slot);
+    }
+}
 
 /*
  * Copies out the 11 bytes of the file of a node that had no life, and their number. Write and sync

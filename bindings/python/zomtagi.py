@@ -63,7 +63,9 @@ class Refused(Exception):
 
 
 class Slot(ctypes.Structure):
-    _fields_ = [("full", ctypes.c_bool), ("node", ctypes.c_void_p)]
+    """A place for a node, as zomtagi_slot_new of zomtagi.h makes it: two words of zeros, which only the exports change."""
+
+    _fields_ = [("words", ctypes.c_void_p * 2)]
 
 
 class Info(ctypes.Structure):
