@@ -19,8 +19,8 @@ use std::{env, thread};
 use zomtagi::{FileStore, Frame, Key, Node, Refusal, SealKeys, Value};
 
 const TICK: Duration = Duration::from_secs(1);
-/// In ticks.
-const MINUTE: usize = 60;
+/// In ticks: a prime above any number of others, so that the join of each minute is through another one.
+const MINUTE: usize = 61;
 
 /// How long a peer may take no byte, and how long a connection may bring none.
 const DEAF: Duration = Duration::from_secs(1);
