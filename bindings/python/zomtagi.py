@@ -49,7 +49,7 @@ NAMES = {
 NOTHING, SHORT_BUFFER = 38, 81
 
 Value = namedtuple("Value", "body stamp", defaults=[0])  # (the body of a tombstone is None)
-Read = namedtuple("Read", "values context")  # the context is for one write, or is forgotten by Node.forget
+Read = namedtuple("Read", "values context")  # (the context takes memory until Node.forget forgets it)
 Listed = namedtuple("Listed", "key is_deleted")
 Changes = namedtuple("Changes", "missed keys")
 
@@ -190,8 +190,9 @@ class Node:
     @classmethod
     def create(cls, path, number):
         """Makes the file of a node that never had one, and serves the node from it, in life 1."""
+        empty = told("empty_file", number)  # (first, so that a number that is refused leaves no file)
         with open(os.open(path, os.O_CREAT | os.O_EXCL | os.O_WRONLY, 0o600), "wb") as file:
-            file.write(told("empty_file", number))
+            file.write(empty)
         return cls.open(path, number)
 
     @classmethod

@@ -21,6 +21,20 @@
 //! assert_eq!(one.read(&colour)?.values, [Value::text("green")]);
 //! # Ok::<(), zomtagi::Error>(())
 //! ```
+//!
+//! # What a program does
+//!
+//! - [`FileStore::create`] makes the file of a node once, and [`FileStore::open`] begins each further life. A node of
+//!   [`Node::new`] has no file.
+//! - One thread owns the [`Node`], and calls it when something happens: [`Node::hello`] and [`Node::join`] as a life begins,
+//!   [`Node::take`] when bytes come, [`Node::tick`] each second, [`Node::exchange`] with one node after the other,
+//!   [`Node::peer_down`] when a peer doesn't answer.
+//! - After each call it sends the [`Frame::bytes`] of each frame to the node [`Frame::to`]. Frames may be lost, repeated and
+//!   reordered; exchanges repair it.
+//! - [`Node::set_keys`] seals frames: whoever can forge one can undo writes.
+//! - After an [`Error`] it asks [`Error::ends_node`] and [`Error::ends_stream`] what is at its end.
+//!
+//! `examples/cluster.rs` does all this over TCP, and `docs/EMBEDDING.md` says why, and what is promised.
 
 #![warn(missing_docs)]
 #![doc(test(attr(deny(warnings))))]
