@@ -37,18 +37,22 @@ int main(int count, char **words)
     }
     size_t file_len, frame_len, gate, len;
     uint8_t *file = read_all(words[1], &file_len), *frame = read_all(words[2], &frame_len);
-    zomtagi_slot slot = {0};
-    uint16_t served = zomtagi_serve(&slot, file, file_len, 1);
+    zomtagi_slot *slot = zomtagi_slot_new();
+    if (slot == NULL) {
+        fprintf(stderr, "take_cost: there is no memory\n");
+        return 2;
+    }
+    uint16_t served = zomtagi_serve(slot, file, file_len, 1);
     if (served != ZOMTAGI_OK
-        || zomtagi_record(&slot, &gate, buffer, sizeof buffer, &len) != ZOMTAGI_OK
-        || zomtagi_stored(&slot, 1) != ZOMTAGI_OK) {
+        || zomtagi_record(slot, &gate, buffer, sizeof buffer, &len) != ZOMTAGI_OK
+        || zomtagi_stored(slot, 1) != ZOMTAGI_OK) {
         fprintf(stderr, "take_cost: not served: %d\n", served);
         return 2;
     }
     clock_t began = clock();
-    uint16_t taken = zomtagi_take(&slot, frame, frame_len, 1);
+    uint16_t taken = zomtagi_take(slot, frame, frame_len, 1);
     printf("%.3f %d\n", (double)(clock() - began) / CLOCKS_PER_SEC, taken);
-    zomtagi_free(&slot);
+    zomtagi_slot_drop(slot);
     free(frame);
     free(file);
     return 0;
