@@ -62,7 +62,7 @@ impl Error {
     }
 
     /// Whether the node is at its end, and is to be dropped: after 34, and what its store returned. After any other error it
-    /// is as it was.
+    /// is as it was, except as [`Node::take`](crate::Node::take) says.
     ///
     /// ```
     /// # use std::io;

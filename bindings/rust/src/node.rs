@@ -313,9 +313,10 @@ impl Node {
         self.frames()
     }
 
-    /// Reads a key, and if it shows several values, writes the one that is chosen in their place; they stay if `None` is. Of one
-    /// value, or none, nothing is asked. Nodes that choose alike of what they are shown, as by [`Read::lww`], end with equal
-    /// values. Returns the frames to send.
+    /// Reads a key, and if it shows values that differ, writes the one that is chosen in their place; they stay if `None` is. Of
+    /// one value, none, or equal ones nothing is asked. Nodes that choose alike of what they are shown, as by [`Read::lww`], end
+    /// with equal values: two that resolve at once with two of them, which stay beside one another until a write has read them.
+    /// Returns the frames to send.
     ///
     /// ```
     /// # use zomtagi::{Key, Node, Value};
@@ -328,7 +329,7 @@ impl Node {
     /// ```
     pub fn resolve(&mut self, key: &Key, choose: impl FnOnce(&Read) -> Option<Value>) -> Result<Vec<Frame>, Error> {
         let read = self.read(key)?;
-        if read.values.len() < 2 {
+        if read.values.windows(2).all(|two| two[0] == two[1]) {
             return Ok(Vec::new());
         }
         match choose(&read) {
@@ -360,8 +361,9 @@ impl Node {
         Ok(())
     }
 
-    /// Takes a frame that came, sealed if keys are set. Returns what came of it, and the frames to send. If what it brought should
-    /// be stored and isn't, the call fails, and the node has taken it all the same.
+    /// Takes a frame that came, sealed if keys are set. Returns what came of it, and the frames to send. If what it brought is to
+    /// be stored ([`Node::set_keeping`]) and that is refused, the node has taken it all the same, and sends nothing:
+    /// [`Node::keep`] of [`Frame::key`] stores it later.
     ///
     /// ```
     /// # use zomtagi::{Node, Refusal, Taken};

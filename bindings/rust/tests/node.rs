@@ -391,6 +391,13 @@ fn siblings_are_resolved_alike_at_each_node() {
         assert_eq!(node.peek(&colour()).unwrap(), [stamped(1, "b")]);
         assert_eq!(node.resolve(&colour(), |_| panic!("there is one value")).unwrap_or_default(), []);
     }
+    // Both wrote, so there are two values, and nothing to choose.
+    let frames = nodes[0].exchange(1).unwrap();
+    carry(nodes, frames);
+    for node in nodes.iter_mut() {
+        assert_eq!(node.peek(&colour()).unwrap(), [stamped(1, "b"), stamped(1, "b")]);
+        assert_eq!(node.resolve(&colour(), |_| panic!("they are equal")).unwrap(), []);
+    }
 }
 
 #[test]

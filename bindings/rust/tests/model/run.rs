@@ -232,7 +232,7 @@ impl Run {
         let frames = member.node.resolve(&key, |read| read.lww().cloned()).unwrap();
         let known = member.plain.known(&key);
         match self.writes.values(&known) {
-            values if values.len() > 1 => {
+            values if values.iter().any(|it| *it != values[0]) => {
                 member.plain.write(&mut self.writes, &key, values.iter().max().expect("there are two"), known);
             }
             _ => assert_eq!(frames, []),
