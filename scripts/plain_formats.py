@@ -237,3 +237,28 @@ def file_lines(data):
         return ["error 25 StoreFull"]
     rows = [f"key {path(key)} {shown}" for key, shown in sorted(table.items())]
     return [f"node {node} life {life} keys {len(table)}", *rows]
+
+
+def whole_record(data, at, version):
+    """The number of bytes of the record that begins here, from its length to its digest; 0 if none stands here whole."""
+    size = int.from_bytes(data[at : at + 4], "big")
+    payload, digest = data[at + 4 : at + 4 + size], data[at + 4 + size : at + 36 + size]
+    if len(digest) < 32 or size > MOST or hashlib.sha256(payload).digest() != digest:
+        return 0
+    try:
+        record(payload, version, 0, {})
+    except Fault:
+        return 0
+    return 36 + size
+
+
+def changed_gate(data):
+    """The offset of the gate that ends a file which `file_lines` shows, if what stands behind it says that it was changed: any
+    whole record if the gate isn't 0; otherwise a whole record before an open gate, or two of them."""
+    version, gate = 1 if data[:8] == b"PMNODE01" else 2, 10
+    while data[gate] == 1:
+        gate += 37 + int.from_bytes(data[gate + 1 : gate + 5], "big")
+    first = whole_record(data, gate + 1, version)
+    behind = gate + 1 + first
+    goes_on = data[behind : behind + 1] == b"\x01" or behind < len(data) and whole_record(data, behind + 1, version)
+    return gate if first and (data[gate] != 0 or goes_on) else None
