@@ -1,6 +1,5 @@
-//! The tests of `devices`, `node_file` and `node_hosted`, over their public calls and apart from
-//! them: a crate is proved once more with its tests. A host keeps bytes in a list. No crate uses
-//! this one.
+//! The tests of `devices`, `node_file` and `file_pieces`, over their public calls and apart from them:
+//! a crate is proved once more with its tests. No crate uses this one.
 #![tactic(auto)]
 
 // What is proved of a function grows with the places at which it may end while it owns something.
@@ -13,14 +12,6 @@ mod batches;
 mod files;
 #[cfg(test)]
 mod gates;
-#[cfg(test)]
-mod hosted_refusals;
-#[cfg(test)]
-mod hosted_runs;
-#[cfg(test)]
-mod hosts;
-#[cfg(test)]
-mod hosts_without_memory;
 #[cfg(test)]
 mod keys;
 #[cfg(test)]
