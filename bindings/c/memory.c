@@ -35,6 +35,7 @@ void *realloc(void *old, size_t size)
 #define APP (const uint8_t *)"app", 3
 #define FLAGS (const uint8_t *)"flags", 5
 #define COLOUR APP, FLAGS, (const uint8_t *)"colour", 6
+#define SHAPE APP, FLAGS, (const uint8_t *)"shape", 5
 #define RED (const uint8_t *)"a red that fills more than 16 bytes", 35
 #define ROOM buffer, sizeof buffer, &len
 
@@ -153,6 +154,15 @@ static void write_here(void)
     STEP(zomtagi_changes(slot, 1));
 }
 
+static void write_at_once(void)
+{
+    DO(zomtagi_begin_batch(slot));
+    DO(zomtagi_write_over(slot, COLOUR, RED, 5));
+    DO(zomtagi_delete_over(slot, SHAPE, 6));
+    DO(zomtagi_keep(slot, COLOUR));
+    STEP(zomtagi_end_batch(slot));
+}
+
 static void look(void)
 {
     const uint8_t keys[32] = {7};
@@ -183,6 +193,7 @@ static void live(void)
     write_elsewhere();
     talk();
     write_here();
+    write_at_once();
     look();
     zomtagi_free(slot);
     DO(zomtagi_serve(slot, file, file_len, 3));

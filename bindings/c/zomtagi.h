@@ -70,8 +70,8 @@ enum {
     ZOMTAGI_STOPPED = 34,           /* a record wasn't stored: free the node, and serve it again */
     ZOMTAGI_INCARNATION_SPENT = 35, /* there is no further life */
     ZOMTAGI_OLD_VERSION = 36,       /* the file is of version 1 */
-    ZOMTAGI_PENDING = 37,           /* a record isn't stored, or a frame isn't marked as sent */
-    ZOMTAGI_NOTHING = 38,           /* there is nothing to hand out */
+    ZOMTAGI_PENDING = 37,           /* a record isn't stored or a frame isn't sent, or a batch is open */
+    ZOMTAGI_NOTHING = 38,           /* there is nothing to hand out, or no batch to end */
     ZOMTAGI_NOT_ADDRESSED = 40,     /* the frame is addressed to another node */
     ZOMTAGI_NO_SUCH_READ = 43,      /* there is no context of this number */
     ZOMTAGI_NO_NODE = 80,           /* there is no node in the slot */
@@ -287,6 +287,31 @@ uint16_t zomtagi_watch(zomtagi_slot *slot, const uint8_t *prefix, size_t prefix_
  */
 uint16_t zomtagi_changes(zomtagi_slot *slot, uint64_t number);
 
+/* ---- batches ----
+ *
+ * Steps between zomtagi_begin_batch and zomtagi_end_batch have their records stored at once: after
+ * a crash the file has all of them or none. Nothing is handed out of an open batch, and steps aren't
+ * refused with 37. After its end call what you call after a step: zomtagi_record hands out the
+ * records of all its steps, to be stored as one; zomtagi_reply has the reply of the last step; and
+ * zomtagi_frame the frames of all steps, in order.
+ *
+ * A step that is refused is left out, and the batch stays open: make the step again or not, and end
+ * the batch. Nothing takes back a step that was made.
+ */
+
+/*
+ * Begins a batch.
+ * Refused with 80 NoNode, 34 Stopped, 37 Pending (a batch is open, a record isn't stored, or a frame
+ * isn't marked as sent).
+ */
+uint16_t zomtagi_begin_batch(zomtagi_slot *slot);
+
+/*
+ * Ends the batch.
+ * Refused with 80 NoNode, 34 Stopped, 38 Nothing (no batch is open).
+ */
+uint16_t zomtagi_end_batch(zomtagi_slot *slot);
+
 /* ---- what the node hands out ----
  *
  * Each export copies bytes to the front of the buffer, and writes their number to *len. With 81
@@ -295,9 +320,9 @@ uint16_t zomtagi_changes(zomtagi_slot *slot, uint64_t number);
  */
 
 /*
- * Hands out the record that you have to store, and in *gate the offset of the closed gate of your
- * file. Write all its bytes except the first at *gate + 1, sync, write the first at *gate, sync;
- * then call zomtagi_stored.
+ * Hands out the record that you have to store, or all records of a batch that has ended, and in
+ * *gate the offset of the closed gate of your file. Write all these bytes except the first at
+ * *gate + 1, sync, write the first at *gate, sync; then call zomtagi_stored.
  * If the first write fails, as on a full disk, you may make it again, with all these bytes, as
  * often as it takes: the node waits. If another call fails, repeat none, and call zomtagi_stored
  * with 0.
@@ -307,15 +332,16 @@ uint16_t zomtagi_record(zomtagi_slot *slot, size_t *gate, uint8_t *buffer, size_
                         size_t *len);
 
 /*
- * Says that you stored the record; or, with is_stored 0, that you failed to at any point, which
- * stops the node: free it, and serve it from the file again.
+ * Says that you stored what zomtagi_record handed out; or, with is_stored 0, that you failed to at
+ * any point, which stops the node: free it, and serve it from the file again.
  * Refused with 80 NoNode, 34 Stopped, 38 Nothing.
  */
 uint16_t zomtagi_stored(zomtagi_slot *slot, uint8_t is_stored);
 
 /*
- * Hands out the reply of the last step that was made; 38 Nothing until its record is stored, and if
- * the node is stopped. Numbers are big endian. The first byte says which reply it is:
+ * Hands out the reply of the last step that was made; 38 Nothing until its record is stored, while
+ * a batch is open, and if the node is stopped. Numbers are big endian. The first byte says which
+ * reply it is:
  *
  *   1 looked    the number of values (8 bytes), then each: its stamp (8); 1 (1 byte), the length of
  *               its body (8) and the body, or 0 (1 byte), for a tombstone
@@ -332,8 +358,8 @@ uint16_t zomtagi_reply(zomtagi_slot *slot, uint8_t *buffer, size_t buffer_len, s
 /*
  * Hands out the next frame to send. Its bytes 6 and 7 are its addressee, and its bytes 16 to 19 say
  * how many follow the first 20. It stays the next one until you call zomtagi_sent.
- * Refused with 80 NoNode, 38 Nothing (none is left, a record isn't stored, the node is stopped), 81
- * ShortBuffer.
+ * Refused with 80 NoNode, 38 Nothing (none is left, a record isn't stored, a batch is open, the node
+ * is stopped), 81 ShortBuffer.
  */
 uint16_t zomtagi_frame(zomtagi_slot *slot, uint8_t *buffer, size_t buffer_len, size_t *len);
 

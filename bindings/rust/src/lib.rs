@@ -39,6 +39,7 @@
 #![warn(missing_docs)]
 #![doc(test(attr(deny(warnings))))]
 
+mod batch;
 mod error;
 mod file;
 mod keys;
@@ -47,6 +48,7 @@ mod raw;
 mod refusal;
 mod types;
 
+pub use batch::Batch;
 pub use error::Error;
 pub use file::FileStore;
 pub use keys::{SealKeys, SEAL_KEY_LEN, SEAL_LEN};

@@ -1,3 +1,4 @@
+use crate::batch::Batch;
 use crate::error::Error;
 use crate::keys::SealKeys;
 use crate::raw::*;
@@ -286,11 +287,7 @@ impl Node {
     /// # Ok::<(), zomtagi::Error>(())
     /// ```
     pub fn write(&mut self, key: &Key, value: &Value, context: Option<&Context>) -> Result<Vec<Frame>, Error> {
-        let context = self.number_of(context)?;
-        self.step(|slot| match &value.body {
-            Some(body) => of_key!(zomtagi_write, slot, key, body.as_ptr(), body.len(), value.stamp, context),
-            None => of_key!(zomtagi_delete, slot, key, value.stamp, context),
-        })?;
+        self.stepped(|node| node.ask_write(key, value, context))?;
         self.frames()
     }
 
@@ -306,10 +303,7 @@ impl Node {
     /// # Ok::<(), zomtagi::Error>(())
     /// ```
     pub fn write_over(&mut self, key: &Key, value: &Value) -> Result<Vec<Frame>, Error> {
-        self.step(|slot| match &value.body {
-            Some(body) => of_key!(zomtagi_write_over, slot, key, body.as_ptr(), body.len(), value.stamp),
-            None => of_key!(zomtagi_delete_over, slot, key, value.stamp),
-        })?;
+        self.stepped(|node| node.ask_write_over(key, value))?;
         self.frames()
     }
 
@@ -357,8 +351,76 @@ impl Node {
     /// # Ok::<(), zomtagi::Error>(())
     /// ```
     pub fn keep(&mut self, key: &Key) -> Result<(), Error> {
-        self.step(|slot| of_key!(zomtagi_keep, slot, key))?;
-        Ok(())
+        self.stepped(|node| node.ask_keep(key)).map(drop)
+    }
+
+    /// Makes several steps and stores what they store at once: two syncs for all of them, and a crash leaves all in the file or
+    /// none. Returns what the closure does, and the frames to send, of all steps.
+    ///
+    /// What is shown of the node has each step at once. A step that is refused is left out, and says so to the closure; none is
+    /// taken back, so what was made before is stored, whatever the closure returns. Each write is acknowledged once this has
+    /// returned `Ok`; an error stops the node, as one of a step's store does, and so does a panic of the closure. All records of
+    /// the batch have room in the file, or the step that finds none is refused with 33 `FileFull`.
+    ///
+    /// ```
+    /// # use zomtagi::{Error, FileStore, Key, Value};
+    /// # let folder = std::env::temp_dir().join(format!("zomtagi-doc-batch-{}", std::process::id()));
+    /// # std::fs::create_dir(&folder)?;
+    /// # let path = folder.join("node-0");
+    /// let mut node = FileStore::create(&path, 0)?;
+    /// let (from, to) = (Key::new("app", "stock", "here"), Key::new("app", "stock", "there"));
+    /// let (moved, frames) = node.batch(|batch| {
+    ///     batch.write_over(&from, &Value::text("0"))?;
+    ///     batch.write_over(&to, &Value::text("1")) // stored with the other, or not at all
+    /// })?;
+    /// moved?;
+    /// # assert_eq!(frames, []);
+    /// # drop(node);
+    /// # assert_eq!(FileStore::open(&path, 0)?.peek(&to)?, [Value::text("1")]);
+    /// # std::fs::remove_dir_all(folder)?;
+    /// # Ok::<(), Error>(())
+    /// ```
+    pub fn batch<T>(&mut self, steps: impl FnOnce(&mut Batch<'_>) -> T) -> Result<(T, Vec<Frame>), Error> {
+        let mut batch = Batch::begin(self)?;
+        let made = steps(&mut batch);
+        batch.end()?;
+        self.store_record()?;
+        Ok((made, self.frames()?))
+    }
+
+    pub(crate) fn begin_batch(&mut self) -> Result<(), Error> {
+        self.going()?;
+        self.forget_dropped();
+        answered(unsafe { zomtagi_begin_batch(self.slot.get_mut()) })
+    }
+
+    pub(crate) fn end_batch(&mut self) -> Result<(), Error> {
+        answered(unsafe { zomtagi_end_batch(self.slot.get_mut()) })
+    }
+
+    /// Makes no step from now on.
+    pub(crate) fn stop(&mut self) {
+        self.is_stopped = true;
+    }
+
+    pub(crate) fn ask_write(&mut self, key: &Key, value: &Value, context: Option<&Context>) -> Result<(), Error> {
+        let (context, slot) = (self.number_of(context)?, self.slot.get_mut());
+        answered(match &value.body {
+            Some(body) => of_key!(zomtagi_write, slot, key, body.as_ptr(), body.len(), value.stamp, context),
+            None => of_key!(zomtagi_delete, slot, key, value.stamp, context),
+        })
+    }
+
+    pub(crate) fn ask_write_over(&mut self, key: &Key, value: &Value) -> Result<(), Error> {
+        let slot = self.slot.get_mut();
+        answered(match &value.body {
+            Some(body) => of_key!(zomtagi_write_over, slot, key, body.as_ptr(), body.len(), value.stamp),
+            None => of_key!(zomtagi_delete_over, slot, key, value.stamp),
+        })
+    }
+
+    pub(crate) fn ask_keep(&mut self, key: &Key) -> Result<(), Error> {
+        answered(of_key!(zomtagi_keep, self.slot.get_mut(), key))
     }
 
     /// Takes a frame that came, sealed if keys are set. Returns what came of it, and the frames to send. If what it brought is to
@@ -743,18 +805,29 @@ impl Node {
         }
     }
 
-    /// Asks for a step, has stored what it stores, and returns the bytes of its reply.
+    /// Asks an export for a step, has stored what it stores, and returns the bytes of its reply.
     fn step(&mut self, ask: impl FnOnce(*mut Slot) -> u16) -> Result<Vec<u8>, Error> {
-        if self.is_stopped {
-            return Err(Refusal::Stopped.into());
-        }
+        self.stepped(|node| answered(ask(node.slot.get_mut())))
+    }
+
+    /// Asks for a step, has stored what it stores, and returns the bytes of its reply.
+    fn stepped(&mut self, ask: impl FnOnce(&mut Node) -> Result<(), Error>) -> Result<Vec<u8>, Error> {
+        self.going()?;
         self.forget_dropped();
-        answered(ask(self.slot.get_mut()))?;
+        ask(self)?;
         self.store_record()?;
         let reply = self.fetch(|slot, buffer, size, len| unsafe { zomtagi_reply(slot, buffer, size, len) });
         // (the caller never gets the frames of such a step, and while they are pending the library makes no other)
         self.is_stopped = !matches!(reply, Ok(Some(_)));
         reply?.ok_or(Error::Refused(Refusal::Nothing))
+    }
+
+    /// Refused if it is stopped.
+    fn going(&self) -> Result<(), Error> {
+        match self.is_stopped {
+            true => Err(Refusal::Stopped.into()),
+            false => Ok(()),
+        }
     }
 
     fn forget_dropped(&mut self) {

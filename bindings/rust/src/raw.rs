@@ -70,6 +70,8 @@ exports! {
     zomtagi_reply(buffer: *mut u8, size: usize, len: &mut usize);
     zomtagi_frame(buffer: *mut u8, size: usize, len: &mut usize);
     zomtagi_sent();
+    zomtagi_begin_batch();
+    zomtagi_end_batch();
     zomtagi_keep_context(number: &mut u64);
     zomtagi_forget_context(number: u64);
     zomtagi_prefixes(buffer: *mut u8, size: usize, len: &mut usize);

@@ -111,8 +111,8 @@ refusals! {
     Stopped = 34, "a record wasn't stored: free the node, and serve it again";
     IncarnationSpent = 35, "there is no further life";
     OldVersion = 36, "the file is of version 1";
-    Pending = 37, "a record isn't stored, or a frame isn't marked as sent";
-    Nothing = 38, "there is nothing to hand out";
+    Pending = 37, "a record isn't stored or a frame isn't sent, or a batch is open";
+    Nothing = 38, "there is nothing to hand out, or no batch to end";
     NotAddressed = 40, "the frame is addressed to another node";
     NoSuchRead = 43, "there is no context of this number";
     NoNode = 80, "there is no node in the slot";

@@ -29,7 +29,8 @@ pub(crate) fn copy_out(bytes: Option<&[u8]>, buffer: &mut [u8], len: &mut usize)
 }
 
 /// Hands out the record that the program has to store before it is handed the reply and the frames,
-/// and the offset of the closed gate of its file. The program writes the bytes after the first,
+/// or all records of a batch that has ended, and the offset of the closed gate of its file. The
+/// program writes the bytes after the first,
 /// beginning one byte after the gate; syncs; writes the first byte over the gate; and syncs. If the
 /// first write fails, it may be made again.
 ///
@@ -63,8 +64,8 @@ pub extern "C" fn zomtagi_record(
     number.unwrap_or(NO_NODE)
 }
 
-/// Takes note that the program stored the record, or that it failed to: then `is_stored` is 0, and
-/// the node is stopped. Refused with 80 `NoNode`, 34 `Stopped` and 38 `Nothing`.
+/// Takes note that the program stored what `zomtagi_record` handed out, or that it failed to: then
+/// `is_stored` is 0, and the node is stopped. Refused with 80 `NoNode`, 34 `Stopped` and 38 `Nothing`.
 #[unsafe(no_mangle)]
 pub extern "C" fn zomtagi_stored(alloc: Global, slot: &mut Slot, is_stored: u8) -> u16
     ensures { InSlot (AnswersAs (Stores (not (nat_eq is_stored 0))))

@@ -10,11 +10,12 @@
 //! zomtagi_tick(&slot, random());
 //! ```
 //!
-//! Read `making`, `steps`, `writing`, `handing`, `contexts`, `reading`, `checking`, `copying` and
-//! `sealing`; `numbers` has what they return, `reply` how a reply is spelled, and `slot` where the
-//! program keeps the node, with `parts` for how a box is taken apart.
+//! Read `making`, `steps`, `writing`, `batching`, `handing`, `contexts`, `reading`, `checking`,
+//! `copying` and `sealing`; `numbers` has what they return, `reply` how a reply is spelled, and
+//! `slot` where the program keeps the node, with `parts` for how a box is taken apart.
 #![tactic(auto)]
 
+mod batching;
 mod checking;
 mod contexts;
 mod copying;

@@ -24,7 +24,7 @@ use std::alloc::Global;
 #[unsafe(no_mangle)]
 pub extern "C" fn zomtagi_new(alloc: Global, slot: &mut Slot, node: u16, life: u32) -> u16
     ensures made { result ≡ OK
-        → slot.new.handle.held ≡ Some (beginning (opening node life []) None None) }
+        → slot.new.handle.held ≡ Some (beginning (opening node life []) None []) }
     ensures kept { result ≢ OK → slot.new.handle.held ≡ slot.old.handle.held }
     ensures bad_node { (node < 16 → ⊥) → result ≡ 3 }
     ensures bad_life { node < 16 → life ≡ 0 → result ≡ BAD_LIFE }

@@ -1,7 +1,10 @@
+mod Spelling
 mod Places
 mod Stopping
 mod Knowing
-mod Filing
+mod Having
+mod Joining
 mod Histories
+mod Filing
 mod Serving
 mod Lasting

@@ -1,6 +1,6 @@
 -- A node whose host stores and sends for it: what it hands out, and in which order. The rule is our
 -- own.
-use Rattle.std.specs.Prelude.{◌≡◌, ◌≢◌, ◌⊎◌, ◌≤◌, ℕ, zero, suc, ◌-◌, ◌+◌, List, [], length, slice_get, Vec, Bool, false, true, ◌||◌, nat_lt, Option, Some, None, Result, Ok, Err, is_some, if◌then◌else◌}
+use Rattle.std.specs.Prelude.{◌≡◌, ◌≢◌, ◌⊎◌, ◌≤◌, ℕ, zero, suc, ◌+◌, List, [], ◌∷◌, ◌++◌, length, slice_get, Bool, false, true, not, ◌&&◌, ◌||◌, nat_lt, Option, Some, None, Result, Ok, Err, is_some, if◌then◌else◌}
 use Rattle.meta_store.specs.Context.{Reading}
 use Rattle.meta_types.specs.Value.{ValueParts}
 use Rattle.node_core.specs.Node.{NodeParts, opening}
@@ -12,66 +12,81 @@ use Rattle.node_events.specs.declared.reply.Reply.{Reply}
 use Rattle.node_events.specs.declared.reply.Reply.TheVariants.{Looked}
 use Rattle.node_file.specs.declared.record.Record.{Record}
 use Rattle.node_file.specs.declared.record.Record.TheVariants.{Life}
-use Rattle.node_file.specs.File.{file_state, gated, opened}
+use Rattle.node_file.specs.File.{file_state, opened}
+use Rattle.node_file.specs.Batch.{batch_size}
 use Rattle.node_file.specs.Hosted.{CanTake}
 use Rattle.node_file.specs.Refusal.{most_file, refusal_of_serve}
 use Rattle.node_file.specs.Stored.{IsTooLong, record_under}
+use Rattle.node_hosted.specs.Unstored.{spelled}
 use Rattle.node_hosted.specs.declared.fault.HostFault.{HostFault}
 use Rattle.node_hosted.specs.declared.fault.HostFault.TheVariants.{Step, FileFull, Stopped, Pending, Nothing, Memory}
 
--- the node; where the closed gate of the host's file stands, if he keeps one; the bytes of a record
--- that he has to store; what the last step replied and sends, and how many of these frames he has;
--- the contexts that are kept for him, by their places; whether the node is stopped
+-- the node; where the closed gate of the host's file stands, if he keeps one; the records that he
+-- has to store; what the last step replied; the frames that it sends, or all steps of the batch,
+-- and how many of them he has; the contexts that are kept for him, by their places; whether the
+-- node is stopped; whether a batch is open
 pub record HostedParts : Type 0 where
   pub state : NodeParts
   pub gate : Option ℕ
-  pub to_store : Option (List ℕ)
+  pub to_store : List Record
   pub reply : Option Reply
   pub outbox : List (List ℕ)
   pub sent : ℕ
   pub contexts : List (Option Reading)
   pub stopped : Bool
+  pub in_batch : Bool
 
-abbrev pub bytes_of : {A : Type 0} → Option (Vec ℕ A) → Option (List ℕ)
-bytes_of None = None
-bytes_of (Some bytes) = Some bytes.items
-
--- there is a record to store, or a frame to fetch
+-- no batch is open, and there is a record to store, or a frame to fetch
 abbrev pub is_pending : HostedParts → Bool
-is_pending n = is_some n.to_store || nat_lt n.sent (length n.outbox)
+is_pending n =
+    not n.in_batch && (is_some (spelled n.to_store) || nat_lt n.sent (length n.outbox))
 
--- what the host has to store: the record with the gates around it, if he keeps a file
-abbrev pub spelled_for : Option ℕ → Option Record → Option (List ℕ)
-spelled_for None stored = None
-spelled_for (Some gate) None = None
-spelled_for (Some gate) (Some record_) = Some (gated record_)
+-- where the gate stands after these records
+abbrev pub gate_after : Option ℕ → List Record → Option ℕ
+gate_after None records = None
+gate_after (Some gate) records = Some (gate + batch_size records)
 
--- what the host has to store fits in his file
-abbrev pub FitsInFile : Option ℕ → Option (List ℕ) → Type 0
-FitsInFile (Some gate) (Some bytes) = (1 ≤ length bytes) × (gate + length bytes ≤ most_file)
-FitsInFile None (Some bytes) = ⊥
-FitsInFile gate None = Unit {0}
+-- where it stands once all is stored
+abbrev pub next_gate : HostedParts → Option ℕ
+next_gate n = gate_after n.gate n.to_store
+
+-- what the host has to store fits in his file; without a file there is nothing
+abbrev pub FitsInFile : Option ℕ → List Record → Type 0
+FitsInFile None records = records ≡ []
+FitsInFile (Some gate) records = gate + batch_size records + 1 ≤ most_file
 
 -- ---- a step
 
--- it isn't stopped, and all that the step before gave was stored and fetched
+-- it isn't stopped, and unless a batch is open all that the step before gave was stored and fetched
 pub record MayStep (n : HostedParts) : Type 0 where
   pub going : n.stopped ≡ false
   pub free : is_pending n ≡ false
 
--- the node makes the step of the event, and what it gave is to be handed out
+-- what the host has to store of a step: its record, if he keeps a file
+abbrev pub kept_in : Option ℕ → Option Record → List Record
+kept_in None stored = []
+kept_in (Some gate) None = []
+kept_in (Some gate) (Some record_) = record_ ∷ []
+
+-- the frames of the steps before in the batch; without a batch there are none
+abbrev pub frames_before : HostedParts → List (List ℕ)
+frames_before n = if n.in_batch then n.outbox else []
+
+-- The node makes the step of the event, and what it gave is to be handed out, behind what the steps
+-- before in the batch gave. Without a batch nothing is left of them.
 pub record Acts (old : HostedParts) (event : NodeEvent) (new : HostedParts) : Type 0 where
   pub ready : MayStep old
   pub stepped : Stepped
   pub step : IsNodeStep old.state event new.state stepped
   pub to_store : new.to_store
-      ≡ spelled_for old.gate (record_under (stored_key event) new.state.table)
+      ≡ old.to_store ++ kept_in old.gate (record_under (stored_key event) new.state.table)
   pub reply : new.reply ≡ Some stepped.reply
-  pub outbox : new.outbox ≡ stepped.outbox
+  pub outbox : new.outbox ≡ frames_before old ++ stepped.outbox
   pub sent : new.sent ≡ 0
   pub gate : new.gate ≡ old.gate
   pub contexts : new.contexts ≡ old.contexts
   pub going : new.stopped ≡ false
+  pub batch : new.in_batch ≡ old.in_batch
 
 -- a file whose closed gate stands there can't take the record
 abbrev pub IsOverfullWith : Option ℕ → Option Record → Type 0
@@ -80,7 +95,7 @@ IsOverfullWith (Some gate) stored = IsTooLong gate stored
 
 -- there is something to store, and a file of this closed gate can take it
 pub record IsWanted (gate : Option ℕ) (stored : Option Record) : Type 0 where
-  pub there : spelled_for gate stored ≢ None
+  pub there : kept_in gate stored ≢ []
   pub fits : IsOverfullWith gate stored → ⊥
 
 -- why what is to be stored isn't spelled: the file is full, or memory ran out
@@ -89,12 +104,13 @@ RefusesSpelling gate stored FileFull = IsOverfullWith gate stored
 RefusesSpelling gate stored Memory = IsWanted gate stored
 RefusesSpelling gate stored fault = ⊥
 
--- the node can make the step, and the host's file can't take its record
+-- the node can make the step, and the host's file can't take its record, behind those that are to
+-- be stored
 pub record Overfills (old : HostedParts) (event : NodeEvent) : Type 0 where
   pub state : NodeParts
   pub stepped : Stepped
   pub step : IsNodeStep old.state event state stepped
-  pub full : IsOverfullWith old.gate (record_under (stored_key event) state.table)
+  pub full : IsOverfullWith (next_gate old) (record_under (stored_key event) state.table)
 
 -- why no step was made; then nothing changes
 abbrev pub RefusesActing : HostedParts → NodeEvent → HostedParts → HostFault → Type 0
@@ -107,19 +123,52 @@ RefusesActing old event new Pending =
 RefusesActing old event new Memory = MayStep old × (new ≡ old)
 RefusesActing old event new fault = ⊥
 
+-- ---- a batch
+
+-- nothing is to be handed out of a batch that begins
+abbrev pub with_batch_open : HostedParts → HostedParts
+with_batch_open n = record n { reply = None; outbox = []; sent = 0; in_batch = true }
+
+-- a batch begins; 34 if the node is stopped, 37 if one is open, or if something is to be stored or
+-- fetched
+abbrev pub BeginsBatch : HostedParts → Result (Unit {0}) HostFault → HostedParts → Type 0
+BeginsBatch old (Ok done) new =
+    MayStep old × (old.in_batch ≡ false) × (new ≡ with_batch_open old)
+BeginsBatch old (Err Stopped) new = (old.stopped ≡ true) × (new ≡ old)
+BeginsBatch old (Err Pending) new =
+    (old.stopped ≡ false) × ((old.in_batch || is_pending old) ≡ true) × (new ≡ old)
+BeginsBatch old (Err fault) new = ⊥
+
+-- it ends, and all that it gave is to be handed out; 34 if the node is stopped, 38 if none is open
+abbrev pub EndsBatch : HostedParts → Result (Unit {0}) HostFault → HostedParts → Type 0
+EndsBatch old (Ok done) new =
+    (old.stopped ≡ false) × (old.in_batch ≡ true) × (new ≡ record old { in_batch = false })
+EndsBatch old (Err Stopped) new = (old.stopped ≡ true) × (new ≡ old)
+EndsBatch old (Err Nothing) new =
+    (old.stopped ≡ false) × (old.in_batch ≡ false) × (new ≡ old)
+EndsBatch old (Err fault) new = ⊥
+
 -- ---- what is handed out
 
--- the record that is to be stored, unless the node is stopped
-abbrev pub handed_record : HostedParts → Option (List ℕ)
-handed_record n = if n.stopped then None else n.to_store
+-- nothing is: the node is stopped, or a batch is open
+abbrev pub is_shut : HostedParts → Bool
+is_shut n = n.stopped || n.in_batch
 
--- the reply, once there is nothing to store, unless the node is stopped
+-- nothing but records is: that, or there is one to store
+abbrev pub is_held_back : HostedParts → Bool
+is_held_back n = is_shut n || is_some (spelled n.to_store)
+
+-- the bytes of the records that are to be stored, all at once
+abbrev pub handed_record : HostedParts → Option (List ℕ)
+handed_record n = if is_shut n then None else spelled n.to_store
+
+-- the reply, once there is nothing to store
 abbrev pub handed_reply : HostedParts → Option Reply
-handed_reply n = if n.stopped || is_some n.to_store then None else n.reply
+handed_reply n = if is_held_back n then None else n.reply
 
 -- the next frame, likewise
 abbrev pub next_frame : HostedParts → Option (List ℕ)
-next_frame n = if n.stopped || is_some n.to_store then None else slice_get n.outbox n.sent
+next_frame n = if is_held_back n then None else slice_get n.outbox n.sent
 
 -- one more frame was sent, if there is a next one
 abbrev pub sent_by : Option (List ℕ) → HostedParts → HostedParts
@@ -129,27 +178,20 @@ sent_by (Some frame) n = record n { sent = n.sent + 1 }
 abbrev pub after_sending : HostedParts → HostedParts
 after_sending n = sent_by (next_frame n) n
 
--- where the gate stands after these bytes
-abbrev pub gate_after : Option ℕ → List ℕ → Option ℕ
-gate_after None bytes = None
-gate_after (Some gate) bytes = Some (gate + (length bytes - 1))
+-- The host reports that he stored the records: their bytes after the first stand after the gate,
+-- which moves to their end. Or he reports that he failed to, which stops the node.
+abbrev pub after_storing : Bool → HostedParts → HostedParts
+after_storing true n = record n { gate = next_gate n; to_store = [] }
+after_storing false n = record n { stopped = true }
 
--- The host reports that he stored the record: its bytes after the first stand after the gate, which
--- moves to their end. Or he reports that he failed to, which stops the node.
-abbrev pub after_storing : Bool → List ℕ → HostedParts → HostedParts
-after_storing true bytes n = record n { gate = gate_after n.gate bytes; to_store = None }
-after_storing false bytes n = record n { stopped = true }
-
--- he reported that he stored the record, or that he failed to; 34 if the node is stopped, 38 if
--- there is no record
+-- he reported that he stored the records that are handed out, or that he failed to; 34 if the node
+-- is stopped, 38 if none is handed out
 abbrev pub Stores : Bool → HostedParts → Result (Unit {0}) HostFault → HostedParts → Type 0
 Stores is_stored old (Ok done) new =
-    (old.stopped ≡ false)
-    × ((bytes : List ℕ) × (old.to_store ≡ Some bytes)
-    × (new ≡ after_storing is_stored bytes old))
+    (old.stopped ≡ false) × (handed_record old ≢ None) × (new ≡ after_storing is_stored old)
 Stores is_stored old (Err Stopped) new = (old.stopped ≡ true) × (new ≡ old)
 Stores is_stored old (Err Nothing) new =
-    (old.stopped ≡ false) × (old.to_store ≡ None) × (new ≡ old)
+    (old.stopped ≡ false) × (handed_record old ≡ None) × (new ≡ old)
 Stores is_stored old (Err fault) new = ⊥
 
 -- ---- contexts
@@ -190,8 +232,8 @@ pub record ForgetsContext (number : ℕ) (old new : HostedParts) : Type 0 where
 
 -- ---- how it begins
 
--- a node in this state with nothing to hand out but this record
-abbrev pub beginning : NodeParts → Option ℕ → Option (List ℕ) → HostedParts
+-- a node in this state with nothing to hand out but these records
+abbrev pub beginning : NodeParts → Option ℕ → List Record → HostedParts
 beginning state gate to_store = record {
   state = state;
   gate = gate;
@@ -201,6 +243,7 @@ beginning state gate to_store = record {
   sent = 0;
   contexts = [];
   stopped = false;
+  in_batch = false;
 }
 
 -- a node that is served from the bytes of a file: it begins the life after the last in the file,
@@ -214,4 +257,4 @@ pub record Serves (asked : Option ℕ) (bytes : List ℕ) (n : HostedParts) : Ty
   pub begins : n ≡ beginning
       (opening (file_state bytes).node ((file_state bytes).contents.life + 1)
       (file_state bytes).contents.table)
-      (Some gate) (Some (gated (Life ((file_state bytes).contents.life + 1))))
+      (Some gate) (Life ((file_state bytes).contents.life + 1) ∷ [])

@@ -1,7 +1,6 @@
 -- A host's file and its node over time: what happens to them, what is left if the host's calls
 -- break off, and what stays. The rule is our own.
-use Rattle.std.specs.Prelude.{◌≡◌, ◌≢◌, ◌⊎◌, ◌≤◌, ℕ, List, [], ◌∷◌, length, Option, Some, None, Ok, true, false, IfSome}
-use Rattle.std.specs.Option.{option_map}
+use Rattle.std.specs.Prelude.{◌≡◌, ◌≢◌, ◌⊎◌, ℕ, List, [], ◌∷◌, length, Option, Some, None, Ok, true, false, IfSome}
 use Rattle.std.specs.FinMap.{find}
 use Rattle.meta_types.specs.Name.{Key}
 use Rattle.meta_types.specs.Order.{key_cmp}
@@ -10,17 +9,15 @@ use Rattle.dvvset.specs.Clock.{descends, join}
 use Rattle.meta_store.specs.Table.{IsTable, Table, object_at}
 use Rattle.node_events.specs.declared.event.NodeEvent.{NodeEvent}
 use Rattle.node_events.specs.declared.event.NodeEvent.TheVariants.{Keep}
-use Rattle.node_core.specs.Growing.{Descends, KeepsKeys, context_of_write}
+use Rattle.node_core.specs.Growing.{context_of_write}
 use Rattle.node_core.specs.Handling.{key_of_write}
 use Rattle.devices.specs.Calls.{CrashLeftSince, DeviceCall, content_after, cut_to, failed_to_cut, failed_to_write, wrote}
 use Rattle.node_file.specs.declared.fault.FileFault.TheVariants.{FileFull, IncarnationSpent}
-use Rattle.node_file.specs.declared.record.Record.{Record}
-use Rattle.node_file.specs.File.{FileState, file_state, gated}
+use Rattle.node_file.specs.File.{file_state}
 use Rattle.node_file.specs.Refusal.{refusal_of_serve}
-use Rattle.node_file.specs.Stored.{LeavesRecord}
 use Rattle.node_hosted.specs.declared.fault.HostFault.{HostFault}
-use Rattle.node_hosted.specs.Hosting.{Acts, HostedParts, KeepsAllButContexts, RefusesActing, Serves, Stores, after_sending, handed_reply, next_frame}
-use Rattle.node_hosted.specs.HostFile.{IsFileOf, host_calls}
+use Rattle.node_hosted.specs.Hosting.{Acts, BeginsBatch, EndsBatch, HostedParts, KeepsAllButContexts, RefusesActing, Serves, Stores, after_sending, handed_reply, next_frame}
+use Rattle.node_hosted.specs.HostFile.{HasAllOf, IsFileOf, host_calls}
 
 -- ---- what is left if the host's calls break off
 
@@ -45,21 +42,6 @@ pub record IsLeft (file : List ℕ) (n : HostedParts) (c : List ℕ) : Type 0 wh
   pub by_host : (made ≡ host_calls failures n) ⊎ FailsMidway (host_calls failures n) made
   pub left : CrashLeftSince file made 0 c
 
--- the bytes open as the file does, or with the record that was to be stored
-pub record OpensWithOrWithout (file : List ℕ) (n : HostedParts) (c : List ℕ) : Type 0 where
-  pub stored : Option Record
-  pub its_bytes : n.to_store ≡ option_map gated stored
-  pub opens : LeavesRecord file stored c
-
--- the second has all that the first has: each key, with an object that counts all events that the
--- first one's counts. Its last life is no earlier.
-pub record HasAllOf (first second : FileState) : Type 0 where
-  pub version : second.version ≡ first.version
-  pub node : second.node ≡ first.node
-  pub keys : KeepsKeys first.contents.table second.contents.table
-  pub events : Descends first.contents.table second.contents.table
-  pub life : first.contents.life ≤ second.contents.life
-
 -- the next life can begin, unless its record is one too many or its number is
 abbrev pub CanBeServed : ℕ → List ℕ → Type 0
 CanBeServed node bytes = (refusal_of_serve (Some node) bytes ≡ None)
@@ -80,8 +62,8 @@ pub record IsTyped (event : NodeEvent) (n : HostedParts) : Type 0 where
   pub held : IsTable n.state.table
 
 -- One thing that happens in a life of the node: a step, a step that is refused, a frame is sent,
--- contexts are kept or forgotten, the host stored the record, however often the first call failed
--- before, or says that he failed to.
+-- contexts are kept or forgotten, a batch begins, it ends, the host stored the records, however
+-- often the first call failed before, or says that he failed to.
 pub data Happens (old new : Moment) : Type 0 where
   Stepped : (event : NodeEvent) → IsTyped event new.node → Acts old.node event new.node
       → new.file ≡ old.file → Happens old new
@@ -89,6 +71,8 @@ pub data Happens (old new : Moment) : Type 0 where
       → RefusesActing old.node event new.node fault → new.file ≡ old.file → Happens old new
   Sent : new.node ≡ after_sending old.node → new.file ≡ old.file → Happens old new
   Contexts : KeepsAllButContexts old.node new.node → new.file ≡ old.file → Happens old new
+  BatchBegan : BeginsBatch old.node (Ok tt) new.node → new.file ≡ old.file → Happens old new
+  BatchEnded : EndsBatch old.node (Ok tt) new.node → new.file ≡ old.file → Happens old new
   Stored : (failures : ℕ) → Stores true old.node (Ok tt) new.node
       → new.file ≡ content_after old.file (host_calls failures old.node) → Happens old new
   GaveUp : Stores false old.node (Ok tt) new.node → new.file ≡ old.file → Happens old new
@@ -132,7 +116,8 @@ StoresKey key event held = (key_of_write event ≡ Some key)
     ⊎ ((event ≡ Keep key) × (find key_cmp key held ≢ None))
 
 -- a node with this file made a step that wrote or kept the key, which left the object there, and
--- later in the same life its reply or a frame was handed out
+-- later in the same life a reply or a frame was handed out: its own, that of the batch, or a later
+-- one
 pub record IsAcknowledged (key : Key) (object : List Entry) (now : Moment) : Type 0 where
   pub old : Moment
   pub its_file : IsFileOf old.file old.node

@@ -19,9 +19,9 @@ pub enum HostFault {
     FileFull,
     /// 34: the node is stopped, since the host failed to store a record.
     Stopped,
-    /// 37: the host hasn't stored or fetched all that an earlier step gave.
+    /// 37: the host hasn't stored or fetched all that an earlier step gave, or a batch is open.
     Pending,
-    /// 38: there is no record to store, or no reply with a context.
+    /// 38: there is no record to store, no reply with a context, or no batch that is open.
     Nothing,
     /// 43: there is no context of this number.
     NoSuchRead,

@@ -16,16 +16,21 @@
 //! }
 //! ```
 //!
-//! Read `node` (a hosted node and how it begins), `acting`, `handing` (what the host is handed),
-//! then `contexts`, `fault` and `laws` (what becomes of the host's file).
+//! Several steps between `begin_batch` and `end_batch` have their records stored at once, all or
+//! none.
+//!
+//! Read `node` (a hosted node and how it begins), `acting`, `batching`, `handing` (what the host is
+//! handed), then `contexts`, `fault`, `unstored` and `laws` (what becomes of the host's file).
 #![tactic(auto)]
 
 mod acting;
+mod batching;
 mod contexts;
 mod fault;
 mod handing;
 pub mod laws;
 mod node;
+mod unstored;
 
 pub use fault::HostFault;
 pub use node::HostedNode;

@@ -1,11 +1,12 @@
 //! A hosted node, and how it begins.
 
-ghost use Rattle.std.specs.Prelude.{◌≡◌, ◌⊎◌, ◌≤◌, [], None, Some, IfOk, IfErr};
+ghost use Rattle.std.specs.Prelude.{◌≡◌, ◌⊎◌, ◌≤◌, [], ◌∷◌, None, Some, IfOk, IfErr};
 ghost use Rattle.node_core.specs.Node.{opening};
 ghost use Rattle.node_file.specs.Refusal.{refusal_of_serve};
 ghost use Rattle.node_file.specs.declared.fault.FileFault.TheVariants as OfFile;
-ghost use Rattle.node_hosted.specs.Hosting.{FitsInFile, Serves, beginning, bytes_of};
+ghost use Rattle.node_hosted.specs.Hosting.{FitsInFile, Serves, beginning, is_pending, next_gate};
 
+use crate::unstored::Unstored;
 use meta_store::Context;
 use meta_types::{ByteString, NodeId};
 use node_core::NodeState;
@@ -24,32 +25,35 @@ pub struct HostedNode {
     pub(crate) state: NodeState,
     /// The offset of the closed gate of the host's file.
     pub(crate) gate: Option<usize>,
-    pub(crate) to_store: Option<Vec<u8>>,
+    pub(crate) to_store: Unstored,
     pub(crate) reply: Option<Reply>,
     pub(crate) outbox: Vec<ByteString>,
     /// How many frames of the outbox the host has sent.
     pub(crate) sent: usize,
     pub(crate) contexts: Vec<Option<Context>>,
     pub(crate) is_stopped: bool,
+    /// Whether a batch is open: steps are made, and nothing is handed out.
+    pub(crate) in_batch: bool,
 }
 
 impl Model for HostedNode {
-    ghost use Rattle.node_hosted.specs.Hosting.{FitsInFile, HostedParts, bytes_of};
+    ghost use Rattle.node_hosted.specs.Hosting.{FitsInFile, HostedParts};
 
     ghost Value = { HostedParts };
 
     ghost view = { λ n. record {
       state = n.state;
       gate = n.gate;
-      to_store = bytes_of n.to_store;
+      to_store = n.to_store;
       reply = n.reply;
       outbox = n.outbox.items;
       sent = n.sent;
       contexts = n.contexts.items;
       stopped = n.is_stopped;
+      in_batch = n.in_batch;
     } };
 
-    ghost invariant = { λ n. FitsInFile n.gate (bytes_of n.to_store) };
+    ghost invariant = { λ n. FitsInFile n.gate n.to_store };
 }
 
 impl HostedNode {
@@ -57,10 +61,10 @@ impl HostedNode {
     /// Fails only when memory runs out.
     pub fn new(alloc: Global, node: NodeId, life: u32) -> Result<HostedNode, AllocError>
         requires { 1 ≤ life }
-        ensures { IfOk result (λ n. n ≡ beginning (opening node life []) None None) }
+        ensures { IfOk result (λ n. n ≡ beginning (opening node life []) None []) }
     {
         let state = NodeState::new(alloc, node, life)?;
-        Ok(HostedNode::of_state(alloc, state, None, None))
+        Ok(HostedNode::of_state(alloc, state, None, Unstored::new(alloc)))
     }
 
     /// Serves a node from the bytes of its file, in its next life. The host stores the record of
@@ -89,19 +93,21 @@ impl HostedNode {
             gate,
             record,
         } = serve_bytes(alloc, bytes, asked)?;
+        let mut to_store = Unstored::new(alloc);
+        to_store.join(record)?;
         let state = NodeState::from_store(alloc, node, life, table)?;
-        Ok(HostedNode::of_state(alloc, state, Some(gate), Some(record)))
+        Ok(HostedNode::of_state(alloc, state, Some(gate), to_store))
     }
 
-    /// Makes a node with nothing to hand out but this record.
+    /// Makes a node with nothing to hand out but these records.
     fn of_state(
         alloc: Global,
         state: NodeState,
         gate: Option<usize>,
-        to_store: Option<Vec<u8>>,
+        to_store: Unstored,
     ) -> HostedNode
-        requires fits { FitsInFile gate (bytes_of to_store) }
-        ensures { result ≡ beginning state gate (bytes_of to_store) }
+        requires fits { FitsInFile gate to_store }
+        ensures { result ≡ beginning state gate to_store }
     {
         HostedNode {
             alloc,
@@ -113,6 +119,7 @@ impl HostedNode {
             sent: 0,
             contexts: Vec::new(alloc),
             is_stopped: false,
+            in_batch: false,
         }
     }
 
@@ -121,6 +128,23 @@ impl HostedNode {
         ensures { result.now ≡ self.now.state }
     {
         &self.state
+    }
+
+    /// Returns whether no batch is open and something is to be stored or fetched.
+    pub(crate) fn is_pending(&self) -> bool
+        ensures { result ≡ is_pending self.now }
+    {
+        !self.in_batch && (self.to_store.bytes().is_some() || self.sent < self.outbox.len())
+    }
+
+    /// Returns where the closed gate of the host's file stands once all is stored.
+    pub(crate) fn next_gate(&self) -> Option<usize>
+        ensures { result ≡ next_gate self.now }
+    {
+        match self.gate {
+            Some(gate) => Some(gate + self.to_store.size()),
+            None => None,
+        }
     }
 
     /// Returns whether the host failed to store a record.

@@ -154,10 +154,17 @@ impl Plain {
         self.watches.clear();
     }
 
-    /// The next life begins after a write over all that the store didn't accept: the file may have it, or not.
-    pub fn crash(&mut self, writes: &mut Writes, key: &Key, value: &Value, is_in_file: bool) {
-        if is_in_file {
+    /// Each value is written over all that is known under its key.
+    pub fn write_over(&mut self, writes: &mut Writes, values: &[(Key, Value)]) {
+        for (key, value) in values {
             self.write(writes, key, value, self.known(key));
+        }
+    }
+
+    /// The next life begins after writes over all that the store didn't accept: the file may have all of them, or none.
+    pub fn crash(&mut self, writes: &mut Writes, values: &[(Key, Value)], are_in_file: bool) {
+        if are_in_file {
+            self.write_over(writes, values);
         }
         self.restart();
     }

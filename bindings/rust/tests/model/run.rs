@@ -5,8 +5,9 @@ use crate::common::Folder;
 use crate::member::{Carried, Fails, Home, Member, Seen};
 use crate::plain::{under, Known, Table, Writes};
 use std::collections::{HashMap, VecDeque};
+use std::slice;
 use std::thread;
-use zomtagi::{Error, Frame, FullPrefix, Key, Node, Refusal, Taken, Value};
+use zomtagi::{Batch, Error, Frame, FullPrefix, Key, Node, Refusal, Taken, Value};
 
 const CALLS: usize = 50;
 
@@ -20,6 +21,7 @@ type Call = fn(&mut Run);
 const KINDS: &[(usize, Call)] = &[
     (12, Run::write),
     (7, Run::write_over),
+    (4, Run::batch),
     (3, Run::resolve),
     (9, Run::read),
     (3, Run::keep),
@@ -220,8 +222,25 @@ impl Run {
         self.tell(at, format!("writes {} over {key}", short(&value)));
         let member = &mut self.members[at];
         let frames = member.node.write_over(&key, &value).unwrap();
-        let known = member.plain.known(&key);
-        member.plain.write(&mut self.writes, &key, &value, known);
+        member.plain.write_over(&mut self.writes, &[(key, value)]);
+        self.send(at, frames);
+    }
+
+    /// Values under one key or more.
+    fn values(&mut self) -> Vec<(Key, Value)> {
+        let mut keys = self.keys.clone();
+        keys.rotate_left(self.chance.below(self.keys.len()));
+        keys.truncate(1 + self.chance.below(self.keys.len()));
+        keys.into_iter().map(|key| (key, self.value())).collect()
+    }
+
+    /// Writes that are stored at once; those that are refused are left out.
+    fn batch(&mut self) {
+        let (at, values) = (self.member(), self.values());
+        self.tell(at, format!("writes over, at once: {}", told(&values)));
+        let member = &mut self.members[at];
+        let ((), frames) = member.node.batch(|batch| write_each(batch, &values)).unwrap();
+        member.plain.write_over(&mut self.writes, &values);
         self.send(at, frames);
     }
 
@@ -380,18 +399,22 @@ impl Run {
         self.begin_life(at);
     }
 
-    /// The store fails in a write, which stops the node: it is served again from what was stored.
+    /// The store fails in a write or a batch, which stops the node: it is served again from what was stored.
     fn crash(&mut self) {
-        let (at, key, value) = (self.member(), self.key(), self.value());
+        let (at, values) = (self.member(), self.values());
         let fails = *self.chance.pick(&[Fails::Midway, Fails::AtItsEnd]);
         let member = &mut self.members[at];
         if !member.fail(fails) {
             return;
         }
-        assert!(member.node.write_over(&key, &value).unwrap_err().ends_node());
+        let failed = match &values[..] {
+            [(key, value)] => member.node.write_over(key, value).map(drop),
+            values => member.node.batch(|batch| write_each(batch, values)).map(drop),
+        };
+        assert!(failed.unwrap_err().ends_node());
         assert_eq!(member.node.tick().unwrap_err().refusal(), Some(Refusal::Stopped));
-        member.plain.crash(&mut self.writes, &key, &value, fails == Fails::AtItsEnd);
-        self.tell(at, format!("(its store failed {fails:?} of a write of {} over {key})", short(&value)));
+        member.plain.crash(&mut self.writes, &values, fails == Fails::AtItsEnd);
+        self.tell(at, format!("(its store failed {fails:?} of writes over, at once: {})", told(&values)));
         self.begin_life(at);
     }
 
@@ -440,6 +463,21 @@ impl Run {
             assert_eq!(self.members[at].node.take(&bytes).unwrap_err().refusal(), Some(Refusal::BadSeal));
         }
     }
+}
+
+/// Writes each value over what is shown, and one that is refused behind each.
+fn write_each(batch: &mut Batch<'_>, values: &[(Key, Value)]) {
+    for (key, value) in values {
+        batch.write_over(key, value).unwrap();
+        assert_eq!(batch.peek(key).unwrap(), slice::from_ref(value));
+        let refused = batch.write_over(key, &Value::text([0; 1025])).unwrap_err();
+        assert_eq!(refused.refusal(), Some(Refusal::ValueTooLong));
+    }
+}
+
+/// Values under keys, as they are printed.
+fn told(values: &[(Key, Value)]) -> String {
+    values.iter().map(|(key, value)| format!("{} over {key}", short(value))).collect::<Vec<_>>().join(", ")
 }
 
 /// A value, as it is printed.
