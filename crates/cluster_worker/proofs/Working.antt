@@ -8,8 +8,8 @@ use Rattle.std.proofs.lemmas.List.Sums.{sum_by_push}
 use Rattle.meta_types.specs.First.{first_that_applies}
 use Rattle.node_events.specs.declared.event.NodeEvent.{NodeEvent}
 use Rattle.node_journal.specs.declared.receipt.Receipt.{Receipt}
-use Rattle.node_journal.specs.Closed.{ClosedNode}
-use Rattle.node_desk.specs.Closing.{EndsWithTable, IsWithin}
+use Rattle.node_journal.specs.Closed.{ClosedNode, EndsWithTable}
+use Rattle.node_desk.specs.Closing.{IsWithin}
 use Rattle.node_desk.specs.Desk.{BeganWith}
 use Rattle.node_desk.specs.Starting.{RefusesStarting}
 use Rattle.node_readers.specs.Views.{SeatView}

@@ -3,9 +3,8 @@ use Rattle.std.specs.Prelude.{◌≡◌, ◌≤◌, ◌+◌, ◌⊎◌, ℕ, Lis
 use Rattle.std.specs.List.{AllZip}
 use Rattle.meta_store.specs.Table.{Table}
 use Rattle.node_file.specs.View.{FileView}
-use Rattle.node_desk.specs.Closing.{EndsWithTable}
 use Rattle.node_desk.specs.Desk.{BeganWith}
-use Rattle.node_journal.specs.Closed.{ClosedNode}
+use Rattle.node_journal.specs.Closed.{ClosedNode, EndsWithTable}
 use Rattle.node_journal.specs.declared.receipt.Receipt.{Receipt}
 use Rattle.node_lock.specs.Call.{AnswersCall}
 use Rattle.inbox.specs.Views.{InboxView}

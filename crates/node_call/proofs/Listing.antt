@@ -22,7 +22,7 @@ use Rattle.node_core.specs.Growing.{ChangesUnder, Descends, IsKeyChanged, TellsK
 use Rattle.node_readers.specs.Published.{Published, with_all, with_published}
 use Rattle.node_readers.proofs.Beginnings.{prefix_trans}
 use Rattle.node_readers.specs.Growth.{GrowsBy}
-use Rattle.node_call.specs.Acknowledged.{LearntWritesAreKnown}
+use Rattle.node_call.specs.Acknowledged.{LearntCallsAreKnown, LearntWritesAreKnown}
 use Rattle.node_call.specs.Journaled.{EndsWith, EndsWithWrite, IsPublishedBy}
 use Rattle.node_call.specs.Ready.{HoldsChanged, IsHeldUnder, listed}
 
@@ -94,6 +94,11 @@ learnt_is_known w key value answered vector opening list learnt shown e first la
     let is : answered ≡ join e.change.object = cc (e.vector) in
     subst (λ v. descends vector v ≡ true)
     (ap join (ends_there w key value (Wrote answered) opening list e) ∙ sym is)
+    (each list (prefix_trans list learnt shown first later))
+
+pub call_is_known : LearntCallsAreKnown
+call_is_known key vector opening held list learnt shown makes first later each =
+    subst (λ (t : Table). descends vector (join (object_at t key)) ≡ true) makes
     (each list (prefix_trans list learnt shown first later))
 
 -- what the step changed is held

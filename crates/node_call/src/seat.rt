@@ -1,4 +1,4 @@
-ghost use Rattle.std.specs.Prelude.{◌≡◌, ◌+◌, length, sum_by};
+ghost use Rattle.std.specs.Prelude.{◌≡◌, ◌≤◌, ◌+◌, length, sum_by};
 
 use std::marker::Model;
 use std::sync::ledger::{Book, Ledger, Share};
@@ -46,12 +46,16 @@ impl<L: Ledger> WriteSeat<L> {
     }
 }
 
-/// Puts all seats back into the share that is left.
+/// Puts all seats back into the share that is left. All of them together are no more than the
+/// ledger.
 pub fn merge_all<L: Ledger>(rest: &mut Share<L>, seats: Vec<WriteSeat<L>>)
     ensures parts { rest.new.parts ≡ rest.old.parts + length seats.items }
     ensures amount { rest.new.amount ≡ rest.old.amount + sum_by (λ s. s) seats.items }
+    ensures apart { rest.new.parts ≤ L.parts }
 {
     for given in seats {
         rest.merge(given.into_share());
     }
+    let none = rest.empty();
+    rest.merge(none);
 }

@@ -4,6 +4,7 @@ ghost use Rattle.std.specs.Prelude.{◌≡◌, ◌+◌, ◌++◌, ◌∷◌, [],
 ghost use Rattle.devices.specs.Device.{LeavesOnly};
 ghost use Rattle.node_core.specs.Step.{IsNodeStep};
 ghost use Rattle.node_journal.specs.Entry.{stepped_of};
+ghost use Rattle.node_readers.specs.Published.{with_all};
 ghost use Rattle.node_desk.specs.Acting.{IsFull, ListsChange, Refuses};
 ghost use Rattle.node_desk.specs.Desk.{BeganWith, IsReceiptOf, KeepsAll, KeepsSeats};
 ghost use Rattle.node_call.specs.Stored.{HasStored, IsStillWhole, LeavesOfEvent, record_after};
@@ -43,6 +44,8 @@ impl<D: Device + Drop, J: Naming, H: Wait + Drop> Desk<D, J, H> {
         ensures list { IfOk result (λ a. ListsChange event a.receipt.entry.reply
             self.new.state.table self.old.list self.new.list) }
         ensures revision { IfOk result (λ a. a.list ≡ self.new.list) }
+        ensures makes { IfOk result (λ a.
+            with_all J.opening a.list ≡ self.new.state.table) }
         ensures rest { KeepsSeats self.old self.new }
         ensures began { BeganWith J.node J.incarnation J.opening self.old.state }
         ensures counted { MatchResult result (λ _. seat.new ≡ seat.old + 1)

@@ -1,9 +1,10 @@
 //! What is left of a node when it is closed.
 
-ghost use Rattle.std.specs.Prelude.{◌≡◌, ◌≢◌, ◌+◌, ◌↔◌, IsTrue, length, sum_by, All, IfOk, IfErr, OnOk};
+ghost use Rattle.std.specs.Prelude.{◌≡◌, ◌≤◌, ◌+◌, ◌↔◌, IsTrue, length, sum_by, All, IfOk, IfErr, OnOk};
 ghost use Rattle.node_readers.specs.Published.{with_all};
 ghost use Rattle.node_call.specs.Journaled.{IsJournaled};
-ghost use Rattle.node_desk.specs.Closing.{EndsWithTable, IsWithin, RefusesClosing};
+ghost use Rattle.node_journal.specs.Closed.{EndsWithTable};
+ghost use Rattle.node_desk.specs.Closing.{IsWithin, RefusesClosing};
 ghost use Rattle.node_desk.specs.Desk.{BeganWith};
 
 use crate::desk::Desk;
@@ -52,6 +53,10 @@ impl<D: Device + Drop, J: Naming, H: Wait + Drop> Desk<D, J, H> {
         ensures refused { IfErr result (λ not.
             RefusesClosing self.out (length seats.items) self.list readers.now not.fault) }
     {
+        if seats.len() as u64 > self.out {
+            has_no_more_seats(self, seats);
+            unreachable!()
+        }
         if seats.len() as u64 != self.out {
             return Err(NotClosed {
                 fault: LockFault::SeatsMissing,
@@ -88,6 +93,18 @@ impl<D: Device + Drop, J: Naming, H: Wait + Drop> Desk<D, J, H> {
         let table = state.into_store();
         Ok((Closed::from_parts(base, journal, table), file.into_device()))
     }
+}
+
+/// Shows that a desk has handed out as many seats as these, or more: all shares of its ledger are no
+/// more than the whole.
+fn has_no_more_seats<D: Device + Drop, J: Naming, H: Wait + Drop>(
+    desk: Desk<D, J, H>,
+    seats: Vec<WriteSeat<J>>,
+)
+    ensures { length seats.items ≤ desk.out }
+{
+    let Desk { mut rest, .. } = desk;
+    merge_all(&mut rest, seats);
 }
 
 /// Returns whether what the reader was shown, and what it learnt, are beginnings of the list.

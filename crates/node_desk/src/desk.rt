@@ -34,10 +34,10 @@ pub struct Desk<D: Device + Drop, J: Naming, H: Wait + Drop> {
 }
 
 impl<D: Device + Drop, J: Naming, H: Wait + Drop> Model for Desk<D, J, H> {
-    ghost use Rattle.std.specs.Prelude.{◌≡◌, ◌+◌, true, false, length};
+    ghost use Rattle.std.specs.Prelude.{◌≡◌, ◌≤◌, ◌+◌, true, false, length};
     ghost use Rattle.node_readers.specs.Published.{with_all};
     ghost use Rattle.node_file.specs.File.{file_state};
-    ghost use Rattle.node_desk.specs.Desk.{BeganWith, DeskView, IsGoing, IsOfLife};
+    ghost use Rattle.node_desk.specs.Desk.{BeganWith, DeskView, IsGoing, IsOfLife, most_seats};
     ghost use Rattle.node_call.specs.Journaled.{IsJournaled};
 
     ghost Value = { DeskView D };
@@ -64,5 +64,6 @@ impl<D: Device + Drop, J: Naming, H: Wait + Drop> Model for Desk<D, J, H> {
         × (d.outlets.file.is_served ≡ true)
         × (d.outlets.is_stopped ≡ false
         → IsGoing d.outlets.file.is_stopped d.outlets.publisher.stopped
-        (file_state (D.content d.outlets.file.device)).contents.table d.state.table) };
+        (file_state (D.content d.outlets.file.device)).contents.table d.state.table)
+        × (d.out ≤ most_seats) };
 }

@@ -3,6 +3,7 @@
 ghost use Rattle.std.specs.Prelude.{◌≡◌, ◌≤◌, ◌<◌, ◌+◌, ◌^◌, [], false, None, IfOk, IfErr, OnOk};
 ghost use Rattle.meta_store.specs.Table.{IsTable};
 ghost use Rattle.node_core.specs.Node.{opening};
+ghost use Rattle.node_desk.specs.Desk.{most_seats};
 ghost use Rattle.node_desk.specs.Starting.{AreNewReaders, AreNewWriters, IsFileOf, RefusesStarting, new_desk, refusal_of_start};
 ghost use Rattle.node_call.specs.declared.fault.LockFault.TheVariants.{Memory};
 
@@ -218,6 +219,7 @@ fn desk_of<D: Device + Drop, J: Naming, H: Wait + Drop>(
     requires publisher { (parts.publisher.list ≡ []) × (parts.publisher.stopped ≡ false) }
     requires counts { (parts.counts.total ≡ 0) × (parts.rest.amount ≡ 0) }
     requires shares { parts.rest.parts + capacity.writers ≡ J.parts }
+    requires few { capacity.writers ≤ most_seats }
     requires writers { AreNewWriters capacity.writers parts.writers.items }
     requires readers { AreNewReaders capacity.readers parts.readers.items }
     requires lawful { IsTable J.opening }
@@ -262,6 +264,7 @@ fn begun<D: Device + Drop, J: Naming, H: Wait + Drop>(
     requires publisher { (parts.publisher.list ≡ []) × (parts.publisher.stopped ≡ false) }
     requires counts { (parts.counts.total ≡ 0) × (parts.rest.amount ≡ 0) }
     requires shares { parts.rest.parts + capacity.writers ≡ J.parts }
+    requires few { capacity.writers ≤ most_seats }
     requires writers { AreNewWriters capacity.writers parts.writers.items }
     requires readers { AreNewReaders capacity.readers parts.readers.items }
     requires opening { table ≡ J.opening }

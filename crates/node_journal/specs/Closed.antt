@@ -5,9 +5,11 @@ use Rattle.std.specs.List.{IsDistinct}
 use Rattle.std.specs.Option.{ForSome}
 use Rattle.meta_store.specs.Table.{Table}
 use Rattle.node_core.specs.Node.{NodeParts, opening}
+use Rattle.node_core.specs.Run.{IsRun}
 use Rattle.node_events.specs.Event.{other_of}
 use Rattle.node_events.specs.declared.event.NodeEvent.{NodeEvent}
 use Rattle.node_journal.specs.declared.entry.Entry.{Entry}
+use Rattle.node_journal.specs.Entry.{step_of}
 
 pub record ClosedNode : Type 0 where
   pub base : NodeParts
@@ -17,6 +19,12 @@ pub record ClosedNode : Type 0 where
 -- the number of the node
 abbrev pub number_of : ClosedNode → ℕ
 number_of c = c.base.node
+
+-- its journal is a run of the node from its base, which ends with its table
+pub record EndsWithTable (c : ClosedNode) : Type 0 where
+  pub end : NodeParts
+  pub run : IsRun c.base (map step_of c.journal) end
+  pub table : end.table ≡ c.table
 
 -- the other node that the event names, if it names one, is below `count`
 abbrev pub NamesBelow : ℕ → NodeEvent → Type 0

@@ -20,7 +20,8 @@ use Rattle.node_call.specs.Ready.{CanStep}
 use Rattle.node_desk.specs.Desk.{BeganWith, IsReceiptOf}
 
 -- the event makes the step of the receipt, at its place, from some state that a node comes to after
--- it opened with this table in this life
+-- it opened with this table in this life; and what was published up to it makes the table that the
+-- step leaves
 pub record AnswersCall (node incarnation : ℕ) (opened : Table) (event : NodeEvent)
     (a : Acknowledged) : Type 0 where
   pub old : NodeParts
@@ -28,6 +29,7 @@ pub record AnswersCall (node incarnation : ℕ) (opened : Table) (event : NodeEv
   pub began : BeganWith node incarnation opened old
   pub step : IsNodeStep old event new (stepped_of a.receipt.entry)
   pub receipt : IsReceiptOf old event a.receipt
+  pub table : with_all opened a.list ≡ new.table
 
 -- the seat counts the call if it is accepted
 abbrev pub Counts : {A : Type 0} → Result A LockFault → ℕ → ℕ → Type 0
@@ -78,7 +80,9 @@ pub record EndsList (opened : Table) (c : ClosedNode) (readers : List SeatView) 
   pub within : All (IsWithin list) readers
 
 -- closing with `given` seats handed in and these readers may be refused with this fault: for some
--- number of seats that are out, and some list of what was published
+-- number of seats that are out, and some list of what was published. These stand under the lock, so
+-- nobody else knows them: it says of 54 only that fewer than eight seats were handed in, and of 34
+-- only that there is a reader that was shown or has learnt something
 pub record CanRefuseClosing (given : ℕ) (readers : List SeatView) (fault : LockFault) : Type 0 where
   pub out : ℕ
   pub list : List Published

@@ -3,7 +3,7 @@
 ghost use Rattle.std.specs.Prelude.{◌≡◌, ◌≤◌, ◌⊎◌, ◌+◌, ℕ, None, length, sum_by, IfOk, IfErr, OnOk};
 ghost use Rattle.node_events.specs.declared.event.NodeEvent.TheVariants.{Read, Write, PutOver, Take, Tick, Join, PeerDown, Exchange, Keep, Watch, Changes, Hello, Leave};
 ghost use Rattle.node_call.specs.declared.fault.LockFault.TheVariants.{Memory, NoSeat, Stopped};
-ghost use Rattle.node_desk.specs.Closing.{EndsWithTable};
+ghost use Rattle.node_journal.specs.Closed.{EndsWithTable};
 ghost use Rattle.node_desk.specs.Desk.{BeganWith};
 ghost use Rattle.node_desk.specs.Starting.{AreNewReaders, AreNewWriters, IsFileOf, RefusesStarting, refusal_of_start};
 ghost use Rattle.node_lock.specs.Call.{AnswersCall, CanRefuseClosing, Counts, EndsList, RefusesCall};

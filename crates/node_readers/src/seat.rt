@@ -1,4 +1,4 @@
-ghost use Rattle.std.specs.Prelude.{◌≡◌, [], IfOk, OnOk};
+ghost use Rattle.std.specs.Prelude.{◌≡◌, [], IfOk, IfErr, OnOk};
 ghost use mathlib.Core.List.{IsPrefix};
 ghost use Rattle.dvvset.specs.Clock.{join, values_of};
 ghost use Rattle.left_right.specs.Sides.{view};
@@ -6,7 +6,7 @@ ghost use Rattle.meta_store.specs.Table.{object_at};
 ghost use Rattle.node_readers.specs.Published.{with_all};
 ghost use Rattle.node_readers.specs.Copies.{IsCopy};
 ghost use Rattle.node_readers.specs.Growth.{DescendsEach};
-ghost use Rattle.node_readers.specs.Views.{FoundUnder};
+ghost use Rattle.node_readers.specs.Views.{FoundUnder, RefusesCopy, RefusesLook};
 
 use crate::copies::PublishedTable;
 use crate::fault::PeekFault;
@@ -87,9 +87,10 @@ impl<J: Naming> ReadSeat<J> {
     /// memory only for values and vector, which are copies. It never waits, even while a change is
     /// being published.
     ///
-    /// Refused with 34 `Stopped` if the publisher is gone, or if the seat learnt of a change that
-    /// the published copy lacks, which no revision of a publisher names; and with 99 `Memory`. A
-    /// refused look may have found that the history went on, and then that counts as shown.
+    /// Refused with 34 `Stopped` if the publisher is gone, and then nothing more counts as shown, or
+    /// if the seat learnt of a change that the published copy lacks, which no revision of a
+    /// publisher names; and with 99 `Memory`. A refused look may have found that the history went
+    /// on, and then that counts as shown.
     pub fn peek(&mut self, key: &MetaKey) -> Result<Shown, PeekFault>
         ensures later { IsPrefix self.old.shown self.new.shown }
         ensures learnt { self.new.learnt ≡ self.old.learnt }
@@ -100,6 +101,8 @@ impl<J: Naming> ReadSeat<J> {
         ensures holds_learnt { OnOk result (IsPrefix self.old.learnt self.new.shown) }
         ensures descends { IfOk result
             (λ it. DescendsEach J.opening self.new.shown key.now it.vector) }
+        ensures refused { IfErr result
+            (RefusesLook self.old.learnt self.old.shown self.new.shown) }
     {
         let Some(reader) = self.reader.take() else {
             unreachable!()
@@ -125,6 +128,7 @@ fn look<J: Naming>(
     ensures later { IsPrefix shown.old shown.new }
     ensures holds { OnOk result.1 (IsPrefix learnt.now shown.new) }
     ensures found { IfOk result.1 (FoundUnder J.opening shown.new key.now) }
+    ensures refused { IfErr result.1 (RefusesLook learnt.now shown.old shown.new) }
 {
     match reader.enter_as::<CopiesOf<J>>() {
         Ok(reading) => {
@@ -145,6 +149,7 @@ fn look_in<J: Naming>(
     requires { IsCopy J.book J.opening copy.now }
     ensures holds { OnOk result (IsPrefix learnt.now copy.now.list) }
     ensures found { IfOk result (FoundUnder J.opening copy.now.list key.now) }
+    ensures refused { IfErr result (RefusesCopy learnt.now copy.now.list) }
 {
     if !copy.revision::<J>().covers(learnt) {
         return Err(PeekFault::Stopped);

@@ -1,6 +1,6 @@
 //! Each call's event stands in its entry, and its receipt names that entry.
 
-use crate::parts::{Left, Trial, counted, key, prefix, tried, value};
+use crate::parts::{Left, Trial, bytes, counted, key, prefix, tried, value};
 use devices::MemoryDevice;
 use meta_types::{ByteString, NodeId};
 use node_events::NodeEvent;
@@ -16,7 +16,10 @@ fn node_id(rt: &impl Abort, number: u16) -> NodeId {
 }
 
 /// The calls that are tried, in their order.
-pub(crate) const CALLS: usize = 12;
+pub(crate) const CALLS: usize = 13;
+
+/// PRUNE from node 1 to node 0.
+const PRUNE: &[u8] = b"PT\x02\x04\0\x01\0\0\0\0\0\0\0\0\0\x01\0\0\0\0";
 
 pub(crate) fn call<J: Naming, R: Wait + Abort>(
     rt: &R,
@@ -34,6 +37,7 @@ pub(crate) fn call<J: Naming, R: Wait + Abort>(
         8 => node.hello(rt, seat, node_id(rt, 2)),
         9 => node.watch(rt, seat, prefix(rt, alloc), 4),
         10 => node.changes(rt, seat, 1),
+        11 => node.take(rt, seat, ByteString::new(bytes(rt, alloc, PRUNE)), 10),
         _ => node.leave(rt, seat),
     }
 }
@@ -69,7 +73,8 @@ fn is_of_call(event: &NodeEvent, number: usize) -> bool {
         | (NodeEvent::Hello { .. }, 8)
         | (NodeEvent::Watch { capacity: 4, .. }, 9)
         | (NodeEvent::Changes { number: 1 }, 10)
-        | (NodeEvent::Leave, 11) => true,
+        | (NodeEvent::Take { word: 10, .. }, 11)
+        | (NodeEvent::Leave, 12) => true,
         _ => false,
     }
 }
@@ -82,6 +87,7 @@ fn is_kept(closed: &Closed, receipt: &Receipt, number: usize) -> bool {
         && receipt.node == closed.node()
 }
 
+/// The calls are made by the eight seats in turn.
 struct EachCall;
 
 impl Trial for EachCall {
@@ -93,13 +99,12 @@ impl Trial for EachCall {
         _readers: &mut Vec<ReadSeat<J>>,
     ) -> Vec<Receipt> {
         let mut receipts = Vec::new(alloc);
-        let mut seat = writers.pop().expect(rt, "a seat");
         for number in 0..CALLS {
-            let done = call(rt, alloc, node, &mut seat, number);
+            let seat = writers.get_mut(number % 8).expect(rt, "a seat");
+            let done = call(rt, alloc, node, seat, number);
             let receipt = done.ok().expect(rt, "an accepted call").into_receipt();
             receipts.push(receipt).ok().expect(rt, "memory");
         }
-        writers.push(seat).ok().expect(rt, "memory");
         receipts
     }
 }
@@ -115,7 +120,7 @@ fn are_kept(left: &Left) -> bool {
 
 #[test]
 fn each_call_is_journaled_as_it_was_made(rt: HostRuntime) {
-    let left = tried::<EachCall, HostRuntime>(&rt, rt.alloc(), Capacity::new(1, 0));
+    let left = tried::<EachCall, HostRuntime>(&rt, rt.alloc(), Capacity::new(8, 8));
     let are_kept = are_kept(&left);
     drop(left);
     assert!(rt; are_kept);

@@ -6,7 +6,8 @@ use crate::calls::{CALLS, call};
 use crate::parts::{Left, Trial, key, start};
 use devices::MemoryDevice;
 use node_lock::{
-    Acknowledgement, Capacity, Entry, LockFault, Naming, Node, ReadSeat, Receipt, WriteSeat,
+    Acknowledgement, Capacity, Entry, LockFault, Naming, Node, PeekFault, ReadSeat, Receipt,
+    WriteSeat,
 };
 use std::alloc::Global;
 use std::process::Abort;
@@ -38,7 +39,10 @@ fn call_again<J: Naming, R: Wait + Abort>(
 /// Returns how many values a reader is shown. It looks once more if it was refused memory.
 fn shown<J: Naming>(rt: &impl Abort, alloc: Global, reader: &mut ReadSeat<J>) -> Option<usize> {
     let key = key(rt, alloc, b'1');
-    let shown = reader.peek(&key).or(reader.peek(&key));
+    let shown = match reader.peek(&key) {
+        Err(PeekFault::Memory) => reader.peek(&key),
+        shown => shown,
+    };
     Some(shown.ok()?.values.len())
 }
 

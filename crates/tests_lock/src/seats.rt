@@ -72,6 +72,46 @@ fn a_full_journal_is_cut_and_goes_on(rt: HostRuntime) {
     assert!(rt; counted::<CutAtThree, HostRuntime>(&rt, rt.alloc(), capacity) == (3, 1));
 }
 
+/// Writes this often, and returns how many entries are then cut.
+fn cut_after<J: Naming, R: Wait + Abort>(
+    rt: &R,
+    alloc: Global,
+    node: &Node<MemoryDevice, J, &R>,
+    seat: &mut WriteSeat<J>,
+    writes: usize,
+) -> Option<usize> {
+    for _write in 0..writes {
+        assert!(rt; put(rt, alloc, node, seat, b'x').is_ok());
+    }
+    node.cut(rt, seat).ok()
+}
+
+/// What was written since the last cut is cut.
+struct CutEach;
+
+impl Trial for CutEach {
+    fn run<J: Naming, R: Wait + Abort>(
+        rt: &R,
+        alloc: Global,
+        node: &Node<MemoryDevice, J, &R>,
+        writers: &mut Vec<WriteSeat<J>>,
+        _readers: &mut Vec<ReadSeat<J>>,
+    ) -> Vec<Receipt> {
+        let mut seat = writers.pop().expect(rt, "a seat");
+        for writes in [0, 1, 5] {
+            assert!(rt; cut_after(rt, alloc, node, &mut seat, writes) == Some(writes));
+        }
+        writers.push(seat).ok().expect(rt, "memory");
+        Vec::new(alloc)
+    }
+}
+
+#[test]
+fn a_cut_tells_how_many_entries_there_were(rt: HostRuntime) {
+    let counted = counted::<CutEach, HostRuntime>(&rt, rt.alloc(), Capacity::new(1, 0));
+    assert!(rt; counted == (6, 0));
+}
+
 /// A ninth seat is refused until one is given up.
 struct NoNinth;
 
@@ -101,8 +141,8 @@ fn a_ninth_seat_is_refused_until_one_is_given_up(rt: HostRuntime) {
     assert!(rt; counted == (0, 2));
 }
 
-/// A new node has nothing to cut. After a write of which one reader learnt, that reader is shown
-/// it, and the other reader is shown it or nothing.
+/// After a write of which one reader learnt, that reader is shown it, and the other reader is shown
+/// it or nothing.
 struct OneLearnt;
 
 impl Trial for OneLearnt {
@@ -114,7 +154,6 @@ impl Trial for OneLearnt {
         readers: &mut Vec<ReadSeat<J>>,
     ) -> Vec<Receipt> {
         let mut seat = writers.pop().expect(rt, "a seat");
-        assert!(rt; node.cut(rt, &seat).ok() == Some(0));
         let mut one = readers.pop().expect(rt, "a reader");
         let mut other = readers.pop().expect(rt, "a reader");
         assert!(rt; shown(rt, alloc, &mut one) == Ok(0));

@@ -3,7 +3,7 @@
 ghost use Rattle.std.specs.Prelude.{◌≡◌, ◌≤◌};
 ghost use Rattle.node_desk.specs.Starting.{IsFileOf};
 
-use crate::parts::{close, next_life, open_first, put, put_and_learn, shown, started};
+use crate::parts::{close, key, next_life, open_first, put_and_learn, shown, started, value};
 use devices::{Device, MemoryDevice};
 use meta_store::Store;
 use node_file::NodeFile;
@@ -18,21 +18,47 @@ use std::thread::{self, Threads};
 /// How many writes each of two threads makes.
 const EACH: usize = 100;
 
+/// How a thread writes.
+#[derive(Clone, Copy)]
+enum Writing {
+    /// Beside what the node holds.
+    Beside,
+    /// Over what the node holds.
+    Over,
+}
+
+/// Writes once, and returns the place.
+fn write_once<J: Naming, R: Wait + Abort>(
+    rt: &R,
+    alloc: Global,
+    node: &Node<MemoryDevice, J, &R>,
+    seat: &mut WriteSeat<J>,
+    how: Writing,
+) -> u64 {
+    let (key, value) = (key(rt, alloc, b'1'), value(rt, alloc, b'x'));
+    let done = match how {
+        Writing::Beside => node.put(rt, seat, key, value, None),
+        Writing::Over => node.put_over(rt, seat, key, value),
+    };
+    done.ok()
+        .expect(rt, "an accepted call")
+        .into_receipt()
+        .place
+}
+
 /// Writes `EACH` times, and returns the places.
 fn write<J: Naming, R: Wait + Abort>(
     rt: &R,
     alloc: Global,
     node: &Node<MemoryDevice, J, &R>,
     seat: WriteSeat<J>,
+    how: Writing,
 ) -> (WriteSeat<J>, Vec<u64>) {
     let mut seat = seat;
     let mut places = Vec::new(alloc);
     for _write in 0..EACH {
-        let place = put(rt, alloc, node, &mut seat, b'x');
-        places
-            .push(place.ok().expect(rt, "an accepted call"))
-            .ok()
-            .expect(rt, "memory");
+        let place = write_once(rt, alloc, node, &mut seat, how);
+        places.push(place).ok().expect(rt, "memory");
     }
     (seat, places)
 }
@@ -55,13 +81,14 @@ fn write_both<J: Naming + Send + Sync, R: Threads + Wait + Abort + Sync>(
     alloc: Global,
     node: &Node<MemoryDevice, J, &R>,
     writers: &mut Vec<WriteSeat<J>>,
+    how: Writing,
 ) -> Vec<u64> {
     let first = writers.pop().expect(rt, "a seat");
     let second = writers.pop().expect(rt, "a seat");
     let ((first, mut places), (second, mut others)) = thread::join(
         rt,
-        move || write(rt, alloc, node, first),
-        move || write(rt, alloc, node, second),
+        move || write(rt, alloc, node, first, how),
+        move || write(rt, alloc, node, second, how),
     );
     writers.push(first).ok().expect(rt, "memory");
     writers.push(second).ok().expect(rt, "memory");
@@ -77,12 +104,13 @@ fn write_and_look<J: Naming + Send + Sync, R: Threads + Wait + Abort + Sync>(
     node: &Node<MemoryDevice, J, &R>,
     writers: &mut Vec<WriteSeat<J>>,
     readers: &mut Vec<ReadSeat<J>>,
+    how: Writing,
 ) -> Result<usize, u16> {
     let writer = writers.pop().expect(rt, "a seat");
     let reader = readers.pop().expect(rt, "a reader");
     let ((mut writer, places), mut reader) = thread::join(
         rt,
-        move || write(rt, alloc, node, writer),
+        move || write(rt, alloc, node, writer, how),
         move || look(rt, alloc, reader),
     );
     drop(places);
@@ -106,14 +134,15 @@ fn used<J: Naming + Send + Sync, R: Threads + Wait + Abort + Sync>(
     rt: &R,
     alloc: Global,
     started: Started<MemoryDevice, J, &R>,
+    how: Writing,
 ) -> Came {
     let Started {
         node,
         mut writers,
         mut readers,
     } = started;
-    let places = write_both(rt, alloc, &node, &mut writers);
-    let seen = write_and_look(rt, alloc, &node, &mut writers, &mut readers);
+    let places = write_both(rt, alloc, &node, &mut writers, how);
+    let seen = write_and_look(rt, alloc, &node, &mut writers, &mut readers, how);
     let left = close(rt, node, writers, readers.as_slice());
     drop(readers);
     let entries = left.0.journal().len();
@@ -132,6 +161,7 @@ fn begun<J: Naming + Send + Sync, R: Threads + Wait + Abort + Sync>(
     tokens: (Blank, Beginning),
     file: NodeFile<MemoryDevice>,
     table: Store,
+    how: Writing,
 ) -> Came
     requires ledger { (tokens.0.name ≡ J.name) × (tokens.0.parts ≡ J.parts) }
     requires book { tokens.1 ≡ J.book }
@@ -148,7 +178,7 @@ fn begun<J: Naming + Send + Sync, R: Threads + Wait + Abort + Sync>(
         table,
         Capacity::new(2, 1),
     );
-    used(rt, alloc, started.ok().expect(rt, "a node"))
+    used(rt, alloc, started.ok().expect(rt, "a node"), how)
 }
 
 /// Returns whether these are the places from 0 on, each once.
@@ -163,18 +193,28 @@ fn are_all_places(places: &[u64]) -> bool {
     places.len() == 2 * EACH
 }
 
-fn is_as_wanted(came: &Came) -> bool {
-    are_all_places(&came.places) && came.seen == Ok(3 * EACH + 1) && came.entries == 301
+/// Returns whether there is an entry and a place of each write, and the reader is shown this many
+/// values.
+fn is_as_wanted(came: &Came, seen: usize) -> bool {
+    are_all_places(&came.places) && came.seen == Ok(seen) && came.entries == 301
 }
 
 /// Returns what came of it on a new node.
-fn shared<R: Threads + Wait + Abort + Sync>(rt: &R, alloc: Global) -> Came {
+fn shared<R: Threads + Wait + Abort + Sync>(rt: &R, alloc: Global, how: Writing) -> Came {
     let (file, table) = next_life(rt, alloc, open_first(rt, alloc));
     let tokens = (Blank::new(9), Beginning::new());
-    begun::<Brand, R>(rt, alloc, tokens, file, table)
+    begun::<Brand, R>(rt, alloc, tokens, file, table, how)
 }
 
 #[test]
 fn threads_share_a_node(rt: HostRuntime) {
-    assert!(&rt; is_as_wanted(&shared(&rt, rt.alloc())));
+    let came = shared(&rt, rt.alloc(), Writing::Beside);
+    assert!(&rt; is_as_wanted(&came, 3 * EACH + 1));
+}
+
+/// One value is left of all that threads write over each other. The last write stands beside it.
+#[test]
+fn threads_write_over_each_other(rt: HostRuntime) {
+    let came = shared(&rt, rt.alloc(), Writing::Over);
+    assert!(&rt; is_as_wanted(&came, 2));
 }

@@ -24,4 +24,5 @@ invariant_of-result g c =
       ap (with_all n.opening) r.publisher.0 ∙ sym table,
       r.served.served,
       (λ _. record { file = r.served.going; publisher = r.publisher.1; within = file_within n.opening _ _ r.lawful table r.served.table }),
+      omega (arith, count, r.few),
     )

@@ -3,6 +3,7 @@ use Rattle.meta_types.specs.Actor.{writer_number}
 use Rattle.meta_store.specs.Table.{Table}
 use Rattle.node_readers.specs.Published.{Published}
 use Rattle.node_file.specs.File.{file_state}
+use Rattle.node_call.specs.Acknowledged.{Acknowledged}
 use Rattle.node_call.specs.Journaled.{TellsOfEntry}
 use Rattle.node_call.specs.Ready.{entry_made, listed}
 use Rattle.node_file.specs.Stored.{LeavesRecord}
@@ -57,6 +58,7 @@ invariant_of-self-in-Err g c =
         publisher = still.1 ∙ w.publisher;
         within = subst (λ (b : List ℕ). IsStoredOf c.self.inside.state.table (file_state b).contents.table) (sym (c.in-Err.ensures.whole going still.0).0) w.within;
       }),
+      i.9,
     )
 
 pub returns-in-Err-clause-refused : goal.returns-in-Err-clause-refused
@@ -134,6 +136,7 @@ invariant_of-self-2 g c =
         publisher = c.in_default.ensures.going.1 w.publisher;
         within = stored_within e.event s.state.table new.table (file_state (g.D.Device.content s.outlets.file.device)) (file_state (g.D.Device.content c.store_and_show-done.new.self.file.device)) r.known.keeps w.within stored.tells;
       }),
+      i.9,
     )
 
 pub returns-clause-any_moment : goal.returns-clause-any_moment
@@ -172,3 +175,15 @@ returns-clause-began g c =
     let s = c.self.inside in
     let n = g.J.Naming in
     rw (← c.self.view_is) (began_on n.node n.incarnation n.opening s.base s.state s.journal.items s.outlets.publisher.list c.self.invariant.1 c.self.invariant.0)
+
+pub returns-clause-makes : goal.returns-clause-makes
+returns-clause-makes g c =
+    let new = committed c.in_ok-attempt.attempt c.prepare.new.state in
+    let s = c.self.inside in
+    let i = c.self.invariant in
+    let r = c.in_ok-attempt.ensures.ready in
+    let e = c.in_ok-attempt.ready.entry in
+    let n = g.J.Naming in
+    let go = goes_on s.base s.state new n.opening s.journal.items s.outlets.publisher.list (listed c.in_ok-attempt.ready.change) e i.0 i.6 r.known r.change in
+    let list = ap (λ (a : Acknowledged). a.list) c.of.ensures ∙ (c.again.ensures ∙ (c.revision.ensures ∙ c.in_default.ensures.list)) in
+    rw (c.commit-reply.ensures.node, list) go.table

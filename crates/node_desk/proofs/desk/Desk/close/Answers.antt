@@ -1,7 +1,8 @@
 use Rattle.std.proofs.Common.{rules, ◌≡◌, List, All, true, false, refl, sym, ap, subst, ◌∙◌}
 use Rattle.node_readers.specs.Published.{Published}
 use Rattle.node_call.proofs.Runs.{run_of}
-use Rattle.node_desk.specs.Closing.{EndsWithTable, IsWithin}
+use Rattle.node_journal.specs.Closed.{EndsWithTable}
+use Rattle.node_desk.specs.Closing.{IsWithin}
 use Rattle.node_desk.proofs.desk.Desk.close.Goals as goal
 
 pub returns-clause-run : goal.returns-clause-run

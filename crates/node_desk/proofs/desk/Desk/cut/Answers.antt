@@ -18,4 +18,5 @@ invariant_of-self g c =
       i.6,
       i.7,
       i.8,
+      i.9,
     )
