@@ -1,12 +1,11 @@
 //! Measures nodes and what they are made of, and lets threads storm one. The first argument is the
 //! part, and the others are the part's own.
 //!
-//! Each part has a module and a folder: `lock`, `cluster` (in `clusters`), `node`, `file`,
-//! `threads` and `storm`. What several parts use stands beside them.
+//! Each part has a module and a folder: `lock`, `node`, `file` and `storm`. What several parts use
+//! stands beside them.
 #![tactic(auto)]
 
 mod begun;
-mod clusters;
 mod file;
 mod lock;
 mod node;
@@ -15,7 +14,6 @@ mod samples;
 mod started;
 mod storm;
 mod subject;
-mod threads;
 
 use std::io;
 use std::rt::Clock;
@@ -40,10 +38,8 @@ fn run<R: Threads + Wait + Clock + Print + Sync>(
 ) -> io::Result<()> {
     match part {
         "lock" => lock::run(rt, handle, words),
-        "cluster" => clusters::run(rt, handle, words),
         "node" => node::run(rt, words),
         "file" => file::run(rt, words),
-        "threads" => threads::run(rt, handle, words),
         "storm" => storm::run(rt, handle, words),
         _ => Ok(()),
     }

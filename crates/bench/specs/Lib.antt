@@ -1,2 +1,0 @@
--- passes of one inbox
-pub mod Passes
