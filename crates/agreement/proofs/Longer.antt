@@ -11,13 +11,15 @@ use Rattle.past_model.specs.declared.happening.Happening.TheVariants.{Wrote, Loo
 use Rattle.node_core.specs.Leaving.{carried_object}
 use Rattle.world_core.specs.declared.answer.Accepted.{Accepted}
 use Rattle.world_core.specs.declared.event.Event.{Event}
-use Rattle.world_core.specs.declared.event.Event.TheVariants.{Put, Get, PutOver, Deliver, Keep, Restart}
+use Rattle.node_events.specs.declared.event.NodeEvent.{NodeEvent}
+use Rattle.node_events.specs.declared.event.NodeEvent.TheVariants as OfNode
+use Rattle.world_core.specs.declared.event.Event.TheVariants as events
 use Rattle.world_core.specs.Events.{node_of_event}
 use Rattle.world_core.specs.Knowledge.{ShowWhatTheyKnow}
-use Rattle.world_core.specs.Numbers.{frames_at}
+use Rattle.world_core.specs.Numbers.{frames_at, numbered}
 use Rattle.world_core.specs.Outcome.{Outcome}
 use Rattle.world_core.specs.Refusal.{doing_in, node_at}
-use Rattle.world_core.specs.Tells.{Pairwise, Tells, Told, look_of, nothing_told, sending_of, tell_accepted, tell_each, tell_event, tell_frames, tell_got, tell_look, tell_sending}
+use Rattle.world_core.specs.Tells.{Pairwise, Tells, Told, nothing_told, sending_of, tell_accepted, tell_each, tell_event, tell_frames, tell_got, tell_look, tell_sending, tell_step}
 use Rattle.world_core.specs.World.{World}
 use Rattle.world_core.proofs.Telling.{one_spelling, tell_each_more}
 use Rattle.agreement.specs.World.{AcceptsAll, IsIdle}
@@ -94,16 +96,20 @@ by_delivery : (n : ℕ) (place : Option ℕ) (t : Told) → IsLater t (tell_got 
 by_delivery n None t = same_time t
 by_delivery n (Some place) t = record { more = Got n place ∷ []; longer = refl }
 
-by_event : (event : Event) (t : Told) → IsLater t (tell_event event t)
-by_event (Put n k v read) t = record { more = Wrote n k v (look_of t read) ∷ []; longer = refl }
-by_event (Get n k) t = record { more = Looked n k ∷ []; longer = refl }
-by_event (PutOver n k v) t =
-    later_on t (tell_look n k t) (tell_event (PutOver n k v) t) (record { more = Looked n k ∷ []; longer = refl })
+by_step : (n : ℕ) (event : NodeEvent) (t : Told) → IsLater t (tell_step n event t)
+by_step n (OfNode.Read k) t = record { more = Looked n k ∷ []; longer = refl }
+by_step n (OfNode.Write k v context) t = record { more = Wrote n k v None ∷ []; longer = refl }
+by_step n (OfNode.PutOver k v) t =
+    later_on t (tell_look n k t) (tell_step n (OfNode.PutOver k v) t) (record { more = Looked n k ∷ []; longer = refl })
     (record { more = Wrote n k v (Some (length t.history)) ∷ []; longer = refl })
-by_event (Deliver frame n word) t = by_delivery n (sending_of t frame) t
-by_event (Keep n k) t = record { more = Kept n k ∷ []; longer = refl }
-by_event (Restart n image) t = record { more = Restarted n image ∷ []; longer = refl }
-by_event _ t = same_time t
+by_step n (OfNode.Keep k) t = record { more = Kept n k ∷ []; longer = refl }
+by_step n _ t = same_time t
+
+by_event : (event : Event) (t : Told) → IsLater t (tell_event event t)
+by_event (events.Step n event) t = by_step n event t
+by_event (events.Put n k v read) t = record { more = Wrote n k v (numbered t.looks read) ∷ []; longer = refl }
+by_event (events.Deliver frame n word) t = by_delivery n (sending_of t frame) t
+by_event (events.Restart n image) t = record { more = Restarted n image ∷ []; longer = refl }
 
 by_sending : (n : ℕ) (object : Option (Key × List Entry)) (t : Told) → IsLater t (tell_sending n object t)
 by_sending n None t = record { more = []; longer = sym (append-nil t.history) }

@@ -17,11 +17,11 @@ use Rattle.node_events.specs.declared.event.NodeEvent.{NodeEvent}
 use Rattle.node_events.specs.declared.event.NodeEvent.TheVariants as OfNode
 use Rattle.node_overlay.specs.Outbox.{frames_from}
 use Rattle.node_overlay.specs.Overlay.{envelope}
-use Rattle.node_images.specs.Node.{ImagedNode, arrived, new_node}
+use Rattle.restart_images.specs.Node.{ImagedNode, arrived, new_node}
 use Rattle.world_core.specs.declared.answer.Answer.{Answer}
 use Rattle.world_core.specs.declared.answer.FrameNumbers.{FrameNumbers}
 use Rattle.world_core.specs.declared.event.Event.{Event}
-use Rattle.world_core.specs.declared.event.Event.TheVariants.{Deliver, Exchange as BeginExchange}
+use Rattle.world_core.specs.declared.event.Event.TheVariants as events
 use Rattle.world_core.specs.declared.fault.WorldFault.TheVariants.{NoSuchNode}
 use Rattle.world_core.specs.Events.{Begin, Doing, Step, node_of_event}
 use Rattle.world_core.specs.Numbers.{numbered}
@@ -180,9 +180,9 @@ pub delivered : (e : Exchange) (count : ℕ) (old new : World) (event : Event) (
     → (from to number : ℕ) (m : Message) → IsPending old from to number m → IsOfExchange m → IsDeliveryOf number event → Outcome old event (Ok answer) new
     → Moves e count old to from (table_after (table_at old to) m) (answers_to (table_after (table_at old to) m) m) answer new
 unfolding Outcome
-delivered e count old new (Deliver f n word) answer stands part from to number m is of same accepts =
+delivered e count old new (events.Deliver f n word) answer stands part from to number m is of same accepts =
     let there : numbered old.frames f ≡ Some is.there.bytes = ap (numbered old.frames) same ∙ is.there.there in
-    let low : n < length old.nodes = has_node old (Deliver f n word) accepts.no_refusal in
+    let low : n < length old.nodes = has_node old (events.Deliver f n word) accepts.no_refusal in
     let makes : MakesStep old n (OfNode.Take is.there.bytes word) answer new =
     subst (λ o. MakesStep old n (OfNode.Take (unwrap_or o []) word) answer new) there accepts.makes in
     let less : n < count = subst (λ c. n < c) stands.many low in
@@ -205,7 +205,7 @@ pub record Began (e : Exchange) (count : ℕ) (old : World) (answer : Answer) (n
   pub moves : Moves e count old e.one e.other (table_at old e.one) (XRoot (tree_root (rows_of (table_at old e.one))) ∷ []) answer new
 
 -- the other node is one of the world, since the event has no refusal
-other_low : (w : World) (a b : ℕ) (answer : Answer) (new : World) → Accepts w (BeginExchange a b) answer new → b < length w.nodes
+other_low : (w : World) (a b : ℕ) (answer : Answer) (new : World) → Accepts w (events.Step a (OfNode.Exchange b)) answer new → b < length w.nodes
 other_low w a b answer new accepts = elim (cases_lt b (length w.nodes)) [
   | inl less ↦ less
   | inr high ↦ absurd (accepts.no_refusal NoSuchNode (inl (inr high, refl)))
@@ -213,10 +213,10 @@ other_low w a b answer new accepts = elim (cases_lt b (length w.nodes)) [
 
 -- what an accepted event Exchange leaves
 pub began : (e : Exchange) (count : ℕ) (old new : World) (answer : Answer) → Stands e count old → takes_part e e.one ≡ true
-    → Outcome old (BeginExchange e.one e.other) (Ok answer) new → Began e count old answer new
+    → Outcome old (events.Step e.one (OfNode.Exchange e.other)) (Ok answer) new → Began e count old answer new
 unfolding Outcome
 began e count old new answer stands part accepts =
-    let low : e.one < length old.nodes = has_node old (BeginExchange e.one e.other) accepts.no_refusal in
+    let low : e.one < length old.nodes = has_node old (events.Step e.one (OfNode.Exchange e.other)) accepts.no_refusal in
     let makes : MakesStep old e.one (OfNode.Exchange e.other) answer new = accepts.makes in
     let less : e.one < count = subst (λ c. e.one < c) stands.many low in
     let is = begins (node_at old e.one).state makes.state e.other makes.given makes.makes in

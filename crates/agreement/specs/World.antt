@@ -8,10 +8,11 @@ use Rattle.past_model.specs.Past.{known}
 use Rattle.hash_tree.specs.Tree.{rows_of, tree_root}
 use Rattle.hash_tree.specs.Hashed.{Collides}
 use Rattle.exchange.specs.Whole.{Reconciled}
+use Rattle.node_events.specs.declared.event.NodeEvent.TheVariants.{Exchange as BeginExchange}
 use Rattle.world_core.specs.declared.answer.Accepted.{Accepted}
 use Rattle.world_core.specs.declared.answer.FrameNumbers.{FrameNumbers}
 use Rattle.world_core.specs.declared.event.Event.{Event}
-use Rattle.world_core.specs.declared.event.Event.TheVariants.{Deliver, Exchange as BeginExchange}
+use Rattle.world_core.specs.declared.event.Event.TheVariants as events
 use Rattle.world_core.specs.Events.{node_of_event}
 use Rattle.world_core.specs.Knowledge.{OfAllTold}
 use Rattle.world_core.specs.Outcome.{Outcomes}
@@ -29,7 +30,7 @@ numbers_of sent = range_with_len sent.first sent.count
 
 -- the event delivers the frame of this number; only the node that the frame names accepts it
 abbrev pub IsDeliveryOf : ℕ → Event → Type 0
-IsDeliveryOf number (Deliver frame n word) = frame ≡ number
+IsDeliveryOf number (events.Deliver frame n word) = frame ≡ number
 IsDeliveryOf number event = ⊥
 
 -- the accepted events deliver the frames that are pending, oldest first; what a delivery sends is
@@ -46,7 +47,8 @@ DeliverAll (number ∷ pending) (a ∷ later) =
 abbrev pub IsWholeExchange : Exchange → List Accepted → Type 0
 IsWholeExchange e [] = ⊥
 IsWholeExchange e (first ∷ later) =
-    (first.event ≡ BeginExchange e.one e.other) × DeliverAll (numbers_of first.answer.sent) later
+    (first.event ≡ events.Step e.one (BeginExchange e.other))
+    × DeliverAll (numbers_of first.answer.sent) later
 
 -- the events of the two nodes
 abbrev pub events_of_two : Exchange → List Accepted → List Accepted

@@ -1,4 +1,4 @@
-//! The command `live`, over the streams of the process.
+//! The command `live`, over the streams of the process. `arguments` reads its words.
 
 ghost use Rattle.std.specs.Prelude.{◌≢◌, All, IfOk, IfSome};
 ghost use Rattle.devices.specs.Device.{IsDurable};
@@ -8,7 +8,7 @@ use crate::command::OUTPUT_LEN;
 use crate::progress::{Known, Turns, told};
 use cluster::ClusterPlan;
 use devices::{Device, FileDevice, NewName, OpenFault};
-use plumctl_core::tell;
+use plumctl_core::{tell, tell_text};
 use plumctl_live::{LiveRun, new_files, run_live, run_live_on, tell_unmade, write_recording};
 use std::io::BufWriter;
 use std::sync::Wait;
@@ -158,9 +158,12 @@ fn run_on<R: Threads + Wait + Sync, W: Sink, E: Sink>(
     live
 }
 
-/// Writes down a run that was reported, if it is one of the world and its status is 0, in the file
-/// that is to have this path. Nothing is at the path unless all of it was written. Returns the exit
-/// status.
+/// Printed at standard error if a run is written down that couldn't be reported.
+const RECORDED: &[u8] = b"note: the run is recorded all the same\n";
+
+/// Writes down a run, if it is one of the world, in the file that is to have this path; also one
+/// that couldn't be reported, since nobody can repeat it. Nothing is at the path unless all of it
+/// was written. Returns the exit status: the greater of the run's and the recording's.
 fn record<E: Sink>(
     rt: &HostRuntime,
     plan: ClusterPlan,
@@ -174,18 +177,22 @@ fn record<E: Sink>(
     ensures { result ≢ 2 }
 {
     let (mut target, name) = target;
-    let status = match &live.judged {
-        Ok(world) if live.status == 0 => {
-            write_recording(rt.alloc(), plan, world, path, &mut target, errors)
-        }
-        _ => live.status,
+    let Ok(world) = &live.judged else {
+        name.discard(rt);
+        return live.status;
     };
+    let status = write_recording(rt.alloc(), plan, world, path, &mut target, errors);
     if status != 0 {
         name.discard(rt);
-        return status;
+        return live.status.max(status);
     }
     match name.put(rt, target) {
-        Ok(_) => 0,
-        Err(fault) => Unmade { path, fault }.tell(errors),
+        Ok(_) => {
+            if live.status != 0 {
+                tell_text(errors, RECORDED);
+            }
+            live.status
+        }
+        Err(fault) => live.status.max(Unmade { path, fault }.tell(errors)),
     }
 }

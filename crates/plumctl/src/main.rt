@@ -1,6 +1,6 @@
 //! The commands of the store, at the command line. Each exit status, and each line at standard
-//! error, comes from a call of `plumctl_core`, `plumctl_file` or `plumctl_live`, except those about
-//! arguments and progress, and what is said to somebody who types a scenario.
+//! error, comes from a call of `plumctl_core`, `plumctl_draw`, `plumctl_file` or `plumctl_live`,
+//! except those about arguments and progress, and what is said to somebody who types a scenario.
 #![tactic(auto)]
 
 mod arguments;

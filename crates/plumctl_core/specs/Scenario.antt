@@ -9,7 +9,7 @@ use Rattle.meta_types.specs.Value.{ValueParts}
 use Rattle.resolvers.specs.Greatest.{by_body, by_stamp, first_greatest}
 use Rattle.scenario_text.specs.Word.{Word}
 use Rattle.scenario_text.specs.Commands.{resolver}
-use Rattle.scenario_stage.specs.Obeying.{Choices}
+use Rattle.scenario_commands.specs.Obeying.{Choices}
 use Rattle.scenario.specs.Output.{Manner, plain}
 use Rattle.scenario.specs.Run.{EndsText, Prints, ReadsAll, ReadsPart}
 use Rattle.scenario.specs.declared.fault.ScenarioFault.{ScenarioFault}

@@ -2,7 +2,7 @@
 
 use resolvers::Resolver;
 use scenario::Runner;
-use scenario_stage::{Stage, StageFault};
+use scenario_commands::{Stage, StageFault};
 use scenario_text::{Command, Lines, is_skipped};
 use std::alloc::AllocError;
 

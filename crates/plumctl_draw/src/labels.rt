@@ -3,7 +3,7 @@
 use dvvset::{join, values};
 use meta_frame::{Message, decode};
 use meta_types::MetaKey;
-use node_events::Reply;
+use node_events::{NodeEvent, Reply};
 use printing::{print_key, print_number, print_values, print_vector};
 use std::alloc::{AllocError, Global};
 use world_core::{Accepted, Event, World};
@@ -18,7 +18,11 @@ pub(crate) fn key_changed(
     accepted: &Accepted,
 ) -> Result<Option<MetaKey>, AllocError> {
     match &accepted.event {
-        Event::Put { key, .. } | Event::PutOver { key, .. } => Ok(Some(key.copy()?)),
+        Event::Put { key, .. }
+        | Event::Step {
+            event: NodeEvent::Write { key, .. } | NodeEvent::PutOver { key, .. },
+            ..
+        } => Ok(Some(key.copy()?)),
         Event::Deliver { frame, .. } if accepted.answer.reply == Reply::TookFresh => {
             key_carried(alloc, world, *frame)
         }
@@ -87,10 +91,22 @@ pub(crate) fn add_done(
             }
             add_numbered(label, b"from image ", *image)
         }
-        Event::Join { contact, .. } => add_numbered(label, b"joins through ", *contact),
-        Event::Leave { .. } => label.extend_from_slice(b"leaves\n"),
-        Event::PeerDown { peer, .. } => add_numbered(label, b"hears no more of ", *peer),
-        Event::Get { .. } | Event::Watch { .. } | Event::Changes { .. } => {
+        Event::Step { event, .. } => add_step(label, event, printed),
+        _ => Ok(()),
+    }
+}
+
+/// Adds the label of a step, as `add_done` does.
+fn add_step(label: &mut Vec<u8>, event: &NodeEvent, printed: &[u8]) -> Result<(), AllocError> {
+    match event {
+        NodeEvent::Join { contact, .. } => {
+            add_numbered(label, b"joins through ", u64::from(contact.number()))
+        }
+        NodeEvent::Leave => label.extend_from_slice(b"leaves\n"),
+        NodeEvent::PeerDown { peer, .. } => {
+            add_numbered(label, b"hears no more of ", u64::from(peer.number()))
+        }
+        NodeEvent::Read { .. } | NodeEvent::Watch { .. } | NodeEvent::Changes { .. } => {
             add_first_line(label, printed)
         }
         _ => Ok(()),

@@ -1,7 +1,7 @@
 //! Who runs a scenario and notes what happens.
 
 ghost use Rattle.scenario.specs.Output.{opens_plainly};
-ghost use Rattle.scenario_stage.specs.Obeying.{Obeys};
+ghost use Rattle.scenario_commands.specs.Obeying.{Obeys};
 
 use crate::bands::{KindCount, add_counts, count_kind};
 use crate::drawing::MAX_MOMENTS;
@@ -9,10 +9,10 @@ use crate::labels::{add_done, add_first_line, add_held, first_line, key_changed}
 use crate::{CommandLine, DrawnRow, Flight, Group, LaneMark, Notes, Span, bit};
 use meta_frame::{Frame, Message, decode, kind_name};
 use meta_types::MetaKey;
-use node_events::Reply;
+use node_events::{NodeEvent, Reply};
 use resolvers::Resolver;
 use scenario::Runner;
-use scenario_stage::{Stage, StageFault, print_line};
+use scenario_commands::{Stage, StageFault, print_line};
 use scenario_text::{Command, Lines, is_skipped};
 use std::alloc::{AllocError, Global};
 use world_core::{Accepted, Event, FrameNumbers, World};
@@ -404,9 +404,19 @@ fn mark_of(accepted: &Accepted) -> LaneMark {
             Reply::TookStale => LaneMark::Stale,
             _ => LaneMark::Taken,
         },
-        Event::Join { .. } | Event::Leave { .. } | Event::PeerDown { .. } => LaneMark::View,
         Event::Restart { .. } => LaneMark::Restart,
-        Event::Get { .. } | Event::Watch { .. } | Event::Changes { .. } => LaneMark::Look,
+        Event::Step { event, .. } => mark_of_step(event),
+        Event::Put { .. } => LaneMark::Step,
+    }
+}
+
+/// How a step is marked.
+fn mark_of_step(event: &NodeEvent) -> LaneMark {
+    match event {
+        NodeEvent::Join { .. } | NodeEvent::Leave | NodeEvent::PeerDown { .. } => LaneMark::View,
+        NodeEvent::Read { .. } | NodeEvent::Watch { .. } | NodeEvent::Changes { .. } => {
+            LaneMark::Look
+        }
         _ => LaneMark::Step,
     }
 }

@@ -15,7 +15,7 @@ use Rattle.node_file.specs.File.{StandsFor, new_state}
 use Rattle.streams.specs.declared.fault.StreamFault.{StreamFault}
 use Rattle.streams.specs.declared.fault.StreamFault.TheVariants as streams
 use Rattle.streams.specs.Moment.{SinkAt, SourceAt}
-use Rattle.scenario_stage.specs.Printed.{line}
+use Rattle.scenario_commands.specs.Printed.{line}
 use Rattle.plumctl_core.specs.Opening.{TellsText, cause_line}
 use Rattle.plumctl_core.specs.Status.{TellsFault, status_of_fault}
 use Rattle.file_pieces.specs.declared.progress.FileContents.{FileContents}

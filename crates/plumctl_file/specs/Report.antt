@@ -10,8 +10,8 @@ use Rattle.node_file.specs.Fault.{code_of, fault_name}
 use Rattle.node_file.specs.File.{version_of}
 use Rattle.printing.specs.Field.{key_text}
 use Rattle.printing.specs.Object.{object_text}
-use Rattle.scenario_stage.specs.Meaning.{root_text}
-use Rattle.scenario_stage.specs.Printed.{line}
+use Rattle.scenario_commands.specs.Meaning.{root_text}
+use Rattle.scenario_commands.specs.Printed.{line}
 
 -- as `node 0 life 1 keys 2`
 abbrev pub node_line : (node life keys : ℕ) → List ℕ

@@ -3,8 +3,8 @@
 ghost use Rattle.std.specs.Prelude.{◌≡◌, ◌++◌, IfOk, OnOk};
 ghost use Rattle.std.specs.List.{flat_map};
 ghost use Rattle.meta_store.specs.Kept.{rows_under};
-ghost use Rattle.scenario_stage.specs.Meaning.{root_text};
-ghost use Rattle.scenario_stage.specs.Printed.{line};
+ghost use Rattle.scenario_commands.specs.Meaning.{root_text};
+ghost use Rattle.scenario_commands.specs.Printed.{line};
 ghost use Rattle.plumctl_file.specs.Report.{key_line, node_line, place_text, refusal_line, warning_of};
 ghost use Rattle.plumctl_file.specs.Reported.{whole_report};
 

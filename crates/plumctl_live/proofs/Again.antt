@@ -7,8 +7,8 @@ use Rattle.world_core.specs.World.{World}
 use Rattle.world_core.proofs.Deciding.{one_outcome}
 use Rattle.scenario_text.specs.Commands.{Command, Keep, Resolve, Root, Settle}
 use Rattle.scenario_text.specs.Script.{Scenario, commands_of, first_bad, scenario_of}
-use Rattle.scenario_stage.specs.Meaning.{event_of, report_of}
-use Rattle.scenario_stage.specs.Obeying.{Acts, ActsOrLooks, ActsUnless, Choices, Happens, Obeys, PassesLimit, Stage, new_stage}
+use Rattle.scenario_commands.specs.Meaning.{event_of, report_of}
+use Rattle.scenario_commands.specs.Obeying.{Acts, ActsOrLooks, ActsUnless, Choices, Happens, Obeys, PassesLimit, Stage, new_stage}
 use Rattle.scenario.specs.Output.{IsOutput, ObeyAll, Plays, PlaysOrNothing, PlaysUnless, Runs, plain}
 use Rattle.scenario.specs.declared.fault.ScenarioFault.{ScenarioFault}
 use Rattle.run_record.specs.Record as records
@@ -101,8 +101,8 @@ makes_again nodes w text r ran choices output ended two is =
 
 -- a text that replays the world is a recording of it
 pub recorded : {T E : Type 0} (items : T → List ℕ) (nodes : ℕ) (w : World) (result : Result (Option T) E) → IsOfARun nodes w
-    → IfOk result (λ found. IfSome found (λ text. Replays 2 nodes (map records.event_of w.accepted) (items text)))
+    → IfOk result (λ found. IfSome found (λ text. (resolvers : ℕ) → Replays resolvers nodes (map records.event_of w.accepted) (items text)))
     → IfOk result (λ found. IfSome found (λ text. IsRecording nodes w (items text)))
-recorded items nodes w (Ok (Some text)) ran replays = record { replays = replays; makes = makes_again nodes w (items text) replays ran }
+recorded items nodes w (Ok (Some text)) ran replays = record { replays = replays 2; makes = makes_again nodes w (items text) (replays 2) ran }
 recorded items nodes w (Ok None) ran replays = tt
 recorded items nodes w (Err fault) ran replays = tt

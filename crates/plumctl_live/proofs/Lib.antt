@@ -1,3 +1,4 @@
 pub mod Again
 pub mod Counted
+pub mod Ended
 mod Unmade

@@ -9,10 +9,10 @@ use Rattle.run_record.specs.Fault as records
 use Rattle.run_record.specs.declared.fault.RecordFault.TheVariants as record_faults
 use Rattle.run_record.specs.Record.{HoldsJournals, HoldsTables, IsKept, IsOfARun, Refuses, ShowWhatIsKnown}
 use Rattle.world_core.specs.World.{World}
-use Rattle.scenario_stage.specs.Printed.{line}
+use Rattle.scenario_commands.specs.Printed.{line}
 use Rattle.cluster_worker.specs.Fault as clusters
 use Rattle.cluster_worker.specs.Plan.{largest, refusal_of_run}
-use Rattle.cluster_worker.specs.Serving.{first_lives, lives_from}
+use Rattle.cluster_worker.specs.Serving.{LifeView, first_lives, lives_from}
 use Rattle.cluster_worker.specs.declared.plan.ClusterPlan.{ClusterPlan}
 use Rattle.cluster.specs.Run.{CanRun, IsRunOf, RefusesNewRun, RefusesRun}
 use Rattle.cluster.specs.declared.run.ClusterRun.{ClusterRun}
@@ -60,6 +60,11 @@ RefusesJudging run NotWhole = AreWhole run.closed.items → ⊥
 RefusesJudging run (Record fault) =
     AreWhole run.closed.items × Refuses run.closed.items run.receipts.items fault
 RefusesJudging run (Cluster fault) = ⊥
+
+-- what threads left is never refused with 62: their locks left journals that are runs
+abbrev pub NoRunIsUnequal : Type 0
+NoRunIsUnequal = (lives : List LifeView) (run : ClusterRun) (n : ℕ) → IsRunOf lives run
+    → RefusesJudging run (Record (record_faults.Unequal n)) → ⊥
 
 -- what a run came to: it was judged, or there is none
 abbrev pub Judges : Result ClusterRun ClusterFault → Result World LiveFault → Type 0

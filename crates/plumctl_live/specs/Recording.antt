@@ -1,5 +1,5 @@
 -- A run that was judged, as a scenario that makes it again, and how it is written down.
-use Rattle.std.specs.Prelude.{◌≡◌, ◌⊎◌, ℕ, nat_lt, if◌then◌else◌, List, [], ◌++◌, length, map, Option, Some, None, codes}
+use Rattle.std.specs.Prelude.{◌≡◌, ◌⊎◌, ℕ, nat_lt, if◌then◌else◌, List, [], ◌++◌, length, map, Option, Some, None, codes, decimal}
 use Rattle.devices.specs.Device.{HasFailed, IsDurable, Overwrites}
 use Rattle.devices.specs.declared.opening.OpenFault.{OpenFault}
 use Rattle.devices.specs.declared.opening.OpenFault.TheVariants as opening
@@ -8,11 +8,12 @@ use Rattle.streams.specs.Moment.{SinkAt}
 use Rattle.streams.specs.declared.fault.StreamFault.TheVariants as streams
 use Rattle.world_core.specs.World.{World}
 use Rattle.run_record.specs.Record.{event_of}
-use Rattle.run_text.specs.Replay.{Replays}
+use Rattle.run_text.specs.Replay.{HasReplay, Replays}
+use Rattle.cluster_worker.specs.declared.plan.ClusterPlan.{ClusterPlan}
 use Rattle.scenario_text.specs.Commands.{Command}
 use Rattle.scenario_text.specs.Script.{commands_of, scenario_of}
-use Rattle.scenario_stage.specs.Obeying.{Choices, Stage, new_stage}
-use Rattle.scenario_stage.specs.Printed.{line}
+use Rattle.scenario_commands.specs.Obeying.{Choices, Stage, new_stage}
+use Rattle.scenario_commands.specs.Printed.{line}
 use Rattle.scenario.specs.Output.{IsOutput, ObeyAll, plain}
 use Rattle.scenario.specs.declared.fault.ScenarioFault.{ScenarioFault}
 use Rattle.scenario_text.specs.Hint.{shown_byte}
@@ -35,6 +36,16 @@ pub record MakesAgain (choices : Choices) (nodes : ℕ) (w : World) (text output
   pub obeyed : ObeyAll (plain choices) (new_stage nodes) commands printed stage
   pub world : stage.world ≡ w
   pub output_is : output ≡ line (codes "ok") ++ printed
+
+-- what is said about the recording of a run of this plan
+abbrev pub about : ClusterPlan → List ℕ
+about plan = codes "what the threads of 'plumctl live " ++ (decimal plan.nodes ++ (codes " "
+    ++ (decimal plan.turns ++ (codes " " ++ (decimal plan.seed
+    ++ codes "' did, call by call; at last the root of each node")))))
+
+-- a run of this plan has a recording: each of its events has a spelling
+abbrev pub HasRecording : ClusterPlan → World → Type 0
+HasRecording plan w = HasReplay (about plan) plan.nodes (map event_of w.accepted)
 
 -- the text asks for the events of the world, one after the other, and then for the root of each
 -- node; and a run of it to its end, with two resolvers at hand, makes the same world again
@@ -79,21 +90,28 @@ abbrev pub TellsDevice : (name cause : List ℕ) → (errors_old errors_new : Si
 TellsDevice name cause errors_old errors_new status =
     (status ≡ 3) × TellsText errors_old errors_new (device_text name cause)
 
--- the device at this path failed; memory ran out; or no text reads back as the run
-abbrev pub FailsRecording : {D : Type 0} → (D → ℕ) → (path : List ℕ) → (old new : D)
-    → (errors_old errors_new : SinkAt) → ℕ → Type 0
-FailsRecording failed path old new errors_old errors_new status =
+-- the run has no recording, and that was printed
+pub record TellsNoText (plan : ClusterPlan) (w : World) (errors_old errors_new : SinkAt)
+    (status : ℕ) : Type 0 where
+  pub none : HasRecording plan w → ⊥
+  pub status_is : status ≡ 1
+  pub told : TellsText errors_old errors_new (line (codes "error: the run has no text"))
+
+-- the device at this path failed; memory ran out; or the run has no recording
+abbrev pub FailsRecording : {D : Type 0} → (D → ℕ) → (path : List ℕ) → ClusterPlan → World
+    → (old new : D) → (errors_old errors_new : SinkAt) → ℕ → Type 0
+FailsRecording failed path plan w old new errors_old errors_new status =
     (HasFailed (failed old) (failed new)
     × TellsDevice path write_failed errors_old errors_new status)
     ⊎ (((status ≡ 4) × TellsFault errors_old errors_new streams.Memory)
-    ⊎ ((status ≡ 1) × TellsText errors_old errors_new (line (codes "error: the run has no text"))))
+    ⊎ TellsNoText plan w errors_old errors_new status)
 
 abbrev pub EndsRecording : {D : Type 0} → (D → List ℕ) → (D → List ℕ → Type 0) → (D → ℕ)
-    → (path : List ℕ) → (nodes : ℕ) → World → (old new : D)
+    → (path : List ℕ) → ClusterPlan → World → (old new : D)
     → (errors_old errors_new : SinkAt) → ℕ → Type 0
-EndsRecording content may_leave failed path nodes w old new errors_old errors_new status =
-    WritesRecording content may_leave path nodes w old new errors_old errors_new status
-    ⊎ FailsRecording failed path old new errors_old errors_new status
+EndsRecording content may_leave failed path plan w old new errors_old errors_new status =
+    WritesRecording content may_leave path plan.nodes w old new errors_old errors_new status
+    ⊎ FailsRecording failed path plan w old new errors_old errors_new status
 
 -- ---- where nothing could be made
 

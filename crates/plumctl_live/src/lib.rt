@@ -18,6 +18,7 @@
 mod counts;
 mod folder;
 mod judged;
+pub mod laws;
 mod recording;
 mod run;
 mod text;

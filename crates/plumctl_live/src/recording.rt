@@ -1,10 +1,10 @@
 //! A run that was judged, written down as a scenario.
 
-ghost use Rattle.std.specs.Prelude.{◌≡◌, ◌≢◌, IfOk, IfSome, IsErrOf, OnOk};
+ghost use Rattle.std.specs.Prelude.{◌≡◌, ◌≢◌, ◌↔◌, IfOk, IfSome, IsErrOf, IsSome, OnOk};
 ghost use Rattle.devices.specs.Device.{HasFailed};
 ghost use Rattle.devices.specs.declared.device.DeviceFault.TheVariants.{Failed};
 ghost use Rattle.run_record.specs.Record.{IsOfARun};
-ghost use Rattle.plumctl_live.specs.Recording.{EndsRecording, IsRecording, IsStored, note_of};
+ghost use Rattle.plumctl_live.specs.Recording.{EndsRecording, HasRecording, IsRecording, IsStored, about, note_of};
 
 use crate::folder::tell_device;
 use cluster::ClusterPlan;
@@ -17,11 +17,10 @@ use std::alloc::{AllocError, Global};
 use streams::{MAX_INPUT_LEN, Sink, StreamFault, write_whole};
 use world_core::World;
 
-/// How many resolvers `plumctl run` has at hand.
-const RESOLVERS: usize = 2;
-
 /// The comment on top of a recording.
-fn about(alloc: Global, plan: ClusterPlan) -> Result<Vec<u8>, AllocError> {
+fn about(alloc: Global, plan: ClusterPlan) -> Result<Vec<u8>, AllocError>
+    ensures { IfOk result (λ text. text.items ≡ about plan) }
+{
     let mut text = Vec::new(alloc);
     text.extend_from_slice(b"what the threads of 'plumctl live ")?;
     print_number(&mut text, plan.nodes)?;
@@ -37,27 +36,22 @@ fn about(alloc: Global, plan: ClusterPlan) -> Result<Vec<u8>, AllocError> {
 /// its end, with two resolvers at hand as `plumctl run` has them, makes the same events, and comes
 /// to the same world: with the same replies and frames.
 ///
-/// Returns `None` if no text reads back as this run: if a name in it has no spelling. Those that
-/// the workers of a cluster write have one. No contract says so.
+/// Returns `None` exactly if the run has no text: if a name in it has no spelling. Those that the
+/// workers of a cluster write have one. No contract says so.
 ///
-/// It takes memory for the text, and for each event once more.
+/// It takes memory for the text.
 pub fn recording_of(
     alloc: Global,
     plan: ClusterPlan,
     world: &World,
 ) -> Result<Option<Vec<u8>>, AllocError>
     requires { IsOfARun plan.nodes world.now }
-    ensures { IfOk result (λ found. IfSome found (λ text.
+    ensures some { IfOk result (λ found. IsSome found ↔ HasRecording plan world.now) }
+    ensures makes { IfOk result (λ found. IfSome found (λ text.
         IsRecording plan.nodes world.now text.items)) }
 {
     let about = about(alloc, plan)?;
-    replay_of(
-        alloc,
-        about.as_slice(),
-        plan.nodes,
-        world.accepted(),
-        RESOLVERS,
-    )
+    replay_of(alloc, about.as_slice(), plan.nodes, world.accepted())
 }
 
 /// Writes the text at the front of the device, so that every crash leaves it there.
@@ -98,7 +92,7 @@ pub fn write_recording<T: Device, E: Sink>(
 ) -> u8
     requires { IsOfARun plan.nodes world.now }
     ensures not_usage { result ≢ 2 }
-    ensures ends { EndsRecording T.content T.may_leave T.failed path.now plan.nodes world.now
+    ensures ends { EndsRecording T.content T.may_leave T.failed path.now plan world.now
         target.old target.new (E.at errors.old) (E.at errors.new) result }
 {
     let text = match recording_of(alloc, plan, world) {

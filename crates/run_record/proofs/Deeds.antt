@@ -9,7 +9,7 @@ use Rattle.node_core.specs.Step.{CanComeOf, IsNodeStep}
 use Rattle.node_events.specs.declared.event.NodeEvent.{NodeEvent}
 use Rattle.node_events.specs.declared.fault.StepFault.{StepFault}
 use Rattle.node_events.specs.declared.fault.StepFault.TheVariants as OfStep
-use Rattle.node_images.specs.Images.{Image}
+use Rattle.restart_images.specs.Images.{Image}
 use Rattle.node_journal.specs.Closed.{ClosedNode}
 use Rattle.node_journal.specs.declared.entry.Entry.{Entry}
 use Rattle.node_journal.specs.Entry.{step_of, stepped_of}

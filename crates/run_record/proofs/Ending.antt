@@ -7,7 +7,7 @@ use Rattle.meta_store.specs.Table.{object_at}
 use Rattle.meta_types.specs.Name.{Key}
 use Rattle.node_core.specs.Node.{NodeParts, opening}
 use Rattle.node_core.specs.Run.{RunsGoOn}
-use Rattle.node_images.specs.Node.{new_node}
+use Rattle.restart_images.specs.Node.{new_node}
 use Rattle.node_journal.specs.Closed.{ClosedNode}
 use Rattle.node_journal.specs.declared.entry.Entry.{Entry}
 use Rattle.node_journal.specs.Entry.{step_of}

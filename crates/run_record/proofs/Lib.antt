@@ -18,6 +18,8 @@ mod Stuckness
 pub mod Numbers
 -- what follows of whole journals
 pub mod Wholeness
+-- journals that are runs which end with their tables
+pub mod Closing
 -- a journal that ran otherwise than told
 pub mod Deeds
 -- what a world holds, and the marks, after one entry more

@@ -10,7 +10,7 @@ use Rattle.node_core.specs.Step.{IsNodeStep}
 use Rattle.node_events.specs.declared.event.NodeEvent.{NodeEvent}
 use Rattle.node_events.specs.declared.reply.Reply.{Reply}
 use Rattle.node_events.specs.declared.reply.Reply.TheVariants.{Looked}
-use Rattle.node_images.specs.Node.{context_read}
+use Rattle.restart_images.specs.Node.{context_read}
 use Rattle.node_journal.specs.Closed.{ClosedNode}
 use Rattle.node_journal.specs.declared.entry.Entry.{Entry}
 use Rattle.node_journal.specs.Entry.{stepped_of}

@@ -5,7 +5,7 @@ use Rattle.std.proofs.lemmas.Bool.{cases_eq}
 use Rattle.node_core.specs.Growing.{OnlyReadsHandOut}
 use Rattle.node_events.specs.declared.event.NodeEvent.{NodeEvent}
 use Rattle.node_events.specs.Event.{stored_key}
-use Rattle.node_images.specs.Node.{ImagedNode, arrived, context_read}
+use Rattle.restart_images.specs.Node.{ImagedNode, arrived, context_read}
 use Rattle.node_journal.specs.Closed.{ClosedNode}
 use Rattle.node_journal.specs.declared.entry.Entry.{Entry}
 use Rattle.run_record.proofs.Waiting.{places_step}

@@ -1,5 +1,5 @@
 -- A world that holds what many journals tell, or why there is none.
-use Rattle.std.specs.Prelude.{ℕ, ◌≡◌, ◌<◌, List, [], length, map, slice_get, Some, Result, Ok}
+use Rattle.std.specs.Prelude.{ℕ, ◌≡◌, ◌<◌, List, [], length, map, slice_get, All, Some, Result, Ok}
 use Rattle.meta_store.specs.Table.{object_at}
 use Rattle.meta_types.specs.Name.{Key}
 use Rattle.node_core.specs.Node.{NodeParts, opening}
@@ -7,7 +7,7 @@ use Rattle.node_core.specs.Run.{IsRun}
 use Rattle.node_core.specs.declared.state.Stepped.{Stepped}
 use Rattle.node_journal.specs.declared.entry.Entry.{Entry}
 use Rattle.node_journal.specs.declared.receipt.Receipt.{Receipt}
-use Rattle.node_journal.specs.Closed.{ClosedNode}
+use Rattle.node_journal.specs.Closed.{AreWhole, ClosedNode, EndsWithTable}
 use Rattle.node_journal.specs.Entry.{step_of, stepped_of}
 use Rattle.run_record.specs.Journals.{entry_at, journal_of, last_table}
 use Rattle.run_record.specs.Refusal.{IsStuck, IsUnsent, NoneIsStuck, NoneIsUnsent}
@@ -67,6 +67,12 @@ AllRanAsTold closed = (n : ℕ) → n < length closed → RanAsTold closed n
 pub record IsUnequal (closed : List ClosedNode) (n : ℕ) : Type 0 where
   pub node : n < length closed
   pub otherwise : RanAsTold closed n → ⊥
+
+-- it never comes of whole journals each of which is a run of its node that ends with its table, as
+-- those are that are left where nodes are closed
+abbrev pub WhatIsClosedIsEqual : Type 0
+WhatIsClosedIsEqual = (closed : List ClosedNode) (n : ℕ) → AreWhole closed
+    → All EndsWithTable closed → IsUnequal closed n → ⊥
 
 -- ---- 63: a receipt is of no entry
 

@@ -5,7 +5,7 @@
 //! ```
 //! match assemble(alloc, &closed, &receipts) {
 //!     Ok(world) => {
-//!         let text = replay_of(alloc, b"200 turns each", 4, world.accepted(), 2)?;
+//!         let text = replay_of(alloc, b"200 turns each", 4, world.accepted())?;
 //!         // the commands of the text are the accepted events of the world
 //!     }
 //!     Err(fault) => {
@@ -15,18 +15,18 @@
 //! }
 //! ```
 //!
-//! Read `replay` (`replay_of`), then `line`; `asked` reads a text back. Then `explain`, `needed`
-//! (what an entry needs), `difference` (where a node does something else) and `reply`. Calls are
-//! counted from 1, for people.
+//! Read `replay` (`replay_of`), then `spelling` (which runs have a text) and `line`. Then `explain`,
+//! `needed` (what an entry needs), `difference` (where a node does something else) and `reply`. Calls
+//! are counted from 1, for people.
 #![tactic(auto)]
 
-mod asked;
 mod difference;
 mod explain;
 mod line;
 mod needed;
 mod replay;
 mod reply;
+mod spelling;
 
 pub use explain::explain_fault;
 pub use replay::replay_of;

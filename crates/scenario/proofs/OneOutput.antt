@@ -2,8 +2,8 @@
 use Rattle.std.proofs.Common.{◌≡◌, ℕ, List, [], ◌∷◌, ◌++◌, length, Option, Some, None, inl, inr, sym, ap, subst, ◌∙◌}
 use Rattle.scenario_text.specs.Commands.{Command}
 use Rattle.scenario_text.specs.Script.{Scenario, commands_of, first_bad, scenario_of}
-use Rattle.scenario_stage.specs.Obeying.{Choices, Stage, new_stage}
-use Rattle.scenario_stage.proofs.OneStage.{obeys_within, one_obeys}
+use Rattle.scenario_commands.specs.Obeying.{Choices, Stage, new_stage}
+use Rattle.scenario_commands.proofs.OneStage.{obeys_within, one_obeys}
 use Rattle.scenario.specs.Output.{IsOutput, Plays, PlaysOrNothing, PlaysUnless, Runs, plain}
 use Rattle.scenario.specs.declared.fault.ScenarioFault.{ScenarioFault}
 

@@ -14,16 +14,16 @@ use Rattle.streams.proofs.Sent.{Appends-kept, Appends-nil, Appends-then}
 use Rattle.scenario_text.specs.Commands.{Command}
 use Rattle.scenario_text.specs.Script.{Scenario, commands_of, first_bad, scenario_of}
 use Rattle.scenario.specs.Ending.{end_line}
-use Rattle.scenario_stage.specs.Obeying.{Choices, PassesLimit, Stage, new_stage}
-use Rattle.scenario_stage.specs.declared.fault.StageFault.{StageFault}
-use Rattle.scenario_stage.specs.declared.fault.StageFault.TheVariants as stages
+use Rattle.scenario_commands.specs.Obeying.{Choices, PassesLimit, Stage, new_stage}
+use Rattle.scenario_commands.specs.declared.fault.StageFault.{StageFault}
+use Rattle.scenario_commands.specs.declared.fault.StageFault.TheVariants as stages
 use Rattle.scenario.specs.Fault.{of_stage}
 use Rattle.scenario.specs.Output.{BeginsNext, IsFrontOfOutput, IsFrontOfPlay, IsOutput, Manner, ObeyAll, Plays, PlaysOrNothing, PlaysUnless, Runs, RunsFront, plain}
 use Rattle.scenario.specs.Ending.{bad_line, limit_line}
 use Rattle.scenario.specs.Run.{DoesOrEnds, EndsBefore, EndsCommand, EndsCommands, EndsLine, EndsOpening, EndsPlay, EndsText, PlaysAll, PlaysToLimit, Prints, StopsAtLimit, StopsPrinting, WritesAll, WritesCommand, WritesEnd, WritesOpening, WritesOutput}
 use Rattle.scenario.specs.declared.fault.ScenarioFault.{ScenarioFault}
 use Rattle.scenario.specs.declared.fault.ScenarioFault.TheVariants.{BadLine, Limit, Stream}
-use Rattle.scenario_stage.proofs.OneStage.{obeys_within, one_obeys}
+use Rattle.scenario_commands.proofs.OneStage.{obeys_within, one_obeys}
 
 -- ---- faults of writing
 

@@ -2,8 +2,8 @@
 use Rattle.std.specs.Prelude.{ℕ, List, Option, Some, codes}
 use Rattle.streams.specs.Fault as stream
 use Rattle.streams.specs.declared.fault.StreamFault.TheVariants as stream_faults
-use Rattle.scenario_stage.specs.declared.fault.StageFault.{StageFault}
-use Rattle.scenario_stage.specs.declared.fault.StageFault.TheVariants as stages
+use Rattle.scenario_commands.specs.declared.fault.StageFault.{StageFault}
+use Rattle.scenario_commands.specs.declared.fault.StageFault.TheVariants as stages
 use Rattle.scenario.specs.declared.fault.ScenarioFault.{ScenarioFault}
 use Rattle.scenario.specs.declared.fault.ScenarioFault.TheVariants.{BadLine, Limit, Stream}
 

@@ -6,7 +6,7 @@ pub use Rattle.streams.specs.Fault as StreamFaults
 -- the language: which text is which scenario
 pub use Rattle.scenario_text.specs.Script
 -- what a command prints, and what it leaves
-pub use Rattle.scenario_stage.specs.Obeying
+pub use Rattle.scenario_commands.specs.Obeying
 -- how a scenario stops early
 pub mod Fault
 -- the line that is printed of that

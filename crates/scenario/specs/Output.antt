@@ -5,8 +5,8 @@ use Rattle.std.specs.Prelude.{◌≡◌, ℕ, ◌⊎◌, List, [], ◌∷◌, �
 use Rattle.scenario.specs.declared.fault.ScenarioFault.{ScenarioFault}
 use Rattle.scenario.specs.declared.fault.ScenarioFault.TheVariants.{BadLine, Limit}
 use Rattle.scenario_text.specs.Commands.{Command}
-use Rattle.scenario_stage.specs.Obeying.{Choices, Obeys, PassesLimit, Stage, new_stage}
-use Rattle.scenario_stage.specs.Printed.{line}
+use Rattle.scenario_commands.specs.Obeying.{Choices, Obeys, PassesLimit, Stage, new_stage}
+use Rattle.scenario_commands.specs.Printed.{line}
 use Rattle.scenario.specs.Ending.{bad_line, limit_line}
 use Rattle.scenario_text.specs.Script.{Scenario, commands_of, first_bad, scenario_of}
 

@@ -9,10 +9,10 @@ use Rattle.streams.specs.Written.{AppendsFront}
 use Rattle.scenario.specs.declared.fault.ScenarioFault.{ScenarioFault}
 use Rattle.scenario.specs.declared.fault.ScenarioFault.TheVariants.{BadLine, Limit, Stream}
 use Rattle.scenario_text.specs.Commands.{Command}
-use Rattle.scenario_stage.specs.Obeying.{PassesLimit, Stage, new_stage}
+use Rattle.scenario_commands.specs.Obeying.{PassesLimit, Stage, new_stage}
 use Rattle.scenario.specs.Output.{BeginsNext, PlaysCommand, IsFrontOfOutput, IsFrontOfPlay, IsOutput, Manner, ObeyAll, RunsFront}
-use Rattle.scenario_stage.specs.declared.fault.StageFault.{StageFault}
-use Rattle.scenario_stage.specs.declared.fault.StageFault.TheVariants as stages
+use Rattle.scenario_commands.specs.declared.fault.StageFault.{StageFault}
+use Rattle.scenario_commands.specs.declared.fault.StageFault.TheVariants as stages
 use Rattle.scenario_text.specs.Script.{Scenario, commands_of, first_bad, scenario_of}
 
 -- ---- of a text

@@ -3,7 +3,7 @@ ghost use Rattle.scenario.specs.Fault.{code_of, fault_name, of_stage};
 ghost use Rattle.scenario.specs.declared.fault.ScenarioFault.TheVariants as faults;
 ghost use Rattle.streams.specs.declared.fault.StreamFault.TheVariants as streams;
 
-use scenario_stage::StageFault;
+use scenario_commands::StageFault;
 use scenario_text::BadLine;
 use std::alloc::{AllocError, AllocFailed};
 use streams::StreamFault;

@@ -2,7 +2,7 @@
 //! does nothing, or compares.
 
 ghost use Rattle.std.specs.Prelude.{◌≡◌, ◌↔◌, ◌++◌, ℕ, List, Option, IsTrue};
-ghost use Rattle.scenario_stage.specs.Obeying.{Choices};
+ghost use Rattle.scenario_commands.specs.Obeying.{Choices};
 ghost use Rattle.scenario.specs.Output.{IsFrontOfOutput, IsOutput, plain};
 ghost use Rattle.scenario.specs.declared.fault.ScenarioFault.{ScenarioFault as Fault};
 

@@ -13,7 +13,7 @@
 //! ```
 //!
 //! The language itself is the crate `scenario_text`, and what a command does and prints the crate
-//! `scenario_stage`. Read `run` with `input`, then `runner` (in what manner a scenario is run),
+//! `scenario_commands`. Read `run` with `input`, then `runner` (in what manner a scenario is run),
 //! `fault` and `laws`.
 #![tactic(auto)]
 

@@ -13,7 +13,7 @@ use crate::fault::ScenarioFault;
 use crate::input::read_text;
 use crate::runner::{Plain, Runner};
 use resolvers::Resolver;
-use scenario_stage::{Stage, print_count, print_line};
+use scenario_commands::{Stage, print_count, print_line};
 use scenario_text::{Command, Script, parse};
 use std::alloc::{AllocError, Global};
 use streams::{Sink, Source, StreamFault, flush, write_whole};

@@ -3,11 +3,11 @@
 ghost use Rattle.std.specs.Prelude.{OnOk, List, ℕ, map};
 ghost use Rattle.scenario.specs.Output.{PlaysCommand, opens_plainly};
 ghost use Rattle.scenario.specs.Run.{DoesOrEnds, Opens};
-ghost use Rattle.scenario_stage.specs.Obeying.{Choices, Obeys, Stage as StageParts};
+ghost use Rattle.scenario_commands.specs.Obeying.{Choices, Obeys, Stage as StageParts};
 ghost use Rattle.scenario_text.specs.Coded.{command_word};
 
 use resolvers::Resolver;
-use scenario_stage::{Stage, StageFault, print_line};
+use scenario_commands::{Stage, StageFault, print_line};
 use scenario_text::Command;
 use std::alloc::AllocError;
 

@@ -4,8 +4,8 @@ use Rattle.std.specs.Prelude.{codes, decimal}
 use Rattle.std.proofs.lemmas.List.{append-nil, map-append}
 use Rattle.std.proofs.Math.Seq.{drop-append_seam}
 use Rattle.scenario_text.specs.Commands.{Command}
-use Rattle.scenario_stage.specs.Marking.{all_waiting}
-use Rattle.scenario_stage.specs.Obeying.{Choices, Obeys, Stage}
+use Rattle.scenario_commands.specs.Marking.{all_waiting}
+use Rattle.scenario_commands.specs.Obeying.{Choices, Obeys, Stage}
 use Rattle.scenario_explain.specs.OnTheWay.{way_lines}
 use Rattle.scenario_explain.specs.Reason.{reasons_of}
 use Rattle.scenario_explain.specs.Told.{AddsCommand, AddsOfNodes, AreOfNodes, AreTold, Explains, IsOfCommand, told_line, told_lines, told_way}

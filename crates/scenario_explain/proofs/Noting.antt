@@ -3,8 +3,8 @@ use Rattle.std.proofs.Common.{◌≡◌, ℕ, zero, suc, ◌+◌, ◌-◌, ◌<�
 use Rattle.std.specs.Prelude.{remove, slice_get, slice_set}
 use Rattle.std.specs.Option.{unwrap_or}
 use Rattle.std.proofs.lemmas.List.{length-append, length-set, take_all, take_at}
-use Rattle.scenario_stage.specs.Marking.{AddsUnset, SetsOne, all_waiting}
-use Rattle.scenario_stage.specs.Obeying.{was_given, with_given}
+use Rattle.scenario_commands.specs.Marking.{AddsUnset, SetsOne, all_waiting}
+use Rattle.scenario_commands.specs.Obeying.{was_given, with_given}
 use Rattle.scenario_explain.specs.Noting.{NotesAll, NotesFront}
 
 -- ---- their numbers rise

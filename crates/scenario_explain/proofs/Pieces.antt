@@ -4,8 +4,8 @@ use Rattle.std.specs.Prelude.{codes}
 use Rattle.std.proofs.lemmas.List.{append-nil}
 use Rattle.scenario_text.specs.Commands.{Command}
 use Rattle.scenario_text.specs.Script.{Scenario, commands_of, first_bad, scenario_of}
-use Rattle.scenario_stage.specs.Obeying.{Choices, Stage, new_stage}
-use Rattle.scenario_stage.specs.Printed.{line}
+use Rattle.scenario_commands.specs.Obeying.{Choices, Stage, new_stage}
+use Rattle.scenario_commands.specs.Printed.{line}
 use Rattle.scenario.specs.Ending.{bad_line, limit_line}
 use Rattle.scenario.specs.Output.{IsOutput, Plays, PlaysOrNothing, PlaysUnless, Runs, plain}
 use Rattle.scenario.specs.declared.fault.ScenarioFault.{ScenarioFault}

@@ -2,7 +2,7 @@
 pub use Rattle.scenario.specs.Output
 pub use Rattle.scenario.specs.Run
 -- which frames are named as on their way
-pub use Rattle.scenario_stage.specs.Marking
+pub use Rattle.scenario_commands.specs.Marking
 pub mod OnTheWay
 -- why a command was refused
 pub mod Reason

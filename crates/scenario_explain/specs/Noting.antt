@@ -1,7 +1,7 @@
 -- What is noted of a stage, so that it need not be gone over after each command.
 use Rattle.std.specs.Prelude.{◌≡◌, ℕ, ◌≤◌, Bool, List, length, take}
 use Rattle.scenario_text.specs.Commands.{Command}
-use Rattle.scenario_stage.specs.Marking.{SetsMarks, all_waiting}
+use Rattle.scenario_commands.specs.Marking.{SetsMarks, all_waiting}
 
 -- these frames wait, and `seen` marks were looked at, which are all
 pub record NotesAll (frames : List ℕ) (seen : ℕ) (given : List Bool) : Type 0 where

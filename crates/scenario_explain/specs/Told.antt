@@ -4,9 +4,9 @@
 use Rattle.std.specs.Prelude.{◌≡◌, ◌⊎◌, ℕ, List, [], ◌∷◌, ◌++◌, map, codes, decimal}
 use Rattle.scenario_text.specs.Commands.{Command}
 use Rattle.scenario_text.specs.Hint.{shown_byte}
-use Rattle.scenario_stage.specs.Marking.{all_waiting}
-use Rattle.scenario_stage.specs.Obeying.{Choices, Obeys, Stage}
-use Rattle.scenario_stage.specs.Printed.{line}
+use Rattle.scenario_commands.specs.Marking.{all_waiting}
+use Rattle.scenario_commands.specs.Obeying.{Choices, Obeys, Stage}
+use Rattle.scenario_commands.specs.Printed.{line}
 use Rattle.scenario.specs.Output.{Manner, manner_of}
 use Rattle.scenario_explain.specs.OnTheWay.{way_lines}
 use Rattle.scenario_explain.specs.Reason.{reasons_of}

@@ -12,7 +12,7 @@ use crate::waiting::Waiting;
 use printing::print_number;
 use resolvers::Resolver;
 use scenario::{Runner, ScenarioFault, read_text, run_text};
-use scenario_stage::{Stage, StageFault, print_line};
+use scenario_commands::{Stage, StageFault, print_line};
 use scenario_text::{Command, Lines, add_shown, is_skipped};
 use std::alloc::{AllocError, Global};
 use streams::{Sink, Source};

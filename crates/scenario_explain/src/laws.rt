@@ -1,7 +1,7 @@
 //! The law of explained runs. Its contract is the law; its body does nothing.
 
 ghost use Rattle.std.specs.Prelude.{ℕ, List, Option};
-ghost use Rattle.scenario_stage.specs.Obeying.{Choices};
+ghost use Rattle.scenario_commands.specs.Obeying.{Choices};
 ghost use Rattle.scenario.specs.Output.{IsOutput, plain};
 ghost use Rattle.scenario.specs.declared.fault.ScenarioFault.{ScenarioFault as Fault};
 ghost use Rattle.scenario_explain.specs.Told.{AreResultsOf, explained};

@@ -9,7 +9,7 @@ use meta_store::Store;
 use meta_types::{FullPrefix, MetaKey};
 use node_core::NodeState;
 use printing::{print_key, print_number, print_object};
-use scenario_stage::keys_of;
+use scenario_commands::keys_of;
 use scenario_text::{Command, KeyWord};
 use std::alloc::{AllocError, Global};
 use world_core::World;

@@ -3,15 +3,15 @@
 ghost use Rattle.std.specs.Prelude.{◌≡◌, ◌≤◌, ◌++◌, Bool, List, [], None, OnOk};
 ghost use Rattle.scenario_text.specs.Coded.{command_word};
 ghost use Rattle.scenario_text.specs.Commands.{Deliver};
-ghost use Rattle.scenario_stage.specs.Marking.{all_waiting};
-ghost use Rattle.scenario_stage.specs.Obeying.{with_given};
+ghost use Rattle.scenario_commands.specs.Marking.{all_waiting};
+ghost use Rattle.scenario_commands.specs.Obeying.{with_given};
 ghost use Rattle.scenario_explain.specs.Noting.{NotedBefore, NotesAll, NotesFront};
 ghost use Rattle.scenario_explain.specs.OnTheWay.{first_of, spaced, way_lines};
 ghost use Rattle.scenario_explain.specs.Told.{told_lines};
 
 use crate::line::add_line;
 use printing::print_number;
-use scenario_stage::Stage;
+use scenario_commands::Stage;
 use scenario_text::Command;
 use std::alloc::{AllocError, Global};
 

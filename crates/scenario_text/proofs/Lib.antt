@@ -14,3 +14,11 @@ pub mod Rows
 pub mod Counts
 -- words that are near, and verbs one after the other
 pub mod Hints
+-- words with a space between two of them
+pub mod Spaced
+-- numbers, names and bytes, as they are written
+pub mod SpelledParts
+-- each row of the spelling
+pub mod SpelledRows
+-- a text of spelled commands
+pub mod SpelledText

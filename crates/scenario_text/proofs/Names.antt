@@ -22,7 +22,7 @@ parts_of-cases separator (b ∷ bytes) = elim (cases_Bool (b == separator)) [
   ]
 ]
 
-plain_others : (bytes : List ℕ) → list_all is_plain bytes ≡ true → All (IsOther 47) bytes
+pub plain_others : (bytes : List ℕ) → list_all is_plain bytes ≡ true → All (IsOther 47) bytes
 plain_others [] plain = All-nil (IsOther 47)
 plain_others (b ∷ bytes) plain =
     let parts = and_parts (is_plain b) (list_all is_plain bytes) plain in

@@ -10,11 +10,11 @@ pub digits_onto-least : (value : ℕ) (digits : List ℕ) → value ≤ digits_o
 digits_onto-least value [] = omega arith
 digits_onto-least value (b ∷ digits) = let more = digits_onto-least (value * 10 + (b - 48)) digits in omega arith
 
-is_empty-false : (word : List ℕ) → 0 < length word → is_empty word ≡ false
+pub is_empty-false : (word : List ℕ) → 0 < length word → is_empty word ≡ false
 is_empty-false [] some = absurd (omega arith)
 is_empty-false (b ∷ word) some = refl
 
-number_of-digits : (word : List ℕ) (value : ℕ) → 0 < length word → length word ≤ 20 → list_all is_digit word ≡ true → digits_onto 0 word ≡ value → value < 2 ^ 64 → number_of word ≡ Some value
+pub number_of-digits : (word : List ℕ) (value : ℕ) → 0 < length word → length word ≤ 20 → list_all is_digit word ≡ true → digits_onto 0 word ≡ value → value < 2 ^ 64 → number_of word ≡ Some value
 number_of-digits word value some few digits is small =
     rw (is_empty-false word some, le-leb (length word) 20 few, digits, is, lt-ltb value (2 ^ 64) small) refl
 

@@ -41,7 +41,7 @@ words_of-none = refl
 pub words_of-empty : (bytes : List ℕ) → length bytes ≡ 0 → words_of bytes ≡ []
 words_of-empty bytes empty = ap words_of (nil_from_length bytes empty) ∙ words_of-none
 
-words_of-first : (bytes word rest : List ℕ) → BeginsNoSpace bytes → All (IsOther 32) word → bytes ≡ word ++ 32 ∷ rest → words_of bytes ≡ word ∷ words_of rest
+pub words_of-first : (bytes word rest : List ℕ) → BeginsNoSpace bytes → All (IsOther 32) word → bytes ≡ word ++ 32 ∷ rest → words_of bytes ≡ word ∷ words_of rest
 words_of-first bytes [] rest begins one is = let no : 32 ≢ 32 = subst BeginsNoSpace is begins in absurd (no refl)
 words_of-first bytes (b ∷ word) rest begins one is = rw (is, parts_of-first 32 (b ∷ word) rest one) refl
 

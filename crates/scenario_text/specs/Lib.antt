@@ -9,6 +9,8 @@ pub mod Reading
 pub mod Commands
 -- the lines of a text: which is which command, and which breaks a rule
 pub mod Script
+-- how a command is written, so that it reads back
+pub mod Spelling
 -- what the types of the code stand for
 pub mod Coded
 -- what is printed about a line that breaks a rule

@@ -28,7 +28,7 @@ line_of_words resolvers (first ∷ words) =
 abbrev pub line_of : ℕ → List ℕ → Line
 line_of resolvers line = line_of_words resolvers (words_of line)
 
-abbrev is_nodes : Command → Bool
+abbrev pub is_nodes : Command → Bool
 is_nodes (Nodes count) = true
 is_nodes command = false
 

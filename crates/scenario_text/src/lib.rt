@@ -21,8 +21,8 @@
 //!
 //! Read `command`, `verb` and `table` (which words are which command), `number`, `name`, `bytes`
 //! and `words` (what words stand for) with `split`, `line`, then `script` (a text) with `fault` and
-//! `laws`. Then `hint` (what is wrong with a line), `near`, `form`, `wrong` (which word), and
-//! `told` with `found` and `shown`.
+//! `laws` (what is written reads back). Then `hint` (what is wrong with a line), `near`, `form`,
+//! `wrong` (which word), and `told` with `found` and `shown`.
 #![tactic(auto)]
 
 pub mod bytes;

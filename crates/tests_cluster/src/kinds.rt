@@ -1,7 +1,7 @@
 //! The command of each kind of event.
 
-use meta_types::{ByteString, FullPrefix, MetaKey, Value};
-use node_events::Reply;
+use meta_types::{ByteString, FullPrefix, MetaKey, NodeId, Value};
+use node_events::{NodeEvent, Reply};
 use run_text::replay_of;
 use std::alloc::Global;
 use std::process::Abort;
@@ -25,6 +25,10 @@ fn prefix(rt: &impl Abort, alloc: Global) -> FullPrefix {
     FullPrefix::new(prefix, sub).ok().expect(rt, "a prefix")
 }
 
+fn node(rt: &impl Abort, number: u16) -> NodeId {
+    NodeId::new(number).ok().expect(rt, "a node")
+}
+
 /// Returns the key a/b with this own part.
 fn key(rt: &impl Abort, alloc: Global, own: &[u8]) -> MetaKey {
     let own = own.to_vec(alloc).expect(rt, "memory");
@@ -38,71 +42,79 @@ fn value(rt: &impl Abort, alloc: Global, stamp: u64, body: &[u8]) -> Value {
     Value::new(stamp, Some(body)).ok().expect(rt, "a value")
 }
 
-/// Returns the event of this number that has a key.
-fn event_under(rt: &impl Abort, alloc: Global, number: u64) -> Event {
+/// Returns what a node is asked by the event of this number, if that has a key.
+fn asked_under(rt: &impl Abort, alloc: Global, number: u64) -> NodeEvent {
     let key = key(rt, alloc, b"k");
     match number {
-        0 => Event::Put {
-            node: 0,
+        0 => NodeEvent::Write {
             key,
             value: value(rt, alloc, 0, b"x"),
-            read: None,
+            context: None,
         },
-        1 => Event::Put {
-            node: 1,
-            key,
-            value: value(rt, alloc, 5, b"\x00\xff"),
-            read: Some(1),
-        },
-        2 => Event::Put {
-            node: 0,
+        2 => NodeEvent::Write {
             key,
             value: Value::new(7, None).ok().expect(rt, "a tombstone"),
-            read: None,
+            context: None,
         },
-        3 => Event::PutOver {
-            node: 1,
+        3 => NodeEvent::PutOver {
             key,
             value: value(rt, alloc, 0, b"y"),
         },
-        16 => Event::Keep { node: 1, key },
-        _ => Event::Get { node: 0, key },
+        16 => NodeEvent::Keep { key },
+        _ => NodeEvent::Read { key },
+    }
+}
+
+/// Returns what a node is asked by the event of this number.
+fn asked(rt: &impl Abort, alloc: Global, number: u64) -> NodeEvent {
+    match number {
+        6 => NodeEvent::Tick { word: 0 },
+        7 => NodeEvent::Join {
+            contact: node(rt, 0),
+            word: u64::MAX,
+        },
+        8 => NodeEvent::PeerDown {
+            peer: node(rt, 1),
+            word: 0,
+        },
+        9 => NodeEvent::Exchange { peer: node(rt, 1) },
+        10 => NodeEvent::Hello { peer: node(rt, 1) },
+        11 => NodeEvent::Leave,
+        13 => NodeEvent::Watch {
+            prefix: prefix(rt, alloc),
+            capacity: 2,
+        },
+        14 => NodeEvent::Changes { number: 1 },
+        15 => NodeEvent::Take {
+            frame: ByteString::new(b"PT".to_vec(alloc).expect(rt, "memory")),
+            word: 0,
+        },
+        number => asked_under(rt, alloc, number),
     }
 }
 
 fn event(rt: &impl Abort, alloc: Global, number: u64) -> Event {
     match number {
+        1 => Event::Put {
+            node: 1,
+            key: key(rt, alloc, b"k"),
+            value: value(rt, alloc, 5, b"\x00\xff"),
+            read: 1,
+        },
         5 => Event::Deliver {
             frame: 3,
             node: 1,
             word: 9,
         },
-        6 => Event::Tick { node: 0, word: 0 },
-        7 => Event::Join {
-            node: 1,
-            contact: 0,
-            word: u64::MAX,
-        },
-        8 => Event::PeerDown {
-            node: 0,
-            peer: 1,
-            word: 0,
-        },
-        9 => Event::Exchange { node: 0, peer: 1 },
-        10 => Event::Hello { node: 0, peer: 1 },
-        11 => Event::Leave { node: 1 },
         12 => Event::Restart { node: 1, image: 0 },
-        13 => Event::Watch {
-            node: 0,
-            prefix: prefix(rt, alloc),
-            capacity: 2,
-        },
-        14 => Event::Changes { node: 0, number: 1 },
-        15 => Event::Junk {
+        3 | 7 | 11 | 15 | 16 => Event::Step {
             node: 1,
-            bytes: ByteString::new(b"PT".to_vec(alloc).expect(rt, "memory")),
+            event: asked(rt, alloc, number),
         },
-        number => event_under(rt, alloc, number),
+        number => Event::Step {
+            node: 0,
+            event: asked(rt, alloc, number),
+        },
     }
 }
 
@@ -138,7 +150,7 @@ fn is_told(
     events: &[Accepted],
     wanted: Option<&[u8]>,
 ) -> bool {
-    match replay_of(alloc, about, nodes, events, 0) {
+    match replay_of(alloc, about, nodes, events) {
         Ok(Some(text)) => wanted == Some(text.as_slice()),
         Ok(None) => wanted.is_none(),
         Err(_) => false,
@@ -158,10 +170,11 @@ fn each_kind_of_event_has_its_command(rt: HostRuntime) {
 /// Returns an event that names a key without a spelling.
 fn untold(rt: &impl Abort, alloc: Global, number: u64) -> Event {
     let key = key(rt, alloc, b"k k");
-    match number {
-        0 => Event::Get { node: 0, key },
-        _ => Event::Keep { node: 0, key },
-    }
+    let event = match number {
+        0 => NodeEvent::Read { key },
+        _ => NodeEvent::Keep { key },
+    };
+    Event::Step { node: 0, event }
 }
 
 #[test]

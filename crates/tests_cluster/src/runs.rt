@@ -2,6 +2,7 @@
 
 use crate::parts::{Came, are_in_order, plan, told};
 use cluster::{ClusterPlan, NoHook, run_cluster};
+use node_events::NodeEvent;
 use std::alloc::Global;
 use std::sync::Wait;
 use std::thread::Threads;
@@ -45,6 +46,31 @@ fn one_node_makes_its_turns_by_itself(rt: HostRuntime) {
 #[test]
 fn sixteen_nodes_make_no_turn_but_join(rt: HostRuntime) {
     assert!(rt; run(&rt, rt.alloc(), plan(16, 0, 5)) == whole(16, 15));
+}
+
+/// The first word of a `Pcg64` with the seed 2, as another program computed it.
+const FIRST_OF_SEED_2: u64 = 1_084_574_603_684_186_893;
+
+/// Returns the word with which the last node joined, in a run without turns.
+fn last_word<R: Threads + Wait + Sync>(
+    rt: &R,
+    alloc: Global,
+    nodes: u64,
+    seed: u64,
+) -> Option<u64> {
+    let run = run_cluster(rt, alloc, plan(nodes, 0, seed), &NoHook).ok()?;
+    match run.receipts.last()?.entry.event {
+        NodeEvent::Join { word, .. } => Some(word),
+        _ => None,
+    }
+}
+
+/// The seed of a node's words is the plan's plus its number, wrapped.
+#[test]
+fn each_node_has_words_of_its_own(rt: HostRuntime) {
+    for (nodes, seed) in [(2, 1), (3, 0), (4, u64::MAX)] {
+        assert!(rt; last_word(&rt, rt.alloc(), nodes, seed) == Some(FIRST_OF_SEED_2));
+    }
 }
 
 #[test]

@@ -32,7 +32,7 @@ fn output(rt: &impl Abort, alloc: Global, nodes: u64, run: &ClusterRun) -> Vec<u
     }
     let world = assemble(alloc, run.closed.as_slice(), run.receipts.as_slice());
     let world = world.ok().expect(rt, "a run of the world");
-    let text = replay_of(alloc, b"a run", nodes, world.accepted(), 0).expect(rt, "memory");
+    let text = replay_of(alloc, b"a run", nodes, world.accepted()).expect(rt, "memory");
     drop(world);
     let text = text.expect(rt, "a text");
     let mut output = Vec::new(alloc);

@@ -3,8 +3,9 @@
 //! What takes memory here is asked for once more if it is refused, so that tests under refused
 //! memory get their events whichever single allocation is refused.
 
-use crate::parts::{bytes, key, prefix, value};
+use crate::parts::{bytes, key, node, prefix, value};
 use meta_types::{ByteString, MetaKey};
+use node_events::NodeEvent;
 use std::alloc::Global;
 use std::process::Abort;
 use world_core::{Answer, Event, World, WorldFault};
@@ -20,27 +21,44 @@ pub fn colour(rt: &impl Abort, alloc: Global) -> MetaKey {
     key(rt, alloc, b"app", b"flags", b"colour")
 }
 
+/// Returns a write, which has read what a read showed, or nothing.
 pub fn put(rt: &impl Abort, alloc: Global, node: u64, body: &[u8], read: Option<u64>) -> Event {
-    Event::Put {
-        node,
-        key: colour(rt, alloc),
-        value: value(rt, alloc, 0, body),
-        read,
+    let key = colour(rt, alloc);
+    let value = value(rt, alloc, 0, body);
+    match read {
+        Some(read) => Event::Put {
+            node,
+            key,
+            value,
+            read,
+        },
+        None => Event::Step {
+            node,
+            event: NodeEvent::Write {
+                key,
+                value,
+                context: None,
+            },
+        },
     }
 }
 
 pub fn get(rt: &impl Abort, alloc: Global, node: u64) -> Event {
-    Event::Get {
+    let key = colour(rt, alloc);
+    Event::Step {
         node,
-        key: colour(rt, alloc),
+        event: NodeEvent::Read { key },
     }
 }
 
-pub fn join() -> Event {
-    Event::Join {
+/// Returns the joining of node 1 through node 0.
+pub fn join(rt: &impl Abort) -> Event {
+    Event::Step {
         node: 1,
-        contact: 0,
-        word: 0,
+        event: NodeEvent::Join {
+            contact: node(rt, 0),
+            word: 0,
+        },
     }
 }
 
@@ -59,44 +77,46 @@ pub fn event(rt: &impl Abort, alloc: Global, place: usize) -> Event {
         3 => put(rt, alloc, 0, b"x", None),
         4 => get(rt, alloc, 0),
         5 => put(rt, alloc, 1, b"x", Some(1)),
-        6 => Event::PutOver {
-            node: 0,
-            key: colour(rt, alloc),
-            value: value(rt, alloc, 0, b"y"),
+        0 => join(rt),
+        2 => deliver(1, 0),
+        13 => Event::Step {
+            node: 1,
+            event: NodeEvent::PeerDown {
+                peer: node(rt, 0),
+                word: 0,
+            },
         },
-        7 => Event::Keep {
+        15 => Event::Restart { node: 0, image: 1 },
+        place => Event::Step {
             node: 0,
-            key: colour(rt, alloc),
+            event: asked(rt, alloc, place),
         },
-        8 => Event::Watch {
-            node: 0,
-            prefix: prefix(rt, alloc, b"app", b"flags"),
-            capacity: 1,
-        },
-        16 => Event::Junk {
-            node: 0,
-            bytes: ByteString::new(bytes(rt, alloc, b"PT")),
-        },
-        place => small_event(place),
     }
 }
 
-/// Returns what `event` does for an event of numbers alone.
-fn small_event(place: usize) -> Event {
+/// Returns what node 0 is asked at this place.
+fn asked(rt: &impl Abort, alloc: Global, place: usize) -> NodeEvent {
     match place {
-        0 => join(),
-        2 => deliver(1, 0),
-        9 => Event::Changes { node: 0, number: 1 },
-        10 => Event::Tick { node: 0, word: 0 },
-        11 => Event::Exchange { node: 0, peer: 1 },
-        12 => Event::Hello { node: 0, peer: 1 },
-        13 => Event::PeerDown {
-            node: 1,
-            peer: 0,
+        6 => NodeEvent::PutOver {
+            key: colour(rt, alloc),
+            value: value(rt, alloc, 0, b"y"),
+        },
+        7 => NodeEvent::Keep {
+            key: colour(rt, alloc),
+        },
+        8 => NodeEvent::Watch {
+            prefix: prefix(rt, alloc, b"app", b"flags"),
+            capacity: 1,
+        },
+        9 => NodeEvent::Changes { number: 1 },
+        10 => NodeEvent::Tick { word: 0 },
+        11 => NodeEvent::Exchange { peer: node(rt, 1) },
+        12 => NodeEvent::Hello { peer: node(rt, 1) },
+        14 => NodeEvent::Leave,
+        _ => NodeEvent::Take {
+            frame: ByteString::new(bytes(rt, alloc, b"PT")),
             word: 0,
         },
-        14 => Event::Leave { node: 0 },
-        _ => Event::Restart { node: 0, image: 1 },
     }
 }
 

@@ -22,7 +22,7 @@ fn happen(rt: &impl Abort, world: &mut World, event: Event) {
 /// Node 1 joins through node 0 by frame 1, a JOIN. Then both write, neither knowing of the other's
 /// write. Each sends what it holds to the other: frames 2 and 3, both GOSSIP. Node 1 takes frame 2.
 fn write_both(rt: &impl Abort, alloc: Global, world: &mut World) {
-    happen(rt, world, join());
+    happen(rt, world, join(rt));
     happen(rt, world, deliver(1, 0));
     happen(rt, world, put(rt, alloc, 0, b"red", None));
     happen(rt, world, put(rt, alloc, 1, b"blue", None));

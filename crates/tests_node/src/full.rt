@@ -3,6 +3,7 @@
 use crate::events::apply;
 use crate::parts::key;
 use meta_types::Value;
+use node_events::NodeEvent;
 use std::alloc::Global;
 use std::process::Abort;
 use world_core::{Event, World};
@@ -11,16 +12,12 @@ use world_core::{Event, World};
 fn write(rt: &impl Abort, alloc: Global, world: &mut World, number: u16) -> u16 {
     let key = key(rt, alloc, b"app", b"flags", &number.to_be_bytes());
     let value = Value::new(0, None).expect(rt, "a value");
-    let read = None;
-    apply(
-        world,
-        Event::Put {
-            node: 0,
-            key,
-            value,
-            read,
-        },
-    )
+    let event = NodeEvent::Write {
+        key,
+        value,
+        context: None,
+    };
+    apply(world, Event::Step { node: 0, event })
 }
 
 /// Returns whether node 0 takes 8,192 keys.

@@ -3,7 +3,7 @@
 use crate::parts::{key, node, value};
 use meta_store::{Source, Store};
 use meta_types::Actor;
-use node_images::Images;
+use restart_images::Images;
 use std::alloc::Global;
 use std::mem::replace;
 use std::process::Abort;

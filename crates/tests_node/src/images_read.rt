@@ -3,7 +3,7 @@
 use crate::events::{apply, colour, new_world, put};
 use dvvset::Entries;
 use meta_types::MetaKey;
-use node_images::image::object_in;
+use restart_images::image::object_in;
 use std::alloc::Global;
 use std::process::Abort;
 use world_core::{Event, World};

@@ -7,7 +7,7 @@ use dvvset::Entries;
 use hyparview::Views;
 use meta_types::ByteString;
 use node_core::NodeState;
-use node_images::{Change, Image, Images};
+use restart_images::{Change, Image, Images};
 use plumtree::{Cast, CastOut};
 use std::process::Abort;
 use subscriptions::Watch;

@@ -8,9 +8,9 @@ use Rattle.node_events.specs.declared.fault.StepFault.{StepFault}
 use Rattle.node_events.specs.declared.reply.Reply.TheVariants.{Done}
 use Rattle.node_core.specs.Step.{CanComeOf}
 use Rattle.node_core.proofs.Leaves.{each_step_leaves}
-use Rattle.node_images.specs.declared.node.ImagedStep.{ImagedStep}
-use Rattle.node_images.specs.Keeping.{IsRestorable, most_incarnation}
-use Rattle.node_images.specs.Node.{ImagedNode, IsImagedStep, IsRestarted, keeping, stepped_of}
+use Rattle.restart_images.specs.declared.node.ImagedStep.{ImagedStep}
+use Rattle.restart_images.specs.Keeping.{IsRestorable, most_incarnation}
+use Rattle.restart_images.specs.Node.{ImagedNode, IsImagedStep, IsRestarted, keeping, stepped_of}
 use Rattle.world_core.specs.declared.answer.Accepted.{Accepted}
 use Rattle.world_core.specs.declared.answer.Answer.{Answer}
 use Rattle.world_core.specs.declared.event.Event.{Event}

@@ -3,8 +3,8 @@ use Rattle.std.proofs.Common.{◌≡◌, ℕ, ◌+◌, List, [], ◌∷◌, ◌+
 use Rattle.std.specs.Prelude.{get_or, slice_set}
 use Rattle.std.proofs.lemmas.List.{set-get_or}
 use Rattle.node_events.specs.declared.reply.Reply.{Reply}
-use Rattle.node_images.specs.declared.node.ImagedStep.{ImagedStep}
-use Rattle.node_images.specs.Node.{ImagedNode}
+use Rattle.restart_images.specs.declared.node.ImagedStep.{ImagedStep}
+use Rattle.restart_images.specs.Node.{ImagedNode}
 use Rattle.world_core.specs.declared.answer.Answer.{Answer}
 use Rattle.world_core.specs.declared.chronicle.Chronicle.{Chronicle}
 use Rattle.world_core.specs.declared.event.Event.{Event}

@@ -9,8 +9,8 @@ use Rattle.node_core.proofs.Outcomes.{one_outcome as one_outcome_of_step}
 use Rattle.node_events.specs.Event.{stored_key}
 use Rattle.node_events.specs.declared.event.NodeEvent.{NodeEvent}
 use Rattle.node_events.specs.declared.fault.StepFault.{StepFault}
-use Rattle.node_images.specs.Images.{Image}
-use Rattle.node_images.specs.Node.{BeginsFrom, ImagedNode, IsRestarted, arrived, context_read}
+use Rattle.restart_images.specs.Images.{Image}
+use Rattle.restart_images.specs.Node.{BeginsFrom, ImagedNode, IsRestarted, arrived, context_read}
 use Rattle.world_core.specs.declared.answer.Answer.{Answer}
 use Rattle.world_core.specs.declared.event.Event.{Event}
 use Rattle.world_core.specs.declared.fault.WorldFault.{WorldFault}

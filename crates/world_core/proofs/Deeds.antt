@@ -1,11 +1,11 @@
 -- An accepted event is one deed more of its node, and none of any other.
-use Rattle.std.proofs.Common.{◌≡◌, ℕ, ◌+◌, List, [], ◌∷◌, ◌++◌, length, Some, None, Result, Ok, Err, inl, inr, refl, sym, ap, ◌∙◌}
+use Rattle.std.proofs.Common.{◌≡◌, ℕ, ◌+◌, List, [], ◌∷◌, ◌++◌, length, Result, Ok, Err, inl, inr, refl, sym, ap, ◌∙◌}
 use Rattle.std.specs.Prelude.{IfOk}
 use Rattle.std.proofs.lemmas.Bool.{cases_lt}
 use Rattle.std.proofs.lemmas.List.{append-nil}
 use Rattle.meta_store.specs.Context.{Reading}
 use Rattle.node_core.specs.declared.state.Stepped.{Stepped}
-use Rattle.node_images.specs.Node.{context_read}
+use Rattle.restart_images.specs.Node.{context_read}
 use Rattle.world_core.specs.declared.answer.Accepted.{Accepted}
 use Rattle.world_core.specs.declared.answer.Answer.{Answer}
 use Rattle.world_core.specs.declared.event.Event.{Event}
@@ -39,11 +39,10 @@ no_read : (w : World) (event : Event) → HasNoRefusal w event → NamesNoRead w
 no_read w event none absent = none NoSuchRead (inr (no_node w event none, inr (no_frame w event none, inl (absent, refl))))
 
 read_there : (w : World) (event : Event) → (NamesNoRead w event → ⊥) → IsReadWithin (length w.contexts) event
-read_there w (Put n k v (Some read)) there = elim (cases_lt (length w.contexts) read) [
+read_there w (Put n k v read) there = elim (cases_lt (length w.contexts) read) [
   | inl lt ↦ absurd (there (numbered_past w.contexts read (inr lt)))
   | inr le ↦ le
 ]
-read_there w (Put n k v None) there = tt
 read_there w event there = tt
 
 frame_there : (w : World) (event : Event) → (NamesNoFrame w event → ⊥) → IsFrameWithin (length w.frames) event

@@ -1,5 +1,5 @@
 -- A step of a node: what its event tells is what the node then holds.
-use Rattle.std.proofs.Common.{◌≡◌, ◌⊎◌, ℕ, ◌+◌, ◌<◌, ◌≤◌, List, [], ◌∷◌, ◌++◌, length, get_or, Option, Some, None, refl, sym, ap, subst, ◌∙◌, arith}
+use Rattle.std.proofs.Common.{◌≡◌, ℕ, ◌+◌, ◌<◌, ◌≤◌, List, [], ◌∷◌, ◌++◌, length, get_or, Option, Some, None, refl, sym, ap, subst, ◌∙◌, arith}
 use Rattle.std.specs.Prelude.{slice_set}
 use Rattle.std.specs.Option.{option_flatten, option_map, unwrap_or}
 use Rattle.std.proofs.lemmas.List.{append-nil, set-get_or}
@@ -32,17 +32,17 @@ use Rattle.past_model.specs.Objects.{held_object, object_of_read, seen_object, s
 use Rattle.past_model.specs.Objects as objects
 use Rattle.past_model.proofs.Changes.{after_look}
 use Rattle.past_model.proofs.Matching.{same_lives}
-use Rattle.node_images.specs.Keeping.{IsRestorable, Keeping, change_at}
-use Rattle.node_images.proofs.Keepings.{with_image, with_merge}
-use Rattle.node_images.specs.Node.{ImagedNode, arrived, context_read, keeping}
-use Rattle.node_images.specs.Follows.{FollowsHistory}
-use Rattle.node_images.proofs.Noding.{held_at, put_grows}
+use Rattle.restart_images.specs.Keeping.{IsRestorable, Keeping, change_at}
+use Rattle.restart_images.proofs.Keepings.{with_image, with_merge}
+use Rattle.restart_images.specs.Node.{ImagedNode, arrived, context_read, keeping}
+use Rattle.restart_images.specs.Follows.{FollowsHistory}
+use Rattle.restart_images.proofs.Noding.{held_at, put_grows}
 use Rattle.world_core.specs.declared.event.Event.{Event}
-use Rattle.world_core.specs.declared.event.Event.TheVariants.{Put, Get, PutOver, Deliver, Junk, Tick, Join, PeerDown, Exchange, Keep, Watch, Changes, Hello, Leave, Restart}
-use Rattle.world_core.specs.Events.{Begin, Doing, Step, context_of, doing_of, node_of_event}
+use Rattle.world_core.specs.declared.event.Event.TheVariants as events
+use Rattle.world_core.specs.Events.{Begin, Doing, Step, doing_of, node_of_event}
 use Rattle.world_core.specs.Outcome.{list_of, read_after}
 use Rattle.world_core.specs.Numbers.{numbered}
-use Rattle.world_core.specs.Tells.{NamesEarlier, Pairwise, Told, look_of, next_read, sending_of, tell, tell_event, tell_got, tell_look}
+use Rattle.world_core.specs.Tells.{NamesEarlier, Pairwise, Told, next_read, sending_of, tell, tell_event, tell_got, tell_look}
 use Rattle.world_core.specs.Invariant.{IsRead, IsState, IsTold}
 use Rattle.world_core.proofs.Named.{can_read, not_both, same_object, told_as}
 use Rattle.world_core.proofs.Lists.{pair_length, slice_get_end}
@@ -133,6 +133,19 @@ record Writing (ns : List Keeping) (n : ℕ) (k : Key) (v : ValueParts) (context
   held : state.table ≡ with_object k (object_after_put old.state.table (writer old.state) k v context) old.state.table
   life : state.incarnation ≡ old.state.incarnation
 
+-- what a step needs that writes so
+writing : (ns : List Keeping) (n : ℕ) (k : Key) (v : ValueParts) (context : Option Reading) (old : ImagedNode) (state : NodeParts) (s : Stepped)
+    → Stepping ns n old (OfNode.Write k v context) state s → Writing ns n k v context old state
+writing ns n k v context old state s st = record {
+  low = st.low;
+  at = st.at;
+  number = st.number;
+  restorable = st.restorable;
+  is_table = st.is_table;
+  held = st.leaves.held;
+  life = st.leaves.life;
+}
+
 state_written : (ns : List Keeping) (contexts : List Reading) (sent : List Frame) (t : Told) (n : ℕ) (k : Key) (v : ValueParts) (r : Option ℕ) (context : Option Reading)
     (old : ImagedNode) (state : NodeParts) → Writing ns n k v context old state → IsState ns contexts sent t
     → Fits t.history (Wrote n k v r) → vector_read context ≡ join (object_of_read t.history k r)
@@ -204,13 +217,18 @@ abbrev pub context_in : Doing → NodeParts → Option Reading
 context_in (Step step) s = context_read step s
 context_in (Begin image) s = None
 
+-- no context and no bytes come with what a node is asked
+abbrev pub BringsNothing : NodeEvent → Type 0
+BringsNothing (OfNode.Write k v (Some context)) = ⊥
+BringsNothing (OfNode.Take bytes word) = ⊥
+BringsNothing event = Unit {0}
+
 -- what an event names is there, in these lists
 abbrev pub IsNamed : List Reading → List (List ℕ) → Event → Type 0
-IsNamed contexts spellings (Put n k v read) =
-    (read ≡ None) ⊎ ((number : ℕ) × ((read ≡ Some number) × ((context : Reading) × (numbered contexts number ≡ Some context))))
-IsNamed contexts spellings (Deliver frame n word) = (bytes : List ℕ) × (numbered spellings frame ≡ Some bytes)
-IsNamed contexts spellings (Junk n bytes) = ⊥
-IsNamed contexts spellings event = Unit {0}
+IsNamed contexts spellings (events.Step n event) = BringsNothing event
+IsNamed contexts spellings (events.Put n k v read) = (context : Reading) × (numbered contexts read ≡ Some context)
+IsNamed contexts spellings (events.Deliver frame n word) = (bytes : List ℕ) × (numbered spellings frame ≡ Some bytes)
+IsNamed contexts spellings (events.Restart n image) = Unit {0}
 
 -- before what it sends: the state after it, and that it names what is there
 pub record Happens (ns : List Keeping) (contexts : List Reading) (sent : List Frame) (t : Told) (event : Event) (doing : Doing) (old : ImagedNode) (state : NodeParts) : Type 0 where
@@ -222,32 +240,30 @@ pub happens : (ns : List Keeping) (contexts : List Reading) (spellings : List (L
     → Pairwise Spells sent spellings → IsState ns contexts sent t → IsNamed contexts spellings event
     → ForStep (doing_of contexts spellings event) (λ step. Stepping ns (node_of_event event) old step state s)
     → Happens ns contexts sent t event (doing_of contexts spellings event) old state
-happens ns contexts spellings sent t (Put n k v read) old state s spelled is named st =
-    let context = context_of contexts read in
+happens ns contexts spellings sent t (events.Put n k v read) old state s spelled is named st =
+    let context = numbered contexts read in
     let taken = write_by old.state state k v context s st.makes.input st.makes.is_input st.makes.step in
-    let can = can_read t contexts n (writer old.state) k v read old.state.table is.reads named taken in
-    let w : Writing ns n k v context old state = record {
-      low = st.low;
-      at = st.at;
-      number = st.number;
-      restorable = st.restorable;
-      is_table = st.is_table;
-      held = st.leaves.held;
-      life = st.leaves.life;
-    } in
+    let can = can_read t contexts n (writer old.state) k v read old.state.table named.0 is.reads named.1 taken in
     record {
-      state_is = subst (λ cs. IsState (slice_set ns n (keeping (arrived state (Some k) old))) cs sent (tell_event (Put n k v read) t)) (sym (append-nil contexts))
-          (state_written ns contexts sent t n k v (look_of t read) context old state w is can.fits can.vector);
+      state_is = subst (λ cs. IsState (slice_set ns n (keeping (arrived state (Some k) old))) cs sent (tell_event (events.Put n k v read) t)) (sym (append-nil contexts))
+          (state_written ns contexts sent t n k v (numbered t.looks read) context old state (writing ns n k v context old state s st) is can.fits can.vector);
       named = can.named;
       read = refl;
     }
-happens ns contexts spellings sent t (Get n k) old state s spelled is named st = record {
+happens ns contexts spellings sent t (events.Step n (OfNode.Write k v None)) old state s spelled is named st = record {
+  state_is = subst (λ cs. IsState (slice_set ns n (keeping (arrived state (Some k) old))) cs sent (tell (Wrote n k v None) t)) (sym (append-nil contexts))
+      (state_written ns contexts sent t n k v None None old state (writing ns n k v None old state s st) is tt refl);
+  named = tt;
+  read = refl;
+}
+happens ns contexts spellings sent t (events.Step n (OfNode.Write k v (Some context))) old state s spelled is named st = absurd named
+happens ns contexts spellings sent t (events.Step n (OfNode.Read k)) old state s spelled is named st = record {
   state_is = state_same ns (contexts ++ present k old.state ∷ []) sent (tell_look n k t) n old state st.at st.leaves.held st.leaves.life
       (state_looked ns contexts sent t n k old st.low st.at st.number is);
   named = tt;
   read = next_is t contexts is.reads;
 }
-happens ns contexts spellings sent t (PutOver n k v) old state s spelled is named st =
+happens ns contexts spellings sent t (events.Step n (OfNode.PutOver k v)) old state s spelled is named st =
     let hs = t.history in
     let context = present k old.state in
     let f = stands ns contexts sent t n old (OfNode.PutOver k v) state s is st in
@@ -268,7 +284,7 @@ happens ns contexts spellings sent t (PutOver n k v) old state s spelled is name
       named = tt;
       read = next_is t contexts is.reads;
     }
-happens ns contexts spellings sent t (Deliver number n word) old state s spelled is named st =
+happens ns contexts spellings sent t (events.Deliver number n word) old state s spelled is named st =
     let held = st.leaves.held in
     let bytes_is : unwrap_or (numbered spellings number) [] ≡ named.0 = ap (λ o. unwrap_or o []) named.1 in
     let told = told_as sent spellings t spelled is.sendings number named.0 held.frame named.1 (subst (Spells held.frame) bytes_is held.spelled) in
@@ -280,28 +296,28 @@ happens ns contexts spellings sent t (Deliver number n word) old state s spelled
       named = (told.sending, told.there);
       read = refl;
     }
-happens ns contexts spellings sent t (Junk n bytes) old state s spelled is named st = absurd named
-happens ns contexts spellings sent t (Tick n word) old state s spelled is named st =
+happens ns contexts spellings sent t (events.Step n (OfNode.Take bytes word)) old state s spelled is named st = absurd named
+happens ns contexts spellings sent t (events.Step n (OfNode.Tick word)) old state s spelled is named st =
     record { state_is = quiet ns contexts sent t n old state st.at st.leaves.held st.leaves.life is; named = tt; read = refl }
-happens ns contexts spellings sent t (Join n contact word) old state s spelled is named st =
+happens ns contexts spellings sent t (events.Step n (OfNode.Join contact word)) old state s spelled is named st =
     record { state_is = quiet ns contexts sent t n old state st.at st.leaves.held st.leaves.life is; named = tt; read = refl }
-happens ns contexts spellings sent t (PeerDown n peer word) old state s spelled is named st =
+happens ns contexts spellings sent t (events.Step n (OfNode.PeerDown peer word)) old state s spelled is named st =
     record { state_is = quiet ns contexts sent t n old state st.at st.leaves.held st.leaves.life is; named = tt; read = refl }
-happens ns contexts spellings sent t (Exchange n peer) old state s spelled is named st =
+happens ns contexts spellings sent t (events.Step n (OfNode.Exchange peer)) old state s spelled is named st =
     record { state_is = quiet ns contexts sent t n old state st.at st.leaves.held st.leaves.life is; named = tt; read = refl }
-happens ns contexts spellings sent t (Keep n k) old state s spelled is named st = record {
+happens ns contexts spellings sent t (events.Step n (OfNode.Keep k)) old state s spelled is named st = record {
   state_is = subst (λ cs. IsState (slice_set ns n (keeping (arrived state (Some k) old))) cs sent (tell (Kept n k) t)) (sym (append-nil contexts))
       (subst (λ node. IsState (slice_set ns n node) contexts sent (tell (Kept n k) t)) (sym (imaged_keeping old state k old.state.table st.leaves.held st.leaves.life))
       (state_keep ns contexts sent t n k (keeping old) is st.low st.at st.restorable));
   named = tt;
   read = refl;
 }
-happens ns contexts spellings sent t (Watch n prefix capacity) old state s spelled is named st =
+happens ns contexts spellings sent t (events.Step n (OfNode.Watch prefix capacity)) old state s spelled is named st =
     record { state_is = quiet ns contexts sent t n old state st.at st.leaves.held st.leaves.life is; named = tt; read = refl }
-happens ns contexts spellings sent t (Changes n number) old state s spelled is named st =
+happens ns contexts spellings sent t (events.Step n (OfNode.Changes number)) old state s spelled is named st =
     record { state_is = quiet ns contexts sent t n old state st.at st.leaves.held st.leaves.life is; named = tt; read = refl }
-happens ns contexts spellings sent t (Hello n peer) old state s spelled is named st =
+happens ns contexts spellings sent t (events.Step n (OfNode.Hello peer)) old state s spelled is named st =
     record { state_is = quiet ns contexts sent t n old state st.at st.leaves.held st.leaves.life is; named = tt; read = refl }
-happens ns contexts spellings sent t (Leave n) old state s spelled is named st =
+happens ns contexts spellings sent t (events.Step n OfNode.Leave) old state s spelled is named st =
     record { state_is = quiet ns contexts sent t n old state st.at st.leaves.held st.leaves.life is; named = tt; read = refl }
-happens ns contexts spellings sent t (Restart n image) old state s spelled is named st = absurd st
+happens ns contexts spellings sent t (events.Restart n image) old state s spelled is named st = absurd st

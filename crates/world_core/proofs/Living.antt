@@ -1,5 +1,5 @@
 -- The lives of a node, with one more event of a world.
-use Rattle.std.proofs.Common.{◌≡◌, ◌≢◌, ℕ, ◌+◌, ◌-◌, ◌≤◌, Bool, true, false, cond, eqb, List, [], ◌∷◌, ◌++◌, length, All, Some, None, refl, sym, ap, subst, ◌∙◌, arith}
+use Rattle.std.proofs.Common.{◌≡◌, ◌≢◌, ℕ, ◌+◌, ◌-◌, ◌≤◌, Bool, true, false, cond, eqb, List, [], ◌∷◌, ◌++◌, length, All, refl, sym, ap, subst, ◌∙◌, arith}
 use Rattle.std.specs.Option.{unwrap_or}
 use Rattle.std.proofs.lemmas.List.Elements.{All-head, All-tail}
 use Rattle.meta_store.specs.Context.{Reading}
@@ -8,14 +8,14 @@ use Rattle.node_events.specs.declared.event.NodeEvent.TheVariants as OfNode
 use Rattle.node_core.specs.declared.state.Stepped.{Stepped}
 use Rattle.node_core.specs.Node.{NodeParts}
 use Rattle.node_core.specs.Step.{IsNodeStep}
-use Rattle.node_images.specs.Images.{Image}
-use Rattle.node_images.specs.Node.{BeginsFrom}
-use Rattle.node_images.proofs.Noding.{reads_before}
+use Rattle.restart_images.specs.Images.{Image}
+use Rattle.restart_images.specs.Node.{BeginsFrom}
+use Rattle.restart_images.proofs.Noding.{reads_before}
 use Rattle.std.proofs.lemmas.List.{length-append}
 use Rattle.world_core.specs.declared.answer.Accepted.{Accepted}
 use Rattle.world_core.specs.declared.event.Event.{Event}
-use Rattle.world_core.specs.declared.event.Event.TheVariants.{Put, Get, PutOver, Deliver, Junk, Tick, Join, PeerDown, Exchange, Keep, Watch, Changes, Hello, Leave, Restart}
-use Rattle.world_core.specs.Events.{Begin, Doing, Step, context_of, doing_of, node_of_event}
+use Rattle.world_core.specs.declared.event.Event.TheVariants as events
+use Rattle.world_core.specs.Events.{Begin, Doing, Step, doing_of, node_of_event}
 use Rattle.world_core.specs.Lives.{Live, given_by_restart, deed_of, deeds_of}
 use Rattle.world_core.specs.Tells.{SendInOrder}
 use Rattle.world_core.specs.Invariant.{IsFrameWithin, IsReadWithin}
@@ -64,28 +64,13 @@ pub record Within (contexts : List Reading) (frames : List (List ℕ)) (event : 
   pub read : IsReadWithin (length contexts) event
   pub frame : IsFrameWithin (length frames) event
 
-context_more : (contexts more : List Reading) (read : ℕ) → read ≤ length contexts → context_of (contexts ++ more) (Some read) ≡ context_of contexts (Some read)
-context_more contexts more read low = numbered_more contexts more read low
-
 doing_more : (contexts more : List Reading) (frames others : List (List ℕ)) (event : Event) → Within contexts frames event
     → doing_of (contexts ++ more) (frames ++ others) event ≡ doing_of contexts frames event
-doing_more contexts more frames others (Put n k v None) w = refl
-doing_more contexts more frames others (Put n k v (Some read)) w = ap (λ c. Step (OfNode.Write k v c)) (context_more contexts more read w.read)
-doing_more contexts more frames others (Get n k) w = refl
-doing_more contexts more frames others (PutOver n k v) w = refl
-doing_more contexts more frames others (Deliver frame n word) w =
+doing_more contexts more frames others (events.Step n event) w = refl
+doing_more contexts more frames others (events.Put n k v read) w = ap (λ c. Step (OfNode.Write k v c)) (numbered_more contexts more read w.read)
+doing_more contexts more frames others (events.Deliver frame n word) w =
     ap (λ b. Step (OfNode.Take (unwrap_or b []) word)) (numbered_more frames others frame w.frame)
-doing_more contexts more frames others (Junk n bytes) w = refl
-doing_more contexts more frames others (Tick n word) w = refl
-doing_more contexts more frames others (Join n contact word) w = refl
-doing_more contexts more frames others (PeerDown n peer word) w = refl
-doing_more contexts more frames others (Exchange n peer) w = refl
-doing_more contexts more frames others (Keep n k) w = refl
-doing_more contexts more frames others (Watch n prefix capacity) w = refl
-doing_more contexts more frames others (Changes n number) w = refl
-doing_more contexts more frames others (Hello n peer) w = refl
-doing_more contexts more frames others (Leave n) w = refl
-doing_more contexts more frames others (Restart n image) w = refl
+doing_more contexts more frames others (events.Restart n image) w = refl
 
 deed_more : (contexts more : List Reading) (frames others : List (List ℕ)) (a : Accepted) → Within contexts frames a.event
     → (a.answer.sent.first - 1) + a.answer.sent.count ≤ length frames → deed_of (contexts ++ more) (frames ++ others) a ≡ deed_of contexts frames a

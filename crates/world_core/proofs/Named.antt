@@ -1,5 +1,5 @@
 -- What an event names is there: the read of a write, and the frame of a delivery.
-use Rattle.std.proofs.Common.{◌≡◌, ◌⊎◌, ℕ, zero, suc, Bool, true, false, not, List, [], ◌∷◌, Option, Some, None, inl, inr, refl, sym, ap, subst, ◌∙◌}
+use Rattle.std.proofs.Common.{◌≡◌, ℕ, zero, suc, Bool, true, false, not, List, [], ◌∷◌, Option, Some, None, refl, sym, ap, subst, ◌∙◌}
 use Rattle.std.specs.Prelude.{slice_get}
 use Rattle.meta_types.specs.Actor.{node_of_writer}
 use Rattle.meta_types.specs.First.{first_that_applies}
@@ -21,9 +21,8 @@ use Rattle.past_model.specs.declared.happening.Happening.TheVariants.{Wrote, Loo
 use Rattle.past_model.specs.History.{Fits}
 use Rattle.past_model.specs.Objects.{object_of_read, seen_object}
 use Rattle.world_core.specs.declared.event.Event.TheVariants.{Put}
-use Rattle.world_core.specs.Events.{context_of}
 use Rattle.world_core.specs.Numbers.{numbered}
-use Rattle.world_core.specs.Tells.{NamesEarlier, Pairwise, Told, look_of}
+use Rattle.world_core.specs.Tells.{NamesEarlier, Pairwise, Told}
 use Rattle.world_core.specs.Invariant.{IsRead, IsTold}
 use Rattle.world_core.proofs.Lists.{pair_first, pair_second}
 
@@ -44,14 +43,14 @@ of_the_key table id key v context taken =
     (key_eq context.key key) refl taken
 
 -- a write may be made with that read
-pub record CanRead (t : Told) (contexts : List Reading) (n : ℕ) (k : Key) (v : ValueParts) (read : Option ℕ) : Type 0 where
-  pub fits : Fits t.history (Wrote n k v (look_of t read))
-  pub vector : vector_read (context_of contexts read) ≡ join (object_of_read t.history k (look_of t read))
+pub record CanRead (t : Told) (contexts : List Reading) (n : ℕ) (k : Key) (v : ValueParts) (read : ℕ) : Type 0 where
+  pub fits : Fits t.history (Wrote n k v (numbered t.looks read))
+  pub vector : vector_read (numbered contexts read) ≡ join (object_of_read t.history k (numbered t.looks read))
   pub named : NamesEarlier t (Put n k v read)
 
 -- the context at a place, and the Looked that handed it out
 can_read_at : (t : Told) (contexts : List Reading) (n : ℕ) (k : Key) (v : ValueParts) (read look : ℕ) (context : Reading) → IsRead t.history look context → context.key ≡ k
-    → numbered contexts read ≡ Some context → numbered t.looks read ≡ Some look → CanRead t contexts n k v (Some read)
+    → numbered contexts read ≡ Some context → numbered t.looks read ≡ Some look → CanRead t contexts n k v read
 can_read_at t contexts n k v read look context is key there looked = record {
   fits = subst (λ r. Fits t.history (Wrote n k v r)) (sym looked)
       (node_of_writer context.source.actor, is.looked ∙ ap (λ l. Some (Looked (node_of_writer context.source.actor) l)) key);
@@ -60,21 +59,13 @@ can_read_at t contexts n k v read look context is key there looked = record {
   named = (look, looked);
 }
 
-pub can_read : (t : Told) (contexts : List Reading) (n id : ℕ) (k : Key) (v : ValueParts) (read : Option ℕ) (table : Table) → Pairwise (IsRead t.history) t.looks contexts
-    → (read ≡ None) ⊎ ((number : ℕ) × ((read ≡ Some number) × ((context : Reading) × (numbered contexts number ≡ Some context))))
-    → refusal_of_put table id k v (context_of contexts read) ≡ None → CanRead t contexts n k v read
-can_read t contexts n id k v None table reads there taken = record { fits = tt; vector = refl; named = tt }
-can_read t contexts n id k v (Some number) table reads (inl absent) taken = cc
-can_read t contexts n id k v (Some zero) table reads (inr (m, (is, (context, there)))) taken =
-    let same : zero ≡ m = cc in
-    let no : None ≡ Some context = subst (λ i. numbered contexts i ≡ Some context) (sym same) there in
-    cc
-can_read t contexts n id k v (Some (suc place)) table reads (inr (m, (is, (context, there)))) taken =
-    let same : suc place ≡ m = cc in
-    let here : slice_get contexts place ≡ Some context = subst (λ i. numbered contexts i ≡ Some context) (sym same) there in
-    let pair = pair_first (IsRead t.history) t.looks contexts reads place context here in
-    let key : context.key ≡ k = of_the_key table id k v context (subst (λ c. refusal_of_put table id k v c ≡ None) here taken) in
-    can_read_at t contexts n k v (suc place) pair.0 context pair.1.1 key here pair.1.0
+pub can_read : (t : Told) (contexts : List Reading) (n id : ℕ) (k : Key) (v : ValueParts) (read : ℕ) (table : Table) (context : Reading) → Pairwise (IsRead t.history) t.looks contexts
+    → numbered contexts read ≡ Some context → refusal_of_put table id k v (numbered contexts read) ≡ None → CanRead t contexts n k v read
+can_read t contexts n id k v zero table context reads there taken = let no : None ≡ Some context = there in absurd (cc)
+can_read t contexts n id k v (suc place) table context reads there taken =
+    let pair = pair_first (IsRead t.history) t.looks contexts reads place context there in
+    let key : context.key ≡ k = of_the_key table id k v context (subst (λ c. refusal_of_put table id k v c ≡ None) there taken) in
+    can_read_at t contexts n k v (suc place) pair.0 context pair.1.1 key there pair.1.0
 
 -- ---- the frame of a delivery
 

@@ -33,7 +33,7 @@ use Rattle.node_core.specs.Step.{IsNoFrame, IsRefused, refusal_of, refusal_of_ev
 use Rattle.past_model.specs.Objects.{held_object, sent_object}
 use Rattle.past_model.proofs.Deliveries.{merged_shows}
 use Rattle.world_core.specs.declared.event.Event.{Event}
-use Rattle.world_core.specs.declared.event.Event.TheVariants.{Put, Get, PutOver, Deliver, Junk, Tick, Join, PeerDown, Exchange, Keep, Watch, Changes, Hello, Leave, Restart}
+use Rattle.world_core.specs.declared.event.Event.TheVariants as events
 use Rattle.world_core.specs.declared.fault.WorldFault.{WorldFault}
 use Rattle.world_core.specs.declared.fault.WorldFault.TheVariants as OfWorld
 use Rattle.world_core.specs.Events.{node_of_event}
@@ -216,26 +216,19 @@ sent_by : (w : World) (number : ℕ) (bytes : List ℕ) → numbered w.frames nu
 sent_by w number bytes there f spelled =
     (number, record { bytes = bytes; there = there; spelled = subst (Spells f) (ap (λ o. unwrap_or o []) there) spelled })
 
+-- bytes that come by hand are no frame
+asked_brings : (w : World) (n : ℕ) (event : NodeEvent) → (IsFrameAsJunk (events.Step n event) → ⊥) → BringsSent w event
+asked_brings w n (OfNode.Take bytes word) junk = λ f spelled. absurd (junk (record { frame = f; spelled = spelled }))
+asked_brings w n event junk = tt
+
 last_never : (w : World) (is : IsWorld w) (event : Event) → node_of_event event < length w.nodes → (NamesNoFrame w event → ⊥) → (IsFrameAsJunk event → ⊥)
     → RefusesDoing (node_at w (node_of_event event)).state (doing_in w event) no_value → ⊥
-last_never w is (Put n k v read) low frame junk by = step_never w is n low _ tt by
-last_never w is (Get n k) low frame junk by = step_never w is n low _ tt by
-last_never w is (PutOver n k v) low frame junk by = step_never w is n low _ tt by
-last_never w is (Deliver number n word) low frame junk by =
+last_never w is (events.Step n event) low frame junk by = step_never w is n low event (asked_brings w n event junk) by
+last_never w is (events.Put n k v read) low frame junk by = step_never w is n low _ tt by
+last_never w is (events.Deliver number n word) low frame junk by =
     let there = some_by (numbered w.frames number) frame in
     step_never w is n low _ (sent_by w number there.0 there.1) by
-last_never w is (Junk n bytes) low frame junk by =
-    step_never w is n low _ (λ f spelled. absurd (junk (record { frame = f; spelled = spelled }))) by
-last_never w is (Tick n word) low frame junk by = step_never w is n low _ tt by
-last_never w is (Join n contact word) low frame junk by = step_never w is n low _ tt by
-last_never w is (PeerDown n peer word) low frame junk by = step_never w is n low _ tt by
-last_never w is (Exchange n peer) low frame junk by = step_never w is n low _ tt by
-last_never w is (Keep n k) low frame junk by = step_never w is n low _ tt by
-last_never w is (Watch n prefix capacity) low frame junk by = step_never w is n low _ tt by
-last_never w is (Changes n number) low frame junk by = step_never w is n low _ tt by
-last_never w is (Hello n peer) low frame junk by = step_never w is n low _ tt by
-last_never w is (Leave n) low frame junk by = step_never w is n low _ tt by
-last_never w is (Restart n image) low frame junk by = by
+last_never w is (events.Restart n image) low frame junk by = by
 
 never : (w : World) (is : IsWorld w) (event : Event) → RefusesEvent w event no_value → ⊥
 never w is event (inl here) = let no : no_value ≡ OfWorld.NoSuchNode = here.1 in cc

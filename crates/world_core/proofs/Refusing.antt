@@ -10,21 +10,23 @@ use Rattle.node_core.specs.Node.{NodeParts}
 use Rattle.node_core.specs.Step.{CanComeOf, IsNodeStep}
 use Rattle.node_core.proofs.Outcomes.{no_cause}
 use Rattle.node_events.specs.Fault.{of_frame}
+use Rattle.node_events.specs.Event.{other_of}
 use Rattle.node_events.specs.declared.event.NodeEvent.{NodeEvent}
+use Rattle.node_events.specs.declared.event.NodeEvent.TheVariants as OfNode
 use Rattle.node_events.specs.declared.fault.StepFault.{StepFault}
 use Rattle.node_events.specs.declared.fault.StepFault.TheVariants as OfStep
-use Rattle.node_images.specs.Keeping.{most_incarnation}
+use Rattle.restart_images.specs.Keeping.{most_incarnation}
 use Rattle.world_core.specs.declared.event.Event.{Event}
-use Rattle.world_core.specs.declared.event.Event.TheVariants.{Put, Deliver, Junk, Join, PeerDown, Exchange, Hello, Restart}
+use Rattle.world_core.specs.declared.event.Event.TheVariants as events
 use Rattle.world_core.specs.declared.fault.WorldFault.{WorldFault}
 use Rattle.world_core.specs.declared.fault.WorldFault.TheVariants.{IncarnationSpent, LooksLikeFrame, NoSuchFrame, NoSuchImage, NoSuchNode, NoSuchRead}
 use Rattle.world_core.specs.Events.{Step, node_of_event, other_node_of}
 use Rattle.world_core.specs.Fault.{of_step}
 use Rattle.world_core.specs.Refusal.{HasNoLifeLeft, HasNoNode, IsFrame, IsFrameAsJunk, NamesNoFrame, NamesNoImage, NamesNoNode, NamesNoRead, RefusesDoing, RefusesEvent, RefusesStep, doing_in, first_cause, node_at}
-use Rattle.world_core.specs.Steps.{HasNamed, IsOfStep, JunkFails, MayRefuse}
+use Rattle.world_core.specs.Steps.{CanBeAsked, HasNamed, IsOfStep, JunkFails, MayRefuse}
 use Rattle.world_core.specs.Numbers.{numbered}
 use Rattle.world_core.specs.World.{World}
-use Rattle.world_core.proofs.Happens.{IsNamed}
+use Rattle.world_core.proofs.Happens.{BringsNothing, IsNamed}
 
 -- ---- causes
 
@@ -61,11 +63,15 @@ refuses_by_step w event there fault by =
 node_there : (w : World) (n : ℕ) → n < length w.nodes → HasNoNode w (Some n) → ⊥
 node_there w n low none = let past : length w.nodes ≤ n = none in absurd (omega (arith, low, past))
 
+asked_there : (w : World) (event : NodeEvent) → CanBeAsked w event → HasNoNode w (other_of event) → ⊥
+asked_there w (OfNode.Join contact word) named none = node_there w contact named none
+asked_there w (OfNode.PeerDown peer word) named none = node_there w peer named none
+asked_there w (OfNode.Exchange peer) named none = node_there w peer named none
+asked_there w (OfNode.Hello peer) named none = node_there w peer named none
+asked_there w event named none = none
+
 other_there : (w : World) (event : Event) → HasNamed w event → HasNoNode w (other_node_of event) → ⊥
-other_there w (Join n contact word) named none = node_there w contact named none
-other_there w (PeerDown n peer word) named none = node_there w peer named none
-other_there w (Exchange n peer) named none = node_there w peer named none
-other_there w (Hello n peer) named none = node_there w peer named none
+other_there w (events.Step n event) named none = asked_there w event named none
 other_there w event named none = none
 
 both_there : (w : World) (event : Event) → node_of_event event < length w.nodes → (HasNoNode w (other_node_of event) → ⊥) → NamesNoNode w event → ⊥
@@ -76,24 +82,24 @@ something : {A : Type 0} (o : Option A) (x : A) → o ≡ Some x → o ≡ None 
 something o x is none = cc
 
 frame_there : (w : World) (event : Event) → HasNamed w event → NamesNoFrame w event → ⊥
-frame_there w (Deliver frame n word) named none = something (numbered w.frames frame) named.0 named.1 none
+frame_there w (events.Deliver frame n word) named none = something (numbered w.frames frame) named.0 named.1 none
 frame_there w event named none = none
 
 read_there : (w : World) (event : Event) → HasNamed w event → NamesNoRead w event → ⊥
-read_there w (Put n k v (Some read)) named none = something (numbered w.contexts read) named.0 named.1 none
-read_there w (Put n k v None) named none = none
+read_there w (events.Put n k v read) named none = something (numbered w.contexts read) named.0 named.1 none
+read_there w (events.Step n (OfNode.Write k v (Some context))) named none = named
 read_there w event named none = none
 
 no_image : (w : World) (event : Event) → IsOfStep event → NamesNoImage w event → ⊥
-no_image w (Restart n image) of none = of
+no_image w (events.Restart n image) of none = of
 no_image w event of none = none
 
 no_life : (w : World) (event : Event) → IsOfStep event → HasNoLifeLeft w event → ⊥
-no_life w (Restart n image) of none = of
+no_life w (events.Restart n image) of none = of
 no_life w event of none = none
 
 no_junk : (w : World) (event : Event) → HasNamed w event → IsFrameAsJunk event → ⊥
-no_junk w (Junk n bytes) named is = named
+no_junk w (events.Step n (OfNode.Take bytes word)) named is = named
 no_junk w event named is = is
 
 pub all_there : (w : World) (event : Event) → IsOfStep event → node_of_event event < length w.nodes → HasNamed w event → AllThere w event
@@ -133,8 +139,8 @@ no_node w event past = inl (inl past, refl)
 pub no_other : (w : World) (event : Event) → HasNoNode w (other_node_of event) → RefusesEvent w event NoSuchNode
 no_other w event none = inl (inr none, refl)
 
-pub no_frame : (w : World) (frame n word : ℕ) → n < length w.nodes → numbered w.frames frame ≡ None → RefusesEvent w (Deliver frame n word) NoSuchFrame
-no_frame w frame n word low none = inr (both_there w (Deliver frame n word) low (λ never. never), inl (none, refl))
+pub no_frame : (w : World) (frame n word : ℕ) → n < length w.nodes → numbered w.frames frame ≡ None → RefusesEvent w (events.Deliver frame n word) NoSuchFrame
+no_frame w frame n word low none = inr (both_there w (events.Deliver frame n word) low (λ never. never), inl (none, refl))
 
 pub no_read : (w : World) (event : Event) → node_of_event event < length w.nodes → (HasNoNode w (other_node_of event) → ⊥) → (NamesNoFrame w event → ⊥) → NamesNoRead w event
     → RefusesEvent w event NoSuchRead
@@ -143,10 +149,14 @@ no_read w event low other frame none = inr (both_there w event low other, inr (f
 not_a_frame : (bytes : List ℕ) (fault : FrameFault) → RefusesBytes bytes fault → IsFrame bytes → ⊥
 not_a_frame bytes fault refuses is = never_both is.frame bytes fault is.spelled refuses
 
--- junk: the causes before its own
-junk_there : (w : World) (n : ℕ) (bytes : List ℕ) → n < length w.nodes → (IsFrame bytes → ⊥) → AllThere w (Junk n bytes)
-junk_there w n bytes low none = record {
-  node = both_there w (Junk n bytes) low (λ never. never);
+-- bytes that come by hand
+abbrev by_hand : ℕ → ℕ → List ℕ → Event
+by_hand n word bytes = events.Step n (OfNode.Take bytes word)
+
+-- the causes before their own
+junk_there : (w : World) (n word : ℕ) (bytes : List ℕ) → n < length w.nodes → (IsFrame bytes → ⊥) → AllThere w (by_hand n word bytes)
+junk_there w n word bytes low none = record {
+  node = both_there w (by_hand n word bytes) low (λ never. never);
   frame = λ never. never;
   read = λ never. never;
   image = λ never. never;
@@ -154,28 +164,28 @@ junk_there w n bytes low none = record {
   junk = none;
 }
 
-by_bytes : (w : World) (n : ℕ) (bytes : List ℕ) (by : FrameFault) → AllThere w (Junk n bytes) → RefusesBytes bytes by → MayRefuse w (Junk n bytes) (of_step (of_frame by))
-by_bytes w n bytes OfFrame.Memory there refuses = inl refl
-by_bytes w n bytes OfFrame.Short there refuses = inr (refuses_by_step w (Junk n bytes) there _ (record { by_step = OfStep.Frame OfFrame.Short; cause = inl refuses; is = refl }))
-by_bytes w n bytes OfFrame.BadMagic there refuses = inr (refuses_by_step w (Junk n bytes) there _ (record { by_step = OfStep.Frame OfFrame.BadMagic; cause = inl refuses; is = refl }))
-by_bytes w n bytes OfFrame.BadVersion there refuses = inr (refuses_by_step w (Junk n bytes) there _ (record { by_step = OfStep.Frame OfFrame.BadVersion; cause = inl refuses; is = refl }))
-by_bytes w n bytes OfFrame.BadKind there refuses = inr (refuses_by_step w (Junk n bytes) there _ (record { by_step = OfStep.Frame OfFrame.BadKind; cause = inl refuses; is = refl }))
-by_bytes w n bytes OfFrame.TooLong there refuses = inr (refuses_by_step w (Junk n bytes) there _ (record { by_step = OfStep.Frame OfFrame.TooLong; cause = inl refuses; is = refl }))
-by_bytes w n bytes (OfFrame.BadBody at) there refuses = inr (refuses_by_step w (Junk n bytes) there _ (record { by_step = OfStep.Frame (OfFrame.BadBody at); cause = inl refuses; is = refl }))
-by_bytes w n bytes OfFrame.LeftOver there refuses = inr (refuses_by_step w (Junk n bytes) there _ (record { by_step = OfStep.Frame OfFrame.LeftOver; cause = inl refuses; is = refl }))
+by_bytes : (w : World) (n word : ℕ) (bytes : List ℕ) (by : FrameFault) → AllThere w (by_hand n word bytes) → RefusesBytes bytes by → MayRefuse w (by_hand n word bytes) (of_step (of_frame by))
+by_bytes w n word bytes OfFrame.Memory there refuses = inl refl
+by_bytes w n word bytes OfFrame.Short there refuses = inr (refuses_by_step w (by_hand n word bytes) there _ (record { by_step = OfStep.Frame OfFrame.Short; cause = inl refuses; is = refl }))
+by_bytes w n word bytes OfFrame.BadMagic there refuses = inr (refuses_by_step w (by_hand n word bytes) there _ (record { by_step = OfStep.Frame OfFrame.BadMagic; cause = inl refuses; is = refl }))
+by_bytes w n word bytes OfFrame.BadVersion there refuses = inr (refuses_by_step w (by_hand n word bytes) there _ (record { by_step = OfStep.Frame OfFrame.BadVersion; cause = inl refuses; is = refl }))
+by_bytes w n word bytes OfFrame.BadKind there refuses = inr (refuses_by_step w (by_hand n word bytes) there _ (record { by_step = OfStep.Frame OfFrame.BadKind; cause = inl refuses; is = refl }))
+by_bytes w n word bytes OfFrame.TooLong there refuses = inr (refuses_by_step w (by_hand n word bytes) there _ (record { by_step = OfStep.Frame OfFrame.TooLong; cause = inl refuses; is = refl }))
+by_bytes w n word bytes (OfFrame.BadBody at) there refuses = inr (refuses_by_step w (by_hand n word bytes) there _ (record { by_step = OfStep.Frame (OfFrame.BadBody at); cause = inl refuses; is = refl }))
+by_bytes w n word bytes OfFrame.LeftOver there refuses = inr (refuses_by_step w (by_hand n word bytes) there _ (record { by_step = OfStep.Frame OfFrame.LeftOver; cause = inl refuses; is = refl }))
 
-pub junk_refused : (w : World) (n : ℕ) (bytes : List ℕ) (fault : WorldFault) → n < length w.nodes → JunkFails bytes fault → MayRefuse w (Junk n bytes) fault
-junk_refused w n bytes fault low (inl memory) = inl memory
-junk_refused w n bytes fault low (inr (inl frame)) =
-    inr (inr (both_there w (Junk n bytes) low (λ never. never), inr ((λ never. never), inr ((λ never. never), inr ((λ never. never), inr ((λ never. never), inl (frame.0, frame.1)))))))
-junk_refused w n bytes fault low (inr (inr (by, (refuses, is)))) =
-    subst (MayRefuse w (Junk n bytes)) (sym is) (by_bytes w n bytes by (junk_there w n bytes low (not_a_frame bytes by refuses)) refuses)
+pub junk_refused : (w : World) (n word : ℕ) (bytes : List ℕ) (fault : WorldFault) → n < length w.nodes → JunkFails bytes fault → MayRefuse w (by_hand n word bytes) fault
+junk_refused w n word bytes fault low (inl memory) = inl memory
+junk_refused w n word bytes fault low (inr (inl frame)) =
+    inr (inr (both_there w (by_hand n word bytes) low (λ never. never), inr ((λ never. never), inr ((λ never. never), inr ((λ never. never), inr ((λ never. never), inl (frame.0, frame.1)))))))
+junk_refused w n word bytes fault low (inr (inr (by, (refuses, is)))) =
+    subst (MayRefuse w (by_hand n word bytes)) (sym is) (by_bytes w n word bytes by (junk_there w n word bytes low (not_a_frame bytes by refuses)) refuses)
 
 -- ---- a restart
 
-restart_there : (w : World) (n image : ℕ) → n < length w.nodes → image ≤ length (node_at w n).images → (node_at w n).state.incarnation < most_incarnation → AllThere w (Restart n image)
+restart_there : (w : World) (n image : ℕ) → n < length w.nodes → image ≤ length (node_at w n).images → (node_at w n).state.incarnation < most_incarnation → AllThere w (events.Restart n image)
 restart_there w n image low there left = record {
-  node = both_there w (Restart n image) low (λ never. never);
+  node = both_there w (events.Restart n image) low (λ never. never);
   frame = λ never. never;
   read = λ never. never;
   image = λ none. let fewer : length (node_at w n).images < image = none in absurd (omega (arith, fewer, there));
@@ -184,17 +194,17 @@ restart_there w n image low there left = record {
 }
 
 pub restart_accepted : (w : World) (n image : ℕ) → n < length w.nodes → image ≤ length (node_at w n).images → (node_at w n).state.incarnation < most_incarnation
-    → (fault : WorldFault) → RefusesEvent w (Restart n image) fault → ⊥
-restart_accepted w n image low there left = no_refusal w (Restart n image) (restart_there w n image low there left) (λ fault never. never)
+    → (fault : WorldFault) → RefusesEvent w (events.Restart n image) fault → ⊥
+restart_accepted w n image low there left = no_refusal w (events.Restart n image) (restart_there w n image low there left) (λ fault never. never)
 
-pub no_image_refuses : (w : World) (n image : ℕ) → n < length w.nodes → length (node_at w n).images < image → RefusesEvent w (Restart n image) NoSuchImage
-no_image_refuses w n image low fewer = inr (both_there w (Restart n image) low (λ never. never), inr ((λ never. never), inr ((λ never. never), inl (fewer, refl))))
+pub no_image_refuses : (w : World) (n image : ℕ) → n < length w.nodes → length (node_at w n).images < image → RefusesEvent w (events.Restart n image) NoSuchImage
+no_image_refuses w n image low fewer = inr (both_there w (events.Restart n image) low (λ never. never), inr ((λ never. never), inr ((λ never. never), inl (fewer, refl))))
 
 pub spent_refuses : (w : World) (n image : ℕ) → n < length w.nodes → image ≤ length (node_at w n).images → (node_at w n).state.incarnation ≡ most_incarnation
-    → RefusesEvent w (Restart n image) IncarnationSpent
+    → RefusesEvent w (events.Restart n image) IncarnationSpent
 spent_refuses w n image low there spent =
     inr (
-      both_there w (Restart n image) low (λ never. never),
+      both_there w (events.Restart n image) low (λ never. never),
       inr (
         (λ never. never),
         inr (
@@ -209,12 +219,17 @@ spent_refuses w n image low there spent =
 
 -- ---- what a step names, in the words of the lists
 
+brings_nothing : (w : World) (event : NodeEvent) → CanBeAsked w event → BringsNothing event
+brings_nothing w (OfNode.Write k v (Some context)) named = named
+brings_nothing w (OfNode.Write k v None) named = tt
+brings_nothing w (OfNode.Take bytes word) named = named
+brings_nothing w event named = tt
+
 pub named_of : (w : World) (event : Event) → HasNamed w event → IsNamed w.contexts w.frames event
-named_of w (Put n k v None) named = inl refl
-named_of w (Put n k v (Some read)) named = inr (read, (refl, named))
-named_of w (Deliver frame n word) named = named
-named_of w (Junk n bytes) named = named
-named_of w event named = tt
+named_of w (events.Step n event) named = brings_nothing w event named
+named_of w (events.Put n k v read) named = named
+named_of w (events.Deliver frame n word) named = named
+named_of w (events.Restart n image) named = tt
 
 -- ---- what an accepted event names is there
 
@@ -229,9 +244,9 @@ pub some_by : {A : Type 0} (o : Option A) → (o ≡ None → ⊥) → (x : A) �
 some_by None never = absurd (never refl)
 some_by (Some x) never = (x, refl)
 
-pub has_frame : (w : World) (frame n word : ℕ) → ((fault : WorldFault) → RefusesEvent w (Deliver frame n word) fault → ⊥) → (bytes : List ℕ) × (numbered w.frames frame ≡ Some bytes)
+pub has_frame : (w : World) (frame n word : ℕ) → ((fault : WorldFault) → RefusesEvent w (events.Deliver frame n word) fault → ⊥) → (bytes : List ℕ) × (numbered w.frames frame ≡ Some bytes)
 has_frame w frame n word accepted =
-    some_by (numbered w.frames frame) (λ none. accepted NoSuchFrame (no_frame w frame n word (has_node w (Deliver frame n word) accepted) none))
+    some_by (numbered w.frames frame) (λ none. accepted NoSuchFrame (no_frame w frame n word (has_node w (events.Deliver frame n word) accepted) none))
 
 node_by : (w : World) (event : Event) (b : Bool) → ltb (node_of_event event) (length w.nodes) ≡ b → (NamesNoNode w event → ⊥) → node_of_event event < length w.nodes
 node_by w event true e named = ltb-true (node_of_event event) (length w.nodes) e

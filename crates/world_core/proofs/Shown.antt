@@ -26,9 +26,9 @@ use Rattle.past_model.proofs.Showing.{object_shows}
 use Rattle.past_model.specs.Objects.{seen_object, sent_object}
 use Rattle.past_model.proofs.Matching.{matches, same_lives, same_numbers}
 use Rattle.node_core.specs.Node.{NodeParts}
-use Rattle.node_images.specs.Images.{Image, holdings}
-use Rattle.node_images.specs.Node.{keeping, new_node}
-use Rattle.node_images.specs.Follows.{FollowsHistory}
+use Rattle.restart_images.specs.Images.{Image, holdings}
+use Rattle.restart_images.specs.Node.{keeping, new_node}
+use Rattle.restart_images.specs.Follows.{FollowsHistory}
 use Rattle.world_core.specs.Knowledge.{CarriesLoad, CountsSeen, OfAllTold, ShowWhatTheyKnow, ShowsKnown}
 use Rattle.world_core.specs.Refusal.{IsFrameOf, node_at, table_at}
 use Rattle.world_core.specs.Numbers.{numbered}

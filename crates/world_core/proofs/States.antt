@@ -22,11 +22,11 @@ use Rattle.past_model.proofs.Changes.{after_look, after_sending}
 use Rattle.past_model.proofs.Histories.{history_snoc}
 use Rattle.past_model.proofs.Standing.{seen_later, sent_later}
 use Rattle.node_core.specs.Leaving.{AreOfHeld, IsOfHeld, carried_object}
-use Rattle.node_images.specs.Images.{holdings}
-use Rattle.node_images.specs.Keeping.{IsRestorable, Keeping}
-use Rattle.node_images.proofs.Keepings.{new_keeping, with_kept, with_merge, with_restart, with_write}
-use Rattle.node_images.specs.Follows.{FollowsHistory}
-use Rattle.node_images.proofs.Following.{follows_look, follows_sending, follows_write, follows_keep, follows_take, follows_restart, write_elsewhere, keeping_elsewhere, delivery_elsewhere, restart_elsewhere}
+use Rattle.restart_images.specs.Images.{holdings}
+use Rattle.restart_images.specs.Keeping.{IsRestorable, Keeping}
+use Rattle.restart_images.proofs.Keepings.{new_keeping, with_kept, with_merge, with_restart, with_write}
+use Rattle.restart_images.specs.Follows.{FollowsHistory}
+use Rattle.restart_images.proofs.Following.{follows_look, follows_sending, follows_write, follows_keep, follows_take, follows_restart, write_elsewhere, keeping_elsewhere, delivery_elsewhere, restart_elsewhere}
 use Rattle.world_core.specs.Tells.{Pairwise, Told, nothing_told, tell, tell_frames, tell_look, tell_sending}
 use Rattle.world_core.specs.Invariant.{IsRead, IsSending, IsState, IsTold}
 use Rattle.world_core.proofs.Lists.{pairwise_map, pairwise_snoc, slice_get_end, slice_get_more}

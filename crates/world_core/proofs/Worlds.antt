@@ -1,5 +1,5 @@
 -- A world after one more event is a world.
-use Rattle.std.proofs.Common.{◌≡◌, ◌≢◌, ℕ, zero, suc, ◌+◌, ◌<◌, ◌≤◌, Bool, true, false, eqb, List, [], ◌∷◌, ◌++◌, length, map, get_or, All, Option, Some, None, inl, inr, refl, sym, ap, subst, ◌∙◌, arith}
+use Rattle.std.proofs.Common.{◌≡◌, ◌≢◌, ℕ, zero, suc, ◌+◌, ◌<◌, ◌≤◌, Bool, true, false, eqb, List, [], ◌∷◌, ◌++◌, length, map, get_or, All, Option, Some, None, refl, sym, ap, subst, ◌∙◌, arith}
 use Rattle.std.specs.Prelude.{slice_set}
 use Rattle.std.specs.List.{range_with_len}
 use Rattle.std.specs.Option.{option_map}
@@ -28,12 +28,12 @@ use Rattle.past_model.specs.declared.happening.Happening.TheVariants.{Restarted}
 use Rattle.past_model.specs.History.{most_restarts}
 use Rattle.past_model.specs.Past.{past}
 use Rattle.past_model.proofs.Matching.{same_lives, same_numbers}
-use Rattle.node_images.specs.Images.{Image}
-use Rattle.node_images.specs.Keeping.{IsRestorable, Keeping, change_at, most_incarnation}
-use Rattle.node_images.proofs.Keepings.{with_restart}
+use Rattle.restart_images.specs.Images.{Image}
+use Rattle.restart_images.specs.Keeping.{IsRestorable, Keeping, change_at, most_incarnation}
+use Rattle.restart_images.proofs.Keepings.{with_restart}
 use Rattle.node_core.proofs.Growing.{only_reads}
-use Rattle.node_images.specs.Node.{BeginsFrom, ImagedNode, IsRestarted, arrived, context_read, images_with, keeping, new_node}
-use Rattle.node_images.specs.Follows.{FollowsHistory}
+use Rattle.restart_images.specs.Node.{BeginsFrom, ImagedNode, IsRestarted, arrived, context_read, images_with, keeping, new_node}
+use Rattle.restart_images.specs.Follows.{FollowsHistory}
 use Rattle.world_core.specs.declared.answer.Accepted.{Accepted}
 use Rattle.world_core.specs.declared.answer.Answer.{Answer}
 use Rattle.world_core.specs.declared.event.Event.{Event}
@@ -86,11 +86,7 @@ within_numbered xs (suc before) x e =
     omega (arith, low)
 
 read_within : (contexts : List Reading) (spellings : List (List ℕ)) (event : Event) → IsNamed contexts spellings event → IsReadWithin (length contexts) event
-read_within contexts spellings (Put n k v None) named = tt
-read_within contexts spellings (Put n k v (Some read)) (inl absent) = let no_read : Some read ≡ None = absent in absurd (cc)
-read_within contexts spellings (Put n k v (Some read)) (inr (number, (is, (context, here)))) =
-    let same : read ≡ number = cc in
-    subst (λ r. r ≤ length contexts) (sym same) (within_numbered contexts number context here)
+read_within contexts spellings (Put n k v read) named = within_numbered contexts read named.0 named.1
 read_within contexts spellings event named = tt
 
 frame_within : (contexts : List Reading) (spellings : List (List ℕ)) (event : Event) → IsNamed contexts spellings event → IsFrameWithin (length spellings) event
@@ -100,8 +96,7 @@ frame_within contexts spellings event named = tt
 -- ---- all that was named, in a longer world
 
 read_up : (m n : ℕ) (event : Event) → m ≤ n → IsReadWithin m event → IsReadWithin n event
-read_up m n (Put i k v (Some read)) more w = omega (arith, more, w)
-read_up m n (Put i k v None) more w = tt
+read_up m n (Put i k v read) more w = omega (arith, more, w)
 read_up m n event more w = tt
 
 frame_up : (m n : ℕ) (event : Event) → m ≤ n → IsFrameWithin m event → IsFrameWithin n event

@@ -1,7 +1,7 @@
 -- What a world keeps of what it has accepted, as a list each; the view of a world and private
 -- functions cite it.
 use Rattle.std.specs.Prelude.{◌≡◌, ℕ, ◌+◌, ◌≤◌, List, [], ◌++◌}
-use Rattle.node_images.specs.Node.{ImagedNode}
+use Rattle.restart_images.specs.Node.{ImagedNode}
 use Rattle.world_core.specs.declared.chronicle.Chronicle.{Chronicle}
 use Rattle.world_core.specs.World.{World}
 

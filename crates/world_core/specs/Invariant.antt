@@ -12,9 +12,9 @@ use Rattle.past_model.specs.declared.happening.Happening.TheVariants.{Looked, Se
 use Rattle.past_model.specs.History.{IsHistory}
 use Rattle.past_model.specs.Objects.{seen_object, sent_object}
 use Rattle.node_core.specs.Leaving.{carried_object}
-use Rattle.node_images.specs.Keeping.{Keeping}
-use Rattle.node_images.specs.Node.{ImagedNode, keeping}
-use Rattle.node_images.specs.Follows.{FollowsHistory}
+use Rattle.restart_images.specs.Keeping.{Keeping}
+use Rattle.restart_images.specs.Node.{ImagedNode, keeping}
+use Rattle.restart_images.specs.Follows.{FollowsHistory}
 use Rattle.world_core.specs.declared.event.Event.{Event}
 use Rattle.world_core.specs.declared.event.Event.TheVariants.{Put, Deliver}
 use Rattle.world_core.specs.Events.{node_of_event}
@@ -55,7 +55,7 @@ pub record IsState (ns : List Keeping) (contexts : List Reading) (sent : List Fr
 
 -- the number of the read that a write names is at most this one
 abbrev pub IsReadWithin : ℕ → Event → Type 0
-IsReadWithin count (Put n k v (Some read)) = read ≤ count
+IsReadWithin count (Put n k v read) = read ≤ count
 IsReadWithin count event = Unit {0}
 
 -- the number of the frame that a delivery names is at most this one

@@ -15,9 +15,9 @@ pub use Rattle.meta_store.specs.Table
 pub use Rattle.meta_store.specs.Step
 pub use Rattle.node_core.specs.Step as NodeStep
 pub use Rattle.node_core.specs.Leaving
-pub use Rattle.node_images.specs.Images
-pub use Rattle.node_images.specs.Keeping
-pub use Rattle.node_images.specs.Node
+pub use Rattle.restart_images.specs.Images
+pub use Rattle.restart_images.specs.Keeping
+pub use Rattle.restart_images.specs.Node
 -- reads and frames by their number
 pub mod Numbers
 -- what an event is to its node
@@ -39,7 +39,7 @@ pub mod Outcome
 -- what need not be believed: what a world always keeps to, by the machine of objects (`Images`
 -- above takes the word `Holding` from it)
 pub use Rattle.past_model.specs.Objects
-pub use Rattle.node_images.specs.Follows
+pub use Rattle.restart_images.specs.Follows
 pub mod Invariant
 -- what the view of a world and private functions cite: the lists of a world
 pub mod Chronicle

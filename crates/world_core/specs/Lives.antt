@@ -6,8 +6,8 @@ use Rattle.node_core.specs.declared.state.Stepped.{Stepped}
 use Rattle.node_core.specs.Node.{NodeParts}
 use Rattle.node_core.specs.Step.{IsNodeStep}
 use Rattle.node_events.specs.declared.reply.Reply.TheVariants.{Done}
-use Rattle.node_images.specs.Images.{Image}
-use Rattle.node_images.specs.Node.{BeginsFrom}
+use Rattle.restart_images.specs.Images.{Image}
+use Rattle.restart_images.specs.Node.{BeginsFrom}
 use Rattle.world_core.specs.declared.answer.Accepted.{Accepted}
 use Rattle.world_core.specs.Events.{Begin, Doing, Step, doing_of, node_of_event}
 use Rattle.world_core.specs.Numbers.{frames_at}

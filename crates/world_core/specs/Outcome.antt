@@ -9,7 +9,7 @@ use Rattle.node_events.specs.Event.{stored_key}
 use Rattle.node_events.specs.declared.event.NodeEvent.{NodeEvent}
 use Rattle.node_events.specs.declared.fault.StepFault.TheVariants as OfStep
 use Rattle.node_events.specs.declared.reply.Reply.TheVariants.{Done}
-use Rattle.node_images.specs.Node.{ImagedNode, IsRestarted, arrived, context_read}
+use Rattle.restart_images.specs.Node.{ImagedNode, IsRestarted, arrived, context_read}
 use Rattle.world_core.specs.declared.answer.Answer.{Answer}
 use Rattle.world_core.specs.declared.answer.FrameNumbers.{FrameNumbers}
 use Rattle.world_core.specs.declared.event.Event.{Event}

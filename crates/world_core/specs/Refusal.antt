@@ -7,11 +7,12 @@ use Rattle.meta_store.specs.Table.{Table}
 use Rattle.node_core.specs.Node.{NodeParts}
 use Rattle.node_core.specs.Step.{IsNoFrame, IsRefused}
 use Rattle.node_events.specs.declared.event.NodeEvent.{NodeEvent}
+use Rattle.node_events.specs.declared.event.NodeEvent.TheVariants.{Take, Write}
 use Rattle.node_events.specs.declared.fault.StepFault.{StepFault}
-use Rattle.node_images.specs.Keeping.{most_incarnation}
-use Rattle.node_images.specs.Node.{ImagedNode, new_node}
+use Rattle.restart_images.specs.Keeping.{most_incarnation}
+use Rattle.restart_images.specs.Node.{ImagedNode, new_node}
 use Rattle.world_core.specs.declared.event.Event.{Event}
-use Rattle.world_core.specs.declared.event.Event.TheVariants.{Put, Deliver, Junk, Restart}
+use Rattle.world_core.specs.declared.event.Event.TheVariants as events
 use Rattle.world_core.specs.declared.fault.WorldFault.{WorldFault}
 use Rattle.world_core.specs.declared.fault.WorldFault.TheVariants.{IncarnationSpent, NoSuchFrame, NoSuchRead, NoSuchNode, LooksLikeFrame, NoSuchImage}
 use Rattle.world_core.specs.Events.{Begin, Doing, Step, doing_of, node_of_event, other_node_of}
@@ -49,22 +50,23 @@ NamesNoNode w event = HasNoNode w (Some (node_of_event event)) ⊎ HasNoNode w (
 
 -- a frame is to be delivered that wasn't sent
 abbrev pub NamesNoFrame : World → Event → Type 0
-NamesNoFrame w (Deliver frame n word) = numbered w.frames frame ≡ None
+NamesNoFrame w (events.Deliver frame n word) = numbered w.frames frame ≡ None
 NamesNoFrame w event = ⊥
 
--- a write names a read that wasn't made
+-- a write names a read that wasn't made, or has a context by hand, which is that of no read
 abbrev pub NamesNoRead : World → Event → Type 0
-NamesNoRead w (Put n k v (Some read)) = numbered w.contexts read ≡ None
+NamesNoRead w (events.Put n k v read) = numbered w.contexts read ≡ None
+NamesNoRead w (events.Step n (Write k v (Some context))) = Unit {0}
 NamesNoRead w event = ⊥
 
 -- the node hasn't made the image that it is to restart from
 abbrev pub NamesNoImage : World → Event → Type 0
-NamesNoImage w (Restart n image) = length (node_at w n).images < image
+NamesNoImage w (events.Restart n image) = length (node_at w n).images < image
 NamesNoImage w event = ⊥
 
 -- the node is in the last life that there is a number for, and is to restart
 abbrev pub HasNoLifeLeft : World → Event → Type 0
-HasNoLifeLeft w (Restart n image) = (node_at w n).state.incarnation ≡ most_incarnation
+HasNoLifeLeft w (events.Restart n image) = (node_at w n).state.incarnation ≡ most_incarnation
 HasNoLifeLeft w event = ⊥
 
 -- the bytes are a frame
@@ -72,9 +74,9 @@ pub record IsFrame (bytes : List ℕ) : Type 0 where
   pub frame : Frame
   pub spelled : Spells frame bytes
 
--- what is handed in as no frame is one
+-- bytes that are handed in by hand, as no frame of the world, are a frame
 abbrev pub IsFrameAsJunk : Event → Type 0
-IsFrameAsJunk (Junk n bytes) = IsFrame bytes
+IsFrameAsJunk (events.Step n (Take bytes word)) = IsFrame bytes
 IsFrameAsJunk event = ⊥
 
 -- the node refuses the step, for this first cause

@@ -10,9 +10,11 @@ use Rattle.meta_frame.specs.declared.message.Frame.{Frame}
 use Rattle.past_model.specs.declared.happening.Happening.{Happening}
 use Rattle.past_model.specs.declared.happening.Happening.TheVariants.{Wrote, Looked, Sent, Got, Kept, Restarted}
 use Rattle.node_core.specs.Leaving.{carried_object}
+use Rattle.node_events.specs.declared.event.NodeEvent.{NodeEvent}
+use Rattle.node_events.specs.declared.event.NodeEvent.TheVariants.{Read, Write, PutOver, Take, Keep}
 use Rattle.world_core.specs.declared.answer.Accepted.{Accepted}
 use Rattle.world_core.specs.declared.event.Event.{Event}
-use Rattle.world_core.specs.declared.event.Event.TheVariants.{Put, Get, PutOver, Deliver, Junk, Keep, Restart}
+use Rattle.world_core.specs.declared.event.Event.TheVariants as events
 use Rattle.world_core.specs.Numbers.{frames_at, numbered}
 use Rattle.world_core.specs.Events.{node_of_event}
 
@@ -38,11 +40,6 @@ tell_look n k t = record t {
   looks = t.looks ++ length t.history ∷ [];
 }
 
--- the place of the Looked that a read number names
-abbrev pub look_of : Told → Option ℕ → Option ℕ
-look_of t None = None
-look_of t (Some read) = numbered t.looks read
-
 -- the place of the Sent that a frame number names, if that frame carries an object
 abbrev pub sending_of : Told → ℕ → Option ℕ
 sending_of t frame = option_flatten (numbered t.sendings frame)
@@ -53,15 +50,21 @@ tell_got n (Some place) t = tell (Got n place) t
 
 -- ---- events and frames
 
--- what an event tells, before what it sends; all but these tell nothing
+-- what a node tells by what it is asked; all but these tell nothing, and no write that is accepted
+-- so has read anything
+abbrev pub tell_step : ℕ → NodeEvent → Told → Told
+tell_step n (Read k) t = tell_look n k t
+tell_step n (Write k v context) t = tell (Wrote n k v None) t
+tell_step n (PutOver k v) t = tell (Wrote n k v (Some (length t.history))) (tell_look n k t)
+tell_step n (Keep k) t = tell (Kept n k) t
+tell_step n event t = t
+
+-- what an event tells, before what it sends
 abbrev pub tell_event : Event → Told → Told
-tell_event (Put n k v read) t = tell (Wrote n k v (look_of t read)) t
-tell_event (Get n k) t = tell_look n k t
-tell_event (PutOver n k v) t = tell (Wrote n k v (Some (length t.history))) (tell_look n k t)
-tell_event (Deliver frame n word) t = tell_got n (sending_of t frame) t
-tell_event (Keep n k) t = tell (Kept n k) t
-tell_event (Restart n image) t = tell (Restarted n image) t
-tell_event event t = t
+tell_event (events.Step n event) t = tell_step n event t
+tell_event (events.Put n k v read) t = tell (Wrote n k v (numbered t.looks read)) t
+tell_event (events.Deliver frame n word) t = tell_got n (sending_of t frame) t
+tell_event (events.Restart n image) t = tell (Restarted n image) t
 
 -- a frame of the node: a Sent, if it carries an object
 abbrev pub tell_sending : ℕ → Option (Key × List Entry) → Told → Told
@@ -104,18 +107,20 @@ SendInOrder sent [] all = all ≡ sent
 SendInOrder sent (a ∷ later) all =
     (a.answer.sent.first ≡ sent + 1) × SendInOrder (sent + a.answer.sent.count) later all
 
--- a write names an earlier read, a delivery an earlier frame; junk is never accepted
+-- a write names an earlier read, a delivery an earlier frame; a context and bytes that are handed in
+-- by hand are never accepted
 abbrev pub NamesEarlier : Told → Event → Type 0
-NamesEarlier t (Put n k v (Some read)) = (place : ℕ) × (numbered t.looks read ≡ Some place)
-NamesEarlier t (Deliver frame n word) =
+NamesEarlier t (events.Put n k v read) = (place : ℕ) × (numbered t.looks read ≡ Some place)
+NamesEarlier t (events.Deliver frame n word) =
     (sending : Option ℕ) × (numbered t.sendings frame ≡ Some sending)
-NamesEarlier t (Junk n bytes) = ⊥
+NamesEarlier t (events.Step n (Write k v (Some context))) = ⊥
+NamesEarlier t (events.Step n (Take bytes word)) = ⊥
 NamesEarlier t event = Unit {0}
 
 -- an event that reads is answered with the next read number, any other with none
 abbrev pub next_read : Told → Event → Option ℕ
-next_read t (Get n k) = Some (length t.looks + 1)
-next_read t (PutOver n k v) = Some (length t.looks + 1)
+next_read t (events.Step n (Read k)) = Some (length t.looks + 1)
+next_read t (events.Step n (PutOver k v)) = Some (length t.looks + 1)
 next_read t event = None
 
 -- each event names what is earlier, and has its read number, by what was told when it came

@@ -6,7 +6,7 @@ use Rattle.meta_store.specs.Context.{Reading}
 use Rattle.meta_store.specs.Table.{IsTable}
 use Rattle.node_core.specs.declared.state.Stepped.{Stepped}
 use Rattle.node_core.specs.Node.{opening}
-use Rattle.node_images.specs.Node.{ImagedNode, new_node}
+use Rattle.restart_images.specs.Node.{ImagedNode, new_node}
 use Rattle.world_core.specs.declared.answer.Accepted.{Accepted}
 use Rattle.world_core.specs.Events.{Doing}
 use Rattle.world_core.specs.Lives.{Live, deeds_of}

@@ -13,7 +13,7 @@ use crate::event::Event;
 use meta_store::Context;
 use meta_types::ByteString;
 use node_events::{Outbox, Reply};
-use node_images::ImagedStep;
+use restart_images::ImagedStep;
 use std::alloc::{AllocError, Global};
 use std::mem::replace;
 

@@ -15,11 +15,11 @@ pub enum WorldFault {
     IncarnationSpent,
     /// 42: no frame has this number.
     NoSuchFrame,
-    /// 43: no read has this number.
+    /// 43: no read has this number, or a write came with a context of its own.
     NoSuchRead,
     /// 44: the world has no node of this number, or would have none or more than 16.
     NoSuchNode,
-    /// 45: what was given as junk is a frame.
+    /// 45: bytes that came of themselves, not as a frame of the world, are a frame.
     LooksLikeFrame,
     /// 46: the node has no image of this number.
     NoSuchImage,

@@ -15,8 +15,8 @@ ghost use Rattle.world_core.specs.Events.{node_of_event};
 ghost use Rattle.world_core.specs.Knowledge.{CountsSeen, OfAllTold};
 ghost use Rattle.world_core.specs.Refusal.{IsFrameOf};
 ghost use Rattle.world_core.specs.Numbers.{frames_at, numbered};
-ghost use Rattle.world_core.specs.Tells.{Pairwise, Tells, Told, look_of, nothing_told};
-ghost use Rattle.world_core.specs.Tells.{sending_of, tell, tell_event, tell_frames, tell_got, tell_look, tell_sending};
+ghost use Rattle.world_core.specs.Tells.{Pairwise, Tells, Told, nothing_told, sending_of};
+ghost use Rattle.world_core.specs.Tells.{tell, tell_event, tell_frames, tell_got, tell_look, tell_sending, tell_step};
 ghost use Rattle.world_core.specs.declared.fault.WorldFault.TheVariants.{Memory, NoSuchNode};
 
 use crate::answer::FrameNumbers;
@@ -25,6 +25,7 @@ use crate::fault::WorldFault;
 use crate::world::World;
 use meta_frame::{Frame, FrameFault, Message, decode};
 use meta_types::{MetaKey, NodeId, Value};
+use node_events::NodeEvent;
 use past_model::{Happening, Plain};
 use std::alloc::{AllocError, Global};
 use std::marker::Model;
@@ -82,13 +83,6 @@ impl Telling {
         self.tell(Happening::Looked { node, key })
     }
 
-    /// Returns the place of the `Looked` that a read number names.
-    fn look_of(&self, read: Option<u64>) -> Option<usize>
-        ensures { result ≡ look_of self.now read }
-    {
-        numbered(self.looks.as_slice(), read?)
-    }
-
     /// Adds what an event tells, before what it sends.
     fn event(&mut self, event: &Event) -> Result<(), AllocError>
         requires { node_of_event event.now < 16 }
@@ -96,20 +90,33 @@ impl Telling {
     {
         let node = id_of(event);
         match event {
+            Event::Step { event, .. } => self.step(node, event),
             Event::Put {
                 key,
                 value,
                 read,
                 ..
-            } => self.write(node, key, value, self.look_of(*read)),
-            Event::Get { key, .. } => self.look(node, key),
-            Event::PutOver { key, value, .. } => self.put_over(node, key, value),
+            } => {
+                let seen = numbered(self.looks.as_slice(), *read);
+                self.write(node, key, value, seen)
+            }
             Event::Deliver { frame, .. } => self.got(node, *frame),
-            Event::Keep { key, .. } => self.keep(node, key),
             Event::Restart { image, .. } => self.tell(Happening::Restarted {
                 node,
                 image: *image as usize,
             }),
+        }
+    }
+
+    /// Adds what a node tells by what it is asked.
+    fn step(&mut self, node: NodeId, event: &NodeEvent) -> Result<(), AllocError>
+        ensures { OnOk result (self.new ≡ tell_step node event.now self.old) }
+    {
+        match event {
+            NodeEvent::Read { key } => self.look(node, key),
+            NodeEvent::Write { key, value, .. } => self.write(node, key, value, None),
+            NodeEvent::PutOver { key, value } => self.put_over(node, key, value),
+            NodeEvent::Keep { key } => self.keep(node, key),
             _ => Ok(()),
         }
     }

@@ -4,10 +4,11 @@
 //!
 //! ```
 //! let mut world = World::new(alloc, 2)?;
-//! world.apply(Event::Join { node: 1, contact: 0, word: 0 })?; // frame 1: a JOIN
+//! let join = NodeEvent::Join { contact: NodeId::new(0).unwrap(), word: 0 };
+//! world.apply(Event::Step { node: 1, event: join })?; // frame 1: a JOIN
 //! world.apply(Event::Deliver { frame: 1, node: 0, word: 0 })?; // each is the other's neighbour
-//! let put = Event::Put { node: 0, key: key.copy()?, value: red, read: None };
-//! let answer = world.apply(put)?; // it sends a GOSSIP
+//! let write = NodeEvent::Write { key: key.copy()?, value: red, context: None };
+//! let answer = world.apply(Event::Step { node: 0, event: write })?; // it sends a GOSSIP
 //! let frame = answer.sent.first;
 //! world.apply(Event::Deliver { frame, node: 1, word: 0 })?; // node 1 shows red
 //! ```

@@ -1,7 +1,7 @@
 //! Restarts.
 
 ghost use Rattle.std.specs.Prelude.{◌≡◌, ◌<◌, ◌≤◌, length, IfOk, IfErr, OnOk};
-ghost use Rattle.node_images.specs.Keeping.{most_incarnation};
+ghost use Rattle.restart_images.specs.Keeping.{most_incarnation};
 ghost use Rattle.world_core.specs.Outcome.{Outcome};
 ghost use Rattle.world_core.specs.Refusal.{RefusesEvent, node_at};
 ghost use Rattle.world_core.specs.declared.event.Event.TheVariants.{Restart};

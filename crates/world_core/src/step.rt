@@ -3,11 +3,12 @@
 ghost use Rattle.std.specs.Prelude.{◌≡◌, ◌<◌, ℕ, List, None, Some, Err, length, IfOk, IfErr, OnOk};
 ghost use Rattle.std.specs.Option.{option_copied};
 ghost use Rattle.meta_types.specs.Failing.{FailsWith};
+ghost use Rattle.meta_store.specs.Context.{Reading};
 ghost use Rattle.node_events.specs.declared.event.NodeEvent.TheVariants.{Take, Write};
-ghost use Rattle.world_core.specs.Events.{Step, context_of, node_of_event};
+ghost use Rattle.world_core.specs.Events.{Step, node_of_event};
 ghost use Rattle.world_core.specs.Outcome.{Outcome};
 ghost use Rattle.world_core.specs.Refusal.{doing_in};
-ghost use Rattle.world_core.specs.Steps.{HasNamed, HasNoRead, HasRead, IsOfStep, JunkFails, MayRefuse};
+ghost use Rattle.world_core.specs.Steps.{CanBeAsked, HasNamed, IsNotAsked, IsOfStep, JunkFails, MayRefuse};
 ghost use Rattle.world_core.specs.Numbers.{numbered};
 ghost use Rattle.world_core.specs.declared.fault.WorldFault.TheVariants.{Memory, NoSuchFrame, NoSuchRead};
 
@@ -65,74 +66,55 @@ impl World {
         ensures refused { IfErr result (MayRefuse self.now event.now) }
     {
         match event {
+            Event::Step { event, .. } => self.asked(event),
             Event::Put {
                 key,
                 value,
                 read,
                 ..
             } => self.write_of(key, value, *read),
-            Event::Get { key, .. } => Ok(NodeEvent::Read { key: key.copy()? }),
-            Event::PutOver { key, value, .. } => Ok(NodeEvent::PutOver {
-                key: key.copy()?,
-                value: value.copy()?,
-            }),
             Event::Deliver { frame, word, .. } => self.delivery_of(*frame, *word),
-            Event::Junk { bytes, .. } => Err(junk_fault(self.alloc(), bytes)),
-            Event::Tick { word, .. } => Ok(NodeEvent::Tick { word: *word }),
-            Event::Join { contact, word, .. } => Ok(NodeEvent::Join {
-                contact: self.node_id(*contact)?,
-                word: *word,
-            }),
-            Event::PeerDown { peer, word, .. } => Ok(NodeEvent::PeerDown {
-                peer: self.node_id(*peer)?,
-                word: *word,
-            }),
-            Event::Exchange { peer, .. } => Ok(NodeEvent::Exchange {
-                peer: self.node_id(*peer)?,
-            }),
-            Event::Keep { key, .. } => Ok(NodeEvent::Keep { key: key.copy()? }),
-            Event::Watch {
-                prefix,
-                capacity,
-                ..
-            } => Ok(NodeEvent::Watch {
-                prefix: prefix.copy()?,
-                capacity: *capacity,
-            }),
-            Event::Changes { number, .. } => Ok(NodeEvent::Changes { number: *number }),
-            Event::Hello { peer, .. } => Ok(NodeEvent::Hello {
-                peer: self.node_id(*peer)?,
-            }),
-            Event::Leave { .. } => Ok(NodeEvent::Leave),
             Event::Restart { .. } => unreachable!(),
         }
     }
 
-    /// Returns a write, with the context of the read of that number, or a blind one.
-    fn write_of(
-        &self,
-        key: &MetaKey,
-        value: &Value,
-        read: Option<u64>,
-    ) -> Result<NodeEvent, WorldFault>
-        ensures step { IfOk result
-            (λ step. step ≡ Write key.now value.now (context_of self.now.contexts read)) }
-        ensures there { OnOk result (HasRead self.now read) }
-        ensures refused { FailsWith Memory
-            (λ fault. (fault ≡ NoSuchRead) × HasNoRead self.now read) result }
+    /// Returns a copy of what a node is asked. Refused if the other node that it names isn't there,
+    /// and if it brings a context, or bytes, which only the world hands out.
+    fn asked(&self, event: &NodeEvent) -> Result<NodeEvent, WorldFault>
+        ensures step { IfOk result (λ step. step ≡ event.now) }
+        ensures named { OnOk result (CanBeAsked self.now event.now) }
+        ensures refused { IfErr result (IsNotAsked self.now event.now) }
     {
-        let context = match read {
-            None => None,
-            Some(read) => match self.context(read) {
-                None => return Err(WorldFault::NoSuchRead),
-                Some(context) => Some(context.copy()?),
-            },
+        if let Some(other) = event.other() {
+            self.node_id(u64::from(other.number()))?;
+        }
+        match event {
+            NodeEvent::Write {
+                context: Some(_),
+                ..
+            } => Err(WorldFault::NoSuchRead),
+            NodeEvent::Take { frame, .. } => Err(junk_fault(self.alloc(), frame)),
+            event => Ok(event.copy()?),
+        }
+    }
+
+    /// Returns a write, with the context of the read of that number.
+    fn write_of(&self, key: &MetaKey, value: &Value, read: u64) -> Result<NodeEvent, WorldFault>
+        ensures step { IfOk result (λ step. (context : Reading)
+            × ((step ≡ Write key.now value.now (Some context))
+            × (numbered self.now.contexts read ≡ Some context))) }
+        ensures refused { FailsWith Memory (λ fault. (fault ≡ NoSuchRead)
+            × (numbered self.now.contexts read ≡ None)) result }
+    {
+        let context = match self.context(read) {
+            None => return Err(WorldFault::NoSuchRead),
+            Some(context) => context.copy()?,
         };
         let (key, value) = (key.copy()?, value.copy()?);
         Ok(NodeEvent::Write {
             key,
             value,
-            context,
+            context: Some(context),
         })
     }
 

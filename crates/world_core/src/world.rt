@@ -11,8 +11,8 @@ ghost use Rattle.meta_store.specs.Table.{object_at};
 ghost use Rattle.past_model.specs.Past.{image, incarnation_of, known, past, writes};
 ghost use Rattle.past_model.specs.Shown.{IsObjectOf};
 ghost use Rattle.node_core.specs.Leaving.{carried_object};
-ghost use Rattle.node_images.specs.Images.{ChangeEarlier, holdings};
-ghost use Rattle.node_images.specs.Node.{new_node};
+ghost use Rattle.restart_images.specs.Images.{ChangeEarlier, holdings};
+ghost use Rattle.restart_images.specs.Node.{new_node};
 ghost use Rattle.world_core.specs.Knowledge.{CarriesLoad, HandsOut, OfAllTold, ShowsKnown};
 ghost use Rattle.world_core.specs.Refusal.{IsFrameOf, node_at};
 ghost use Rattle.world_core.specs.Numbers.{frames_at, numbered};
@@ -25,7 +25,7 @@ use crate::fault::WorldFault;
 use meta_types::node::MAX_NODES;
 use meta_types::{ByteString, NodeId};
 use node_core::NodeState;
-use node_images::{ImagedNode, Images};
+use restart_images::{ImagedNode, Images};
 use std::alloc::{AllocError, Global};
 use std::marker::Model;
 
@@ -114,7 +114,7 @@ impl World {
 
     /// Returns the images of the node, except image 0, which is empty; `None` for a node that the
     /// world doesn't have, and only then. What an image has under a key is read by
-    /// `node_images::image::object_in`. It is the object of the writes that this image has by the
+    /// `restart_images::image::object_in`. It is the object of the writes that this image has by the
     /// history: those that its node knew of the key when it was last written or kept on the way to
     /// the image.
     pub fn images(&self, node: u64) -> Option<&Images>
@@ -131,6 +131,14 @@ impl World {
             Ok(at) if at < self.nodes.len() => Some(self.nodes[at].images()),
             _ => None,
         }
+    }
+
+    /// Returns how many nodes there are: 1 to 16.
+    pub fn node_count(&self) -> u64
+        ensures value { result ≡ length self.now.nodes }
+        ensures range { (1 ≤ result) × (result ≤ 16) }
+    {
+        self.nodes.len() as u64
     }
 
     /// Returns the node; `None` for one that the world doesn't have, and only then. Under each key

@@ -8,7 +8,7 @@ use crate::schedule::parse::{Outcome, Scheduled};
 use crate::schedule::past::{add_alike, is_right, keys};
 use meta_types::MetaKey;
 use resolvers::Resolver;
-use scenario_stage::{Stage, StageFault};
+use scenario_commands::{Stage, StageFault};
 use scenario_text::{Command, Script, is_skipped};
 use std::alloc::{AllocError, Global};
 

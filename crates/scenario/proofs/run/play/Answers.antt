@@ -1,8 +1,8 @@
 use Rattle.std.proofs.Common.{◌≡◌, ap, ◌∙◌}
 use Rattle.std.proofs.lemmas.Result.{err_from_is_err_and}
-use Rattle.scenario_stage.specs.Obeying.{new_stage}
+use Rattle.scenario_commands.specs.Obeying.{new_stage}
 use Rattle.scenario.proofs.Playing.{ends_play, plays_all, plays_nothing, plays_unopened}
-use Rattle.scenario_stage.proofs.Results.{on_err, on_ok}
+use Rattle.scenario_commands.proofs.Results.{on_err, on_ok}
 use Rattle.scenario.proofs.run.play.Goals as goal
 
 pub returns-clause-err : goal.returns-clause-err

@@ -2,7 +2,7 @@ use Rattle.std.proofs.Common.{◌≡◌, ◌∙◌, None, Some, subst, sym}
 use Rattle.std.proofs.lemmas.List.{length-map}
 use Rattle.scenario_text.specs.Script.{commands_of, first_bad, scenario_of}
 use Rattle.scenario.proofs.Playing.{ends_scenario, writes_scenario}
-use Rattle.scenario_stage.proofs.Results.{on_err, on_ok}
+use Rattle.scenario_commands.proofs.Results.{on_err, on_ok}
 use Rattle.scenario.proofs.run.play_text.Goals as goal
 
 pub returns-in-Some-clause-ok : goal.returns-in-Some-clause-ok

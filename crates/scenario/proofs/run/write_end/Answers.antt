@@ -2,7 +2,7 @@ use Rattle.std.proofs.Common.{◌≡◌, rules, subst}
 use Rattle.std.specs.Io.KnownBytes.{Appends}
 use Rattle.scenario.specs.Ending.{end_line}
 use Rattle.scenario.proofs.Playing.{line_passing}
-use Rattle.scenario_stage.proofs.Results.{on_err}
+use Rattle.scenario_commands.proofs.Results.{on_err}
 use Rattle.scenario.proofs.run.write_end.Goals as goal
 
 pub returns-clause-err : goal.returns-clause-err

@@ -1,5 +1,5 @@
 use Rattle.std.proofs.Common.{◌∙◌}
-use Rattle.scenario_stage.proofs.Results.{on_ok}
+use Rattle.scenario_commands.proofs.Results.{on_ok}
 use Rattle.scenario_explain.proofs.Adding.{adds_line, begins, begins_still}
 use Rattle.scenario_explain.proofs.told.add_shown.Goals as goal
 

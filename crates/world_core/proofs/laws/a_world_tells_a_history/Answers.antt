@@ -1,5 +1,5 @@
 use Rattle.std.proofs.Common.{subst}
-use Rattle.node_images.specs.Node.{new_node}
+use Rattle.restart_images.specs.Node.{new_node}
 use Rattle.world_core.specs.Invariant.{IsWholeWorld, IsWorld}
 use Rattle.world_core.proofs.Outcomes.{world_of}
 use Rattle.world_core.proofs.Shown.{shows_all}

@@ -1,5 +1,5 @@
 use Rattle.std.proofs.Common.{rules}
-use Rattle.node_images.specs.Node.{new_node}
+use Rattle.restart_images.specs.Node.{new_node}
 use Rattle.world_core.proofs.Lists.{pushed}
 use Rattle.world_core.proofs.world.new_nodes.Goals as goal
 

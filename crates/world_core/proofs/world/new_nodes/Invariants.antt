@@ -1,6 +1,6 @@
 use Rattle.std.proofs.Common.{◌≡◌, map}
 use Rattle.std.specs.List.{range_with_len}
-use Rattle.node_images.specs.Node.{new_node}
+use Rattle.restart_images.specs.Node.{new_node}
 use Rattle.world_core.proofs.world.new_nodes.Given as goal
 
 abbrev pub invariant-loop-number : goal.invariant-loop-number

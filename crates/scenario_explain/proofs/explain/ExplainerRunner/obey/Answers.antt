@@ -1,6 +1,6 @@
 use Rattle.std.proofs.Common.{rules, ◌≡◌, length, map, subst, sym}
 use Rattle.scenario_text.specs.Coded.{command_word}
-use Rattle.scenario_stage.proofs.Setting.{sets_marks}
+use Rattle.scenario_commands.proofs.Setting.{sets_marks}
 use Rattle.scenario_explain.specs.declared.waiting.Waiting.{Waiting}
 use Rattle.scenario_explain.specs.Noting.{NotesAll}
 use Rattle.scenario_explain.proofs.Adding.{explains}

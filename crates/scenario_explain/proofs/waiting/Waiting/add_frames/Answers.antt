@@ -1,5 +1,5 @@
 use Rattle.std.proofs.Common.{◌≡◌, ◌++◌, List, ℕ, length, codes, rules, ap, ◌∙◌}
-use Rattle.scenario_stage.proofs.Results.{on_ok}
+use Rattle.scenario_commands.proofs.Results.{on_ok}
 use Rattle.scenario_explain.specs.OnTheWay.{first_of}
 use Rattle.scenario_explain.proofs.Way.{some_on_the_way}
 use Rattle.scenario_explain.proofs.waiting.Waiting.add_frames.Goals as goal

@@ -1,5 +1,5 @@
 use Rattle.std.proofs.Common.{rules, ◌≡◌, ◌<◌, ◌≤◌, length, ap, subst, sym, ◌∙◌}
-use Rattle.node_images.specs.Keeping.{most_incarnation}
+use Rattle.restart_images.specs.Keeping.{most_incarnation}
 use Rattle.world_core.specs.World.{World}
 use Rattle.world_core.specs.contracts.world.World.{the_view}
 use Rattle.world_core.specs.Refusal.{RefusesEvent, node_at}

@@ -1,6 +1,6 @@
 use Rattle.std.proofs.Common.{rules, ◌≡◌, ◌≤◌, map, sym, subst}
 use Rattle.std.specs.List.{range_with_len}
-use Rattle.node_images.specs.Node.{new_node}
+use Rattle.restart_images.specs.Node.{new_node}
 use Rattle.world_core.specs.World.{new_world}
 use Rattle.world_core.specs.Invariant.{IsWorld}
 use Rattle.world_core.proofs.Outcomes.{kept, world_is}

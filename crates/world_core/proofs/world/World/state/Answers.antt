@@ -1,5 +1,5 @@
 use Rattle.std.proofs.Common.{rules, ◌≡◌, ◌<◌, length, subst, ap, ◌∙◌}
-use Rattle.node_images.specs.Node.{new_node}
+use Rattle.restart_images.specs.Node.{new_node}
 use Rattle.world_core.specs.Refusal.{node_at}
 use Rattle.world_core.specs.World.{World}
 use Rattle.world_core.specs.Invariant.{IsWholeWorld}

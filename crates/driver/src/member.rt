@@ -1,0 +1,88 @@
+ghost use Rattle.std.specs.Prelude.{◌≡◌, ◌≤◌, ◌+◌, nat_le, not, ◌&&◌};
+ghost use Rattle.driver.specs.Plan.{changed, is_other, is_silent, learn, made, others};
+
+use meta_types::NodeId;
+
+/// Another node of the cluster, as a driver knows it.
+#[derive(Clone, Copy, Debug, PartialEq, Eq)]
+pub struct Member {
+    pub node: NodeId,
+    /// When a frame last came from it; at first, when it was added. In milliseconds.
+    pub heard: u64,
+    /// Whether a hello was said to it in this life of the node.
+    pub is_greeted: bool,
+    /// Whether the node was told that it is down, and no frame came from it since.
+    pub is_down: bool,
+}
+
+/// What became of a member.
+#[derive(Clone, Copy)]
+pub(crate) enum Change {
+    Greeted,
+    GivenUp,
+    Heard(u64),
+}
+
+impl Member {
+    /// Returns the member, once this became of it.
+    fn with(self, change: Change) -> Member
+        ensures { result ≡ made change self }
+    {
+        match change {
+            Change::Greeted => Member {
+                is_greeted: true,
+                ..self
+            },
+            Change::GivenUp => Member {
+                is_down: true,
+                ..self
+            },
+            Change::Heard(now) => Member {
+                heard: now,
+                is_down: false,
+                ..self
+            },
+        }
+    }
+
+    /// Returns the member, once this became of the node.
+    fn learn(self, node: NodeId, change: Change) -> Member
+        ensures { result ≡ learn change node self }
+    {
+        if self.node == node {
+            self.with(change)
+        } else {
+            self
+        }
+    }
+
+    /// Returns whether it is not of this node.
+    fn is_other(&self, node: NodeId) -> bool
+        ensures { result ≡ is_other node self.now }
+    {
+        self.node != node
+    }
+
+    /// Returns whether it sent nothing for so long, and isn't given up yet.
+    pub(crate) fn is_silent(&self, quiet: u64, now: u64) -> bool
+        ensures { result ≡ is_silent quiet now self.now }
+    {
+        !self.is_down && self.heard <= now && now - self.heard >= quiet
+    }
+}
+
+/// This became of the member of the node.
+pub(crate) fn change_each(members: &mut Vec<Member>, node: NodeId, change: Change)
+    ensures { members.new.items ≡ changed change node members.old.items }
+{
+    for place in 0..members.len() {
+        members[place] = members[place].learn(node, change);
+    }
+}
+
+/// The member of the node is taken out.
+pub(crate) fn take_out(members: &mut Vec<Member>, node: NodeId)
+    ensures { members.new.items ≡ others node members.old.items }
+{
+    members.retain(|member| member.is_other(node));
+}
