@@ -6,8 +6,8 @@ use Rattle.driver.specs.declared.task.Task.{Task}
 use Rattle.driver.specs.declared.task.Task.TheVariants.{Tick, Exchange}
 use Rattle.driver.specs.Plan.{PlanParts, after, heard_from, next_place, task_of}
 
--- one thing that happens to a plan: at this time, with so many neighbours, its next task is done; or
--- a frame came from a node
+-- one thing that happens to a plan: at this time, with so many neighbours, its next task is done;
+-- or a frame came from a node
 pub data Happening : Type 0 where
   Does : (now neighbours : ℕ) → Task → Happening
   Hears : (now node : ℕ) → Happening

@@ -1,5 +1,5 @@
--- What a driver does next: when a tick is due, with whom an exchange is begun, through whom the node
--- joins, and who is given up. The rule is our own.
+-- What a driver does next: when a tick is due, with whom an exchange is begun, through whom the
+-- node joins, and who is given up. The rule is our own.
 use Rattle.std.specs.Prelude.{◌≡◌, ◌<◌, ◌⊎◌, ◌+◌, ℕ, nat_le, nat_lt, min, Bool, true, false, not, ◌&&◌, if◌then◌else◌, List, [], ◌∷◌, ◌++◌, length, map, filter, nat_eq, slice_get, Option, Some, None}
 use Rattle.std.specs.List.{list_any}
 use Rattle.driver.specs.declared.member.Member.{Member}
@@ -10,8 +10,8 @@ use Rattle.driver.specs.declared.task.Task.{Task}
 use Rattle.driver.specs.declared.task.Task.TheVariants.{Tick, Hello, Join, Exchange, PeerDown}
 
 -- the pace; the other nodes; the places of the member through which the next join is, and of that
--- with which the next exchange is; when the next tick is due; whether a join and an exchange are owed
--- for the last one
+-- with which the next exchange is; when the next tick is due; whether a join and an exchange are
+-- owed for the last one
 pub record PlanParts : Type 0 where
   pub pace : Pace
   pub members : List Member
@@ -90,8 +90,8 @@ down_task quiet now [] = None
 down_task quiet now (m ∷ members) =
     if is_silent quiet now m then Some (PeerDown m.node) else down_task quiet now members
 
--- what is owed for the last tick, first the join if neighbours are few; the next tick, if it is due;
--- otherwise who is silent
+-- what is owed for the last tick, first the join if neighbours are few; the next tick, if it is
+-- due; otherwise who is silent
 abbrev pub task_of : (now neighbours : ℕ) → PlanParts → Option Task
 task_of now neighbours p =
     if p.owes_join && are_few neighbours p.members

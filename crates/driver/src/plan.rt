@@ -184,8 +184,8 @@ impl Plan {
     }
 
     /// Marks the task as done.
-    pub fn done(&mut self, now: u64, task: Task)
-        ensures { self.new ≡ after now task self.old }
+    pub fn done(&mut self, now: u64, task: &Task)
+        ensures { self.new ≡ after now task.now self.old }
     {
         match task {
             Task::Tick => {
@@ -193,7 +193,7 @@ impl Plan {
                 self.owes_join = true;
                 self.owes_exchange = !self.members.is_empty();
             }
-            Task::Hello(node) => change_each(&mut self.members, node, Change::Greeted),
+            Task::Hello(node) => change_each(&mut self.members, *node, Change::Greeted),
             Task::Join(_) => {
                 self.owes_join = false;
                 self.contact = next_place(self.members.len(), self.contact);
@@ -202,7 +202,7 @@ impl Plan {
                 self.owes_exchange = false;
                 self.partner = next_place(self.members.len(), self.partner);
             }
-            Task::PeerDown(node) => change_each(&mut self.members, node, Change::GivenUp),
+            Task::PeerDown(node) => change_each(&mut self.members, *node, Change::GivenUp),
         }
     }
 

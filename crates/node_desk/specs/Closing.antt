@@ -12,8 +12,8 @@ pub record IsWithin (list : List Published) (seat : SeatView) : Type 0 where
   pub shown : IsPrefix seat.shown list
   pub learnt : IsPrefix seat.learnt list
 
--- fewer seats were handed in than are out, of which there are eight at most; or, if they are as many,
--- a reader was shown or has learnt what isn't in the list
+-- fewer seats were handed in than are out, of which there are eight at most; or, if they are as
+-- many, a reader was shown or has learnt what isn't in the list
 abbrev pub RefusesClosing : ℕ → ℕ → List Published → List SeatView → LockFault → Type 0
 RefusesClosing out given list readers SeatsMissing = (given < out) × (out ≤ most_seats)
 RefusesClosing out given list readers Stopped =

@@ -95,8 +95,8 @@ impl<D: Device + Drop, J: Naming, H: Wait + Drop> Desk<D, J, H> {
     }
 }
 
-/// Shows that a desk has handed out as many seats as these, or more: all shares of its ledger are no
-/// more than the whole.
+/// Shows that a desk has handed out as many seats as these, or more: all shares of its ledger are
+/// no more than the whole.
 fn has_no_more_seats<D: Device + Drop, J: Naming, H: Wait + Drop>(
     desk: Desk<D, J, H>,
     seats: Vec<WriteSeat<J>>,

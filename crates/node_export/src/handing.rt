@@ -65,7 +65,8 @@ pub extern "C" fn zomtagi_record(
 }
 
 /// Takes note that the program stored what `zomtagi_record` handed out, or that it failed to: then
-/// `is_stored` is 0, and the node is stopped. Refused with 80 `NoNode`, 34 `Stopped` and 38 `Nothing`.
+/// `is_stored` is 0, and the node is stopped. Refused with 80 `NoNode`, 34 `Stopped` and 38
+/// `Nothing`.
 #[unsafe(no_mangle)]
 pub extern "C" fn zomtagi_stored(alloc: Global, slot: &mut Slot, is_stored: u8) -> u16
     ensures { InSlot (AnswersAs (Stores (not (nat_eq is_stored 0))))

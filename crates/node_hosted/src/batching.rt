@@ -11,8 +11,8 @@ impl HostedNode {
     /// last step, and the frames of all.
     ///
     /// A step that is refused is left out of the batch, which goes on: whether it ends is up to the
-    /// host. Refused with 34 `Stopped`, and with 37 `Pending` if a batch is open, or if not all that
-    /// the last step gave was stored and fetched.
+    /// host. Refused with 34 `Stopped`, and with 37 `Pending` if a batch is open, or if not all
+    /// that the last step gave was stored and fetched.
     pub fn begin_batch(&mut self) -> Result<(), HostFault>
         ensures { BeginsBatch self.old result self.new }
     {
@@ -29,8 +29,8 @@ impl HostedNode {
         Ok(())
     }
 
-    /// Ends a batch. What it gave is handed out as after a step. Refused with 34 `Stopped`, and with
-    /// 38 `Nothing` if none is open.
+    /// Ends a batch. What it gave is handed out as after a step. Refused with 34 `Stopped`, and
+    /// with 38 `Nothing` if none is open.
     pub fn end_batch(&mut self) -> Result<(), HostFault>
         ensures { EndsBatch self.old result self.new }
     {

@@ -33,7 +33,8 @@ impl HostedNode {
     }
 
     /// Takes note that the host stored the record, or all records of a batch, or that he failed to,
-    /// which stops the node. Refused with 34 `Stopped`, and with 38 `Nothing` if none is handed out.
+    /// which stops the node. Refused with 34 `Stopped`, and with 38 `Nothing` if none is handed
+    /// out.
     pub fn stored(&mut self, is_stored: bool) -> Result<(), HostFault>
         ensures { Stores is_stored self.old result self.new }
     {

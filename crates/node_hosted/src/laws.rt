@@ -60,9 +60,9 @@ pub fn batches_keep_the_file()
         → EndsBatch old (Ok tt) new → IsFileOf file old → IsFileOf file new }
 {}
 
-/// A write of a host who keeps a file leaves a record to store, that of the object then held, behind
-/// those of the steps before in the batch. So does a step that keeps a key under which something is
-/// held.
+/// A write of a host who keeps a file leaves a record to store, that of the object then held,
+/// behind those of the steps before in the batch. So does a step that keeps a key under which
+/// something is held.
 pub fn a_write_has_its_record()
     ensures writes { (old new : HostedParts) (event : NodeEvent) (key : Key) (gate : ℕ)
         → Acts old event new → key_of_write event ≡ Some key → old.gate ≡ Some gate
@@ -72,18 +72,18 @@ pub fn a_write_has_its_record()
         → find key_cmp key new.state.table ≢ None → AddsRecordOf key old new }
 {}
 
-/// Once the host has stored a record, or all records of a batch, by his four calls, and says so, the
-/// file says what it said and then the records. It is the node's file, and every crash until the
-/// next call of the file leaves such a file. A crash at any earlier moment leaves the file without
-/// the records or with all of them. If the first of the calls fails, he may make it again, any
-/// number of times.
+/// Once the host has stored a record, or all records of a batch, by his four calls, and says so,
+/// the file says what it said and then the records. It is the node's file, and every crash until
+/// the next call of the file leaves such a file. A crash at any earlier moment leaves the file
+/// without the records or with all of them. If the first of the calls fails, he may make it again,
+/// any number of times.
 pub fn a_stored_record_is_in_the_file()
     ensures { (failures : ℕ) (file : List ℕ) (old new : HostedParts)
         → Stores true old (Ok tt) new → IsFileOf file old → IsStoredIn failures file old new }
 {}
 
-/// Once the host has stored the record of a key, alone or in a batch, and until the next call of the
-/// file, every crash leaves in it the object that the node holds under the key.
+/// Once the host has stored the record of a key, alone or in a batch, and until the next call of
+/// the file, every crash leaves in it the object that the node holds under the key.
 pub fn a_stored_write_is_in_the_file()
     ensures { (failures : ℕ) (file c : List ℕ) (old new : HostedParts) (key : Key)
         → IsFileOf file old → HasRecordOf key old → Stores true old (Ok tt) new
@@ -91,8 +91,8 @@ pub fn a_stored_write_is_in_the_file()
 {}
 
 /// **None or all**: if a crash or a failed call breaks off the host's calls, what is left opens as
-/// the file did, or with all records that were to be stored. It has all that the file had. The first
-/// call may have failed before, any number of times.
+/// the file did, or with all records that were to be stored. It has all that the file had. The
+/// first call may have failed before, any number of times.
 pub fn what_is_left_has_all()
     ensures opens { (file c : List ℕ) (n : HostedParts)
         → IsFileOf file n → IsLeft file n c → OpensWithOrWithout file n.to_store c }

@@ -87,8 +87,8 @@ impl<J: Naming> ReadSeat<J> {
     /// memory only for values and vector, which are copies. It never waits, even while a change is
     /// being published.
     ///
-    /// Refused with 34 `Stopped` if the publisher is gone, and then nothing more counts as shown, or
-    /// if the seat learnt of a change that the published copy lacks, which no revision of a
+    /// Refused with 34 `Stopped` if the publisher is gone, and then nothing more counts as shown,
+    /// or if the seat learnt of a change that the published copy lacks, which no revision of a
     /// publisher names; and with 99 `Memory`. A refused look may have found that the history went
     /// on, and then that counts as shown.
     pub fn peek(&mut self, key: &MetaKey) -> Result<Shown, PeekFault>

@@ -8,8 +8,8 @@ pub fn a_stuck_run_has_no_order()
     ensures { AStuckRunHasNoOrder }
 {}
 
-/// Whole journals each of which is a run that ends with its table, as `node_lock::Node::close` leaves
-/// them, are never refused with 62.
+/// Whole journals each of which is a run that ends with its table, as `node_lock::Node::close`
+/// leaves them, are never refused with 62.
 pub fn what_is_closed_is_equal()
     ensures { WhatIsClosedIsEqual }
 {}

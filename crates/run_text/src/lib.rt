@@ -15,9 +15,9 @@
 //! }
 //! ```
 //!
-//! Read `replay` (`replay_of`), then `spelling` (which runs have a text) and `line`. Then `explain`,
-//! `needed` (what an entry needs), `difference` (where a node does something else) and `reply`. Calls
-//! are counted from 1, for people.
+//! Read `replay` (`replay_of`), then `spelling` (which runs have a text) and `line`. Then
+//! `explain`, `needed` (what an entry needs), `difference` (where a node does something else) and
+//! `reply`. Calls are counted from 1, for people.
 #![tactic(auto)]
 
 mod difference;

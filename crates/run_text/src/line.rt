@@ -31,7 +31,8 @@ fn add_number(text: &mut Vec<u8>, number: u64) -> Result<(), AllocError>
 
 /// Adds a key, with a space before it.
 fn add_key(text: &mut Vec<u8>, key: &MetaKey) -> Result<(), AllocError>
-    ensures { OnOk result (text.new.items ≡ text.old.items ++ after_spaces (key_text key.now ∷ [])) }
+    ensures { OnOk result
+        (text.new.items ≡ text.old.items ++ after_spaces (key_text key.now ∷ [])) }
 {
     text.push(b' ')?;
     print_key(text, key)

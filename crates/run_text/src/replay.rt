@@ -68,10 +68,10 @@ fn text_of(
 /// the other, and then prints the root of each node. On top is a comment: `about`. No command of it
 /// names a resolver, so it is the same scenario however many are at hand.
 ///
-/// Returns `None` exactly if there is none: if `about` has more than one line; if a world can't have
-/// this number of nodes; or if an event has no command, or its command no spelling. A name has one if
-/// it is of letters, digits, `.`, `_` and `-`. No command is a write with a context, a tombstone over
-/// all that is shown, or bytes with a random word; of no bytes there is no spelling.
+/// Returns `None` exactly if there is none: if `about` has more than one line; if a world can't
+/// have this number of nodes; or if an event has no command, or its command no spelling. A name has
+/// one if it is of letters, digits, `.`, `_` and `-`. No command is a write with a context, a
+/// tombstone over all that is shown, or bytes with a random word; of no bytes there is no spelling.
 ///
 /// It takes memory for the text. Fails only when memory runs out.
 pub fn replay_of(

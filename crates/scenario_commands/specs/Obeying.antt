@@ -115,7 +115,8 @@ IsNoNode old node text new = (length old.world.nodes ≤ node)
 abbrev pub KeepsAll : Stage → ℕ → List Key → Stage → Type 0
 KeepsAll old node [] new = new ≡ old
 KeepsAll old node (key ∷ keys) new = (answer : Answer) × (between : Stage)
-    × Comes old (events.Step node (nodes.Keep key)) (Ok answer) between × KeepsAll between node keys new
+    × Comes old (events.Step node (nodes.Keep key)) (Ok answer) between
+    × KeepsAll between node keys new
 
 -- the world keeps all that the node holds
 pub record KeepsHeld (old : Stage) (node : ℕ) (text : List ℕ) (new : Stage) : Type 0 where
@@ -135,7 +136,8 @@ chosen_by choices by siblings = chosen_as (slice_get choices by) siblings
 -- the chosen sibling is written over all of them; if there is none nothing changes
 abbrev pub Resolves : Stage → ℕ → Key → Option ValueParts → (text : List ℕ) → Stage → Type 0
 Resolves old node key None text new = Answers old node (codes "ok") text new
-Resolves old node key (Some value) text new = Happens old (events.Step node (nodes.PutOver key value)) text new
+Resolves old node key (Some value) text new =
+    Happens old (events.Step node (nodes.PutOver key value)) text new
 
 -- ---- settling
 

@@ -199,7 +199,8 @@ fn keep(alloc: Global, node: u64, key: &KeyWord<'_>) -> Result<Event, AllocError
 
 /// Makes bytes that should be no frame.
 fn junk(alloc: Global, node: u64, bytes: &BytesWord<'_>) -> Result<Event, AllocError>
-    ensures { IfOk result (λ event. event ≡ events.Step node (nodes.Take (bytes_word bytes.now) 0)) }
+    ensures { IfOk result (λ event. event
+        ≡ events.Step node (nodes.Take (bytes_word bytes.now) 0)) }
 {
     let frame = bytes.to_bytes(alloc)?;
     let event = NodeEvent::Take { frame, word: 0 };

@@ -27,7 +27,7 @@ static WANTED: [Row; 17] = [
     Row(4_000, b'T', 0),
 ];
 
-fn is_of(task: Task, letter: u8, number: u16) -> bool {
+fn is_of(task: &Task, letter: u8, number: u16) -> bool {
     match task {
         Task::Tick => letter == b'T' && number == 0,
         Task::Hello(node) => letter == b'H' && number == node.number(),
@@ -37,16 +37,23 @@ fn is_of(task: Task, letter: u8, number: u16) -> bool {
     }
 }
 
+/// Returns whether the next task is that of the row. It is done then.
+fn is_next(plan: &mut Plan, row: &Row) -> bool {
+    match plan.next(row.0, 0) {
+        Some(task) => {
+            plan.done(row.0, &task);
+            is_of(&task, row.1, row.2)
+        }
+        None => false,
+    }
+}
+
 /// Returns whether the tasks are those of the rows.
 fn is_as_wanted(plan: &mut Plan) -> bool {
-    for Row(now, letter, number) in &WANTED {
-        let Some(task) = plan.next(*now, 0) else {
-            return false;
-        };
-        if !is_of(task, *letter, *number) {
+    for row in WANTED.iter() {
+        if !is_next(plan, row) {
             return false;
         }
-        plan.done(*now, task);
     }
     true
 }

@@ -1,5 +1,5 @@
-//! The tests of `devices`, `node_file` and `file_pieces`, over their public calls and apart from them:
-//! a crate is proved once more with its tests. No crate uses this one.
+//! The tests of `devices`, `node_file` and `file_pieces`, over their public calls and apart from
+//! them: a crate is proved once more with its tests. No crate uses this one.
 #![tactic(auto)]
 
 // What is proved of a function grows with the places at which it may end while it owns something.

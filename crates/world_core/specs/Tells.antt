@@ -107,8 +107,8 @@ SendInOrder sent [] all = all ≡ sent
 SendInOrder sent (a ∷ later) all =
     (a.answer.sent.first ≡ sent + 1) × SendInOrder (sent + a.answer.sent.count) later all
 
--- a write names an earlier read, a delivery an earlier frame; a context and bytes that are handed in
--- by hand are never accepted
+-- a write names an earlier read, a delivery an earlier frame; a context and bytes that are handed
+-- in by hand are never accepted
 abbrev pub NamesEarlier : Told → Event → Type 0
 NamesEarlier t (events.Put n k v read) = (place : ℕ) × (numbered t.looks read ≡ Some place)
 NamesEarlier t (events.Deliver frame n word) =

@@ -114,9 +114,9 @@ impl World {
 
     /// Returns the images of the node, except image 0, which is empty; `None` for a node that the
     /// world doesn't have, and only then. What an image has under a key is read by
-    /// `restart_images::image::object_in`. It is the object of the writes that this image has by the
-    /// history: those that its node knew of the key when it was last written or kept on the way to
-    /// the image.
+    /// `restart_images::image::object_in`. It is the object of the writes that this image has by
+    /// the history: those that its node knew of the key when it was last written or kept on the way
+    /// to the image.
     pub fn images(&self, node: u64) -> Option<&Images>
         ensures node { IsNone result ↔ (length self.now.nodes ≤ node) }
         ensures lends { IfSome result (λ images. images.now ≡ (node_at self.now node).images) }
