@@ -10,7 +10,7 @@ use Rattle.driver.specs.declared.member.Change.TheVariants.{Greeted, GivenUp, He
 use Rattle.driver.specs.declared.task.Task.{Task}
 use Rattle.driver.specs.declared.task.Task.TheVariants.{Tick, Hello, Join, Exchange, PeerDown}
 use Rattle.driver.specs.Plan.{PlanParts, after, are_few, changed, down_task, exchange_task, heard_from, is_silent, join_task, learn, made, next_place, task_of}
-use Rattle.driver.specs.Duty.{Does, ExchangesGoRound, Happening, Hears, Leads, nodes_of, one_if, partners_in, round_from, ticks_in}
+use Rattle.driver.specs.Duty.{Does, ExchangesGoRound, Fails, Happening, Hears, Leads, nodes_of, one_if, partners_in, round_from, ticks_in}
 
 -- ---- who the members are
 
@@ -123,6 +123,9 @@ go old new [] same some = let owes = ap (λ (p : PlanParts). one_if p.owes_excha
 go old new (Hears now n ∷ rest) leads some =
     of_same old new rest (changed (Heard now) n old.members) (nodes_changed (Heard now) n old.members)
     (go (heard_from now n old) new rest leads (some_changed (Heard now) n old.members some))
+go old new (Fails n ∷ rest) leads some =
+    of_same old new rest (changed GivenUp n old.members) (nodes_changed GivenUp n old.members)
+    (go (after 0 (PeerDown n) old) new rest leads (some_changed GivenUp n old.members some))
 go old new (Does now neighbours (Hello n) ∷ rest) (is, leads) some =
     of_same old new rest (changed Greeted n old.members) (nodes_changed Greeted n old.members)
     (go (after now (Hello n) old) new rest leads (some_changed Greeted n old.members some))

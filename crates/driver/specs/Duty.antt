@@ -3,14 +3,15 @@ use Rattle.std.specs.Prelude.{◌≡◌, ◌<◌, ◌+◌, ℕ, zero, suc, Bool,
 use Rattle.std.specs.Option.{unwrap_or}
 use Rattle.driver.specs.declared.member.Member.{Member}
 use Rattle.driver.specs.declared.task.Task.{Task}
-use Rattle.driver.specs.declared.task.Task.TheVariants.{Tick, Exchange}
+use Rattle.driver.specs.declared.task.Task.TheVariants.{Tick, Exchange, PeerDown}
 use Rattle.driver.specs.Plan.{PlanParts, after, heard_from, next_place, task_of}
 
 -- one thing that happens to a plan: at this time, with so many neighbours, its next task is done;
--- or a frame came from a node
+-- or a frame came from a node; or a node is given up, since a link to it failed
 pub data Happening : Type 0 where
   Does : (now neighbours : ℕ) → Task → Happening
   Hears : (now node : ℕ) → Happening
+  Fails : (node : ℕ) → Happening
 
 -- these happenings, one after the other, lead from one plan to the other
 abbrev pub Leads : PlanParts → List Happening → PlanParts → Type 0
@@ -18,6 +19,7 @@ Leads old [] new = new ≡ old
 Leads old (Does now neighbours task ∷ rest) new =
     (task_of now neighbours old ≡ Some task) × Leads (after now task old) rest new
 Leads old (Hears now node ∷ rest) new = Leads (heard_from now node old) rest new
+Leads old (Fails node ∷ rest) new = Leads (after 0 (PeerDown node) old) rest new
 
 -- with whom exchanges were begun, in their order
 abbrev pub partners_in : List Happening → List ℕ
@@ -43,9 +45,10 @@ round_from (suc more) at nodes = unwrap_or (slice_get nodes at) 0
 abbrev pub one_if : Bool → ℕ
 one_if owes = if owes then 1 else 0
 
--- Exchanges are begun with the members in turn, whoever of them answered; and each tick of a driver
--- that has a member is followed by one exchange, before the next tick. So with k members, k ticks
--- pass from one exchange with a member to the next.
+-- While no member is added or removed, exchanges are begun with the members in turn (round robin),
+-- whoever of them answered or failed; and each tick of a driver that has a member is followed by one
+-- exchange, before the next tick. So with k members, k ticks pass from one exchange with a member to
+-- the next.
 abbrev pub ExchangesGoRound : Type 0
 ExchangesGoRound = (old new : PlanParts) (happenings : List Happening)
     → Leads old happenings new → 0 < length old.members

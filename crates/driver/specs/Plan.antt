@@ -143,11 +143,15 @@ with_member now node p = if has_member node p.members then p
 abbrev pub still_owed : Bool → List Member → Bool
 still_owed owed members = owed && nat_lt 0 (length members)
 
--- nobody is of this node any more; both turns begin anew with the first member
-abbrev pub without_member : (node : ℕ) → PlanParts → PlanParts
-without_member node p = record p {
+-- if it is a member, nobody is of this node any more, and both turns begin anew with the first
+-- member
+abbrev pub without : (node : ℕ) → PlanParts → PlanParts
+without node p = record p {
   members = others node p.members;
   contact = 0;
   partner = 0;
   owes_exchange = still_owed p.owes_exchange (others node p.members);
 }
+
+abbrev pub without_member : (node : ℕ) → PlanParts → PlanParts
+without_member node p = if has_member node p.members then without node p else p

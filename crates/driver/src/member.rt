@@ -9,7 +9,7 @@ pub struct Member {
     pub node: NodeId,
     /// When a frame last came from it; at first, when it was added. In milliseconds.
     pub heard: u64,
-    /// Whether a hello was said to it in this life of the node.
+    /// Whether a hello was said to it since it was added.
     pub is_greeted: bool,
     /// Whether the node was told that it is down, and no frame came from it since.
     pub is_down: bool,

@@ -13,8 +13,10 @@ use Rattle.scenario.specs.Output.{IsOutput, ObeyAll, Plays, PlaysOrNothing, Play
 use Rattle.scenario.specs.declared.fault.ScenarioFault.{ScenarioFault}
 use Rattle.run_record.specs.Record as records
 use Rattle.run_record.specs.Record.{IsOfARun, outcome_of}
-use Rattle.run_text.specs.Replay.{AskFor, Asks, Replays, roots_of}
-use Rattle.plumctl_live.specs.Recording.{IsRecording, MakesAgain}
+use Rattle.run_text.specs.Replay.{AskFor, Asks, Replays, roots_of, scenario_of_run}
+use Rattle.cluster_worker.specs.declared.plan.ClusterPlan.{ClusterPlan}
+use Rattle.scenario_text.specs.Spelling.{spelled_scenario}
+use Rattle.plumctl_live.specs.Recording.{IsRecording, IsWritten, MakesAgain, about}
 
 -- ---- looking at roots
 
@@ -100,9 +102,12 @@ makes_again nodes w text r ran choices output ended two is =
     }
 
 -- a text that replays the world is a recording of it
-pub recorded : {T E : Type 0} (items : T → List ℕ) (nodes : ℕ) (w : World) (result : Result (Option T) E) → IsOfARun nodes w
-    → IfOk result (λ found. IfSome found (λ text. (resolvers : ℕ) → Replays resolvers nodes (map records.event_of w.accepted) (items text)))
-    → IfOk result (λ found. IfSome found (λ text. IsRecording nodes w (items text)))
-recorded items nodes w (Ok (Some text)) ran replays = record { replays = replays 2; makes = makes_again nodes w (items text) (replays 2) ran }
-recorded items nodes w (Ok None) ran replays = tt
-recorded items nodes w (Err fault) ran replays = tt
+pub recorded : {T E : Type 0} (items : T → List ℕ) (plan : ClusterPlan) (w : World) (result : Result (Option T) E) → IsOfARun plan.nodes w
+    → IfOk result (λ found. IfSome found (λ text. items text ≡ spelled_scenario (about plan) (scenario_of_run plan.nodes (map records.event_of w.accepted))))
+    → IfOk result (λ found. IfSome found (λ text. (resolvers : ℕ) → Replays resolvers plan.nodes (map records.event_of w.accepted) (items text)))
+    → IfOk result (λ found. IfSome found (λ text. IsRecording plan w (items text)))
+unfolding IsWritten
+recorded items plan w (Ok (Some text)) ran written replays =
+    record { written = written; replays = replays 2; makes = makes_again plan.nodes w (items text) (replays 2) ran }
+recorded items plan w (Ok None) ran written replays = tt
+recorded items plan w (Err fault) ran written replays = tt

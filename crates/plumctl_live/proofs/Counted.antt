@@ -1,12 +1,10 @@
 -- A run of so many nodes is judged as one of so many.
-use Rattle.std.proofs.Common.{suc, ◌+◌, ◌≡◌, refl, ℕ, Bool, true, false, not, nat_eq, List, [], ◌∷◌, length, map, None, Result, Ok, Err, IfOk, OnOk, ap, subst, ◌∙◌}
+use Rattle.std.proofs.Common.{suc, ◌+◌, ◌≡◌, refl, ℕ, Bool, true, false, not, nat_eq, List, [], ◌∷◌, length, map, None, Result, Ok, Err, IfOk, OnOk, ap, ◌∙◌}
 use Rattle.std.proofs.lemmas.Bool.{eqb-true}
 use Rattle.std.proofs.lemmas.List.{length-map}
 use Rattle.std.proofs.lemmas.List.FromFn.{length-map-range_with_len}
 use Rattle.std.proofs.lemmas.Slice.Zip.{AllZip-long}
 use Rattle.meta_types.specs.First.{first_that_applies}
-use Rattle.run_record.specs.Record.{IsOfARun}
-use Rattle.world_core.specs.World.{World}
 use Rattle.cluster_worker.specs.Plan.{is_outside, largest, refusal_of_run}
 use Rattle.cluster_worker.specs.Serving.{LifeView, first_lives, life_of, lives_from}
 use Rattle.cluster_worker.specs.Worked.{HasWorked}
@@ -15,8 +13,6 @@ use Rattle.cluster_worker.specs.declared.fault.ClusterFault.TheVariants.{BadLimi
 use Rattle.cluster_worker.specs.declared.plan.ClusterPlan.{ClusterPlan}
 use Rattle.cluster.specs.Run.{CanRun, IsRunOf}
 use Rattle.cluster.specs.declared.run.ClusterRun.{ClusterRun}
-use Rattle.plumctl_live.specs.Live.{Judges}
-use Rattle.plumctl_live.specs.declared.judged.LiveFault.{LiveFault}
 
 -- as many are closed as lived
 closed_of : (lives : List LifeView) (run : ClusterRun) → IsRunOf lives run → length run.closed.items ≡ length lives

@@ -1,5 +1,5 @@
 -- What workers leave are runs that end with their tables.
-use Rattle.std.proofs.Common.{◌≡◌, ℕ, List, [], ◌∷◌, map, All, sym, subst}
+use Rattle.std.proofs.Common.{List, [], ◌∷◌, map, All, sym, subst}
 use Rattle.std.specs.List.{AllZip}
 use Rattle.std.proofs.lemmas.List.Elements.{All-nil, All-cons}
 use Rattle.node_journal.specs.Closed.{ClosedNode, EndsWithTable}

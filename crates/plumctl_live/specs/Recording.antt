@@ -8,10 +8,11 @@ use Rattle.streams.specs.Moment.{SinkAt}
 use Rattle.streams.specs.declared.fault.StreamFault.TheVariants as streams
 use Rattle.world_core.specs.World.{World}
 use Rattle.run_record.specs.Record.{event_of}
-use Rattle.run_text.specs.Replay.{HasReplay, Replays}
+use Rattle.run_text.specs.Replay.{HasReplay, Replays, scenario_of_run}
 use Rattle.cluster_worker.specs.declared.plan.ClusterPlan.{ClusterPlan}
 use Rattle.scenario_text.specs.Commands.{Command}
 use Rattle.scenario_text.specs.Script.{commands_of, scenario_of}
+use Rattle.scenario_text.specs.Spelling.{spelled_scenario}
 use Rattle.scenario_commands.specs.Obeying.{Choices, Stage, new_stage}
 use Rattle.scenario_commands.specs.Printed.{line}
 use Rattle.scenario.specs.Output.{IsOutput, ObeyAll, plain}
@@ -47,13 +48,21 @@ about plan = codes "what the threads of 'plumctl live " ++ (decimal plan.nodes +
 abbrev pub HasRecording : ClusterPlan → World → Type 0
 HasRecording plan w = HasReplay (about plan) plan.nodes (map event_of w.accepted)
 
--- the text asks for the events of the world, one after the other, and then for the root of each
--- node; and a run of it to its end, with two resolvers at hand, makes the same world again
-pub record IsRecording (nodes : ℕ) (w : World) (text : List ℕ) : Type 0 where
-  pub replays : Replays 2 nodes (map event_of w.accepted) text
+-- the text is what is said about the run, and the commands of its events, byte for byte (one word,
+-- into which proofs do not look by themselves)
+unfoldable pub IsWritten : ClusterPlan → World → List ℕ → Type 0
+IsWritten plan w text = text
+    ≡ spelled_scenario (about plan) (scenario_of_run plan.nodes (map event_of w.accepted))
+
+-- the text is written so, and asks for the events of the world, one after the other, and then for
+-- the root of each node; and a run of it to its end, with two resolvers at hand, makes the same
+-- world again
+pub record IsRecording (plan : ClusterPlan) (w : World) (text : List ℕ) : Type 0 where
+  pub written : IsWritten plan w text
+  pub replays : Replays 2 plan.nodes (map event_of w.accepted) text
   pub makes : (choices : Choices) (output : List ℕ) (ended : Option ScenarioFault)
       → length choices ≡ 2 → IsOutput (plain choices) text output ended
-      → MakesAgain choices nodes w text output ended
+      → MakesAgain choices plan.nodes w text output ended
 
 -- ---- where it is written
 
@@ -71,11 +80,11 @@ note_of path len = if nat_lt input_limit len
     else []
 
 pub record WritesRecording {D : Type 0} (content : D → List ℕ) (may_leave : D → List ℕ → Type 0)
-    (path : List ℕ) (nodes : ℕ) (w : World) (old new : D) (errors_old errors_new : SinkAt)
-    (status : ℕ) : Type 0 where
+    (path : List ℕ) (plan : ClusterPlan) (w : World) (old new : D)
+    (errors_old errors_new : SinkAt) (status : ℕ) : Type 0 where
   pub status_is : status ≡ 0
   pub text : List ℕ
-  pub recording : IsRecording nodes w text
+  pub recording : IsRecording plan w text
   pub stored : IsStored content may_leave text old new
   pub told : TellsText errors_old errors_new (note_of path (length text))
 
@@ -110,7 +119,7 @@ abbrev pub EndsRecording : {D : Type 0} → (D → List ℕ) → (D → List ℕ
     → (path : List ℕ) → ClusterPlan → World → (old new : D)
     → (errors_old errors_new : SinkAt) → ℕ → Type 0
 EndsRecording content may_leave failed path plan w old new errors_old errors_new status =
-    WritesRecording content may_leave path plan.nodes w old new errors_old errors_new status
+    WritesRecording content may_leave path plan w old new errors_old errors_new status
     ⊎ FailsRecording failed path plan w old new errors_old errors_new status
 
 -- ---- where nothing could be made

@@ -36,8 +36,9 @@ fn about(alloc: Global, plan: ClusterPlan) -> Result<Vec<u8>, AllocError>
 /// its end, with two resolvers at hand as `plumctl run` has them, makes the same events, and comes
 /// to the same world: with the same replies and frames.
 ///
-/// Returns `None` exactly if the run has no text: if a name in it has no spelling. Those that the
-/// workers of a cluster write have one. No contract says so.
+/// Returns `None` exactly if the run has no text: if one of its events has no spelling, as a write
+/// under a name of other characters. Those of the workers of a cluster have one. No contract says
+/// so.
 ///
 /// It takes memory for the text.
 pub fn recording_of(
@@ -48,7 +49,7 @@ pub fn recording_of(
     requires { IsOfARun plan.nodes world.now }
     ensures some { IfOk result (λ found. IsSome found ↔ HasRecording plan world.now) }
     ensures makes { IfOk result (λ found. IfSome found (λ text.
-        IsRecording plan.nodes world.now text.items)) }
+        IsRecording plan world.now text.items)) }
 {
     let about = about(alloc, plan)?;
     replay_of(alloc, about.as_slice(), plan.nodes, world.accepted())
