@@ -16,7 +16,7 @@ use Rattle.run_record.specs.Record.{IsOfARun, outcome_of}
 use Rattle.run_text.specs.Replay.{AskFor, Asks, Replays, roots_of, scenario_of_run}
 use Rattle.cluster_worker.specs.declared.plan.ClusterPlan.{ClusterPlan}
 use Rattle.scenario_text.specs.Spelling.{spelled_scenario}
-use Rattle.plumctl_live.specs.Recording.{IsRecording, IsWritten, MakesAgain, about}
+use Rattle.plumctl_live.specs.Recording.{IsRecording, MakesAgain, SpellsRun, about}
 
 -- ---- looking at roots
 
@@ -106,8 +106,8 @@ pub recorded : {T E : Type 0} (items : T → List ℕ) (plan : ClusterPlan) (w :
     → IfOk result (λ found. IfSome found (λ text. items text ≡ spelled_scenario (about plan) (scenario_of_run plan.nodes (map records.event_of w.accepted))))
     → IfOk result (λ found. IfSome found (λ text. (resolvers : ℕ) → Replays resolvers plan.nodes (map records.event_of w.accepted) (items text)))
     → IfOk result (λ found. IfSome found (λ text. IsRecording plan w (items text)))
-unfolding IsWritten
+unfolding SpellsRun
 recorded items plan w (Ok (Some text)) ran written replays =
-    record { written = written; replays = replays 2; makes = makes_again plan.nodes w (items text) (replays 2) ran }
+    record { spells = written; replays = replays 2; makes = makes_again plan.nodes w (items text) (replays 2) ran }
 recorded items plan w (Ok None) ran written replays = tt
 recorded items plan w (Err fault) ran written replays = tt

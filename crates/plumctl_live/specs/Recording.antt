@@ -50,15 +50,15 @@ HasRecording plan w = HasReplay (about plan) plan.nodes (map event_of w.accepted
 
 -- the text is what is said about the run, and the commands of its events, byte for byte (one word,
 -- into which proofs do not look by themselves)
-unfoldable pub IsWritten : ClusterPlan → World → List ℕ → Type 0
-IsWritten plan w text = text
+unfoldable pub SpellsRun : ClusterPlan → World → List ℕ → Type 0
+SpellsRun plan w text = text
     ≡ spelled_scenario (about plan) (scenario_of_run plan.nodes (map event_of w.accepted))
 
 -- the text is written so, and asks for the events of the world, one after the other, and then for
 -- the root of each node; and a run of it to its end, with two resolvers at hand, makes the same
 -- world again
 pub record IsRecording (plan : ClusterPlan) (w : World) (text : List ℕ) : Type 0 where
-  pub written : IsWritten plan w text
+  pub spells : SpellsRun plan w text
   pub replays : Replays 2 plan.nodes (map event_of w.accepted) text
   pub makes : (choices : Choices) (output : List ℕ) (ended : Option ScenarioFault)
       → length choices ≡ 2 → IsOutput (plain choices) text output ended
