@@ -46,9 +46,9 @@ abbrev pub one_if : Bool → ℕ
 one_if owes = if owes then 1 else 0
 
 -- While no member is added or removed, exchanges are begun with the members in turn (round robin),
--- whoever of them answered or failed; and each tick of a driver that has a member is followed by one
--- exchange, before the next tick. So with k members, k ticks pass from one exchange with a member to
--- the next.
+-- whoever of them answered or failed; and each tick of a driver that has a member is followed by
+-- one exchange, before the next tick. So with k members, k ticks pass from one exchange with a
+-- member to the next.
 abbrev pub ExchangesGoRound : Type 0
 ExchangesGoRound = (old new : PlanParts) (happenings : List Happening)
     → Leads old happenings new → 0 < length old.members

@@ -14,17 +14,17 @@ use std::marker::Model;
 pub struct Pace {
     /// From one tick to the next: at least 1, or ticks never end.
     pub tick: u64,
-    /// How long a member may send nothing until it counts as down: longer than a round of exchanges,
-    /// which is a tick for each member.
+    /// How long a member may send nothing until it counts as down: longer than a round of
+    /// exchanges, which is a tick for each member.
     pub quiet: u64,
 }
 
 /// With how many neighbours a node joins no more.
 const ENOUGH: usize = 3;
 
-/// What a driver of a node does next, in one life of the node. It ticks at its pace; after each tick it begins one exchange,
-/// with one member after the other, and while the node has too few neighbours, one join, through
-/// one member after the other.
+/// What a driver of a node does next, in one life of the node. It ticks at its pace; after each
+/// tick it begins one exchange, with one member after the other, and while the node has too few
+/// neighbours, one join, through one member after the other.
 #[derive(Drop)]
 pub struct Plan {
     pace: Pace,
@@ -156,8 +156,8 @@ impl Plan {
         Ok(())
     }
 
-    /// Removes a node, if it is a member. Joins and exchanges then begin anew with the first member:
-    /// who removes members again and again leaves the last ones out.
+    /// Removes a node, if it is a member. Joins and exchanges then begin anew with the first
+    /// member: who removes members again and again leaves the last ones out.
     pub fn remove(&mut self, node: NodeId)
         ensures { self.new ≡ without_member node self.old }
     {
