@@ -359,8 +359,8 @@ impl Node {
     ///
     /// What is shown of the node has each step at once. A step that is refused is left out, and says so to the closure; none is
     /// taken back, so what was made before is stored, whatever the closure returns. Each write is acknowledged once this has
-    /// returned `Ok`; an error stops the node, as one of a step's store does, and so does a panic of the closure. All records of
-    /// the batch have room in the file, or the step that finds none is refused with 33 `FileFull`.
+    /// returned `Ok`; if its store fails the node is stopped, as in a step, and likewise if the closure panics. A step whose record
+    /// finds no room in the file, behind those of the batch, is refused with 33 `FileFull`.
     ///
     /// ```
     /// # use zomtagi::{Error, FileStore, Key, Value};

@@ -462,3 +462,17 @@ fn frames_are_read_from_a_stream_as_they_were_sent() {
     long[16] = 1;
     assert_eq!(Frame::read(&mut &long[..], false).unwrap_err().kind(), io::ErrorKind::InvalidData);
 }
+
+#[test]
+fn a_batch_that_panics_stops_the_node() {
+    let mut node = Node::new(0, 1).unwrap();
+    let broken = catch_unwind(AssertUnwindSafe(|| {
+        node.batch(|batch| {
+            batch.write_over(&colour(), &Value::text("red")).unwrap();
+            assert!(batch.peek(&colour()).unwrap().is_empty(), "this is wanted");
+        })
+        .map(drop)
+    }));
+    assert!(broken.is_err() && node.is_stopped());
+    assert_eq!(node.tick().unwrap_err().refusal(), Some(Refusal::Stopped));
+}
