@@ -1,4 +1,2 @@
--- a list that is written in place
-pub mod Mapped
 -- exchanges go round
 pub mod Rounds

@@ -17,7 +17,8 @@
 //! }
 //! ```
 //!
-//! Read `event`, `views`, then `draft` (the small steps) and `rows` (the table).
+//! Read `event`, `views`, then `draft` (the small steps) and `rows` (the table). The crate
+//! `node_overlay` makes each tenth tick of a node a shuffle.
 #![tactic(auto)]
 
 mod draft;

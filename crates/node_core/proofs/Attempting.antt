@@ -21,7 +21,7 @@ use Rattle.node_events.specs.declared.outbox.Outbox.{Outbox}
 use Rattle.node_events.specs.declared.reply.Reply.{Reply}
 use Rattle.node_events.specs.declared.reply.Reply.TheVariants.{Done, Took}
 use Rattle.node_overlay.specs.declared.pending.Pending.{Pending}
-use Rattle.node_overlay.specs.Origin.{overlay_after_tick, sent_by_tick}
+use Rattle.node_overlay.specs.Ticking.{overlay_after_tick, sent_by_tick}
 use Rattle.node_overlay.specs.Outbox.{AreFramesOf, HasSpelling, count_on}
 use Rattle.node_overlay.specs.Overlay.{IsOverlay, Overlay, overlay_after_view, sent_by_view}
 use Rattle.node_overlay.specs.Pending.{Pends, after_pending}

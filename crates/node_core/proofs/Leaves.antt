@@ -24,7 +24,7 @@ use Rattle.node_events.specs.declared.event.NodeEvent.TheVariants.{Read, Write, 
 use Rattle.node_events.specs.declared.fault.StepFault.{StepFault}
 use Rattle.node_events.specs.declared.reply.Reply.{Reply}
 use Rattle.node_overlay.specs.declared.envelope.Envelope.{Envelope}
-use Rattle.node_overlay.specs.Origin.{is_due}
+use Rattle.node_overlay.specs.Ticking.{is_due}
 use Rattle.node_overlay.specs.Outbox.{HasSpelling, count_on, frame_of, frames_from}
 use Rattle.node_overlay.specs.Overlay.{envelope, out_of, sent_by_view}
 use Rattle.node_core.specs.declared.state.Stepped.{Stepped}

@@ -25,7 +25,8 @@ use Rattle.node_events.specs.declared.reply.Reply.{Reply}
 use Rattle.node_events.specs.declared.reply.Reply.TheVariants.{Took}
 use Rattle.node_core.specs.declared.state.Stepped.{Stepped}
 use Rattle.node_overlay.specs.declared.envelope.Envelope.{Envelope}
-use Rattle.node_overlay.specs.Origin.{overlay_after_tick, is_due, whole_messages, sent_by_tick}
+use Rattle.node_overlay.specs.Origin.{whole_messages}
+use Rattle.node_overlay.specs.Ticking.{overlay_after_tick, is_due, sent_by_tick}
 use Rattle.node_overlay.specs.Outbox.{HasSpelling, count_on, frames_from}
 use Rattle.node_overlay.specs.Overlay.{IsOverlay, Overlay, overlay_after_view, envelope, out_of, sent_by_view, overlay_after_call}
 use Rattle.node_overlay.proofs.Naming.{names_others_on}

@@ -20,7 +20,7 @@ use Rattle.plumtree.specs.Broadcast.{TakesPrune, TakesIHave, TakesGraft, Tick as
 use Rattle.subscriptions.specs.Watching.{empty}
 use Rattle.node_events.specs.declared.event.NodeEvent.{NodeEvent}
 use Rattle.node_events.specs.declared.event.NodeEvent.TheVariants.{Read, Write, PutOver, Take, Tick, Join, PeerDown, Exchange, Keep, Watch, Changes, Hello as SayHello, Leave}
-use Rattle.node_overlay.specs.Origin.{is_due}
+use Rattle.node_overlay.specs.Ticking.{is_due}
 use Rattle.node_overlay.specs.Outbox.{count_on}
 use Rattle.subscriptions.specs.Watches.{hand_out}
 use Rattle.node_core.specs.Node.{NodeParts, present, vector_under, writer}

@@ -1,4 +1,7 @@
 //! One node: a machine from frames in to frames out.
+//!
+//! Read `state`, `table`, `step` and `attempt`; then a file for each thing that comes (`reading`,
+//! `writing`, `taking`, `ticking`, `membership`, ..), `change`, and `commit`.
 #![tactic(auto)]
 
 mod announcing;

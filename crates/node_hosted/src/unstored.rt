@@ -60,20 +60,20 @@ impl Unstored {
 
     /// Puts a record with its gates behind the others. Its open gate takes the place of their
     /// closed one.
-    pub(crate) fn join(&mut self, record: Vec<u8>) -> Result<(), AllocError>
-        requires { IsOneRecord record.items }
-        ensures joined { OnOk result ((said : Record) → IsRecord said → record.items ≡ gated said
+    pub(crate) fn join(&mut self, added: Vec<u8>) -> Result<(), AllocError>
+        requires { IsOneRecord added.items }
+        ensures joined { OnOk result ((said : Record) → IsRecord said → added.items ≡ gated said
             → self.new ≡ self.old ++ said ∷ []) }
         ensures same { OnErr result (self.new ≡ self.old) }
     {
         // (for what the bytes say)
         a_record_is_read_again();
         let Some(last) = self.bytes.len().checked_sub(1) else {
-            self.bytes = record;
+            self.bytes = added;
             return Ok(());
         };
-        self.bytes.extend_from_slice(&record[1..])?;
-        self.bytes[last] = record[0];
+        self.bytes.extend_from_slice(&added[1..])?;
+        self.bytes[last] = added[0];
         Ok(())
     }
 }

@@ -5,5 +5,7 @@ pub mod Overlay
 pub mod Outbox
 -- which call of the broadcast a change makes, and what it gives out
 pub mod Origin
+-- what a tick does, and when it is a shuffle
+pub mod Ticking
 -- what it was asked, before that is final
 pub mod Pending

@@ -7,7 +7,8 @@ ghost use Rattle.hyparview.specs.declared.event.ViewEvent.TheVariants.{ShuffleDu
 ghost use Rattle.plumtree.specs.Broadcast.{Tick};
 ghost use Rattle.plumtree.specs.Lawful.{after_call};
 ghost use Rattle.plumtree.specs.Ticking.{peers_of};
-ghost use Rattle.node_overlay.specs.Origin.{overlay_after_tick, sent_by_tick, whole_messages};
+ghost use Rattle.node_overlay.specs.Origin.{whole_messages};
+ghost use Rattle.node_overlay.specs.Ticking.{overlay_after_tick, sent_by_tick};
 ghost use Rattle.node_overlay.specs.Outbox.{AreFramesOf, MaySend};
 ghost use Rattle.node_overlay.specs.Overlay.{out_of, overlay_after_call, overlay_after_view};
 ghost use Rattle.node_overlay.specs.Overlay.{sent_by_view};

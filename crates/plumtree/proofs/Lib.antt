@@ -1,5 +1,3 @@
--- a list that is written in place, one element after another
-pub mod Mapped
 -- peers that change list, come and go
 pub mod Peers
 -- each call keeps each peer in one list, and changes who is one as stated

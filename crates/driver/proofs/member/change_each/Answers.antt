@@ -1,6 +1,6 @@
 use Rattle.std.proofs.Common.{◌<◌, length, arith}
 use Rattle.driver.specs.Plan.{learn}
-use Rattle.driver.proofs.Mapped.{next_written}
+use Rattle.peer_lists.proofs.Mapped.{next_written}
 use Rattle.driver.proofs.member.change_each.Goals as goal
 
 pub loop-place-preserved : goal.loop-place-preserved

@@ -1,6 +1,6 @@
 use Rattle.std.proofs.Common.{◌<◌, length, arith}
 use Rattle.plumtree.specs.Rows.{without_announcer}
-use Rattle.plumtree.proofs.Mapped.{next_written}
+use Rattle.peer_lists.proofs.Mapped.{next_written}
 use Rattle.plumtree.proofs.missing.lose_announcer.Goals as goal
 
 pub loop-place-preserved : goal.loop-place-preserved

@@ -1,6 +1,6 @@
 use Rattle.std.proofs.Common.{◌<◌, length, arith}
 use Rattle.plumtree.specs.Ticking.{ticked}
-use Rattle.plumtree.proofs.Mapped.{next_written}
+use Rattle.peer_lists.proofs.Mapped.{next_written}
 use Rattle.plumtree.proofs.missing.lose_ticks.Goals as goal
 
 pub loop-place-preserved : goal.loop-place-preserved

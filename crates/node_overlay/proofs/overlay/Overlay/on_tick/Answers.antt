@@ -3,7 +3,8 @@ use Rattle.std.proofs.lemmas.Bool.{ne_eqb}
 use Rattle.std.proofs.lemmas.Result.{IfOk-weaker}
 use Rattle.hyparview.specs.declared.event.ViewEvent.TheVariants.{ShuffleDue}
 use Rattle.plumtree.specs.Broadcast.{Tick}
-use Rattle.node_overlay.specs.Origin.{overlay_after_tick, sent_by_tick, whole_messages}
+use Rattle.node_overlay.specs.Origin.{whole_messages}
+use Rattle.node_overlay.specs.Ticking.{overlay_after_tick, sent_by_tick}
 use Rattle.node_overlay.specs.Overlay.{Overlay, out_of, overlay_after_call, overlay_after_view, sent_by_view}
 use Rattle.node_overlay.specs.Pending.{Pends}
 use Rattle.node_overlay.proofs.Naming.{same_frames}
