@@ -1,15 +1,12 @@
 -- A store that is filled in the order of a table holds what was gone over.
-use Rattle.std.proofs.Common.{◌≡◌, ℕ, ◌+◌, ◌<◌, ◌≤◌, ◌&&◌, Bool, true, false, List, [], ◌∷◌, ◌++◌, length, All, refl, sym, ap, subst, ◌∙◌, arith, leb, is_none}
+use Rattle.std.proofs.Common.{◌≡◌, ◌&&◌, Bool, true, false, List, [], ◌∷◌, ◌++◌, All, refl, ap, ◌∙◌}
 use Rattle.std.specs.Bool.{passes}
-use Rattle.std.specs.FinMap.{find, is_sorted}
-use Rattle.std.proofs.lemmas.Bool.{leb-true}
-use Rattle.std.proofs.lemmas.List.{length-append}
-use Rattle.std.proofs.lemmas.List.Elements.{All-head, All-tail}
+use Rattle.std.specs.FinMap.{is_sorted}
+use Rattle.std.proofs.lemmas.List.Elements.{All-tail}
 use Rattle.meta_types.specs.Name.{Key}
 use Rattle.meta_types.specs.Order.{key_cmp}
 use Rattle.dvvset.specs.Object.{Entry}
-use Rattle.meta_store.specs.Step.{is_full_for}
-use Rattle.meta_store.specs.Table.{IsHeld, IsTable, Table, most_keys, with_object}
+use Rattle.meta_store.specs.Table.{IsHeld, IsTable, Table, with_object}
 use Rattle.meta_store.proofs.Keys.{key_total}
 use Rattle.meta_store.proofs.Maps.{put_last}
 

@@ -36,3 +36,5 @@ pub mod Growing
 pub mod Within
 -- a store that is filled in the order of a table holds what was gone over
 pub mod Filling
+-- steps are taken back, the last one first
+pub mod RollingBack

@@ -1,5 +1,5 @@
 -- What comes of an event: no event has two outcomes, and a run goes on.
-use Rattle.std.proofs.Common.{◌≡◌, ◌⊎◌, inl, inr, List, [], ◌∷◌, ◌++◌, Result, Ok, Err, IfOk, IfErr, None, Some, refl, sym, ap, subst, ◌∙◌}
+use Rattle.std.proofs.Common.{◌≡◌, ◌⊎◌, inl, inr, List, [], ◌∷◌, ◌++◌, Result, Ok, Err, IfErr, None, Some, refl, sym, ap, subst, ◌∙◌}
 use Rattle.meta_frame.proofs.Frames.{one_frame, one_refusal, never_both}
 use Rattle.node_events.specs.declared.event.NodeEvent.{NodeEvent}
 use Rattle.node_events.specs.declared.event.NodeEvent.TheVariants.{Take}

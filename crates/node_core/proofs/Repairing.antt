@@ -1,7 +1,5 @@
 -- The sibling that is chosen is the one that is read, and writing it over all is the repair.
-use Rattle.std.proofs.Common.{◌≡◌, ◌<◌, ◌∙◌, ℕ, true, List, length, Some, None, Result, Ok, Err, IfErr, get_or, if◌then◌else◌, nat_le, refl, sym, ap, subst}
-use Rattle.std.proofs.lemmas.Option.{slice_get_read}
-use Rattle.std.specs.List.{slice_get}
+use Rattle.std.proofs.Common.{◌≡◌, ◌∙◌, ℕ, List, Some, Result, Ok, Err, IfErr, refl, sym, ap, subst}
 use Rattle.std.specs.Option.{option_map}
 use Rattle.meta_types.specs.Name.{Key}
 use Rattle.meta_types.specs.Value.{ValueParts}

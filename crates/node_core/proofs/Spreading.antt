@@ -1,13 +1,11 @@
 -- What a change gives out may be sent.
-use Rattle.std.proofs.Common.{◌≡◌, ℕ, true, leb, List, [], ◌∷◌, length, Result, Ok, Err, OnErr, refl, sym, ap, subst, ◌∙◌, arith}
-use Rattle.std.specs.Int.{w16, w64}
-use Rattle.std.proofs.lemmas.Bool.{and_parts, leb-true}
+use Rattle.std.proofs.Common.{◌≡◌, ℕ, List, length, arith}
+use Rattle.std.specs.Int.{w16}
 use Rattle.std.proofs.lemmas.List.{length-map}
 use Rattle.meta_types.specs.Name.{Key, IsKey}
 use Rattle.dvvset.specs.Object.{Counter, Entry}
-use Rattle.dvvset.specs.Clock.{descends, join}
+use Rattle.dvvset.specs.Clock.{join}
 use Rattle.dvvset.proofs.Objects.{IsVector-join}
-use Rattle.frame_fields.specs.Field.{object, greatest_count}
 use Rattle.frame_fields.proofs.Spellable.{key_fits, number_within, vector_fits}
 use Rattle.meta_store.specs.Table.{IsHeld}
 use Rattle.meta_store.proofs.Sizes.{held_fits}

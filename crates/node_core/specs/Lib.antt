@@ -25,6 +25,8 @@ pub mod Growing
 pub mod Changing
 -- a step in two halves: an attempt, which is committed or taken back
 pub mod Attempt
+-- several steps, which are all made or all taken back
+pub mod Savepoint
 -- equality of what steps give
 pub mod Equal
 -- ---- not needed to believe the public contracts: what private functions say of what they are

@@ -13,6 +13,7 @@ mod membership;
 mod merging;
 mod reading;
 mod repair;
+pub mod savepoint;
 mod saying;
 pub mod state;
 mod step;
@@ -23,4 +24,5 @@ mod watching;
 mod writing;
 
 pub use attempt::Attempt;
+pub use savepoint::Savepoint;
 pub use state::{NodeState, Stepped};

@@ -51,6 +51,8 @@ mod running;
 #[cfg(test)]
 mod sameness;
 #[cfg(test)]
+mod savepoints;
+#[cfg(test)]
 mod sent;
 #[cfg(test)]
 mod watching;

@@ -1,4 +1,4 @@
-use Rattle.std.proofs.Common.{◌≡◌, Some, sym, ap, subst, ◌∙◌}
+use Rattle.std.proofs.Common.{Some, sym, ap, subst, ◌∙◌}
 use Rattle.std.specs.FinMap.{find}
 use Rattle.meta_types.specs.Name.{IsKey}
 use Rattle.meta_types.specs.Order.{key_cmp}

@@ -1,10 +1,8 @@
-use Rattle.std.proofs.Common.{All, map, subst, ap}
+use Rattle.std.proofs.Common.{map}
 use Rattle.std.proofs.lemmas.List.Elements.{All-same}
-use Rattle.plumtree.specs.Lawful.{MayBeSent}
-use Rattle.node_core.specs.Node.{NodeParts}
 use Rattle.node_overlay.specs.Origin.{envelope_with}
 use Rattle.node_overlay.specs.Outbox.{MaySend}
-use Rattle.node_overlay.proofs.Naming.{gossips_may, same_frames}
+use Rattle.node_overlay.proofs.Naming.{gossips_may}
 use Rattle.node_core.proofs.state.NodeState.hold.Goals as goal
 
 pub outbox-requires : goal.outbox-requires

@@ -1,4 +1,4 @@
-use Rattle.std.proofs.Common.{◌≡◌, ◌<◌, ◌≤◌, true, false, nat_lt, get_or, slice_index, lt-ltb, le-ltb, subst}
+use Rattle.std.proofs.Common.{◌<◌, ◌≤◌, get_or, slice_index, lt-ltb, le-ltb, subst}
 use Rattle.node_core.specs.Node.{IsInLife, NodeParts}
 use Rattle.node_core.proofs.Attempting.{hello_heard, hello_known}
 use Rattle.node_core.proofs.state.NodeState.on_hello.Goals as goal
