@@ -20,8 +20,9 @@ use std::sync::Wait;
 mod batch;
 
 /// The publisher of a node's changes. It keeps a handle, since its drop waits for the readers that
-/// are inside a `peek`, which never wait themselves.
+/// are inside a `peek` or a `peek_with`, which never wait for it.
 pub struct Publisher<J: Naming, H: Wait + Drop> {
+    alloc: Global,
     // None only inside of a call
     writer: Option<Writer<PublishedTable, Addition, Known, CopiesOf<J>>>,
     none: Revision<J>,
@@ -33,6 +34,7 @@ pub struct Publisher<J: Naming, H: Wait + Drop> {
 impl<J: Naming, H: Wait + Drop> Drop for Publisher<J, H> {
     fn drop(self) {
         let Self {
+            alloc: _alloc,
             writer,
             none: _none,
             revision: _revision,
@@ -86,6 +88,7 @@ impl<J: Naming, H: Wait + Drop> Publisher<J, H> {
         let one = PublishedTable::new(alloc, spread.copy(alloc)?, &revision);
         let two = PublishedTable::new(alloc, spread, &revision);
         Ok(Publisher {
+            alloc,
             writer: Some(Writer::new(alloc, one, two, readers)?),
             none: revision.again(),
             revision,
@@ -100,14 +103,14 @@ impl<J: Naming, H: Wait + Drop> Publisher<J, H> {
         ensures { IfOk result (λ seat. seat ≡ record { shown = []; learnt = [] }) }
     {
         match &self.writer {
-            Some(writer) => ReadSeat::new(writer.factory(), &self.none),
+            Some(writer) => ReadSeat::new(self.alloc, writer.factory(), &self.none),
             None => unreachable!(),
         }
     }
 
     /// Adds the change to the history and shows readers a copy that has it. Returns how far the
     /// history goes then, for a seat to learn. It waits for readers that are still inside a `peek`
-    /// of the copy before.
+    /// or a `peek_with` of the copy before.
     ///
     /// Refused if memory runs out, if the tail isn't at the end of the history, or if that has 2^62
     /// changes. Then readers see what they saw, and every later call that publishes is refused.

@@ -18,7 +18,8 @@ use std::sync::Wait;
 impl<J: Naming, H: Wait + Drop> Publisher<J, H> {
     /// Adds the changes to the history, in order, and shows readers one copy that has them all.
     /// Returns how far the history goes then, for a seat to learn. If there are none, it shows
-    /// nothing. It waits for readers that are still inside a `peek` of the copy before.
+    /// nothing. It waits for readers that are still inside a `peek` or a `peek_with` of the copy
+    /// before.
     ///
     /// Refused if memory runs out, if the tail isn't at the end of the history, or if that has no
     /// room for all of them below 2^62, and then none is added. Then readers see what they saw, and
