@@ -1,5 +1,5 @@
 -- The copies of the table, one of which readers take, and what is added to them.
-use Rattle.std.specs.Prelude.{◌≡◌, List, length}
+use Rattle.std.specs.Prelude.{◌≡◌, List, [], ◌∷◌, ◌++◌, length}
 use Rattle.logbook.specs.Pages.{Book}
 use Rattle.meta_store.specs.Table.{Table}
 use Rattle.node_readers.specs.Published.{Published, with_all}
@@ -17,6 +17,17 @@ pub record AdditionView : Type 0 where
   pub book : Book
   pub list : List Published
   pub change : Published
+
+-- the change, added to a history that has the changes of the list
+abbrev pub added_to : Book → List Published → Published → AdditionView
+added_to book list change =
+    record { book = book; list = list ++ change ∷ []; change = change }
+
+-- these changes, each added after those before it
+abbrev pub all_added_to : Book → List Published → List Published → List AdditionView
+all_added_to book list [] = []
+all_added_to book list (change ∷ changes) =
+    added_to book list change ∷ all_added_to book (list ++ change ∷ []) changes
 
 -- the copy after it took the change in
 abbrev pub taken_in : TableView → AdditionView → TableView

@@ -13,6 +13,12 @@ pub record GrowsBy (table : Table) (change : Published) : Type 0 where
   pub is_table : IsTable (with_published table change)
   pub descends : Descends table (with_published table change)
 
+-- each of the changes grows what those before it leave of the table
+abbrev pub GrowsByAll : Table → List Published → Type 0
+GrowsByAll table [] = Unit {0}
+GrowsByAll table (change ∷ changes) =
+    GrowsBy table change × GrowsByAll (with_published table change) changes
+
 -- after each beginning of the changes there is a table, and what all of them leave knows all that
 -- was known there
 pub record Grows (opening : Table) (list : List Published) : Type 0 where
@@ -30,3 +36,15 @@ abbrev pub GrowthGoesOn : Type 0
 GrowthGoesOn = (opening : Table) (list : List Published) (change : Published)
     → Grows opening list → GrowsBy (with_all opening list) change
     → Grows opening (list ++ change ∷ [])
+
+-- what has only grown and grows by all of these changes has only grown
+abbrev pub GrowthGoesOnByAll : Type 0
+GrowthGoesOnByAll = (opening : Table) (list changes : List Published)
+    → Grows opening list → GrowsByAll (with_all opening list) changes
+    → Grows opening (list ++ changes)
+
+-- a table that grows by all of the changes, and then by one more, grows by all of them
+abbrev pub OneMoreGrowsToo : Type 0
+OneMoreGrowsToo = (table : Table) (changes : List Published) (change : Published)
+    → GrowsByAll table changes → GrowsBy (with_all table changes) change
+    → GrowsByAll table (changes ++ change ∷ [])

@@ -11,7 +11,7 @@ pub mod Published
 pub mod History
 -- what is published only grows
 pub mod Growth
--- what a seat and the publisher are
+-- what a seat and the publisher are, and why a look is refused
 pub mod Views
 -- the numbers of refusals
 pub mod Fault

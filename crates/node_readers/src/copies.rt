@@ -1,13 +1,12 @@
 //! The two copies of the table, one of which readers take, and what is added to both.
 
-ghost use Rattle.std.specs.Prelude.{◌≡◌, length, IfOk};
-ghost use Rattle.dvvset.specs.Clock.{join, values_of};
+ghost use Rattle.std.specs.Prelude.{◌≡◌, length};
+ghost use Rattle.std.specs.Fn.{FnOnceReturnsAt};
 ghost use Rattle.node_readers.specs.Spread.{object_in, bucket_count};
 
-use crate::shown::Shown;
 use crate::spread::SpreadTable;
 use crate::{Extent, Naming, Published, Revision};
-use dvvset::{Entries, join, values};
+use dvvset::Entries;
 use left_right::Absorb;
 use meta_types::MetaKey;
 use std::alloc::{AllocError, Global};
@@ -55,27 +54,15 @@ impl PublishedTable {
         Revision::of(&self.extent)
     }
 
-    /// Returns the values under the key, and their vector. They are copies. The key is searched for
-    /// once.
-    pub(crate) fn look(&self, key: &MetaKey) -> Result<Shown, AllocError>
-        ensures values { IfOk result
-            (λ it. it.values.items ≡ values_of (object_in self.now.spread key.now)) }
-        ensures vector { IfOk result (λ it. it.vector ≡ join (object_in self.now.spread key.now)) }
+    /// Calls `look` with the object under the key, and returns what it returned. The key is
+    /// searched for once.
+    pub(crate) fn look_with<T, F: FnOnce(&Entries) -> T>(&self, key: &MetaKey, look: F) -> T
+        requires { F.IsAlwaysCallable look }
+        ensures { FnOnceReturnsAt F.FnOnce look (object_in self.now.spread key.now) result }
     {
         let absent = Entries::empty(self.alloc);
-        shown_of(self.alloc, self.table.object(key).unwrap_or(&absent))
+        look(self.table.object(key).unwrap_or(&absent))
     }
-}
-
-/// Returns the values of an object, and its vector. They are copies.
-fn shown_of(alloc: Global, object: &Entries) -> Result<Shown, AllocError>
-    ensures values { IfOk result (λ it. it.values.items ≡ values_of object.now) }
-    ensures vector { IfOk result (λ it. it.vector ≡ join object.now) }
-{
-    Ok(Shown {
-        values: values(alloc, object)?,
-        vector: join(alloc, object)?,
-    })
 }
 
 /// A change, and the history that it ends.

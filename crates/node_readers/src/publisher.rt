@@ -1,8 +1,9 @@
-ghost use Rattle.std.specs.Prelude.{◌≡◌, ◌↔◌, ◌++◌, ◌∷◌, ◌^◌, ◌<◌, [], IfOk, OnOk, OnErr, true, false, drop, IsTrue, Some};
+ghost use Rattle.std.specs.Prelude.{◌≡◌, ◌↔◌, ◌++◌, ◌∷◌, ◌^◌, ◌<◌, [], IfOk, OnOk, OnErr, true, false, drop, length, IsTrue, Some};
 ghost use mathlib.Core.List.{IsPrefix};
 ghost use Rattle.left_right.specs.Sides.{view};
 ghost use Rattle.node_readers.specs.Published.{with_all};
-ghost use Rattle.node_readers.specs.Copies.{IsCopy, IsCopyOf};
+ghost use Rattle.node_readers.specs.History.{most_changes};
+ghost use Rattle.node_readers.specs.Copies.{IsCopyOf, added_to};
 ghost use Rattle.node_readers.specs.Growth.{GrowsBy};
 
 use crate::copies::{Addition, PublishedTable};
@@ -16,9 +17,12 @@ use std::alloc::{AllocError, Global};
 use std::marker::Model;
 use std::sync::Wait;
 
+mod batch;
+
 /// The publisher of a node's changes. It keeps a handle, since its drop waits for the readers that
-/// are inside a `peek`, which never wait themselves.
+/// are inside a `peek` or a `peek_with`, which never wait for it.
 pub struct Publisher<J: Naming, H: Wait + Drop> {
+    alloc: Global,
     // None only inside of a call
     writer: Option<Writer<PublishedTable, Addition, Known, CopiesOf<J>>>,
     none: Revision<J>,
@@ -30,6 +34,7 @@ pub struct Publisher<J: Naming, H: Wait + Drop> {
 impl<J: Naming, H: Wait + Drop> Drop for Publisher<J, H> {
     fn drop(self) {
         let Self {
+            alloc: _alloc,
             writer,
             none: _none,
             revision: _revision,
@@ -83,6 +88,7 @@ impl<J: Naming, H: Wait + Drop> Publisher<J, H> {
         let one = PublishedTable::new(alloc, spread.copy(alloc)?, &revision);
         let two = PublishedTable::new(alloc, spread, &revision);
         Ok(Publisher {
+            alloc,
             writer: Some(Writer::new(alloc, one, two, readers)?),
             none: revision.again(),
             revision,
@@ -97,17 +103,17 @@ impl<J: Naming, H: Wait + Drop> Publisher<J, H> {
         ensures { IfOk result (λ seat. seat ≡ record { shown = []; learnt = [] }) }
     {
         match &self.writer {
-            Some(writer) => ReadSeat::new(writer.factory(), &self.none),
+            Some(writer) => ReadSeat::new(self.alloc, writer.factory(), &self.none),
             None => unreachable!(),
         }
     }
 
     /// Adds the change to the history and shows readers a copy that has it. Returns how far the
     /// history goes then, for a seat to learn. It waits for readers that are still inside a `peek`
-    /// of the copy before.
+    /// or a `peek_with` of the copy before.
     ///
     /// Refused if memory runs out, if the tail isn't at the end of the history, or if that has 2^62
-    /// changes. Then readers see what they saw, and every later `publish` is refused.
+    /// changes. Then readers see what they saw, and every later call that publishes is refused.
     pub fn publish<R: Wait>(
         &mut self,
         rt: &R,
@@ -131,12 +137,7 @@ impl<J: Naming, H: Wait + Drop> Publisher<J, H> {
             unreachable!()
         };
         let mut next = self.revision.again();
-        let was_added = next.add(tail, &change);
-        if !was_added {
-            put_back(rt, &mut self.writer, writer);
-            return Err(AllocError);
-        }
-        let (writer, told) = show(rt, writer, Addition::new(change, &next));
+        let (writer, told) = show(rt, tail, writer, &mut next, change);
         put_back(rt, &mut self.writer, writer);
         told?;
         self.revision = next.again();
@@ -180,31 +181,52 @@ fn put_back<J: Naming, R: Wait>(
     }
 }
 
-/// Shows readers a copy that has the addition.
+/// Adds the change to the history, and shows readers a copy that has it.
 fn show<J: Naming, R: Wait>(
     rt: &R,
+    tail: &Tail<J>,
     mut writer: Writer<PublishedTable, Addition, Known, CopiesOf<J>>,
-    addition: Addition,
+    next: &mut Revision<J>,
+    change: Published,
 ) -> (
     Writer<PublishedTable, Addition, Known, CopiesOf<J>>,
     Result<(), AllocError>,
 )
-    requires copy { IsCopy J.book J.opening writer.desk.shown.value }
+    requires copy { IsCopyOf J.book J.opening next.old writer.desk.shown.value }
     requires none { drop writer.behind writer.log.items ≡ [] }
-    requires known { view writer.desk.place ≡ writer.desk.shown.value.list }
-    requires book { addition.book ≡ J.book }
-    requires next { addition.list ≡ writer.desk.shown.value.list ++ addition.change ∷ [] }
-    requires grows { GrowsBy
-        (with_all J.opening writer.desk.shown.value.list) addition.change }
+    requires room { length next.old < most_changes }
+    requires grows { GrowsBy (with_all J.opening next.old) change }
     ensures same { OnErr result.1 (result.0.desk.shown.value ≡ writer.desk.shown.value) }
     ensures same_view { OnErr result.1 (view result.0.desk.place ≡ view writer.desk.place) }
-    ensures copy { OnOk result.1
-        (IsCopyOf J.book J.opening addition.list result.0.desk.shown.value) }
-    ensures known { OnOk result.1 (view result.0.desk.place ≡ addition.list) }
+    ensures next { OnOk result.1 (next.new ≡ next.old ++ change ∷ []) }
+    ensures copy { OnOk result.1 (IsCopyOf J.book J.opening next.new result.0.desk.shown.value) }
+    ensures known { OnOk result.1 (view result.0.desk.place ≡ next.new) }
     ensures none { OnOk result.1 (drop result.0.behind result.0.log.items ≡ []) }
 {
-    match writer.append(addition) {
+    match append(tail, &mut writer, next, change) {
         Ok(()) => writer.publish_as::<CopiesOf<J>, R>(rt),
-        Err(_) => (writer, Err(AllocError)),
+        Err(error) => (writer, Err(error)),
+    }
+}
+
+/// Adds the change to the history, and to what the copies are to take in.
+fn append<J: Naming>(
+    tail: &Tail<J>,
+    writer: &mut Writer<PublishedTable, Addition, Known, CopiesOf<J>>,
+    next: &mut Revision<J>,
+    change: Published,
+) -> Result<(), AllocError>
+    requires room { length next.old < most_changes }
+    ensures desk { writer.new.desk ≡ writer.old.desk }
+    ensures pending { OnOk result (drop writer.new.behind writer.new.log.items
+        ≡ drop writer.old.behind writer.old.log.items ++ added_to J.book next.old change ∷ []) }
+    ensures next { OnOk result (next.new ≡ next.old ++ change ∷ []) }
+{
+    if !next.add(tail, &change) {
+        return Err(AllocError);
+    }
+    match writer.append(Addition::new(change, next)) {
+        Ok(()) => Ok(()),
+        Err(_) => Err(AllocError),
     }
 }

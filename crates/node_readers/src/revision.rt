@@ -1,4 +1,4 @@
-ghost use Rattle.std.specs.Prelude.{◌≡◌, ◌↔◌, ◌<◌, ◌++◌, ◌∷◌, ◌⊎◌, [], length, MatchBool, IsTrue};
+ghost use Rattle.std.specs.Prelude.{◌≡◌, ◌↔◌, ◌<◌, ◌≤◌, ◌+◌, ◌++◌, ◌∷◌, ◌⊎◌, [], length, MatchBool, IsTrue};
 ghost use mathlib.Core.List.{IsPrefix};
 ghost use Rattle.node_readers.specs.History.{most_changes};
 
@@ -93,6 +93,15 @@ impl<J: Naming> Revision<J> {
         ensures { IsTrue result ↔ (length self.now < most_changes) }
     {
         self.extent.number() < MAX_CHANGES
+    }
+
+    /// Returns whether so many more changes may be added: there are then at most 2 to the power of
+    /// 62.
+    pub fn has_room_for(&self, changes: usize) -> bool
+        ensures { IsTrue result ↔ (length self.now + changes ≤ most_changes) }
+    {
+        let number = self.extent.number();
+        number <= MAX_CHANGES && changes as u64 <= MAX_CHANGES - number
     }
 
     /// Adds a change to all that it has, and returns whether it did. It did not if the history had

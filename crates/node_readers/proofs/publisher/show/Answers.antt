@@ -1,13 +1,28 @@
-use Rattle.std.proofs.Common.{◌≡◌, [], ◌∷◌, ◌++◌, drop, sym, subst}
-use Rattle.node_readers.specs.Published.{with_all}
-use Rattle.node_readers.specs.Growth.{GrowsBy}
-use Rattle.node_readers.proofs.Moves.{takes_pending}
+use Rattle.std.proofs.Common.{◌∙◌, [], ◌∷◌, sym, ap, drop}
+use Rattle.node_readers.proofs.Moves.{list_took, on_both, pends_all, takes_all}
 use Rattle.node_readers.proofs.publisher.show.Goals as goal
 
 pub publish_as-requires : goal.publish_as-requires
 publish_as-requires g c next is =
-    let now = c.append.new.self in
-    let was = c.args.writer in
-    let it = c.args.addition in
-    let step = subst (λ d. (it.list ≡ d.shown.value.list ++ it.change ∷ []) × GrowsBy (with_all g.J.Naming.opening d.shown.value.list) it.change) (sym c.append.ensures.desk) (c.requires.next, c.requires.grows) in
-    takes_pending _ _ _ _ now.desk.shown.value next it (drop was.behind was.log.items) (drop now.behind now.log.items) c.requires.none c.in-Ok.ensures.pending c.requires.book step.0 step.1 is
+    let now = c.append.new.writer in
+    let are = pends_all g.J.Naming.book c.args.next.now (c.args.change ∷ []) now.desk.shown.value _ (drop now.behind now.log.items)
+    (ap (λ d. d.shown.value.list) c.append.ensures.desk ∙ c.requires.copy.changes) c.requires.none c.in-Ok.ensures.pending in
+    takes_all _ _ _ _ _ _ now.desk.shown.value next _ are (c.requires.grows, tt) is
+
+pub returns-in-Ok-clause-copy : goal.returns-in-Ok-clause-copy
+returns-in-Ok-clause-copy g c =
+    let now = c.append.new.writer in
+    let are = pends_all g.J.Naming.book c.args.next.now (c.args.change ∷ []) now.desk.shown.value _ (drop now.behind now.log.items)
+    (ap (λ d. d.shown.value.list) c.append.ensures.desk ∙ c.requires.copy.changes) c.requires.none c.in-Ok.ensures.pending in
+    on_both c.publish_as.result.1 _ _ c.publish_as.ensures.values c.publish_as.ensures.rule (λ values rule. record {
+      changes = list_took _ _ _ _ c.publish_as.result.0.desk.shown.value _ are values.0 ∙ sym c.in-Ok.ensures.next;
+      is_copy = rule.0;
+    })
+
+pub returns-in-Ok-clause-known : goal.returns-in-Ok-clause-known
+returns-in-Ok-clause-known g c =
+    let now = c.append.new.writer in
+    let are = pends_all g.J.Naming.book c.args.next.now (c.args.change ∷ []) now.desk.shown.value _ (drop now.behind now.log.items)
+    (ap (λ d. d.shown.value.list) c.append.ensures.desk ∙ c.requires.copy.changes) c.requires.none c.in-Ok.ensures.pending in
+    on_both c.publish_as.result.1 _ _ c.publish_as.ensures.values c.publish_as.ensures.rule (λ values rule.
+    rule.2 ∙ list_took _ _ _ _ c.publish_as.result.0.desk.shown.value _ are values.0 ∙ sym c.in-Ok.ensures.next)
