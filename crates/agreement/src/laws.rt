@@ -1,5 +1,5 @@
-//! The laws of what is forgotten, of rounds, of trees and of exchanges in a world. The contract of
-//! a function is the law; its body does nothing, or says of which world.
+//! The laws of what is forgotten, of rounds, of trees, and of exchanges and a broadcast in a world.
+//! The contract of a function is the law; its body does nothing, or says of which world.
 
 ghost use Rattle.std.specs.Prelude.{◌≡◌, ◌≢◌, ◌↔◌, ◌⊎◌, ◌∷◌, ◌++◌, ◌<◌, ◌≤◌, ◌+◌, ◌*◌, ◌%◌, ◌^◌, ◌||◌, ℕ, [], true, false, List, length, map};
 ghost use Rattle.meta_types.specs.Name.{Key};
@@ -15,9 +15,12 @@ ghost use Rattle.agreement.specs.Left.{ArePlacesOf, HasNone, HasOverwritten, IsS
 ghost use Rattle.agreement.specs.Stories.{after_deletion, after_keeping, after_loss, deleted, deleted_elsewhere, lost, lost_writes, one_key};
 ghost use Rattle.agreement.specs.Rounds.{AreOfFirst, AreRounds, Exchange, IsRound, Known, KnowAll, after_all, after_rounds, count_known, exchanges_of, have_met, is_busy, own, takes_part};
 ghost use Rattle.agreement.specs.Schedules.{four_rounds, log_up, rounds_for};
-ghost use Rattle.agreement.specs.Tree.{IsTree, in_and_out, is_in, outwards};
+ghost use Rattle.agreement.specs.Tree.{IsSameTree, IsTree, after_passing_all, in_and_out, is_in, outwards};
 ghost use Rattle.agreement.specs.Meeting.{meetings};
-ghost use Rattle.agreement.specs.World.{AllShowTheSame, BothHoldAll, CollidesIn, CollidesInRounds, Exchanges, GoOutwards, IsIdle, KnowAfterAll, KnowWhatRootKnew, RoundsInTurn, ShowTheSame};
+ghost use Rattle.agreement.specs.World.{AllShowTheSame, BothHoldAll, CollidesAlong, CollidesIn, CollidesInRounds, DeliverAll, Exchanges, IsIdle, KnowAfterAll, KnowWhatRootKnew, RoundsInTurn, RunsAlong, ShowTheSame, ShowTheSameInTree};
+ghost use Rattle.agreement.specs.Broadcast.{Broadcasts, DeliverInAnyOrder, HoldTheSame, IsEagerTree, IsNewWrite, KnowUnderWhatRootKnew, KnowWhatWasPassedOn, NoneKnewMore, SendsGossip};
+ghost use Rattle.plumtree.specs.Lawful.{HasLinks};
+ghost use Rattle.world_core.specs.declared.answer.Accepted.{Accepted};
 ghost use Rattle.world_core.specs.Knowledge.{OfAllTold};
 ghost use Rattle.world_core.specs.Refusal.{node_at};
 ghost use Rattle.world_core.specs.World.{World as W};
@@ -106,9 +109,9 @@ pub fn a_round_runs_at_once()
         → after_all before es n m ≡ before n m }
 {}
 
-/// What a node knows at most doubles in a round. So rounds after which the first nodes all know
-/// all, or only one of them does, are not fewer than the logarithm of their number, to base 2:
-/// sixteen need four.
+/// The most that a node knows at most doubles in a round: after r rounds no node knows of more than
+/// 2^r. So rounds after which the first nodes all know all, or only one of them does, are not fewer
+/// than the logarithm of their number, to base 2: sixteen need four.
 pub fn knowledge_at_most_doubles_in_a_round()
     ensures doubles { (rounds : List (List Exchange)) → AreRounds rounds → (many n : ℕ)
         → count_known many (after_rounds rounds n) ≤ 2 ^ length rounds }
@@ -165,6 +168,17 @@ pub fn exchanges_outwards_repair()
         → known (hs ++ meetings k (length hs) (outwards edges)) n k p ≡ true }
 {}
 
+/// If each node of a tree passes on to the next what it knows, from the root to the leaves, all know
+/// what the root knew. Each node of a tree may be its root.
+pub fn what_is_passed_on_along_a_tree_is_known_by_all()
+    ensures known { (root : ℕ) (edges : List Exchange) → IsTree root edges
+        → (before : Known) (n m : ℕ) → is_in root edges n ≡ true → before root m ≡ true
+        → after_passing_all before (outwards edges) n m ≡ true }
+    ensures any_root { (root : ℕ) (edges : List Exchange) → IsTree root edges
+        → (node : ℕ) → is_in root edges node ≡ true
+        → (others : List Exchange) × IsSameTree root edges node others }
+{}
+
 /// An exchange in which both nodes send what they know under a key, and each gets what the other
 /// sent, is an exchange of knowledge: after a list of them a node knows just the writes that were
 /// known to the nodes of which it then knows. What nodes know under other keys stays. So where all
@@ -213,10 +227,10 @@ pub fn an_exchange_in_a_world_gives_both_the_union(world: &World)
 
 /// Rounds of whole exchanges in a world, those of each round at once, are exchanges of knowledge:
 /// each node then knows what `after_all` says of sets. So where all know all, all nodes show the
-/// same, whatever was lost before; sixteen nodes do after the four rounds; and exchanges along a
-/// tree, from the root to the leaves, make all its nodes know what the root knew. Or two unequal
-/// byte strings, hashed for the tables of two nodes that exchange when their round began, have one
-/// digest.
+/// same, whatever was lost before; sixteen nodes do after the four rounds; all nodes of a tree do
+/// after exchanges along it, from the leaves to the root and back; and those from the root to the
+/// leaves make all its nodes know what the root knew. Or two unequal byte strings, hashed for the
+/// tables of two nodes that exchange when their round began, have one digest.
 pub fn exchanges_in_a_world_are_exchanges_of_knowledge(world: &World)
     ensures known { (rounds : List (List Exchange)) → AreRounds rounds
         → (new : W) (ran : RoundsInTurn world.now rounds new)
@@ -229,10 +243,58 @@ pub fn exchanges_in_a_world_are_exchanges_of_knowledge(world: &World)
     ensures sixteen { (new : W) (ran : RoundsInTurn world.now four_rounds new)
         → length world.now.nodes ≡ 16
         → AllShowTheSame new ⊎ CollidesInRounds world.now four_rounds new ran }
-    ensures repair { (root : ℕ) (edges : List Exchange) (rounds : List (List Exchange))
-        → GoOutwards root edges rounds → (new : W) (ran : RoundsInTurn world.now rounds new)
-        → OfAllTold world.now (λ t. KnowWhatRootKnew t root edges new
-        ⊎ CollidesInRounds world.now rounds new ran) }
+    ensures along { (run : RunsAlong in_and_out world.now)
+        → ShowTheSameInTree run.root run.edges run.new ⊎ CollidesAlong run }
+    ensures repair { (run : RunsAlong outwards world.now) → OfAllTold world.now
+        (λ t. KnowWhatRootKnew t run.root run.edges run.new ⊎ CollidesAlong run) }
 {
     a_world_tells_a_history(world);
+}
+
+/// A write in a world, where the eager peers of the writer and of all that they lead to make a
+/// tree, and then the delivery of each frame that this brings forth, once and in any order, with
+/// nothing between; `world` is as the write left it.
+///
+/// The writer alone knows the write at first. At the end each node knows, under the key, what it
+/// knew and what the next one towards the writer knows; so all know what the writer knew, and where
+/// none knew more, all hold the same object. For n nodes of the tree these are n - 1 frames, each
+/// a GOSSIP. The tree is as it was, and one over each of its nodes, so the next write goes
+/// along it, too. Other nodes are as they were. The oldest frame first is one of the orders.
+pub fn a_write_reaches_all_along_eager_peers(world: &World)
+    ensures written { (b : Broadcasts world.now)
+        → OfAllTold world.now (λ t. IsNewWrite t b.writer b.key b.value) }
+    ensures known { (b : Broadcasts world.now)
+        → OfAllTold world.now (λ t. KnowWhatWasPassedOn t b.edges b.key b.after) }
+    ensures reaches { (b : Broadcasts world.now)
+        → OfAllTold world.now (λ t. KnowUnderWhatRootKnew t b.writer b.edges b.key b.after) }
+    ensures agree { (b : Broadcasts world.now) → OfAllTold world.now (λ t.
+        NoneKnewMore t b.writer b.edges b.key → HoldTheSame b.after b.writer b.edges b.key) }
+    ensures number { (b : Broadcasts world.now) → length b.deliveries + 1
+        ≡ count_known (length world.now.nodes) (is_in b.writer b.edges) }
+    ensures gossip { (b : Broadcasts world.now)
+        → SendsGossip b.before b.after b.key (length b.deliveries) }
+    ensures stays { (b : Broadcasts world.now) → IsEagerTree b.after b.writer b.edges }
+    ensures any_writer { (root : ℕ) (edges : List Exchange) → IsEagerTree world.now root edges
+        → (node : ℕ) → is_in root edges node ≡ true
+        → (others : List Exchange) × IsEagerTree world.now node others }
+    ensures others { (b : Broadcasts world.now) (n : ℕ) → is_in b.writer b.edges n ≡ false
+        → node_at b.after n ≡ node_at world.now n }
+    ensures in_turn { (pending : List ℕ) (accepted : List Accepted)
+        → DeliverAll pending accepted → DeliverInAnyOrder pending accepted }
+{
+    a_world_tells_a_history(world);
+    each_peer_stands_once(world);
+}
+
+/// Each peer of a node of the world stands once, and is eager or lazy.
+fn each_peer_stands_once(world: &World)
+    ensures { (n : ℕ) → n < length world.now.nodes
+        → HasLinks (node_at world.now n).state.overlay.cast }
+{
+    for n in 0..world.node_count() {
+        // (for its type)
+        if let Some(state) = world.state(n) {
+            let _ = state.cast();
+        }
+    }
 }
