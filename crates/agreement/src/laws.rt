@@ -5,18 +5,17 @@ ghost use Rattle.std.specs.Prelude.{◌≡◌, ◌≢◌, ◌↔◌, ◌⊎◌, 
 ghost use Rattle.meta_types.specs.Name.{Key};
 ghost use Rattle.meta_types.specs.Value.{ValueParts};
 ghost use Rattle.dvvset.specs.Object.{Entry};
-ghost use Rattle.dvvset.specs.Clock.{values_of};
 ghost use Rattle.past_model.specs.declared.happening.Happening.{Happening as H};
 ghost use Rattle.past_model.specs.Sets.{Places};
-ghost use Rattle.past_model.specs.Past.{In, Write, known, writes};
+ghost use Rattle.past_model.specs.Past.{known, writes};
 ghost use Rattle.past_model.specs.History.{IsHistory};
 ghost use Rattle.past_model.specs.Arisen.{IsObjectKnown};
-ghost use Rattle.agreement.specs.Left.{ArePlacesOf, HasNone, HasOverwritten, IsShown, OfAllLeft, OfContextsLeft, OfStandingLeft};
+ghost use Rattle.agreement.specs.Left.{AreLeftNowhere, HasNone, HasOverwritten, IsLeftOverwritten, OfAllLeft, ShowsOthers, ShowsWriteAt};
 ghost use Rattle.agreement.specs.Stories.{after_deletion, after_keeping, after_loss, deleted, deleted_elsewhere, lost, lost_writes, one_key};
 ghost use Rattle.agreement.specs.Rounds.{AreOfFirst, AreRounds, Exchange, IsRound, Known, KnowAll, after_all, after_rounds, count_known, exchanges_of, have_met, is_busy, own, takes_part};
 ghost use Rattle.agreement.specs.Schedules.{four_rounds, log_up, rounds_for};
 ghost use Rattle.agreement.specs.Tree.{IsSameTree, IsTree, after_passing_all, in_and_out, is_in, outwards};
-ghost use Rattle.agreement.specs.Meeting.{meetings};
+ghost use Rattle.agreement.specs.Meeting.{SufficeFor, after_meetings};
 ghost use Rattle.agreement.specs.World.{AllShowTheSame, BothHoldAll, CollidesAlong, CollidesIn, CollidesInRounds, DeliverAll, Exchanges, IsIdle, KnowAfterAll, KnowWhatRootKnew, RoundsInTurn, RunsAlong, ShowTheSame, ShowTheSameInTree};
 ghost use Rattle.agreement.specs.Broadcast.{Broadcasts, DeliverInAnyOrder, HoldTheSame, IsEagerTree, IsNewWrite, KnowUnderWhatRootKnew, KnowWhatWasPassedOn, NoneKnewMore, SendsGossip};
 ghost use Rattle.plumtree.specs.Lawful.{HasLinks};
@@ -36,9 +35,7 @@ use world_core::laws::a_world_tells_a_history;
 /// `after` is what happens up to the later place. The writes stand in `before`; a later write isn't
 /// one of them, even of the same value.
 pub fn what_is_left_nowhere_is_forgotten()
-    ensures { (before after : List H) (k : Key) (W : Places) → ArePlacesOf before W
-        → OfAllLeft (HasNone W) before after k
-        → OfContextsLeft (HasNone W) before after k
+    ensures { (before after : List H) (k : Key) (W : Places) → AreLeftNowhere W before after k
         → (n : ℕ) → HasNone W (known (before ++ after) n k) }
 {}
 
@@ -53,16 +50,12 @@ pub fn what_is_left_nowhere_is_forgotten()
 /// So the values of the object that a node then holds are those of other writes. One of them may
 /// have written the same bytes.
 pub fn an_overwritten_write_is_never_shown_again()
-    ensures sibling { (before after : List H) (k : Key) (p : ℕ) → p < length before
-        → OfAllLeft (HasOverwritten (writes before) p) before after k
-        → OfStandingLeft (HasOverwritten (writes before) p) before after k
-        → (n : ℕ) (w : Write) → w.place ≡ p → IsShown (before ++ after) n k w → ⊥ }
-    ensures values { (before after : List H) (k : Key) (p : ℕ) → p < length before
-        → OfAllLeft (HasOverwritten (writes before) p) before after k
-        → OfStandingLeft (HasOverwritten (writes before) p) before after k
-        → (n : ℕ) (object : List Entry) → IsObjectKnown (before ++ after) n k object
-        → (shown : List Write) × ((values_of object ≡ map (λ w. w.value) shown)
-        × ((w : Write) → In w shown → w.place ≢ p)) }
+    ensures sibling { (before after : List H) (k : Key) (p : ℕ)
+        → IsLeftOverwritten before after k p
+        → (n : ℕ) → ShowsWriteAt (before ++ after) n k p → ⊥ }
+    ensures values { (before after : List H) (k : Key) (p : ℕ)
+        → IsLeftOverwritten before after k p → (n : ℕ) (object : List Entry)
+        → IsObjectKnown (before ++ after) n k object → ShowsOthers p object }
 {}
 
 /// Each law speaks of something: there are histories with a deletion that meet its premises, and go
@@ -70,13 +63,9 @@ pub fn an_overwritten_write_is_never_shown_again()
 /// value to the end, and yet doesn't show it.
 pub fn there_are_such_histories()
     ensures forgotten { (v u : ValueParts) → IsHistory (lost v ++ after_loss u)
-        × ArePlacesOf (lost v) lost_writes
-        × OfAllLeft (HasNone lost_writes) (lost v) (after_loss u) one_key
-        × OfContextsLeft (HasNone lost_writes) (lost v) (after_loss u) one_key }
+        × AreLeftNowhere lost_writes (lost v) (after_loss u) one_key }
     ensures overwritten { (v u : ValueParts) → IsHistory (deleted v ++ after_deletion u)
-        × OfAllLeft (HasOverwritten (writes (deleted v)) 0) (deleted v) (after_deletion u) one_key
-        × OfStandingLeft (HasOverwritten (writes (deleted v)) 0)
-        (deleted v) (after_deletion u) one_key
+        × IsLeftOverwritten (deleted v) (after_deletion u) one_key 0
         × (known (deleted v ++ after_deletion u) 2 one_key 0 ≡ true) }
 {}
 
@@ -87,8 +76,7 @@ pub fn an_image_may_start_from_less_than_is_known()
     ensures { (v : ValueParts) → IsHistory (deleted_elsewhere v ++ after_keeping)
         × OfAllLeft (HasOverwritten (writes (deleted_elsewhere v)) 0)
         (deleted_elsewhere v) after_keeping one_key
-        × ((w : Write) × ((w.place ≡ 0)
-        × IsShown (deleted_elsewhere v ++ after_keeping) 0 one_key w)) }
+        × ShowsWriteAt (deleted_elsewhere v ++ after_keeping) 0 one_key 0 }
 {}
 
 /// Sixteen nodes know all after the four rounds of the hypercube, in which each exchanges with the
@@ -165,7 +153,7 @@ pub fn exchanges_outwards_repair()
     ensures writes { (root : ℕ) (edges : List Exchange) → IsTree root edges
         → (hs : List H) (k : Key) (n p : ℕ) → is_in root edges n ≡ true
         → known hs root k p ≡ true
-        → known (hs ++ meetings k (length hs) (outwards edges)) n k p ≡ true }
+        → known (after_meetings hs k (outwards edges)) n k p ≡ true }
 {}
 
 /// If each node of a tree passes on to the next what it knows, from the root to the leaves, all know
@@ -185,24 +173,19 @@ pub fn what_is_passed_on_along_a_tree_is_known_by_all()
 /// know all, and no other node knew any of the writes, all know the same, and hold equal objects.
 pub fn exchanges_of_objects_are_exchanges_of_knowledge()
     ensures history { (hs : List H) → IsHistory hs → (k : Key) (es : List Exchange)
-        → IsHistory (hs ++ meetings k (length hs) es) }
+        → IsHistory (after_meetings hs k es) }
     ensures known { (hs : List H) (k : Key) (es : List Exchange) (n p : ℕ)
-        → (known (hs ++ meetings k (length hs) es) n k p ≡ true)
+        → (known (after_meetings hs k es) n k p ≡ true)
         ↔ ((m : ℕ) × ((after_all own es n m ≡ true) × (known hs m k p ≡ true))) }
     ensures others { (hs : List H) (k l : Key) (es : List Exchange) (n : ℕ) → l ≢ k
-        → known (hs ++ meetings k (length hs) es) n l ≡ known hs n l }
+        → known (after_meetings hs k es) n l ≡ known hs n l }
     ensures agree { (hs : List H) (k : Key) (many : ℕ) (es : List Exchange)
-        → KnowAll many (after_all own es)
-        → ((m p : ℕ) → known hs m k p ≡ true → m < many)
-        → (n m : ℕ) → n < many → m < many
-        → known (hs ++ meetings k (length hs) es) n k
-        ≡ known (hs ++ meetings k (length hs) es) m k }
+        → SufficeFor many hs k es → (n m : ℕ) → n < many → m < many
+        → known (after_meetings hs k es) n k ≡ known (after_meetings hs k es) m k }
     ensures objects { (hs : List H) (k : Key) (many : ℕ) (es : List Exchange)
-        → KnowAll many (after_all own es)
-        → ((m p : ℕ) → known hs m k p ≡ true → m < many)
-        → (n m : ℕ) → n < many → m < many → (a b : List Entry)
-        → IsObjectKnown (hs ++ meetings k (length hs) es) n k a
-        → IsObjectKnown (hs ++ meetings k (length hs) es) m k b → a ≡ b }
+        → SufficeFor many hs k es → (n m : ℕ) → n < many → m < many → (a b : List Entry)
+        → IsObjectKnown (after_meetings hs k es) n k a
+        → IsObjectKnown (after_meetings hs k es) m k b → a ≡ b }
 {}
 
 /// A whole exchange of two nodes of a world: one begins it, and then each frame that it brings
