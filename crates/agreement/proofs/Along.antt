@@ -124,7 +124,7 @@ count_more (suc m) x f lt fresh =
     omega (arith, here, rest))
     (cases_eq m x)
 
-count_none : (many : ℕ) → count_known many (λ m. false) ≡ 0
+pub count_none : (many : ℕ) → count_known many (λ m. false) ≡ 0
 count_none zero = refl
 count_none (suc m) = let rest : count_known m (λ x. false) ≡ 0 = count_none m in omega (arith, rest)
 

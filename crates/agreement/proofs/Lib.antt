@@ -22,6 +22,8 @@ pub mod Meetings
 pub mod Examples
 -- a round runs at once
 pub mod Together
+-- an odd number of nodes
+pub mod Odd
 -- the messages of an exchange, round by round
 pub mod Rounding
 -- a step of a node that begins an exchange, or takes a message of one

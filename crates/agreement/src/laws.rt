@@ -112,7 +112,8 @@ pub fn knowledge_at_most_doubles_in_a_round()
 
 /// Any number of nodes from two to sixteen knows all after these rounds, of exchanges among them
 /// alone: as many as the logarithm of their number to base 2, rounded up, and one more if it is
-/// odd. For an even number no rounds suffice that are fewer.
+/// odd. No rounds of exchanges among them alone suffice that are fewer. With the help of others an
+/// even number still needs as many, and an odd one as many or one less.
 pub fn some_rounds_make_up_to_sixteen_nodes_know_all()
     ensures rounds { (many : ℕ) → 2 ≤ many → many ≤ 16 → AreRounds (rounds_for many)
         × AreOfFirst many (exchanges_of (rounds_for many)) }
@@ -123,6 +124,9 @@ pub fn some_rounds_make_up_to_sixteen_nodes_know_all()
     ensures fewest { (many : ℕ) → 2 ≤ many → many ≤ 16 → (rounds : List (List Exchange))
         → AreRounds rounds → KnowAll many (after_rounds rounds)
         → length (rounds_for many) ≤ length rounds + many % 2 }
+    ensures fewest_among { (many : ℕ) → 2 ≤ many → many ≤ 16 → (rounds : List (List Exchange))
+        → AreRounds rounds → AreOfFirst many (exchanges_of rounds)
+        → KnowAll many (after_rounds rounds) → length (rounds_for many) ≤ length rounds }
 {}
 
 /// Nodes each two of which have met know all, in whatever order they met.
