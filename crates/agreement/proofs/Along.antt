@@ -103,12 +103,12 @@ all_met many es met n m less lower =
 
 -- ---- how many
 
-count_same : (many : ℕ) (f g : ℕ → Bool) → ((m : ℕ) → m < many → f m ≡ g m) → count_known many f ≡ count_known many g
+pub count_same : (many : ℕ) (f g : ℕ → Bool) → ((m : ℕ) → m < many → f m ≡ g m) → count_known many f ≡ count_known many g
 count_same zero f g same = refl
 count_same (suc m) f g same = λ i. one_if (same m (omega arith) i) + count_same m f g (λ x lt. same x (omega (arith, lt))) i
 
 -- one node more
-count_more : (many x : ℕ) (f : ℕ → Bool) → x < many → f x ≡ false → count_known many (λ m. eqb m x || f m) ≡ count_known many f + 1
+pub count_more : (many x : ℕ) (f : ℕ → Bool) → x < many → f x ≡ false → count_known many (λ m. eqb m x || f m) ≡ count_known many f + 1
 count_more zero x f lt fresh = absurd (omega (arith, lt))
 count_more (suc m) x f lt fresh =
     ⊎_elim
@@ -124,12 +124,12 @@ count_more (suc m) x f lt fresh =
     omega (arith, here, rest))
     (cases_eq m x)
 
-count_none : (many : ℕ) → count_known many (λ m. false) ≡ 0
+pub count_none : (many : ℕ) → count_known many (λ m. false) ≡ 0
 count_none zero = refl
 count_none (suc m) = let rest : count_known m (λ x. false) ≡ 0 = count_none m in omega (arith, rest)
 
 -- a tree has one node more than edges
-count_tree : (root many : ℕ) (es : List Exchange) → IsTree root es → ((n : ℕ) → is_in root es n ≡ true → n < many) → count_known many (is_in root es) ≡ length es + 1
+pub count_tree : (root many : ℕ) (es : List Exchange) → IsTree root es → ((n : ℕ) → is_in root es n ≡ true → n < many) → count_known many (is_in root es) ≡ length es + 1
 count_tree root many [] tree low =
     let none : count_known many (λ m. false) ≡ 0 = count_none many in
     let with_root : count_known many (λ m. eqb m root || false) ≡ count_known many (λ m. false) + 1 =

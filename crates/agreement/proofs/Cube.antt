@@ -103,15 +103,21 @@ rounds_agree many least most = KnowAll-from many (after_rounds (rounds_for many)
 log_up-least : (many : ℕ) → 2 ≤ many → many ≤ 16 → 2 ^ (log_up many - 1) < many
 log_up-least many least most = ltb-true (2 ^ (log_up many - 1)) many (from_two (λ n. ltb (2 ^ (log_up n - 1)) n) refl many least most)
 
+-- fewer powers of 2 are not enough
+pub enough_rounds : (many : ℕ) → 2 ≤ many → many ≤ 16 → (count : ℕ) → many ≤ 2 ^ count → log_up many ≤ count
+enough_rounds many least most count enough =
+    ⊎_elim
+    (λ (few : count < log_up many).
+    let before : count ≤ log_up many - 1 = omega (arith, few) in
+    let less : 2 ^ count ≤ 2 ^ (log_up many - 1) = pow_mono before in
+    let low : 2 ^ (log_up many - 1) < many = log_up-least many least most in
+    absurd (omega (arith, enough, less, low)))
+    (λ (many_enough : log_up many ≤ count). many_enough)
+    (cases_lt count (log_up many))
+
 pub rounds_fewest : (many : ℕ) → 2 ≤ many → many ≤ 16 → (rounds : List (List Exchange)) → AreRounds rounds → KnowAll many (after_rounds rounds) → length (rounds_for many) ≤ length rounds + many % 2
 rounds_fewest many least most rounds are all =
     let enough : many ≤ 2 ^ length rounds = one_needs rounds are many 0 (λ m lt. all 0 m (omega (arith, least)) lt) in
     let number : length (rounds_for many) ≡ log_up many + many % 2 = rounds_number many least most in
-    ⊎_elim
-    (λ (few : length rounds < log_up many).
-    let before : length rounds ≤ log_up many - 1 = omega (arith, few) in
-    let less : 2 ^ length rounds ≤ 2 ^ (log_up many - 1) = pow_mono before in
-    let low : 2 ^ (log_up many - 1) < many = log_up-least many least most in
-    absurd (omega (arith, enough, less, low)))
-    (λ enough_rounds. omega (arith, number, enough_rounds))
-    (cases_lt (length rounds) (log_up many))
+    let needs : log_up many ≤ length rounds = enough_rounds many least most (length rounds) enough in
+    omega (arith, number, needs)

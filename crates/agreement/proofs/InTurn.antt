@@ -1,8 +1,9 @@
 -- Rounds of exchanges in a world, one after the other.
-use Rattle.std.proofs.Common.{◌≡◌, ℕ, ◌<◌, Bool, true, false, cond, List, [], ◌∷◌, ◌++◌, length, All, inl, inr, ⊎_elim, refl, sym, ap, subst, ◌∙◌}
+use Rattle.std.proofs.Common.{◌≡◌, ℕ, ◌<◌, Bool, true, false, cond, eqb, List, [], ◌∷◌, ◌++◌, length, All, inl, inr, ⊎_elim, refl, sym, ap, subst, ◌∙◌}
 use Rattle.std.specs.Prelude.{◌⊎◌, ◌||◌}
-use Rattle.std.proofs.lemmas.Bool.{eqb-true, or_cases}
+use Rattle.std.proofs.lemmas.Bool.{eq-eqb, eqb-true, or_cases, or_left, or_right}
 use Rattle.std.proofs.lemmas.List.Elements.{All-cons, All-head, All-nil, All-tail, All-weaker}
+use Rattle.meta_types.specs.Name.{Key}
 use Rattle.meta_store.specs.Table.{IsTable}
 use Rattle.exchange.specs.Whole.{Holds, Reconciled}
 use Rattle.past_model.specs.declared.happening.Happening.{Happening}
@@ -16,8 +17,9 @@ use Rattle.world_core.specs.Tells.{Tells, Told}
 use Rattle.world_core.specs.World.{HasLived, World}
 use Rattle.world_core.proofs.Telling.{one_told}
 use Rattle.agreement.specs.Rounds.{AreOfFirst, AreRounds, Exchange, IsRound, Known, KnowAll, after_all, after_one, exchanges_of, is_busy, own, takes_part}
-use Rattle.agreement.specs.World.{AllShowTheSame, BothHoldAll, CollidesIn, CollidesInOne, CollidesInRounds, Exchanges, ExchangesAtOnce, GoOutwards, IsIdle, IsWholeExchange, KnowAfterAll, KnowWhatRootKnew, RoundsInTurn, ShowTheSame, events_of_two}
-use Rattle.agreement.proofs.Along.{both_know, outwards_know}
+use Rattle.agreement.specs.Tree.{IsTree, in_and_out, is_in, outwards}
+use Rattle.agreement.specs.World.{AllShowTheSame, BothHoldAll, CollidesAlong, CollidesIn, CollidesInOne, CollidesInRounds, Exchanges, ExchangesAtOnce, IsIdle, IsWholeExchange, KnowAfterAll, KnowWhatRootKnew, RoundsInTurn, RunsAlong, ShowTheSame, ShowTheSameInTree, events_of_two}
+use Rattle.agreement.proofs.Along.{both_know, outwards_know, tree_agrees}
 use Rattle.agreement.proofs.Delivering.{Finished, finished, one_part, other_part}
 use Rattle.agreement.proofs.Doubling.{after_all-append}
 use Rattle.agreement.proofs.Exchanged.{each_holds, known_by, reconciled, same_shown}
@@ -34,29 +36,62 @@ spread_all base K now [] spread = spread
 spread_all base K now (e ∷ es) spread =
     spread_all base (after_one K e) (after_one now e) es (Spread-one base K e now (after_one now e) spread (λ n p. refl))
 
--- among the first nodes only what those knew is learnt
-only_of_first : (many : ℕ) (es : List Exchange) → AreOfFirst many es → (K : Known) → ((n m : ℕ) → n < many → K n m ≡ true → m < many)
-    → (n m : ℕ) → n < many → after_all K es n m ≡ true → m < many
-only_of_first many [] first K low n m less knows = low n m less knows
-only_of_first many (e ∷ es) first K low n m less knows =
-    only_of_first many es first.2 (after_one K e)
+-- exchanges among such nodes
+abbrev AreAmong : (ℕ → Type 0) → List Exchange → Type 0
+AreAmong P [] = Unit {0}
+AreAmong P (e ∷ es) = P e.one × P e.other × AreAmong P es
+
+among_append : (P : ℕ → Type 0) (xs ys : List Exchange) → AreAmong P xs → AreAmong P ys → AreAmong P (xs ++ ys)
+among_append P [] ys one other = other
+among_append P (x ∷ xs) ys one other = (one.0, one.1, among_append P xs ys one.2 other)
+
+among_more : (P Q : ℕ → Type 0) → ((n : ℕ) → P n → Q n) → (es : List Exchange) → AreAmong P es → AreAmong Q es
+among_more P Q more [] among = tt
+among_more P Q more (e ∷ es) among = (more e.one among.0, more e.other among.1, among_more P Q more es among.2)
+
+-- the first nodes
+of_first : (many : ℕ) (es : List Exchange) → AreOfFirst many es → AreAmong (λ n. n < many) es
+of_first many [] first = tt
+of_first many (e ∷ es) first = (first.0, first.1, of_first many es first.2)
+
+-- the nodes of a tree
+of_tree : (root : ℕ) (es : List Exchange) → IsTree root es → AreAmong (λ n. is_in root es n ≡ true) (in_and_out es)
+of_tree root [] tree = tt
+of_tree root (e ∷ []) tree = (
+  or_right (eqb e.one e.other) (is_in root [] e.one) tree.0,
+  or_left (eqb e.other e.other) (is_in root [] e.other) (eq-eqb e.other e.other refl),
+  tt,
+)
+of_tree root (e ∷ f ∷ es) tree =
+    let one : is_in root (e ∷ f ∷ es) e.one ≡ true = or_right (eqb e.one e.other) (is_in root (f ∷ es) e.one) tree.0 in
+    let other : is_in root (e ∷ f ∷ es) e.other ≡ true = or_left (eqb e.other e.other) (is_in root (f ∷ es) e.other) (eq-eqb e.other e.other refl) in
+    let inner : AreAmong (λ n. is_in root (e ∷ f ∷ es) n ≡ true) (in_and_out (f ∷ es)) =
+    among_more (λ n. is_in root (f ∷ es) n ≡ true) (λ n. is_in root (e ∷ f ∷ es) n ≡ true) (λ n there. or_right (eqb n e.other) (is_in root (f ∷ es) n) there)
+    (in_and_out (f ∷ es)) (of_tree root (f ∷ es) tree.2) in
+    (one, other, among_append (λ n. is_in root (e ∷ f ∷ es) n ≡ true) (in_and_out (f ∷ es)) (e ∷ []) inner (one, other, tt))
+
+-- among them only what one of them knew is learnt
+only_among : (P : ℕ → Type 0) (es : List Exchange) → AreAmong P es → (K : Known) → ((n m : ℕ) → P n → K n m ≡ true → P m)
+    → (n m : ℕ) → P n → after_all K es n m ≡ true → P m
+only_among P [] among K low n m less knows = low n m less knows
+only_among P (e ∷ es) among K low n m less knows =
+    only_among P es among.2 (after_one K e)
     (λ i j small.
-    elim (takes_part e i) as (λ b. cond b (K e.one j || K e.other j) (K i j) ≡ true → j < many) [
-      | true ↦ λ either. ⊎_elim (λ one. low e.one j first.0 one) (λ other. low e.other j first.1 other) (or_cases (K e.one j) (K e.other j) either)
+    elim (takes_part e i) as (λ b. cond b (K e.one j || K e.other j) (K i j) ≡ true → P j) [
+      | true ↦ λ either. ⊎_elim (λ one. low e.one j among.0 one) (λ other. low e.other j among.1 other) (or_cases (K e.one j) (K e.other j) either)
       | false ↦ λ same. low i j small same
     ])
     n m less knows
 
--- where all know all, all know the same
-all_the_same : (many : ℕ) (es : List Exchange) → AreOfFirst many es → KnowAll many (after_all own es) → (base : ℕ → ℕ → Bool) (m n : ℕ) → m < many → n < many
+-- where all of them know all, all know the same
+all_the_same : (P : ℕ → Type 0) (es : List Exchange) → AreAmong P es → ((n m : ℕ) → P n → P m → after_all own es n m ≡ true) → (base : ℕ → ℕ → Bool) (m n : ℕ) → P m → P n
     → (p : ℕ) → after_all base es m p ≡ after_all base es n p
-all_the_same many es first all base m n low high p =
+all_the_same P es among all base m n low high p =
     let spread : Spread base (after_all own es) (after_all base es) = spread_all base own base es (Spread-own base) in
-    let to : (x y : ℕ) → x < many → y < many → after_all base es x p ≡ true → after_all base es y p ≡ true =
+    let to : (x y : ℕ) → P x → P y → after_all base es x p ≡ true → after_all base es y p ≡ true =
     λ x y small less is.
     let found = spread.from x p is in
-    let within : found.0 < many =
-    only_of_first many es first own (λ i j low same. subst (λ q. q < many) (eqb-true i j same) low) x found.0 small found.1.0 in
+    let within : P found.0 = only_among P es among own (λ i j low same. subst P (eqb-true i j same) low) x found.0 small found.1.0 in
     spread.has y found.0 p (all y found.0 less within) found.1.1 in
     same_bool (after_all base es m p) (after_all base es n p) (to m n low high) (to n m high low)
 
@@ -327,30 +362,48 @@ module _ (old : World) (b : Begun old) where
         (holds n (subst (λ c. n < c) last.many low)) key p))
         inr (held t tells)
 
+    -- nodes that know the same show the same
+    shows_same : AllHold b.told.history (length old.nodes) (afters (known b.told.history) (exchanges_of rounds)) new → (m n : ℕ) → m < length new.nodes → n < length new.nodes
+        → ((k : Key) (p : ℕ) → after_all (λ j q. known b.told.history j k q) (exchanges_of rounds) m p ≡ after_all (λ j q. known b.told.history j k q) (exchanges_of rounds) n p) → ShowTheSame new m n
+    shows_same holds m n less lower alike =
+        let low : m < length old.nodes = subst (λ c. m < c) last.many less in
+        let high : n < length old.nodes = subst (λ c. n < c) last.many lower in
+        let K : ℕ → Knowledge = afters (known b.told.history) (exchanges_of rounds) in
+        let same : afters (known b.told.history) (exchanges_of rounds) m ≡ afters (known b.told.history) (exchanges_of rounds) n = λ i k p. alike k p i in
+        same_shown b.told.history new m n (last.tables m low) (last.tables n high) (K n)
+        (subst (λ S. Holds b.told.history S (table_at new m)) same (holds m low)) (holds n high)
+
     -- where all know all, all show the same
     pub all_agree : KnowAll (length old.nodes) (after_all own (exchanges_of rounds)) → AllShowTheSame new ⊎ CollidesInRounds old rounds new ran
     all_agree all =
-        let es : List Exchange = exchanges_of rounds in
-        let hs : List Happening = b.told.history in
         let count : ℕ = length old.nodes in
-        let of_first : AreOfFirst (length old.nodes) (exchanges_of rounds) = all_of_world old (length old.nodes) rounds old b.standing new ran in
+        let among : AreAmong (λ n. n < length old.nodes) (exchanges_of rounds) =
+        of_first count (exchanges_of rounds) (all_of_world old (length old.nodes) rounds old b.standing new ran) in
         ⊎_elim
         (λ (holds : AllHold b.told.history (length old.nodes) (afters (known b.told.history) (exchanges_of rounds)) new). inl (λ m n less lower.
-        let low : m < length old.nodes = subst (λ c. m < c) last.many less in
-        let high : n < length old.nodes = subst (λ c. n < c) last.many lower in
-        let same : afters (known b.told.history) (exchanges_of rounds) m ≡ afters (known b.told.history) (exchanges_of rounds) n =
-        λ i k p. all_the_same count es of_first all (λ j q. known b.told.history j k q) m n low high p i in
-        same_shown hs new m n (last.tables m low) (last.tables n high) (afters (known b.told.history) (exchanges_of rounds) n)
-        (subst (λ S. Holds b.told.history S (table_at new m)) same (holds m low)) (holds n high)))
+        shows_same holds m n less lower (λ k.
+        all_the_same (λ n. n < length old.nodes) (exchanges_of rounds) among all (λ j q. known b.told.history j k q) m n (subst (λ c. m < c) last.many less) (subst (λ c. n < c) last.many lower))))
         inr (held b.told b.tells)
 
-  -- rounds along a tree, outwards, make all its nodes know what the root knew
-  pub all_repaired : (root : ℕ) (edges : List Exchange) (rounds : List (List Exchange)) → GoOutwards root edges rounds → (new : World) (ran : RoundsInTurn old rounds new)
-      → OfAllTold old (λ t. KnowWhatRootKnew t root edges new ⊎ CollidesInRounds old rounds new ran)
-  all_repaired root edges rounds go new ran = λ t tells.
+  -- rounds along a tree, inwards and outwards, make all its nodes show the same
+  pub all_along : (run : RunsAlong in_and_out old) → ShowTheSameInTree run.root run.edges run.new ⊎ CollidesAlong run
+  all_along run =
+      let among : AreAmong (λ n. is_in run.root run.edges n ≡ true) (exchanges_of run.rounds) =
+      subst (AreAmong (λ n. is_in run.root run.edges n ≡ true)) (sym run.along) (of_tree run.root run.edges run.tree) in
+      let all : (n m : ℕ) → is_in run.root run.edges n ≡ true → is_in run.root run.edges m ≡ true → after_all own (exchanges_of run.rounds) n m ≡ true =
+      λ n m one other. ap (λ es. after_all own es n m) run.along ∙ tree_agrees run.root run.edges run.tree n m one other in
+      ⊎_elim
+      (λ (holds : AllHold b.told.history (length old.nodes) (afters (known b.told.history) (exchanges_of run.rounds)) run.new). inl (λ m n less lower one other.
+      shows_same run.rounds run.are run.new run.ran holds m n less lower (λ k.
+      all_the_same (λ n. is_in run.root run.edges n ≡ true) (exchanges_of run.rounds) among all (λ j q. known b.told.history j k q) m n one other)))
+      inr (held run.rounds run.are run.new run.ran b.told b.tells)
+
+  -- and outwards alone, know what the root knew
+  pub all_repaired : (run : RunsAlong outwards old) → OfAllTold old (λ t. KnowWhatRootKnew t run.root run.edges run.new ⊎ CollidesAlong run)
+  all_repaired run = λ t tells.
       ⊎_elim
       (λ is. inl (λ u also n key p low place knew.
       is u also n key p low
-      ∙ ap (λ es. after_all (λ m q. known t.history m key q) es n p) go.along
-      ∙ outwards_know root edges go.tree (λ m q. known t.history m key q) n p place knew))
-      inr (all_known rounds go.are new ran t tells)
+      ∙ ap (λ es. after_all (λ m q. known t.history m key q) es n p) run.along
+      ∙ outwards_know run.root run.edges run.tree (λ m q. known t.history m key q) n p place knew))
+      inr (all_known run.rounds run.are run.new run.ran t tells)

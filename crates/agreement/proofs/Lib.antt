@@ -6,18 +6,24 @@ pub mod Unused
 pub mod Forgotten
 -- writes that are overwritten in all that is left
 pub mod Overwritten
--- what a node knows at most doubles in a round
+-- the most that a node knows at most doubles in a round
 pub mod Doubling
 -- the rounds of the hypercube
 pub mod Cube
 -- exchanges along a tree
 pub mod Along
+-- edges of a tree along which something is passed on
+pub mod Frontier
+-- what is passed on along a tree, and a tree over another of its nodes
+pub mod Passing
 -- exchanges as happenings of the past
 pub mod Meetings
 -- histories that meet the premises
 pub mod Examples
 -- a round runs at once
 pub mod Together
+-- an odd number of nodes
+pub mod Odd
 -- the messages of an exchange, round by round
 pub mod Rounding
 -- a step of a node that begins an exchange, or takes a message of one
@@ -34,3 +40,11 @@ pub mod Delivering
 pub mod Exchanged
 -- rounds of exchanges, one after the other
 pub mod InTurn
+-- a step of a node that writes, or takes a GOSSIP
+pub mod Gossiping
+-- what a write tells
+pub mod Written
+-- a write goes along a tree, delivery by delivery
+pub mod Spreading
+-- what a broadcast along a tree leaves
+pub mod Broadcasting

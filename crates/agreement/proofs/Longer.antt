@@ -146,7 +146,7 @@ parted P (x ∷ xs) (y ∷ ys) zs all =
     let rest = parted P xs ys zs all.1 in
     record { front = x ∷ rest.front; back = rest.back; whole = ap (λ l. x ∷ l) rest.whole; fits = (all.0, rest.fits) }
 
-each_append : (frames : List Frame) (first later : List Accepted) (t : Told) → tell_each frames (first ++ later) t ≡ tell_each frames later (tell_each frames first t)
+pub each_append : (frames : List Frame) (first later : List Accepted) (t : Told) → tell_each frames (first ++ later) t ≡ tell_each frames later (tell_each frames first t)
 each_append frames [] later t = refl
 each_append frames (a ∷ first) later t = each_append frames first later (tell_accepted frames a t)
 

@@ -113,31 +113,36 @@ pub record Moves (e : Exchange) (count : ℕ) (old : World) (n to : ℕ) (table 
   pub frames : new.frames ≡ old.frames ++ more
   pub pending : ArePending new n to (numbers_of answer.sent) ms
 
-module _ (e : Exchange) (count : ℕ) (old new : World) (stands : Stands e count old) (its : ℕ) (part : takes_part e its ≡ true) (answer : Answer) (step : NodeEvent)
-    (makes : MakesStep old its step answer new) (low : its < length old.nodes) where
+module _ (old new : World) (its : ℕ) (answer : Answer) (step : NodeEvent) (makes : MakesStep old its step answer new) (low : its < length old.nodes) where
   -- the node after its step
   abbrev node : ImagedNode
   node = arrived makes.state (stored_key step) (node_at old its)
 
   -- the node is that one, and all others are as before
-  here : node_at new its ≡ node
+  pub here : node_at new its ≡ arrived makes.state (stored_key step) (node_at old its)
   here = ap (λ ns. get_or ns its (new_node its)) makes.nodes ∙ get_or-set_same old.nodes its node (new_node its) low
 
-  others : (m : ℕ) → m ≢ its → node_at new m ≡ node_at old m
+  pub others : (m : ℕ) → m ≢ its → node_at new m ≡ node_at old m
   others m other = ap (λ ns. get_or ns m (new_node m)) makes.nodes ∙ get_or-set_other old.nodes its m node (new_node m) other
 
   -- what holds of the node and held of all nodes holds of all
-  at_each : (P : ℕ → ImagedNode → Type 0) → P its node → ((m : ℕ) → P m (node_at old m)) → (m : ℕ) → P m (node_at new m)
+  pub at_each : (P : ℕ → ImagedNode → Type 0) → P its (arrived makes.state (stored_key step) (node_at old its)) → ((m : ℕ) → P m (node_at old m)) → (m : ℕ) → P m (node_at new m)
   at_each P own all m =
       elim (eqb m its) as (λ b. eqb m its ≡ b → P m (node_at new m)) [
         | true ↦ λ same. subst (λ i. P i (node_at new i)) (sym (eqb-true m its same)) (subst (P its) (sym here) own)
         | false ↦ λ apart. subst (P m) (sym (others m (eqb-false m its apart))) (all m)
       ] refl
 
+  -- there are as many nodes as before
+  pub as_many : length new.nodes ≡ length old.nodes
+  as_many = ap length makes.nodes ∙ length-set old.nodes its node
+
   -- the numbers of what it sent are the next ones
-  sent_numbers : answer.sent ≡ next_frames old (length makes.given.outbox)
+  pub sent_numbers : answer.sent ≡ next_frames old (length makes.given.outbox)
   sent_numbers = ap (λ (a : Answer). a.sent) makes.answers
 
+module _ (e : Exchange) (count : ℕ) (old new : World) (stands : Stands e count old) (its : ℕ) (part : takes_part e its ≡ true) (answer : Answer) (step : NodeEvent)
+    (makes : MakesStep old its step answer new) (low : its < length old.nodes) where
   module _ (to : ℕ) (table : Table) (ms : List Message) (sends : Sends (node_at old its).state makes.state makes.given to table ms) (is_table : IsTable makes.state.table) where
     less : its < count
     less = subst (λ c. its < c) stands.many low
@@ -145,9 +150,9 @@ module _ (e : Exchange) (count : ℕ) (old new : World) (stands : Stands e count
     -- the world keeps to what it kept to
     still : Stands e count new
     still = record {
-      many = ap length makes.nodes ∙ length-set old.nodes its node ∙ stands.many;
-      numbers = at_each (λ m (n : ImagedNode). takes_part e m ≡ true → m < count → n.state.node ≡ m) (λ _ _. sends.node ∙ stands.numbers its part less) stands.numbers;
-      tables = at_each (λ m (n : ImagedNode). takes_part e m ≡ true → m < count → IsTable n.state.table) (λ _ _. is_table) stands.tables;
+      many = as_many old new its answer step makes low ∙ stands.many;
+      numbers = at_each old new its answer step makes low (λ m (n : ImagedNode). takes_part e m ≡ true → m < count → n.state.node ≡ m) (λ _ _. sends.node ∙ stands.numbers its part less) stands.numbers;
+      tables = at_each old new its answer step makes low (λ m (n : ImagedNode). takes_part e m ≡ true → m < count → IsTable n.state.table) (λ _ _. is_table) stands.tables;
     }
 
     -- what the node sent is pending
@@ -157,7 +162,7 @@ module _ (e : Exchange) (count : ℕ) (old new : World) (stands : Stands e count
         let frames : new.frames ≡ old.frames ++ map spelling (frames_from own.node own.frames (map (envelope to) ms)) =
         makes.frames ∙ ap (λ more. old.frames ++ more) sends.sent in
         let numbers : answer.sent ≡ next_frames old (length (map spelling (frames_from own.node own.frames (map (envelope to) ms)))) =
-        sent_numbers ∙ ap (λ (more : List (List ℕ)). next_frames old (length more)) sends.sent in
+        sent_numbers old new its answer step makes low ∙ ap (λ (more : List (List ℕ)). next_frames old (length more)) sends.sent in
         subst (λ (sent : FrameNumbers). ArePending new its to (numbers_of sent) ms) (sym numbers)
         (subst (λ i. ArePending new i to (range_with_len (length old.frames + 1) (length (map spelling (frames_from own.node own.frames (map (envelope to) ms))))) ms) (stands.numbers its part less)
         (sent_pending new own.node to ms own.frames old.frames frames sends.lawful))
@@ -166,8 +171,8 @@ module _ (e : Exchange) (count : ℕ) (old new : World) (stands : Stands e count
     moves : Moves e count old its to table ms answer new
     moves = record {
       stands = still;
-      held = ap (λ (n : ImagedNode). n.state.table) here ∙ sends.held;
-      others = others;
+      held = ap (λ (n : ImagedNode). n.state.table) (here old new its answer step makes low) ∙ sends.held;
+      others = others old new its answer step makes low;
       more = makes.given.outbox;
       frames = makes.frames;
       pending = pending;

@@ -10,6 +10,7 @@ use Rattle.meta_frame.specs.declared.message.Message.{Message}
 use Rattle.meta_frame.specs.Frame.{spelling}
 use Rattle.node_overlay.specs.Outbox.{HasSpelling, count_on, frame_of, frames_from}
 use Rattle.node_overlay.specs.Overlay.{envelope}
+use Rattle.node_overlay.specs.declared.envelope.Envelope.{Envelope}
 use Rattle.world_core.specs.Numbers.{numbered}
 use Rattle.world_core.specs.Refusal.{IsFrameOf}
 use Rattle.world_core.specs.Tells.{Pairwise}
@@ -59,20 +60,20 @@ module _ (old new : World) (more : List (List ℕ)) (frames : new.frames ≡ old
 -- ---- what was sent last
 
 -- what stands behind a list
-seam : {A : Type 0} (before rest : List A) (x : A) → slice_get (before ++ x ∷ rest) (length before) ≡ Some x
+pub seam : {A : Type 0} (before rest : List A) (x : A) → slice_get (before ++ x ∷ rest) (length before) ≡ Some x
 seam [] rest x = refl
 seam (y ∷ before) rest x = seam before rest x
 
--- the frames of messages, behind all others, are pending
-pub sent_pending : (w : World) (node to : ℕ) (ms : List Message) (count : ℕ) (before : List (List ℕ))
-    → w.frames ≡ before ++ map spelling (frames_from node count (map (envelope to) ms))
-    → All HasSpelling (frames_from node count (map (envelope to) ms))
-    → ArePending w node to (range_with_len (length before + 1) (length (map spelling (frames_from node count (map (envelope to) ms))))) ms
-sent_pending w node to [] count before frames lawful = tt
-sent_pending w node to (m ∷ ms) count before frames lawful =
+-- the frames of envelopes, behind all others, are pending
+pub envelopes_pending : (w : World) (node : ℕ) (es : List Envelope) (count : ℕ) (before : List (List ℕ))
+    → w.frames ≡ before ++ map spelling (frames_from node count es)
+    → All HasSpelling (frames_from node count es)
+    → Pairwise (λ number e. IsPending w node e.to number e.message) (range_with_len (length before + 1) (length (map spelling (frames_from node count es)))) es
+envelopes_pending w node [] count before frames lawful = tt
+envelopes_pending w node (e ∷ es) count before frames lawful =
     let next : ℕ = count_on count 1 in
-    let first : Frame = frame_of node next (envelope to m) in
-    let later : List Frame = frames_from node next (map (envelope to) ms) in
+    let first : Frame = frame_of node next e in
+    let later : List Frame = frames_from node next es in
     let there : numbered w.frames (length before + 1) ≡ Some (spelling first) =
     numbered_at w.frames (length before + 1) (length before) refl
     ∙ ap (λ fs. slice_get fs (length before)) frames
@@ -87,6 +88,27 @@ sent_pending w node to (m ∷ ms) count before frames lawful =
         addressee = refl;
         message = refl;
       },
-      subst (λ n. ArePending w node to (range_with_len (n + 1) (length (map spelling later))) ms) long
-          (sent_pending w node to ms next (before ++ spelling first ∷ []) behind (All-tail HasSpelling first later lawful)),
+      subst (λ n. Pairwise (λ number d. IsPending w node d.to number d.message) (range_with_len (n + 1) (length (map spelling later))) es) long
+          (envelopes_pending w node es next (before ++ spelling first ∷ []) behind (All-tail HasSpelling first later lawful)),
     )
+
+-- what stands beside a mapped list stands beside the list
+pub unmapped : {A B C : Type 0} (P : A → C → Type 0) (f : B → C) (xs : List A) (ys : List B) → Pairwise P xs (map f ys) → Pairwise (λ x y. P x (f y)) xs ys
+unmapped P f [] [] all = tt
+unmapped P f [] (y ∷ ys) all = absurd all
+unmapped P f (x ∷ xs) [] all = absurd all
+unmapped P f (x ∷ xs) (y ∷ ys) all = (all.0, unmapped P f xs ys all.1)
+
+pub mapped : {A B C : Type 0} (P : A → C → Type 0) (f : B → C) (xs : List A) (ys : List B) → Pairwise (λ x y. P x (f y)) xs ys → Pairwise P xs (map f ys)
+mapped P f [] [] all = tt
+mapped P f [] (y ∷ ys) all = absurd all
+mapped P f (x ∷ xs) [] all = absurd all
+mapped P f (x ∷ xs) (y ∷ ys) all = (all.0, mapped P f xs ys all.1)
+
+-- the frames of messages to one node, behind all others, are pending
+pub sent_pending : (w : World) (node to : ℕ) (ms : List Message) (count : ℕ) (before : List (List ℕ))
+    → w.frames ≡ before ++ map spelling (frames_from node count (map (envelope to) ms))
+    → All HasSpelling (frames_from node count (map (envelope to) ms))
+    → ArePending w node to (range_with_len (length before + 1) (length (map spelling (frames_from node count (map (envelope to) ms))))) ms
+sent_pending w node to ms count before frames lawful =
+    unmapped (λ number e. IsPending w node e.to number e.message) (envelope to) _ ms (envelopes_pending w node (map (envelope to) ms) count before frames lawful)

@@ -135,7 +135,7 @@ pub record Takes (old : NodeParts) (frame : Frame) (new : NodeParts) (s : Steppe
   pub is_table : IsTable old.table → IsTable new.table
 
 -- a frame that is accepted names the node, and its message is not refused
-addressed : (b : Bool) (r : Option StepFault) → cond b r (Some NotAddressed) ≡ None → (b ≡ true) × (r ≡ None)
+pub addressed : (b : Bool) (r : Option StepFault) → cond b r (Some NotAddressed) ≡ None → (b ≡ true) × (r ≡ None)
 addressed true r e = (refl, e)
 addressed false r e = cc
 

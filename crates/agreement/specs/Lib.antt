@@ -11,7 +11,7 @@ pub mod Stories
 pub mod Rounds
 -- rounds for up to sixteen nodes
 pub mod Schedules
--- a tree of nodes, and the exchanges along it
+-- a tree of nodes, the exchanges along it, and what is passed on along it
 pub mod Tree
 -- an exchange of two nodes as happenings of the past
 pub mod Meeting
@@ -21,3 +21,5 @@ pub use Rattle.world_core.specs.Knowledge
 pub use Rattle.world_core.specs.Outcome
 -- whole exchanges in a world
 pub mod World
+-- a write along a tree of eager peers in a world
+pub mod Broadcast

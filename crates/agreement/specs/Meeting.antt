@@ -1,10 +1,11 @@
 -- An exchange of two nodes as happenings of the past: both send what they know under the key, and
 -- each gets what the other sent. The rule is our own.
-use Rattle.std.specs.Prelude.{ℕ, ◌+◌, List, [], ◌∷◌, ◌++◌}
+use Rattle.std.specs.Prelude.{◌≡◌, ℕ, ◌+◌, ◌<◌, true, List, [], ◌∷◌, ◌++◌, length}
 use Rattle.meta_types.specs.Name.{Key}
 use Rattle.past_model.specs.declared.happening.Happening.{Happening}
 use Rattle.past_model.specs.declared.happening.Happening.TheVariants.{Sent, Got}
-use Rattle.agreement.specs.Rounds.{Exchange}
+use Rattle.past_model.specs.Past.{known}
+use Rattle.agreement.specs.Rounds.{Exchange, KnowAll, after_all, own}
 
 -- an exchange whose first happening is at the place
 abbrev pub meeting : Key → ℕ → Exchange → List Happening
@@ -15,3 +16,13 @@ meeting k place e =
 abbrev pub meetings : Key → ℕ → List Exchange → List Happening
 meetings k place [] = []
 meetings k place (e ∷ es) = meeting k place e ++ meetings k (place + 4) es
+
+-- a history that goes on with them
+abbrev pub after_meetings : List Happening → Key → List Exchange → List Happening
+after_meetings hs k es = hs ++ meetings k (length hs) es
+
+-- they suffice for the first nodes, as many as that: all of these know all after them, and no other
+-- node knew a write of the key
+pub record SufficeFor (many : ℕ) (hs : List Happening) (k : Key) (es : List Exchange) : Type 0 where
+  pub know_all : KnowAll many (after_all own es)
+  pub of_first : (m p : ℕ) → known hs m k p ≡ true → m < many

@@ -1,7 +1,6 @@
--- Exchanges between two nodes each, and what each node knows after them: the problem of gossiping
--- by telephone (S. M. Hedetniemi, S. T. Hedetniemi, A. L. Liestman, "A survey of gossiping and
--- broadcasting in communication networks", Networks 18, 1988). Each node begins with something that
--- no other knows, and two that exchange then both know what either knew.
+-- Exchanges between two nodes each, and what each node knows after them. Each node begins with
+-- something that no other knows, and two that exchange then both know what either knew. The problem
+-- is an old one, known as gossiping by telephone; what is said of it here is proved here.
 use Rattle.std.specs.Prelude.{◌≡◌, ◌≢◌, ℕ, zero, suc, ◌+◌, ◌<◌, ◌==◌, if◌then◌else◌, List, [], ◌∷◌, ◌++◌, Bool, true, false, ◌||◌, ◌&&◌}
 use Rattle.std.specs.List.{list_any}
 

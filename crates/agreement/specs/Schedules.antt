@@ -25,8 +25,8 @@ abbrev pub log_up : ℕ → ℕ
 log_up n = length (filter (λ d. nat_lt (2 ^ d) n) (below n))
 
 -- an even number of nodes, in two halves: in round d node j of the first half exchanges with that
--- of the second which is 2^d - 1 places on, in a circle (W. Knödel, "New gossips and telephones",
--- Discrete Mathematics 13, 1975)
+-- of the second which is 2^d - 1 places on, in a circle. The schedule is a known one; that it
+-- suffices is proved here
 abbrev pub halves_round : ℕ → ℕ → List Exchange
 halves_round many d =
     let half : ℕ = many / 2 in

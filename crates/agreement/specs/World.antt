@@ -20,7 +20,7 @@ use Rattle.world_core.specs.Refusal.{table_at}
 use Rattle.world_core.specs.Tells.{Told}
 use Rattle.world_core.specs.World.{World}
 use Rattle.agreement.specs.Rounds.{AreRounds, Exchange, after_all, exchanges_of, is_busy, takes_part}
-use Rattle.agreement.specs.Tree.{IsTree, is_in, outwards}
+use Rattle.agreement.specs.Tree.{IsTree, is_in}
 
 -- ---- the schedule of one exchange
 
@@ -85,12 +85,16 @@ RoundsInTurn old [] new = new ≡ old
 RoundsInTurn old (es ∷ rounds) new =
     (mid : World) × (ExchangesAtOnce old es mid × RoundsInTurn mid rounds new)
 
--- rounds whose exchanges go along a tree, from the root to the leaves
-pub record GoOutwards (root : ℕ) (edges : List Exchange) (rounds : List (List Exchange))
-    : Type 0 where
+-- rounds, one after the other, whose exchanges are the edges of a tree in this order
+pub record RunsAlong (order : List Exchange → List Exchange) (old : World) : Type 0 where
+  pub root : ℕ
+  pub edges : List Exchange
   pub tree : IsTree root edges
+  pub rounds : List (List Exchange)
   pub are : AreRounds rounds
-  pub along : exchanges_of rounds ≡ outwards edges
+  pub along : exchanges_of rounds ≡ order edges
+  pub new : World
+  pub ran : RoundsInTurn old rounds new
 
 -- ---- what nodes then have
 
@@ -121,6 +125,11 @@ pub record ShowTheSame (w : World) (m n : ℕ) : Type 0 where
 abbrev pub AllShowTheSame : World → Type 0
 AllShowTheSame w = (m n : ℕ) → m < length w.nodes → n < length w.nodes → ShowTheSame w m n
 
+-- so do each two nodes of the tree
+abbrev pub ShowTheSameInTree : ℕ → List Exchange → World → Type 0
+ShowTheSameInTree root edges w = (m n : ℕ) → m < length w.nodes → n < length w.nodes
+    → is_in root edges m ≡ true → is_in root edges n ≡ true → ShowTheSame w m n
+
 -- ---- what may be so instead
 
 -- two unequal byte strings that are hashed for the tables of the two have one digest
@@ -138,3 +147,8 @@ abbrev pub CollidesInRounds : (old : World) (rounds : List (List Exchange)) (new
 CollidesInRounds old [] new ran = ⊥
 CollidesInRounds old (es ∷ rounds) new ran =
     CollidesInOne old es ⊎ CollidesInRounds ran.0 rounds new ran.1.1
+
+-- so it is when one of the rounds along a tree begins
+abbrev pub CollidesAlong : {order : List Exchange → List Exchange} {old : World}
+    → RunsAlong order old → Type 0
+CollidesAlong {order} {old} run = CollidesInRounds old run.rounds run.new run.ran

@@ -1,23 +1,25 @@
-//! The laws of what is forgotten, of rounds, of trees and of exchanges in a world. The contract of
-//! a function is the law; its body does nothing, or says of which world.
+//! The laws of what is forgotten, of rounds, of trees, and of exchanges and a broadcast in a world.
+//! The contract of a function is the law; its body does nothing, or says of which world.
 
 ghost use Rattle.std.specs.Prelude.{◌≡◌, ◌≢◌, ◌↔◌, ◌⊎◌, ◌∷◌, ◌++◌, ◌<◌, ◌≤◌, ◌+◌, ◌*◌, ◌%◌, ◌^◌, ◌||◌, ℕ, [], true, false, List, length, map};
 ghost use Rattle.meta_types.specs.Name.{Key};
 ghost use Rattle.meta_types.specs.Value.{ValueParts};
 ghost use Rattle.dvvset.specs.Object.{Entry};
-ghost use Rattle.dvvset.specs.Clock.{values_of};
 ghost use Rattle.past_model.specs.declared.happening.Happening.{Happening as H};
 ghost use Rattle.past_model.specs.Sets.{Places};
-ghost use Rattle.past_model.specs.Past.{In, Write, known, writes};
+ghost use Rattle.past_model.specs.Past.{known, writes};
 ghost use Rattle.past_model.specs.History.{IsHistory};
 ghost use Rattle.past_model.specs.Arisen.{IsObjectKnown};
-ghost use Rattle.agreement.specs.Left.{ArePlacesOf, HasNone, HasOverwritten, IsShown, OfAllLeft, OfContextsLeft, OfStandingLeft};
+ghost use Rattle.agreement.specs.Left.{AreLeftNowhere, HasNone, HasOverwritten, IsLeftOverwritten, OfAllLeft, ShowsOthers, ShowsWriteAt};
 ghost use Rattle.agreement.specs.Stories.{after_deletion, after_keeping, after_loss, deleted, deleted_elsewhere, lost, lost_writes, one_key};
 ghost use Rattle.agreement.specs.Rounds.{AreOfFirst, AreRounds, Exchange, IsRound, Known, KnowAll, after_all, after_rounds, count_known, exchanges_of, have_met, is_busy, own, takes_part};
 ghost use Rattle.agreement.specs.Schedules.{four_rounds, log_up, rounds_for};
-ghost use Rattle.agreement.specs.Tree.{IsTree, in_and_out, is_in, outwards};
-ghost use Rattle.agreement.specs.Meeting.{meetings};
-ghost use Rattle.agreement.specs.World.{AllShowTheSame, BothHoldAll, CollidesIn, CollidesInRounds, Exchanges, GoOutwards, IsIdle, KnowAfterAll, KnowWhatRootKnew, RoundsInTurn, ShowTheSame};
+ghost use Rattle.agreement.specs.Tree.{IsSameTree, IsTree, after_passing_all, in_and_out, is_in, outwards};
+ghost use Rattle.agreement.specs.Meeting.{SufficeFor, after_meetings};
+ghost use Rattle.agreement.specs.World.{AllShowTheSame, BothHoldAll, CollidesAlong, CollidesIn, CollidesInRounds, DeliverAll, Exchanges, IsIdle, KnowAfterAll, KnowWhatRootKnew, RoundsInTurn, RunsAlong, ShowTheSame, ShowTheSameInTree};
+ghost use Rattle.agreement.specs.Broadcast.{Broadcasts, DeliverInAnyOrder, HoldTheSame, IsEagerTree, IsNewWrite, KnowUnderWhatRootKnew, KnowWhatWasPassedOn, NoneKnewMore, SendsGossip};
+ghost use Rattle.plumtree.specs.Lawful.{HasLinks};
+ghost use Rattle.world_core.specs.declared.answer.Accepted.{Accepted};
 ghost use Rattle.world_core.specs.Knowledge.{OfAllTold};
 ghost use Rattle.world_core.specs.Refusal.{node_at};
 ghost use Rattle.world_core.specs.World.{World as W};
@@ -33,9 +35,7 @@ use world_core::laws::a_world_tells_a_history;
 /// `after` is what happens up to the later place. The writes stand in `before`; a later write isn't
 /// one of them, even of the same value.
 pub fn what_is_left_nowhere_is_forgotten()
-    ensures { (before after : List H) (k : Key) (W : Places) → ArePlacesOf before W
-        → OfAllLeft (HasNone W) before after k
-        → OfContextsLeft (HasNone W) before after k
+    ensures { (before after : List H) (k : Key) (W : Places) → AreLeftNowhere W before after k
         → (n : ℕ) → HasNone W (known (before ++ after) n k) }
 {}
 
@@ -50,16 +50,12 @@ pub fn what_is_left_nowhere_is_forgotten()
 /// So the values of the object that a node then holds are those of other writes. One of them may
 /// have written the same bytes.
 pub fn an_overwritten_write_is_never_shown_again()
-    ensures sibling { (before after : List H) (k : Key) (p : ℕ) → p < length before
-        → OfAllLeft (HasOverwritten (writes before) p) before after k
-        → OfStandingLeft (HasOverwritten (writes before) p) before after k
-        → (n : ℕ) (w : Write) → w.place ≡ p → IsShown (before ++ after) n k w → ⊥ }
-    ensures values { (before after : List H) (k : Key) (p : ℕ) → p < length before
-        → OfAllLeft (HasOverwritten (writes before) p) before after k
-        → OfStandingLeft (HasOverwritten (writes before) p) before after k
-        → (n : ℕ) (object : List Entry) → IsObjectKnown (before ++ after) n k object
-        → (shown : List Write) × ((values_of object ≡ map (λ w. w.value) shown)
-        × ((w : Write) → In w shown → w.place ≢ p)) }
+    ensures sibling { (before after : List H) (k : Key) (p : ℕ)
+        → IsLeftOverwritten before after k p
+        → (n : ℕ) → ShowsWriteAt (before ++ after) n k p → ⊥ }
+    ensures values { (before after : List H) (k : Key) (p : ℕ)
+        → IsLeftOverwritten before after k p → (n : ℕ) (object : List Entry)
+        → IsObjectKnown (before ++ after) n k object → ShowsOthers p object }
 {}
 
 /// Each law speaks of something: there are histories with a deletion that meet its premises, and go
@@ -67,13 +63,9 @@ pub fn an_overwritten_write_is_never_shown_again()
 /// value to the end, and yet doesn't show it.
 pub fn there_are_such_histories()
     ensures forgotten { (v u : ValueParts) → IsHistory (lost v ++ after_loss u)
-        × ArePlacesOf (lost v) lost_writes
-        × OfAllLeft (HasNone lost_writes) (lost v) (after_loss u) one_key
-        × OfContextsLeft (HasNone lost_writes) (lost v) (after_loss u) one_key }
+        × AreLeftNowhere lost_writes (lost v) (after_loss u) one_key }
     ensures overwritten { (v u : ValueParts) → IsHistory (deleted v ++ after_deletion u)
-        × OfAllLeft (HasOverwritten (writes (deleted v)) 0) (deleted v) (after_deletion u) one_key
-        × OfStandingLeft (HasOverwritten (writes (deleted v)) 0)
-        (deleted v) (after_deletion u) one_key
+        × IsLeftOverwritten (deleted v) (after_deletion u) one_key 0
         × (known (deleted v ++ after_deletion u) 2 one_key 0 ≡ true) }
 {}
 
@@ -84,8 +76,7 @@ pub fn an_image_may_start_from_less_than_is_known()
     ensures { (v : ValueParts) → IsHistory (deleted_elsewhere v ++ after_keeping)
         × OfAllLeft (HasOverwritten (writes (deleted_elsewhere v)) 0)
         (deleted_elsewhere v) after_keeping one_key
-        × ((w : Write) × ((w.place ≡ 0)
-        × IsShown (deleted_elsewhere v ++ after_keeping) 0 one_key w)) }
+        × ShowsWriteAt (deleted_elsewhere v ++ after_keeping) 0 one_key 0 }
 {}
 
 /// Sixteen nodes know all after the four rounds of the hypercube, in which each exchanges with the
@@ -106,9 +97,9 @@ pub fn a_round_runs_at_once()
         → after_all before es n m ≡ before n m }
 {}
 
-/// What a node knows at most doubles in a round. So rounds after which the first nodes all know
-/// all, or only one of them does, are not fewer than the logarithm of their number, to base 2:
-/// sixteen need four.
+/// The most that a node knows at most doubles in a round: after r rounds no node knows of more than
+/// 2^r. So rounds after which the first nodes all know all, or only one of them does, are not fewer
+/// than the logarithm of their number, to base 2: sixteen need four.
 pub fn knowledge_at_most_doubles_in_a_round()
     ensures doubles { (rounds : List (List Exchange)) → AreRounds rounds → (many n : ℕ)
         → count_known many (after_rounds rounds n) ≤ 2 ^ length rounds }
@@ -121,7 +112,8 @@ pub fn knowledge_at_most_doubles_in_a_round()
 
 /// Any number of nodes from two to sixteen knows all after these rounds, of exchanges among them
 /// alone: as many as the logarithm of their number to base 2, rounded up, and one more if it is
-/// odd. For an even number no rounds suffice that are fewer.
+/// odd. No rounds of exchanges among them alone suffice that are fewer. With the help of others an
+/// even number still needs as many, and an odd one as many or one less.
 pub fn some_rounds_make_up_to_sixteen_nodes_know_all()
     ensures rounds { (many : ℕ) → 2 ≤ many → many ≤ 16 → AreRounds (rounds_for many)
         × AreOfFirst many (exchanges_of (rounds_for many)) }
@@ -132,6 +124,9 @@ pub fn some_rounds_make_up_to_sixteen_nodes_know_all()
     ensures fewest { (many : ℕ) → 2 ≤ many → many ≤ 16 → (rounds : List (List Exchange))
         → AreRounds rounds → KnowAll many (after_rounds rounds)
         → length (rounds_for many) ≤ length rounds + many % 2 }
+    ensures fewest_among { (many : ℕ) → 2 ≤ many → many ≤ 16 → (rounds : List (List Exchange))
+        → AreRounds rounds → AreOfFirst many (exchanges_of rounds)
+        → KnowAll many (after_rounds rounds) → length (rounds_for many) ≤ length rounds }
 {}
 
 /// Nodes each two of which have met know all, in whatever order they met.
@@ -162,7 +157,18 @@ pub fn exchanges_outwards_repair()
     ensures writes { (root : ℕ) (edges : List Exchange) → IsTree root edges
         → (hs : List H) (k : Key) (n p : ℕ) → is_in root edges n ≡ true
         → known hs root k p ≡ true
-        → known (hs ++ meetings k (length hs) (outwards edges)) n k p ≡ true }
+        → known (after_meetings hs k (outwards edges)) n k p ≡ true }
+{}
+
+/// If each node of a tree passes on to the next what it knows, from the root to the leaves, all know
+/// what the root knew. Each node of a tree may be its root.
+pub fn what_is_passed_on_along_a_tree_is_known_by_all()
+    ensures known { (root : ℕ) (edges : List Exchange) → IsTree root edges
+        → (before : Known) (n m : ℕ) → is_in root edges n ≡ true → before root m ≡ true
+        → after_passing_all before (outwards edges) n m ≡ true }
+    ensures any_root { (root : ℕ) (edges : List Exchange) → IsTree root edges
+        → (node : ℕ) → is_in root edges node ≡ true
+        → (others : List Exchange) × IsSameTree root edges node others }
 {}
 
 /// An exchange in which both nodes send what they know under a key, and each gets what the other
@@ -171,24 +177,19 @@ pub fn exchanges_outwards_repair()
 /// know all, and no other node knew any of the writes, all know the same, and hold equal objects.
 pub fn exchanges_of_objects_are_exchanges_of_knowledge()
     ensures history { (hs : List H) → IsHistory hs → (k : Key) (es : List Exchange)
-        → IsHistory (hs ++ meetings k (length hs) es) }
+        → IsHistory (after_meetings hs k es) }
     ensures known { (hs : List H) (k : Key) (es : List Exchange) (n p : ℕ)
-        → (known (hs ++ meetings k (length hs) es) n k p ≡ true)
+        → (known (after_meetings hs k es) n k p ≡ true)
         ↔ ((m : ℕ) × ((after_all own es n m ≡ true) × (known hs m k p ≡ true))) }
     ensures others { (hs : List H) (k l : Key) (es : List Exchange) (n : ℕ) → l ≢ k
-        → known (hs ++ meetings k (length hs) es) n l ≡ known hs n l }
+        → known (after_meetings hs k es) n l ≡ known hs n l }
     ensures agree { (hs : List H) (k : Key) (many : ℕ) (es : List Exchange)
-        → KnowAll many (after_all own es)
-        → ((m p : ℕ) → known hs m k p ≡ true → m < many)
-        → (n m : ℕ) → n < many → m < many
-        → known (hs ++ meetings k (length hs) es) n k
-        ≡ known (hs ++ meetings k (length hs) es) m k }
+        → SufficeFor many hs k es → (n m : ℕ) → n < many → m < many
+        → known (after_meetings hs k es) n k ≡ known (after_meetings hs k es) m k }
     ensures objects { (hs : List H) (k : Key) (many : ℕ) (es : List Exchange)
-        → KnowAll many (after_all own es)
-        → ((m p : ℕ) → known hs m k p ≡ true → m < many)
-        → (n m : ℕ) → n < many → m < many → (a b : List Entry)
-        → IsObjectKnown (hs ++ meetings k (length hs) es) n k a
-        → IsObjectKnown (hs ++ meetings k (length hs) es) m k b → a ≡ b }
+        → SufficeFor many hs k es → (n m : ℕ) → n < many → m < many → (a b : List Entry)
+        → IsObjectKnown (after_meetings hs k es) n k a
+        → IsObjectKnown (after_meetings hs k es) m k b → a ≡ b }
 {}
 
 /// A whole exchange of two nodes of a world: one begins it, and then each frame that it brings
@@ -213,10 +214,10 @@ pub fn an_exchange_in_a_world_gives_both_the_union(world: &World)
 
 /// Rounds of whole exchanges in a world, those of each round at once, are exchanges of knowledge:
 /// each node then knows what `after_all` says of sets. So where all know all, all nodes show the
-/// same, whatever was lost before; sixteen nodes do after the four rounds; and exchanges along a
-/// tree, from the root to the leaves, make all its nodes know what the root knew. Or two unequal
-/// byte strings, hashed for the tables of two nodes that exchange when their round began, have one
-/// digest.
+/// same, whatever was lost before; sixteen nodes do after the four rounds; all nodes of a tree do
+/// after exchanges along it, from the leaves to the root and back; and those from the root to the
+/// leaves make all its nodes know what the root knew. Or two unequal byte strings, hashed for the
+/// tables of two nodes that exchange when their round began, have one digest.
 pub fn exchanges_in_a_world_are_exchanges_of_knowledge(world: &World)
     ensures known { (rounds : List (List Exchange)) → AreRounds rounds
         → (new : W) (ran : RoundsInTurn world.now rounds new)
@@ -229,10 +230,58 @@ pub fn exchanges_in_a_world_are_exchanges_of_knowledge(world: &World)
     ensures sixteen { (new : W) (ran : RoundsInTurn world.now four_rounds new)
         → length world.now.nodes ≡ 16
         → AllShowTheSame new ⊎ CollidesInRounds world.now four_rounds new ran }
-    ensures repair { (root : ℕ) (edges : List Exchange) (rounds : List (List Exchange))
-        → GoOutwards root edges rounds → (new : W) (ran : RoundsInTurn world.now rounds new)
-        → OfAllTold world.now (λ t. KnowWhatRootKnew t root edges new
-        ⊎ CollidesInRounds world.now rounds new ran) }
+    ensures along { (run : RunsAlong in_and_out world.now)
+        → ShowTheSameInTree run.root run.edges run.new ⊎ CollidesAlong run }
+    ensures repair { (run : RunsAlong outwards world.now) → OfAllTold world.now
+        (λ t. KnowWhatRootKnew t run.root run.edges run.new ⊎ CollidesAlong run) }
 {
     a_world_tells_a_history(world);
+}
+
+/// A write in a world, where the eager peers of the writer and of all that they lead to make a
+/// tree, and then the delivery of each frame that this brings forth, once and in any order, with
+/// nothing between; `world` is as the write left it.
+///
+/// The writer alone knows the write at first. At the end each node knows, under the key, what it
+/// knew and what the next one towards the writer knows; so all know what the writer knew, and where
+/// none knew more, all hold the same object. For n nodes of the tree these are n - 1 frames, each
+/// a GOSSIP. The tree is as it was, and one over each of its nodes, so the next write goes
+/// along it, too. Other nodes are as they were. The oldest frame first is one of the orders.
+pub fn a_write_reaches_all_along_eager_peers(world: &World)
+    ensures written { (b : Broadcasts world.now)
+        → OfAllTold world.now (λ t. IsNewWrite t b.writer b.key b.value) }
+    ensures known { (b : Broadcasts world.now)
+        → OfAllTold world.now (λ t. KnowWhatWasPassedOn t b.edges b.key b.after) }
+    ensures reaches { (b : Broadcasts world.now)
+        → OfAllTold world.now (λ t. KnowUnderWhatRootKnew t b.writer b.edges b.key b.after) }
+    ensures agree { (b : Broadcasts world.now) → OfAllTold world.now (λ t.
+        NoneKnewMore t b.writer b.edges b.key → HoldTheSame b.after b.writer b.edges b.key) }
+    ensures number { (b : Broadcasts world.now) → length b.deliveries + 1
+        ≡ count_known (length world.now.nodes) (is_in b.writer b.edges) }
+    ensures gossip { (b : Broadcasts world.now)
+        → SendsGossip b.before b.after b.key (length b.deliveries) }
+    ensures stays { (b : Broadcasts world.now) → IsEagerTree b.after b.writer b.edges }
+    ensures any_writer { (root : ℕ) (edges : List Exchange) → IsEagerTree world.now root edges
+        → (node : ℕ) → is_in root edges node ≡ true
+        → (others : List Exchange) × IsEagerTree world.now node others }
+    ensures others { (b : Broadcasts world.now) (n : ℕ) → is_in b.writer b.edges n ≡ false
+        → node_at b.after n ≡ node_at world.now n }
+    ensures in_turn { (pending : List ℕ) (accepted : List Accepted)
+        → DeliverAll pending accepted → DeliverInAnyOrder pending accepted }
+{
+    a_world_tells_a_history(world);
+    each_peer_stands_once(world);
+}
+
+/// Each peer of a node of the world stands once, and is eager or lazy.
+fn each_peer_stands_once(world: &World)
+    ensures { (n : ℕ) → n < length world.now.nodes
+        → HasLinks (node_at world.now n).state.overlay.cast }
+{
+    for n in 0..world.node_count() {
+        // (for its type)
+        if let Some(state) = world.state(n) {
+            let _ = state.cast();
+        }
+    }
 }

@@ -11,7 +11,7 @@ pub returns-clause-others : goal.returns-clause-others
 returns-clause-others c = others_stay
 
 pub returns-clause-agree : goal.returns-clause-agree
-returns-clause-agree c = all_agree
+returns-clause-agree c = λ hs k many es are. all_agree hs k many es are.know_all are.of_first
 
 pub returns-clause-objects : goal.returns-clause-objects
-returns-clause-objects c = objects_agree
+returns-clause-objects c = λ hs k many es are. objects_agree hs k many es are.know_all are.of_first
