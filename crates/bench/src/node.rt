@@ -1,10 +1,12 @@
 //! Measures what nodes do, and prints lines `name value unit`: with the word `store`, writes, reads
-//! and the tree of one node; with `exchange`, exchanges of two; with `steps`, steps of a node. With
-//! another word it prints nothing. The names of the first two are those of a baseline in plain
-//! Rust.
+//! and the tree of one node; with `exchange`, exchanges of two; with `codec FILE`, how the frames
+//! that the file has one after another are read and written; with `steps`, steps of a node. With
+//! other words it prints nothing. The names of the first three are those of a baseline in plain
+//! Rust, in which FILE is `mix` or the name of a kind.
 //!
 //! A node is passed by reference, so that no function owns two if a call fails.
 
+mod codec;
 mod paces;
 mod sides;
 mod steps;
@@ -13,9 +15,10 @@ mod writes;
 
 use crate::rows::node;
 use crate::subject::Subject;
-use paces::{median_pace, median_time, print_exchange, print_pace};
+use codec::{Codec, Coding};
+use paces::{median_pace, median_time, print_coding, print_exchange, print_pace};
 use sides::Sides;
-use std::io;
+use std::{fs, io};
 use steps::{median_of_gossips, median_of_writes, print_rate};
 use table::{Table, Work};
 use writes::Writes;
@@ -31,6 +34,7 @@ const SIZES: [u32; 2] = [100, 8_192];
 
 pub(crate) fn run(rt: &HostRuntime, words: &[String]) -> io::Result<()> {
     match words {
+        [part, file] if part.as_str() == "codec" => measure_codec(rt, file.as_str()),
         [part, ..] => measure(rt, part.as_str()),
         _ => Ok(()),
     }
@@ -83,6 +87,27 @@ fn measure_sides(rt: &HostRuntime, sides: &Sides, changes: u32) -> io::Result<()
     let sent = sides.sent()?;
     let nanos = median_time(rt, sides)?;
     print_exchange(rt, changes, nanos, sent)
+}
+
+fn measure_codec(rt: &HostRuntime, file: &str) -> io::Result<()> {
+    let bytes = fs::read(rt, file)?;
+    measure_bytes(rt, file, bytes.as_slice())
+}
+
+/// Measures the codec over the frames that the bytes are.
+fn measure_bytes(rt: &HostRuntime, file: &str, bytes: &[u8]) -> io::Result<()> {
+    let mut codec = Codec::of(rt.alloc(), bytes)?;
+    let done = measure_frames(rt, file, bytes.len(), &mut codec);
+    drop(codec);
+    done
+}
+
+fn measure_frames(rt: &HostRuntime, file: &str, size: usize, codec: &mut Codec) -> io::Result<()> {
+    for coding in [Coding::Decode, Coding::Encode] {
+        let pace = median_pace(rt, codec, coding)?;
+        print_coding(rt, coding, file, (codec.len(), size), pace)?;
+    }
+    Ok(())
 }
 
 fn measure_steps(rt: &HostRuntime) -> io::Result<()> {

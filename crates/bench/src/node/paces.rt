@@ -1,7 +1,8 @@
 //! How many times a call is made in a second, and how long an exchange takes.
 
+use crate::node::codec::Coding;
 use crate::node::sides::{Sent, Sides};
-use crate::node::table::{Table, Work};
+use crate::node::table::Work;
 use crate::samples::median;
 use std::io;
 use std::time::Instant;
@@ -15,20 +16,31 @@ const SAMPLES: usize = 11;
 /// How often an exchange is run; the median time counts.
 const EXCHANGES: usize = 9;
 
+/// What does works of a kind, each as often as it is called.
+pub(crate) trait Works<W> {
+    /// Does the work once.
+    fn work(&mut self, work: W) -> io::Result<()>;
+}
+
 /// Returns how many nanoseconds `calls` calls take.
-fn taken(rt: &HostRuntime, table: &mut Table, work: Work, calls: u32) -> io::Result<u128> {
+fn taken<W: Copy, S: Works<W>>(
+    rt: &HostRuntime,
+    subject: &mut S,
+    work: W,
+    calls: u32,
+) -> io::Result<u128> {
     let start = Instant::now(rt)?;
     for _call in 0..calls {
-        table.work(work)?;
+        subject.work(work)?;
     }
     Ok(start.elapsed(rt)?.as_nanos())
 }
 
 /// Returns how many calls take a sample's least time.
-fn calls_of(rt: &HostRuntime, table: &mut Table, work: Work) -> io::Result<u32> {
+fn calls_of<W: Copy, S: Works<W>>(rt: &HostRuntime, subject: &mut S, work: W) -> io::Result<u32> {
     let mut calls = 1_u32;
     for _doubling in 0..31 {
-        if taken(rt, table, work, calls)? >= LEAST {
+        if taken(rt, subject, work, calls)? >= LEAST {
             return Ok(calls);
         }
         calls = calls.saturating_mul(2);
@@ -43,11 +55,15 @@ pub(crate) struct Pace {
     nanos: u128,
 }
 
-pub(crate) fn median_pace(rt: &HostRuntime, table: &mut Table, work: Work) -> io::Result<Pace> {
-    let calls = calls_of(rt, table, work)?;
+pub(crate) fn median_pace<W: Copy, S: Works<W>>(
+    rt: &HostRuntime,
+    subject: &mut S,
+    work: W,
+) -> io::Result<Pace> {
+    let calls = calls_of(rt, subject, work)?;
     let mut samples = [0u128; SAMPLES];
     for sample in samples.iter_mut() {
-        *sample = taken(rt, table, work, calls)?;
+        *sample = taken(rt, subject, work, calls)?;
     }
     let nanos = median(&mut samples);
     Ok(Pace { calls, nanos })
@@ -55,7 +71,7 @@ pub(crate) fn median_pace(rt: &HostRuntime, table: &mut Table, work: Work) -> io
 
 impl Pace {
     /// Returns how many times in a second it is done, if each call does it `times` times.
-    fn rate(self, times: u32) -> u128 {
+    fn rate(self, times: u64) -> u128 {
         u128::from(self.calls) * u128::from(times) * 1_000_000_000 / self.nanos.max(1)
     }
 
@@ -88,12 +104,28 @@ pub(crate) fn print_pace(
 ) -> io::Result<()> {
     let name = work.name();
     let times = match work {
-        Work::Fill => count,
+        Work::Fill => u64::from(count),
         Work::WholeRoot => return print_time(rt, name, count, prefixes, pace),
         Work::PutWithTree | Work::Put | Work::Look => 1,
     };
     let rate = pace.rate(times);
     println!(rt; "{name}_{count}_keys_{prefixes}_prefix {rate} ops/s")
+}
+
+/// Prints the lines of reading or writing a file's frames: frames and megabytes in a second.
+pub(crate) fn print_coding(
+    rt: &HostRuntime,
+    coding: Coding,
+    file: &str,
+    (frames, bytes): (usize, usize),
+    pace: Pace,
+) -> io::Result<()> {
+    let name = coding.name();
+    println!(rt; "{name}_{file} {} frames/s", pace.rate(frames as u64))?;
+    println!(rt;
+        "{name}_{file}_bytes {} MB/s",
+        pace.rate(bytes as u64) / 1_000_000
+    )
 }
 
 fn print_time(

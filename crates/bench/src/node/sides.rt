@@ -9,8 +9,8 @@ use exchange::{answer, reconcile, start};
 use hash_tree::Held;
 use meta_frame::{Frame, Message, encode, is_lawful};
 use meta_store::Store;
-use meta_types::{NodeId, both};
-use std::alloc::{AllocError, Global};
+use meta_types::both;
+use std::alloc::Global;
 use std::io;
 use std::time::Instant;
 
@@ -108,30 +108,25 @@ fn time_of_exchange(rt: &HostRuntime, here: &mut Held, there: &mut Held) -> io::
 }
 
 impl Sent {
-    /// Returns the sum with one more frame, of `len` bytes.
-    fn and_frame(self, len: u64) -> Self {
-        Sent {
-            frames: self.frames.saturating_add(1),
-            bytes: self.bytes.saturating_add(len),
-        }
+    /// Counts one more frame, of `len` bytes.
+    fn count(&mut self, len: u64) {
+        self.frames = self.frames.saturating_add(1);
+        self.bytes = self.bytes.saturating_add(len);
     }
 }
 
-/// Runs an exchange that `here` begins, in seven rounds, each of which answers the one before.
-/// Returns what it sends.
+/// Runs an exchange that `here` begins, in seven rounds, each of which answers the one before; an
+/// eighth has nothing to take. Returns what it sends.
 fn exchanged(alloc: Global, here: &mut Held, there: &mut Held) -> io::Result<Sent> {
     let mut sent = Sent {
         frames: 0,
         bytes: 0,
     };
-    let root = begun(alloc, here)?;
-    let prefixes = round(alloc, there, &mut sent, root)?;
-    let inner = round(alloc, here, &mut sent, prefixes)?;
-    let leaves = round(alloc, there, &mut sent, inner)?;
-    let buckets = round(alloc, here, &mut sent, leaves)?;
-    let offered = round(alloc, there, &mut sent, buckets)?;
-    let wanted = round(alloc, here, &mut sent, offered)?;
-    last_round(alloc, there, &mut sent, wanted)?;
+    let mut messages = begun(alloc, here)?;
+    for _turn in 0..4 {
+        messages = round(alloc, there, &mut sent, messages)?;
+        messages = round(alloc, here, &mut sent, messages)?;
+    }
     Ok(sent)
 }
 
@@ -142,56 +137,19 @@ fn begun(alloc: Global, held: &Held) -> io::Result<Vec<Message>> {
     Ok(messages)
 }
 
-/// Takes a round of messages, drops it, and returns the answers.
+/// Takes messages one after another, and then returns their answers. A want of a key comes after
+/// its object, so it makes no difference that all are taken before the first is answered.
 fn round(
     alloc: Global,
     held: &mut Held,
     sent: &mut Sent,
     messages: Vec<Message>,
 ) -> io::Result<Vec<Message>> {
-    take_and_answer(alloc, held, sent, messages.as_slice())
-}
-
-/// Takes the last round of messages, to which there is no answer.
-fn last_round(
-    alloc: Global,
-    held: &mut Held,
-    sent: &mut Sent,
-    messages: Vec<Message>,
-) -> io::Result<()> {
-    take_all(alloc, held, sent, messages.as_slice())
-}
-
-/// Takes messages and returns their answers. A want of a key comes after its object, so it makes no
-/// difference that all are taken before the first is answered.
-fn take_and_answer(
-    alloc: Global,
-    held: &mut Held,
-    sent: &mut Sent,
-    messages: &[Message],
-) -> io::Result<Vec<Message>> {
-    take_all(alloc, held, sent, messages)?;
-    answers(alloc, held, messages)
-}
-
-/// Takes messages one after another, as `take` does.
-fn take_all(
-    alloc: Global,
-    held: &mut Held,
-    sent: &mut Sent,
-    messages: &[Message],
-) -> io::Result<()> {
-    for message in messages {
-        take(alloc, held, sent, message)?;
+    for message in messages.iter() {
+        sent.count(frame_len(alloc, message)?);
+        merge(held, message)?;
     }
-    Ok(())
-}
-
-/// Counts a message as a frame, and merges the object that it brings, if it brings one.
-fn take(alloc: Global, held: &mut Held, sent: &mut Sent, message: &Message) -> io::Result<()> {
-    let len = frame_len(alloc, message)?;
-    *sent = sent.and_frame(len);
-    merge(held, message)
+    answers(alloc, held, messages.as_slice())
 }
 
 /// Merges the object that a message brings, if it brings one.
@@ -209,48 +167,30 @@ fn merge(held: &mut Held, message: &Message) -> io::Result<()> {
 fn answers(alloc: Global, held: &Held, messages: &[Message]) -> io::Result<Vec<Message>> {
     let mut answers = Vec::new(alloc);
     for message in messages {
-        add_answers(alloc, &mut answers, held, message)?;
+        answers.append(&mut answer(alloc, held, message)?)?;
     }
     Ok(answers)
 }
 
-fn add_answers(
-    alloc: Global,
-    answers: &mut Vec<Message>,
-    held: &Held,
-    message: &Message,
-) -> io::Result<()> {
-    let mut own = answer(alloc, held, message)?;
-    answers.append(&mut own)?;
-    Ok(())
-}
-
-/// Returns how many bytes a message has as a frame from one node to another.
+/// Returns how many bytes a message has as the frame number 1 from one node to another.
 fn frame_len(alloc: Global, message: &Message) -> io::Result<u64> {
-    let frame = framed(node(0)?, node(1)?, message)?;
+    let frame = Frame {
+        from: node(0)?,
+        to: node(1)?,
+        number: 1,
+        message: message.copy()?,
+    };
     let len = encoded_len(alloc, &frame);
     drop(frame);
     len
-}
-
-/// Makes the frame number 1 that brings a copy of the message.
-fn framed(from: NodeId, to: NodeId, message: &Message) -> Result<Frame, AllocError> {
-    Ok(Frame {
-        from,
-        to,
-        number: 1,
-        message: message.copy()?,
-    })
 }
 
 /// Returns how many bytes a frame has, including its header. A frame that breaks a limit is
 /// refused.
 fn encoded_len(alloc: Global, frame: &Frame) -> io::Result<u64> {
     if !is_lawful(frame) {
-        return Err(io::Error::from(io::ErrorKind::Other));
+        return Err(refused(()));
     }
     let bytes = encode(alloc, frame).map_err(refused)?;
-    let len = bytes.len() as u64;
-    drop(bytes);
-    Ok(len)
+    Ok(bytes.len() as u64)
 }

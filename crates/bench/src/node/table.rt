@@ -1,5 +1,6 @@
 //! A store with its tree, and the measured work.
 
+use crate::node::paces::Works;
 use crate::rows::{Dice, Rows, actor};
 use crate::samples::refused;
 use hash_tree::{Tree, object_digest, plain_root};
@@ -85,17 +86,6 @@ impl Table {
         })
     }
 
-    /// Does the work once; a write or a read is under a key that looks random.
-    pub(crate) fn work(&mut self, work: Work) -> io::Result<()> {
-        match work {
-            Work::PutWithTree => self.put_with_tree(),
-            Work::Put => self.put(),
-            Work::Look => self.look(),
-            Work::Fill => self.fill(),
-            Work::WholeRoot => self.whole_root(),
-        }
-    }
-
     fn put_with_tree(&mut self) -> io::Result<()> {
         let key = self.rows.any_key(&mut self.dice)?;
         put_over(&mut self.store, self.actor, key, self.rows.value())?;
@@ -125,6 +115,19 @@ impl Table {
     fn whole_root(&self) -> io::Result<()> {
         let _root = plain_root(self.alloc, &self.store)?;
         Ok(())
+    }
+}
+
+/// A write or a read is under a key that looks random.
+impl Works<Work> for Table {
+    fn work(&mut self, work: Work) -> io::Result<()> {
+        match work {
+            Work::PutWithTree => self.put_with_tree(),
+            Work::Put => self.put(),
+            Work::Look => self.look(),
+            Work::Fill => self.fill(),
+            Work::WholeRoot => self.whole_root(),
+        }
     }
 }
 
