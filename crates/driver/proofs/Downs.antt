@@ -58,7 +58,7 @@ once n p new (Fails k ∷ rest) (can, leads) keep down none =
     (λ same. ap (λ x. is_given_up x p.members) (sym (eqb-true n k same)) ∙ down.given_up)
     (once n (after 0 (PeerDown k) p) new rest leads keep (given_up n k 0 p down) none)
 once n p new (Does now near (PeerDown k) ∷ rest) (is, leads) keep down none =
-    or_from _ _ (anothers n k p (nat_eq n k) refl (down_due now near p k is) down) (once n (after now (PeerDown k) p) new rest leads keep (given_up n k now p down) none)
+    or_from _ _ (anothers n k p (nat_eq n k) refl (down_due now near p k is).0 down) (once n (after now (PeerDown k) p) new rest leads keep (given_up n k now p down) none)
 once n p new (Does now near (Hello k) ∷ rest) (is, leads) keep down none = once n (after now (Hello k) p) new rest leads keep (greeted n k now p down) none
 once n p new (Does now near Tick ∷ rest) (is, leads) keep down none = once n (after now Tick p) new rest leads keep (record { given_up = down.given_up; none_up = down.none_up }) none
 once n p new (Does now near (Join k) ∷ rest) (is, leads) keep down none =

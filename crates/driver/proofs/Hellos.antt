@@ -4,7 +4,7 @@ use Rattle.std.proofs.lemmas.Bool.{and_from, eqb-true, not_from_false, or_from, 
 use Rattle.peer_lists.specs.Lists.{has}
 use Rattle.driver.specs.declared.member.Change.TheVariants.{Greeted, GivenUp, Heard}
 use Rattle.driver.specs.declared.task.Task.TheVariants.{Tick, Hello, Join, Exchange, PeerDown}
-use Rattle.driver.specs.Plan.{PlanParts, after, has_member, has_member_that, heard_from, is_other, new_member, with_member, taken_out, without_member}
+use Rattle.driver.specs.Plan.{PlanParts, after, has_member, has_member_that, heard_from, is_of_another, new_member, with_member, taken_out, without_member}
 use Rattle.driver.specs.Duty.{Adds, Does, Fails, Happening, Hears, HellosComeFirst, HellosComeOnce, KeepMembers, Leads, Removes, greeted_in, is_greeted}
 use Rattle.driver.proofs.Members.{added_none, any_at, any_filter, changed_elsewhere, changed_fails, changed_none, changed_same}
 use Rattle.driver.proofs.Tasks.{hello_due, join_due}
@@ -33,7 +33,7 @@ added n k now p true greeted = greeted
 added n k now p false greeted = added_none (λ m. m.is_greeted) n (new_member now k) p.members refl greeted
 
 removed : (n k : ℕ) (p : PlanParts) (b : Bool) → is_greeted n (cond b (taken_out k p) p).members ≡ true → is_greeted n p.members ≡ true
-removed n k p true greeted = any_filter (λ m. nat_eq m.node n && m.is_greeted) (is_other k) p.members greeted
+removed n k p true greeted = any_filter (λ m. nat_eq m.node n && m.is_greeted) (is_of_another k) p.members greeted
 removed n k p false greeted = greeted
 
 pub hellos_come_first : HellosComeFirst

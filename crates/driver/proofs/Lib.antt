@@ -10,3 +10,9 @@ pub mod Hellos
 pub mod Downs
 -- from when on something is next
 pub mod Waking
+-- at one time the tasks come to an end
+pub mod Ending
+-- tasks are done one after the other
+pub mod Working
+-- what a call does is a chain of tasks, and a part of the life of the node
+pub mod Living

@@ -1,11 +1,11 @@
 -- What comes of a driver's tasks, one after the other. The rule is our own.
-use Rattle.std.specs.Prelude.{◌≡◌, ◌<◌, ◌+◌, ◌⊎◌, ℕ, zero, suc, Bool, true, false, if◌then◌else◌, List, [], ◌∷◌, ◌++◌, length, map, slice_get, Some}
+use Rattle.std.specs.Prelude.{◌≡◌, ◌<◌, ◌≤◌, ◌+◌, ◌⊎◌, ℕ, zero, suc, Bool, true, false, if◌then◌else◌, List, [], ◌∷◌, ◌++◌, length, map, slice_get, Some}
 use Rattle.std.specs.Option.{unwrap_or}
 use Rattle.peer_lists.specs.Lists.{has}
 use Rattle.driver.specs.declared.member.Member.{Member}
 use Rattle.driver.specs.declared.task.Task.{Task}
 use Rattle.driver.specs.declared.task.Task.TheVariants.{Tick, Hello, Join, Exchange, PeerDown}
-use Rattle.driver.specs.Plan.{PlanParts, after, are_few, has_member, has_member_that, heard_from, is_given_up, next_place, task_of, with_member, without_member}
+use Rattle.driver.specs.Plan.{PlanParts, after, are_few, has_member, has_member_that, heard_from, is_given_up, last_time, next_place, task_of, with_member, without_member}
 
 -- one thing that happens to a plan: at this time, with so many neighbours, its next task is done; a
 -- frame came from a node; a link to a node failed; a node is added, or removed
@@ -155,6 +155,21 @@ abbrev pub HellosComeOnce : Type 0
 HellosComeOnce = (old new : PlanParts) (rest : List Happening) (now neighbours n : ℕ)
     → Leads old (Does now neighbours (Hello n) ∷ rest) new → KeepMembers rest
     → has (greeted_in rest) n ≡ false
+
+-- ---- at one time
+
+-- each of these is a task that is done at this time
+abbrev pub AreTasksAt : (now : ℕ) → List Happening → Type 0
+AreTasksAt now [] = Unit {0}
+AreTasksAt now (Does at neighbours task ∷ rest) = (at ≡ now) × AreTasksAt now rest
+AreTasksAt now (happening ∷ rest) = ⊥
+
+-- At one time the tasks come to an end: there is one tick at most, and there are seven tasks at
+-- most, and one more for each member.
+abbrev pub TasksEnd : Type 0
+TasksEnd = (old new : PlanParts) (happenings : List Happening) (now : ℕ)
+    → Leads old happenings new → AreTasksAt now happenings → 1 ≤ old.pace.tick → now < last_time
+    → (ticks_in happenings ≤ 1) × (length happenings ≤ 7 + length old.members)
 
 -- ---- who is down
 

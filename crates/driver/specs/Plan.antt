@@ -48,11 +48,11 @@ abbrev pub changed : Change → ℕ → List Member → List Member
 changed change node members = map (learn change node) members
 
 -- the members but that of the node; one that is added now; whether there is one
-abbrev pub is_other : ℕ → Member → Bool
-is_other node m = not (nat_eq m.node node)
+abbrev pub is_of_another : ℕ → Member → Bool
+is_of_another node m = not (nat_eq m.node node)
 
 abbrev pub others : ℕ → List Member → List Member
-others node members = filter (is_other node) members
+others node members = filter (is_of_another node) members
 
 abbrev pub new_member : (now node : ℕ) → Member
 new_member now node =

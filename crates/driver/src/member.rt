@@ -1,5 +1,5 @@
 ghost use Rattle.std.specs.Prelude.{◌≡◌, ◌≤◌, ◌+◌, ◌<◌, ◌^◌, nat_le, not, ◌&&◌};
-ghost use Rattle.driver.specs.Plan.{changed, is_other, is_silent, learn, made, others, sooner};
+ghost use Rattle.driver.specs.Plan.{changed, is_of_another, is_silent, learn, made, others, sooner};
 
 use meta_types::NodeId;
 
@@ -58,7 +58,7 @@ impl Member {
 
     /// Returns whether it is not of this node.
     fn is_other(&self, node: NodeId) -> bool
-        ensures { result ≡ is_other node self.now }
+        ensures { result ≡ is_of_another node self.now }
     {
         self.node != node
     }
