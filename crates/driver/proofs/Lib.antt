@@ -4,6 +4,8 @@ mod Tasks
 mod Members
 -- exchanges and joins go round
 pub mod Rounds
+-- each member has its turn
+pub mod Turns
 -- a hello comes first, and once
 pub mod Hellos
 -- a member is told down once
@@ -16,3 +18,5 @@ pub mod Ending
 pub mod Working
 -- what a call does is a chain of tasks, and a part of the life of the node
 pub mod Living
+-- a task is refused for want of memory alone
+pub mod Refusing

@@ -22,7 +22,7 @@ either : (b : Bool) (m other : Member) → other.node ≡ m.node → (cond b oth
 either true m other same = same
 either false m other same = refl
 
-learn_node : (change : Change) (n : ℕ) (m : Member) → (learn change n m).node ≡ m.node
+pub learn_node : (change : Change) (n : ℕ) (m : Member) → (learn change n m).node ≡ m.node
 learn_node change n m = either _ m (made change m) (made_node change m)
 
 pub nodes_changed : (change : Change) (n : ℕ) (members : List Member) → nodes_of (changed change n members) ≡ nodes_of members

@@ -104,6 +104,21 @@ exchange_owed now neighbours p n is =
       | ByDown joining owed down ↦ let found = down_of p.pace.quiet now p.members (Exchange n) down in let clash : Exchange n ≡ PeerDown found.node = found.says in absurd (cc)
     ]
 
+-- it is with the member at the partner's place
+pub exchange_there : (now neighbours : ℕ) (p : PlanParts) (n : ℕ) → task_of now neighbours p ≡ Some (Exchange n)
+    → (k : Member) × ((slice_get p.members p.partner ≡ Some k) × (k.node ≡ n))
+exchange_there now neighbours p n is =
+    elim (is_next now neighbours p (Exchange n) is) [
+      | ByJoin joining join ↦ elim (join_of (slice_get p.members p.contact) (Exchange n) join) [ Greets k there greeted says ↦ absurd (cc) | Joins k there greeted says ↦ absurd (cc) ]
+      | ByExchange joining owed exchange ↦
+          let found = exchange_of (slice_get p.members p.partner) (Exchange n) exchange in
+          let says : Exchange n ≡ Exchange found.0.node = found.1.1 in
+          let same : found.0.node ≡ n = cc in
+          (found.0, (found.1.0, same))
+      | ByTick joining owed due says ↦ absurd (cc)
+      | ByDown joining owed down ↦ let found = down_of p.pace.quiet now p.members (Exchange n) down in let clash : Exchange n ≡ PeerDown found.node = found.says in absurd (cc)
+    ]
+
 -- what is done for a join: it is owed, and neighbours are few
 pub record IsDue (neighbours : ℕ) (p : PlanParts) (n : ℕ) (known : Bool) : Type 0 where
   pub joining : (p.owes_join && are_few neighbours p.members) ≡ true

@@ -7,10 +7,11 @@ use Rattle.node_events.specs.declared.event.NodeEvent.{NodeEvent}
 use Rattle.node_events.specs.declared.event.NodeEvent.TheVariants as OfNode
 use Rattle.node_hosted.specs.Hosting.{Acts, BeginsBatch, HostedParts, MayStep, RefusesActing, with_batch_open}
 use Rattle.node_hosted.specs.declared.fault.HostFault.{HostFault}
+use Rattle.node_hosted.specs.declared.fault.HostFault.TheVariants.{Memory}
 use Rattle.driver.specs.declared.task.Task.{Task}
 use Rattle.driver.specs.declared.task.Task.TheVariants.{Tick, Hello, Join, Exchange, PeerDown}
 use Rattle.node_hosted.specs.Lasting.{LaterInLife}
-use Rattle.driver.specs.Plan.{PlanParts, after, heard_from, is_given_up, last_time, task_of, with_member}
+use Rattle.driver.specs.Plan.{PlanParts, after, has_member, heard_from, is_given_up, last_time, task_of, with_member}
 use Rattle.driver.specs.Duty.{AreTasksAt, Happening, Leads}
 
 -- a node, and the plan of what it does of itself
@@ -175,6 +176,12 @@ abbrev pub NothingIsPastDue : Type 0
 NothingIsPastDue = (now word : ℕ) (old new : Driver) → DoesWork now word old (Ok tt) new
     → length old.plan.members ≤ 16 → 1 ≤ old.plan.pace.tick → now < last_time
     → next_task now new ≡ None
+
+-- A task is refused for want of memory alone, unless the node is a member of its own plan.
+abbrev pub OnlyMemoryRefuses : Type 0
+OnlyMemoryRefuses = (now word : ℕ) (old new : Driver) (fault : HostFault)
+    → DoesWork now word (with_open_batch old) (Err fault) new → old.node.stopped ≡ false
+    → has_member old.node.state.node old.plan.members ≡ false → fault ≡ Memory
 
 -- A call is a part of the life of its node, in which its host's file stays as it is: so all that is
 -- proved of nodes, their files and their lives holds under a driver.

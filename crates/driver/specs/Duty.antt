@@ -5,7 +5,7 @@ use Rattle.peer_lists.specs.Lists.{has}
 use Rattle.driver.specs.declared.member.Member.{Member}
 use Rattle.driver.specs.declared.task.Task.{Task}
 use Rattle.driver.specs.declared.task.Task.TheVariants.{Tick, Hello, Join, Exchange, PeerDown}
-use Rattle.driver.specs.Plan.{PlanParts, after, are_few, has_member, has_member_that, heard_from, is_given_up, last_time, next_place, task_of, with_member, without_member}
+use Rattle.driver.specs.Plan.{IsPlaceIn, PlanParts, after, are_few, has_member, has_member_that, heard_from, is_given_up, last_time, next_place, task_of, with_member, without_member}
 
 -- one thing that happens to a plan: at this time, with so many neighbours, its next task is done; a
 -- frame came from a node; a link to a node failed; a node is added, or removed
@@ -115,6 +115,14 @@ ExchangesGoRound = (old new : PlanParts) (happenings : List Happening)
     ≡ round_from (length (partners_in happenings)) old.partner (nodes_of old.members))
     × (length (partners_in happenings) + one_if new.owes_exchange
     ≡ ticks_in happenings + one_if old.owes_exchange)
+
+-- So as many exchanges as there are members are with each of them: two nodes whose drivers each have
+-- begun as many have met.
+abbrev pub EachHasItsTurn : Type 0
+EachHasItsTurn = (old new : PlanParts) (happenings : List Happening) (n : ℕ)
+    → Leads old happenings new → KeepMembers happenings → IsPlaceIn old.members old.partner
+    → length old.members ≤ length (partners_in happenings) → has_member n old.members ≡ true
+    → has (partners_in happenings) n ≡ true
 
 -- Joins are begun through the members in turn, too.
 abbrev pub JoinsGoRound : Type 0

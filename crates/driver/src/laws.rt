@@ -4,15 +4,21 @@
 ghost use Rattle.std.specs.Prelude.{List, ℕ, IfSome};
 ghost use Rattle.dvvset.specs.Object.{IsVector};
 ghost use Rattle.node_core.specs.Growing.{context_of_write};
-ghost use Rattle.driver.specs.Driving.{IsOfOneLife, NothingIsPastDue, OfAsking, OfFailure, OfFrame, OfTime, WorkIsLed};
-ghost use Rattle.driver.specs.Duty.{DownsComeOnce, ExchangesGoRound, HellosComeFirst, HellosComeOnce, JoinsComeFirst, JoinsGoRound, TasksEnd};
+ghost use Rattle.driver.specs.Driving.{IsOfOneLife, NothingIsPastDue, OnlyMemoryRefuses, OfAsking, OfFailure, OfFrame, OfTime, WorkIsLed};
+ghost use Rattle.driver.specs.Duty.{DownsComeOnce, EachHasItsTurn, ExchangesGoRound, HellosComeFirst, HellosComeOnce, JoinsComeFirst, JoinsGoRound, TasksEnd};
 
+use node_core::laws::each_step_counts;
 use node_events::NodeEvent;
 use node_hosted::HostedNode;
 
 /// Exchanges are begun with the members in turn, and each tick is followed by one of them.
 pub fn exchanges_go_round()
     ensures { ExchangesGoRound }
+{}
+
+/// As many exchanges as there are members are with each of them.
+pub fn each_member_has_its_turn()
+    ensures { EachHasItsTurn }
 {}
 
 /// Joins are begun through the members in turn. While neighbours are few a tick is followed by one,
@@ -44,6 +50,13 @@ pub fn a_call_does_what_is_next()
     ensures led { WorkIsLed }
     ensures all { NothingIsPastDue }
 {}
+
+/// A task is refused for want of memory alone, unless the node is a member of its own plan.
+pub fn only_memory_refuses_tasks()
+    ensures { OnlyMemoryRefuses }
+{
+    each_step_counts();
+}
 
 /// A call is a part of the life of its node, so all that is proved of hosted nodes and their files
 /// holds under a driver.
