@@ -8,7 +8,7 @@
 //! The main thread owns the node, and takes one event after the other; threads that read sockets and the prompt send it events.
 
 use std::error::Error;
-use std::io::{self, BufRead, Write};
+use std::io::{self, Write};
 use std::net::{Ipv4Addr, Shutdown, SocketAddr, TcpListener, TcpStream};
 use std::sync::mpsc::{sync_channel, Receiver, RecvTimeoutError, SyncSender};
 use std::sync::Arc;
@@ -26,10 +26,9 @@ const DUMB: Duration = Duration::from_secs(300);
 const MOST_CONNECTIONS: usize = 64;
 const MOST_WAITING: usize = 1024;
 
+/// A frame, and where it came from; a peer that doesn't answer; or a line that was typed.
 enum Event {
-    /// A frame, and where it came from.
     Frame(Frame, Arc<TcpStream>),
-    /// A peer that doesn't answer.
     Down(u16),
     Line(String),
 }
@@ -46,10 +45,7 @@ fn main() -> Result<(), Box<dyn Error>> {
     let (events, coming) = sync_channel(MOST_WAITING);
     listen(TcpListener::bind(("127.0.0.1", port + number))?, events.clone());
     let prompt = events.clone();
-    thread::spawn(move || {
-        let lines = io::stdin().lock().lines().map_while(Result::ok).chain(["quit".into()]);
-        lines.for_each(|line| drop(prompt.send(Event::Line(line))));
-    });
+    thread::spawn(move || prompt::read(|line| prompt.send(Event::Line(line)).is_ok()));
     let links: Vec<_> = (0..16).map(|to| link(to, port, events.clone())).collect();
     prompt::reply(&format!("node {number} life {}", node.life()));
     let mut driver = Driver::new(node, 0, PACE)?;
@@ -62,7 +58,6 @@ fn listen(listener: TcpListener, events: SyncSender<Event>) {
     let open = Arc::new(());
     thread::spawn(move || {
         for stream in listener.incoming().flatten().map(Arc::new) {
-            // (each thread has one of these)
             if Arc::strong_count(&open) > MOST_CONNECTIONS || stream.set_read_timeout(Some(DUMB)).is_err() {
                 continue;
             }
@@ -104,7 +99,6 @@ fn connect(port: u16) -> io::Result<TcpStream> {
 
 struct Pump {
     driver: Driver,
-    /// What sends a node its frames, by number.
     links: Vec<SyncSender<Frame>>,
     began: Instant,
     watch: Option<u64>,
@@ -115,23 +109,23 @@ impl Pump {
     fn run(mut self, coming: &Receiver<Event>) -> Result<(), Box<dyn Error>> {
         loop {
             if self.driver.wake() <= self.now() {
-                going(self.driver.on_time(self.now()))?;
+                self.driver.on_time(self.now())?;
                 prompt::tell_changes(self.driver.node_mut(), self.watch)?;
             }
             let came = coming.recv_timeout(Duration::from_millis(self.driver.wake().saturating_sub(self.now())));
             let now = self.now();
             match came {
                 Ok(Event::Frame(frame, from)) => match self.driver.on_frame(now, frame.bytes()) {
+                    Err(error) if error.ends_node() => return Err(error.into()),
                     Err(error) if error.ends_stream() => drop(from.shutdown(Shutdown::Both)),
-                    taken => going(taken)?, // (a frame is refused without harm, whatever it says)
+                    _ => {} // (a frame is refused without harm, whatever it says)
                 },
-                Ok(Event::Down(peer)) => going(self.driver.on_failure(now, peer))?,
+                Ok(Event::Down(peer)) => self.driver.on_failure(now, peer)?,
                 Ok(Event::Line(line)) if line.trim() == "quit" => return Ok(()),
-                Ok(Event::Line(line)) => match prompt::obey(&mut self.driver, now, &mut self.watch, &line) {
-                    Ok(frames) => self.send(frames)?,
-                    Err(error) if error.ends_node() => return Err(error.into()), // (started again, it begins its next life)
-                    Err(error) => prompt::reply(&format!("error {error}")),
-                },
+                Ok(Event::Line(line)) => {
+                    let frames = prompt::obey(&mut self.driver, now, &mut self.watch, &line)?;
+                    self.send(frames)?;
+                }
                 Err(RecvTimeoutError::Timeout) => {}
                 Err(RecvTimeoutError::Disconnected) => return Ok(()),
             }
@@ -145,16 +139,9 @@ impl Pump {
     }
 
     fn send(&mut self, frames: Vec<Frame>) -> Result<(), zomtagi::Error> {
-        frames.into_iter().map(|frame| (frame.to(), frame)).try_for_each(|(to, frame)| {
-            match self.links[to as usize].try_send(frame) {
-                Err(_) => going(self.driver.on_failure(self.now(), to)),
-                Ok(()) => Ok(()),
-            }
+        frames.into_iter().try_for_each(|frame| match (frame.to(), self.links[frame.to() as usize].try_send(frame)) {
+            (to, Err(_)) => self.driver.on_failure(self.now(), to),
+            _ => Ok(()),
         })
     }
-}
-
-/// What is left of a call: an error that ends the node.
-fn going<T>(called: Result<T, zomtagi::Error>) -> Result<(), zomtagi::Error> {
-    called.map(drop).or_else(|error| if error.ends_node() { Err(error) } else { Ok(()) })
 }

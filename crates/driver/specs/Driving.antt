@@ -82,7 +82,7 @@ Purpose = Result (Unit {0}) HostFault → Driver → Result (Unit {0}) HostFault
 abbrev pub OfTime : Purpose
 OfTime worked old outcome new = (outcome ≡ worked) × (new ≡ old)
 
--- the step of the event is made, and this becomes of the plan; or it is refused, and nothing changes
+-- the step of the event is made, and this becomes of the plan; or it is refused, and all stays
 abbrev pub MakesStep : NodeEvent → (PlanParts → PlanParts → Type 0)
     → Driver → Result (Unit {0}) HostFault → Driver → Type 0
 MakesStep event Plans old (Ok done) new =

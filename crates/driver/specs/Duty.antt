@@ -116,8 +116,8 @@ ExchangesGoRound = (old new : PlanParts) (happenings : List Happening)
     × (length (partners_in happenings) + one_if new.owes_exchange
     ≡ ticks_in happenings + one_if old.owes_exchange)
 
--- So as many exchanges as there are members are with each of them: two nodes whose drivers each have
--- begun as many have met.
+-- So as many exchanges as there are members are with each of them: two nodes whose drivers have
+-- each begun as many have met.
 abbrev pub EachHasItsTurn : Type 0
 EachHasItsTurn = (old new : PlanParts) (happenings : List Happening) (n : ℕ)
     → Leads old happenings new → KeepMembers happenings → IsPlaceIn old.members old.partner

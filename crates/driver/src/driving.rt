@@ -25,8 +25,8 @@ const MOST_TASKS: usize = 24;
 ///
 /// All calls of this file begin a batch, do what is next, do what they are made for, and end the
 /// batch: the host then stores the records, and fetches the reply of the last step and the frames
-/// of all, also if the call was refused. A task that is refused, for want of memory, stays next, and
-/// with it those behind it; what the call is made for is done all the same, and only `on_time`
+/// of all, also if the call was refused. A task that is refused, for want of memory, stays next,
+/// and with it those behind it; what the call is made for is done all the same, and only `on_time`
 /// returns the refusal.
 ///
 /// Refused with 34 `Stopped`, and with 37 `Pending` until all that the call before gave was stored

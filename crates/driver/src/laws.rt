@@ -1,5 +1,5 @@
-//! Laws of a driver's tasks and calls. The contract of a function is the law; its body does nothing,
-//! or reads what the types of its arguments say.
+//! Laws of a driver's tasks and calls. The contract of a function is the law; its body does
+//! nothing, or reads what the types of its arguments say.
 
 ghost use Rattle.std.specs.Prelude.{List, ℕ, IfSome};
 ghost use Rattle.dvvset.specs.Object.{IsVector};
@@ -44,8 +44,8 @@ pub fn tasks_end()
     ensures { TasksEnd }
 {}
 
-/// What a call has done of its plan is a chain of tasks, each of which was next; and nothing is past
-/// due then, unless one was refused.
+/// What a call has done of its plan is a chain of tasks, each of which was next; and nothing is
+/// past due then, unless one was refused.
 pub fn a_call_does_what_is_next()
     ensures led { WorkIsLed }
     ensures all { NothingIsPastDue }
@@ -62,7 +62,8 @@ pub fn only_memory_refuses_tasks()
 /// holds under a driver.
 pub fn a_call_is_of_one_life(node: &HostedNode, event: &NodeEvent)
     ensures of_time { IsOfOneLife (λ now word. OfTime) node.now }
-    ensures of_frames { (bytes : List ℕ) → IsOfOneLife (λ now word. OfFrame now word bytes) node.now }
+    ensures of_frames { (bytes : List ℕ)
+        → IsOfOneLife (λ now word. OfFrame now word bytes) node.now }
     ensures of_failures { (peer : ℕ)
         → IsOfOneLife (λ now word. OfFailure now word peer) node.now }
     ensures of_asking { IsOfOneLife (λ now word. OfAsking event.now) node.now }

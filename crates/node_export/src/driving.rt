@@ -145,8 +145,8 @@ pub extern "C" fn zomtagi_drive_time(
 }
 
 /// Has the node do what its plan has next, and hands it bytes that should be a frame for it, as
-/// `driver::on_frame` does. Refused with 80 `NoNode`, also without a plan, then as `on_frame` is; 99
-/// `Memory` of a copy may come in place of 34 and 37 too.
+/// `driver::on_frame` does. Refused with 80 `NoNode`, also without a plan, then as `on_frame` is;
+/// 99 `Memory` of a copy may come in place of 34 and 37 too.
 #[unsafe(no_mangle)]
 pub extern "C" fn zomtagi_drive_frame(
     alloc: Global,
@@ -185,9 +185,9 @@ fn take_copy(
     on_frame(node, plan, now, frame, word)
 }
 
-/// Has the node do what its plan has next, and tells it that a peer is down, a link to which failed,
-/// as `driver::on_failure` does. Refused with 80 `NoNode`, also without a plan, 3 `BadNode`, then as
-/// `on_failure` is.
+/// Has the node do what its plan has next, and tells it that a peer is down, a link to which
+/// failed, as `driver::on_failure` does. Refused with 80 `NoNode`, also without a plan, 3
+/// `BadNode`, then as `on_failure` is.
 #[unsafe(no_mangle)]
 pub extern "C" fn zomtagi_drive_failure(
     alloc: Global,

@@ -1,16 +1,25 @@
 //! What the lines that are typed ask for.
 
-use std::io::{self, Write};
+use std::io::{self, BufRead, Write};
 use std::time::{SystemTime, UNIX_EPOCH};
 use zomtagi::{Driver, Error, Frame, Key, Node, Value};
 
 const WORDS: &str = "put NAME VALUE, get NAME, del NAME, resolve NAME, list, watch, root, add NODE, remove NODE, leave or quit";
 
-/// Does what a line asks for, and prints the answer. Returns the frames to send.
+/// Hands on each line that is typed, and at the end one that ends the process.
+pub fn read(tell: impl Fn(String) -> bool) {
+    let lines = io::stdin().lock().lines().map_while(Result::ok).chain(["quit".into()]);
+    lines.take_while(|line| tell(line.clone())).for_each(drop);
+}
+
+/// Does what a line asks for, and prints the answer. Returns the frames to send, or what ended the node: the next life begins
+/// when the process is started again.
 pub fn obey(driver: &mut Driver, now: u64, watch: &mut Option<u64>, line: &str) -> Result<Vec<Frame>, Error> {
-    let (answer, frames) = match asked(driver, now, watch, line)? {
-        Ok(frames) => ("ok".into(), frames),
-        Err(answer) => (answer, Vec::new()),
+    let (answer, frames) = match asked(driver, now, watch, line) {
+        Err(error) if error.ends_node() => return Err(error),
+        Err(error) => (format!("error {error}"), Vec::new()),
+        Ok(Ok(frames)) => ("ok".into(), frames),
+        Ok(Err(shown)) => (shown, Vec::new()),
     };
     reply(&answer);
     Ok(frames)
