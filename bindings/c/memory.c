@@ -43,6 +43,7 @@ static uint8_t buffer[8192], file[8192], frame[4096];
 static size_t len, file_len, frame_len, gate;
 static uint64_t context;
 static zomtagi_slot *slot, *other;
+static zomtagi_plan *plan;
 
 /* What can be asked of a node. */
 struct told {
@@ -142,6 +143,59 @@ static void talk(void)
     STEP(zomtagi_leave(slot));
 }
 
+/* Takes what a call of a driver gave, all of whose steps are made, and no more is refused. */
+static void drain_all(void)
+{
+    long armed = left;
+    left = -1;
+    while (zomtagi_frame(slot, ROOM) == ZOMTAGI_OK) {
+        DO(zomtagi_sent(slot));
+    }
+    left = armed;
+}
+
+/* Has the node do what is next. A task that memory refuses stays next, and those before it are done. */
+static void drive(uint64_t now)
+{
+    uint64_t at;
+    uint16_t number;
+    DO(zomtagi_plan_wake(slot, plan, &at));
+    if (at > now) {
+        fail("zomtagi_plan_wake", "tells a time too late");
+    }
+    number = zomtagi_drive_time(slot, plan, now, 7);
+    drain_all();
+    if (number == ZOMTAGI_MEMORY) {
+        DO(zomtagi_plan_wake(slot, plan, &at));
+        if (at > now) {
+            fail("zomtagi_drive_time", "was refused memory, and forgot a task");
+        }
+        number = zomtagi_drive_time(slot, plan, now, 7);
+        drain_all();
+    }
+    if (number != ZOMTAGI_OK) {
+        fail("zomtagi_drive_time", zomtagi_refusal_name(number));
+    }
+}
+
+static void be_driven(void)
+{
+    uint8_t came[sizeof frame];
+    size_t came_len = frame_len;
+    memcpy(came, frame, sizeof frame);
+    DO(zomtagi_plan_begin(plan, 0, 1000, 60000));
+    DO(zomtagi_plan_add(slot, plan, 0, 1));
+    DO(zomtagi_plan_add(slot, plan, 0, 2));
+    drive(0);
+    drive(1000);
+    STEP(zomtagi_drive_frame(slot, plan, 1500, came, came_len, 7));
+    STEP(zomtagi_drive_failure(slot, plan, 1500, 2, 7));
+    DO(zomtagi_plan_remove(plan, 2));
+    zomtagi_plan_end(plan);
+    memcpy(frame, came, sizeof frame);
+    frame_len = came_len;
+}
+
 static void write_here(void)
 {
     STEP(zomtagi_watch(slot, APP, FLAGS, 4));
@@ -191,6 +245,7 @@ static void live(void)
     memcpy(file + gate, buffer, len);
     DO(zomtagi_stored(slot, 1));
     write_elsewhere();
+    be_driven();
     talk();
     write_here();
     write_at_once();
@@ -206,7 +261,8 @@ int main(void)
     long count = -1;
     slot = zomtagi_slot_new();
     other = zomtagi_slot_new();
-    if (slot == NULL || other == NULL) {
+    plan = zomtagi_plan_new();
+    if (slot == NULL || other == NULL || plan == NULL) {
         return 1;
     }
     do {
@@ -216,6 +272,7 @@ int main(void)
     left = -1;
     zomtagi_slot_drop(slot);
     zomtagi_slot_drop(other);
+    zomtagi_plan_drop(plan);
     printf("%ld allocations\n", count);
     return 0;
 }

@@ -74,7 +74,7 @@ enum {
     ZOMTAGI_NOTHING = 38,           /* there is nothing to hand out, or no batch to end */
     ZOMTAGI_NOT_ADDRESSED = 40,     /* the frame is addressed to another node */
     ZOMTAGI_NO_SUCH_READ = 43,      /* there is no context of this number */
-    ZOMTAGI_NO_NODE = 80,           /* there is no node in the slot */
+    ZOMTAGI_NO_NODE = 80,           /* there is no node in the slot, or no plan in its own */
     ZOMTAGI_SHORT_BUFFER = 81,      /* the buffer is shorter than what it should hold */
     ZOMTAGI_BAD_LIFE = 82,          /* lives are numbered from 1 */
     ZOMTAGI_MEMORY = 99             /* memory ran out */
@@ -311,6 +311,98 @@ uint16_t zomtagi_begin_batch(zomtagi_slot *slot);
  * Refused with 80 NoNode, 34 Stopped, 38 Nothing (no batch is open).
  */
 uint16_t zomtagi_end_batch(zomtagi_slot *slot);
+
+/* ---- driving ----
+ *
+ * A node does nothing by itself. Its plan says what is next, and when: a tick at the pace that you
+ * choose; after each tick one exchange, with one member after the other; while the node has fewer
+ * neighbours than three and than there are members, also a hello, if there was none in this life,
+ * and a join, through one member after the other; and a member that sent nothing for too long counts
+ * as down, once until a frame comes from it.
+ *
+ * A plan is of one life of one node, and begins without members: name all other nodes. Times are in
+ * milliseconds from any moment on, and never fall. Call zomtagi_drive_time when the time has come
+ * that zomtagi_plan_wake tells, and before you take further frames.
+ *
+ * Each zomtagi_drive_* is a batch: it does what is next, then what its name says. After it, also if
+ * it was refused with anything but 34, 37 and 80, call what you call after a step: zomtagi_record and
+ * zomtagi_stored; zomtagi_reply, of the last step, if there was one; and zomtagi_frame and
+ * zomtagi_sent until no frame is left. Until then the next one is refused with 37. A task that memory
+ * refuses stays next.
+ *
+ * Between these calls the node makes the steps that you ask for, such as writes, as ever.
+ */
+
+/*
+ * A place for one plan, which zomtagi_plan_new makes. The rules of a slot are its own: one call at a
+ * time, none after zomtagi_plan_drop, and a copy by value doesn't compile.
+ */
+typedef struct zomtagi_plan zomtagi_plan;
+
+/* Returns an empty place for a plan, or NULL if memory ran out. */
+static inline zomtagi_plan *zomtagi_plan_new(void) {
+    /* (two words of zeros: a flag, and where the plan is) */
+    return (zomtagi_plan *)calloc(2, sizeof(void *));
+}
+
+/*
+ * Begins a plan without members, whose first tick is due now; one that was there is freed. Ticks are
+ * `tick` milliseconds apart, at least 1. A member that sends nothing for `quiet` milliseconds counts
+ * as down: members that hold the same answer no exchange, so let it be longer than a tick for each
+ * member.
+ * Refused with 99 Memory: the plan is then as it was.
+ */
+uint16_t zomtagi_plan_begin(zomtagi_plan *plan, uint64_t now, uint64_t tick, uint64_t quiet);
+
+/* Frees the plan, if there is one; its place is empty afterwards. */
+void zomtagi_plan_end(zomtagi_plan *plan);
+
+/* Frees the place, and the plan in it; of NULL it does nothing. */
+static inline void zomtagi_plan_drop(zomtagi_plan *plan) {
+    if (plan != NULL) {
+        zomtagi_plan_end(plan);
+        free(plan);
+    }
+}
+
+/*
+ * Makes another node a member, unless it is one; the node of the slot itself isn't made one. It
+ * counts as heard of now.
+ * Refused with 80 NoNode, 3 BadNode, 99 Memory.
+ */
+uint16_t zomtagi_plan_add(zomtagi_slot *slot, zomtagi_plan *plan, uint64_t now, uint16_t member);
+
+/*
+ * Takes a member out, if it is one. Exchanges and joins then begin anew with the first. Call
+ * zomtagi_drive_failure first.
+ * Refused with 80 NoNode, 3 BadNode.
+ */
+uint16_t zomtagi_plan_remove(zomtagi_plan *plan, uint16_t member);
+
+/*
+ * Writes the time to *at from which on the plan has something to do, if nothing happens before.
+ * Refused with 80 NoNode.
+ */
+uint16_t zomtagi_plan_wake(zomtagi_slot *slot, zomtagi_plan *plan, uint64_t *at);
+
+/*
+ * Does what is next: reply 6, if anything was. The word is random.
+ * Refused with 80 NoNode, 34 Stopped, 37 Pending, 99 Memory.
+ */
+uint16_t zomtagi_drive_time(zomtagi_slot *slot, zomtagi_plan *plan, uint64_t now, uint64_t word);
+
+/*
+ * Does what is next, and then as zomtagi_take; the sender counts as heard of. Refused as that is.
+ */
+uint16_t zomtagi_drive_frame(zomtagi_slot *slot, zomtagi_plan *plan, uint64_t now,
+                             const uint8_t *frame, size_t frame_len, uint64_t word);
+
+/*
+ * A link to a peer failed: does what is next, and then as zomtagi_peer_down, unless the peer counts
+ * as down already. Refused as that is.
+ */
+uint16_t zomtagi_drive_failure(zomtagi_slot *slot, zomtagi_plan *plan, uint64_t now, uint16_t peer,
+                               uint64_t word);
 
 /* ---- what the node hands out ----
  *

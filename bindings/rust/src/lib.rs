@@ -26,9 +26,9 @@
 //!
 //! - [`FileStore::create`] makes the file of a node once, and [`FileStore::open`] begins each further life. A node of
 //!   [`Node::new`] has no file.
-//! - One thread owns the [`Node`], and calls it when something happens: [`Node::hello`] and [`Node::join`] as a life begins,
-//!   [`Node::take`] when bytes come, [`Node::tick`] each second, [`Node::exchange`] with one node after the other,
-//!   [`Node::peer_down`] when a peer doesn't answer.
+//! - One thread owns the [`Node`], and a [`Driver`] has it do what is due: it calls [`Driver::on_time`] when the time has come,
+//!   [`Driver::on_frame`] when bytes come, and [`Driver::on_failure`] when a link fails. Whoever does without makes the calls of
+//!   the node himself: [`Node::tick`], [`Node::exchange`], [`Node::hello`], [`Node::join`], [`Node::peer_down`].
 //! - After each call it sends the [`Frame::bytes`] of each frame to the node [`Frame::to`]. Frames may be lost, repeated and
 //!   reordered; exchanges repair it.
 //! - [`Node::set_keys`] seals frames: whoever can forge one can undo writes.
@@ -40,6 +40,7 @@
 #![doc(test(attr(deny(warnings))))]
 
 mod batch;
+mod driver;
 mod error;
 mod file;
 mod keys;
@@ -49,6 +50,7 @@ mod refusal;
 mod types;
 
 pub use batch::Batch;
+pub use driver::{Driver, Pace};
 pub use error::Error;
 pub use file::FileStore;
 pub use keys::{SealKeys, SEAL_KEY_LEN, SEAL_LEN};

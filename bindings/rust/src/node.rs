@@ -438,25 +438,38 @@ impl Node {
     /// # Ok::<(), zomtagi::Error>(())
     /// ```
     pub fn take(&mut self, bytes: &[u8]) -> Result<(Taken, Vec<Frame>), Error> {
+        let mut frames = Vec::new();
+        let taken = self.take_by(bytes, &mut frames, |slot, frame, word| unsafe {
+            zomtagi_take(slot, frame.as_ptr(), frame.len(), word)
+        })?;
+        Ok((taken, frames))
+    }
+
+    /// Takes a frame by this call of an export.
+    pub(crate) fn take_by(
+        &mut self,
+        bytes: &[u8],
+        frames: &mut Vec<Frame>,
+        call: impl FnOnce(*mut Slot, &[u8], u64) -> u16,
+    ) -> Result<Taken, Error> {
         let frame = match &self.keys {
             Some(keys) => keys.open(bytes)?,
             None => bytes,
         };
         let word = (self.words)();
-        let reply = match self.step(|slot| unsafe { zomtagi_take(slot, frame.as_ptr(), frame.len(), word) }) {
+        let reply = match self.drive(frames, |slot| call(slot, frame, word)) {
             Err(Error::Refused(Refusal::BadBody)) => return Err(bad_body(frame)),
-            reply => reply?,
+            reply => reply?.unwrap_or_default(),
         };
-        let taken = match reply[0] {
-            4 => Taken::Fresh,
-            5 => Taken::Stale,
+        let taken = match reply.first() {
+            Some(4) => Taken::Fresh,
+            Some(5) => Taken::Stale,
             _ => Taken::Taken,
         };
-        let (frames, key) = (self.frames()?, key_of(frame));
-        if let (true, Taken::Fresh, Some(key)) = (self.is_keeping, taken, key) {
+        if let (true, Taken::Fresh, Some(key)) = (self.is_keeping, taken, key_of(frame)) {
             self.keep(&key)?;
         }
-        Ok((taken, frames))
+        Ok(taken)
     }
 
     /// Time passes. Returns the frames to send.
@@ -820,6 +833,42 @@ impl Node {
         // (the caller never gets the frames of such a step, and while they are pending the library makes no other)
         self.is_stopped = !matches!(reply, Ok(Some(_)));
         reply?.ok_or(Error::Refused(Refusal::Nothing))
+    }
+
+    /// Makes a call of an export that may be a batch, and fetches what it gave, also if it was refused: the reply of the last step,
+    /// if there was one, and the frames.
+    pub(crate) fn drive(
+        &mut self,
+        frames: &mut Vec<Frame>,
+        call: impl FnOnce(*mut Slot) -> u16,
+    ) -> Result<Option<Vec<u8>>, Error> {
+        self.going()?;
+        self.forget_dropped();
+        let called = answered(call(self.slot.get_mut()));
+        if called.as_ref().is_err_and(Error::ends_node) {
+            return called.map(|()| None);
+        }
+        self.store_record()?;
+        let reply = self.fetch(|slot, buffer, size, len| unsafe { zomtagi_reply(slot, buffer, size, len) });
+        // (the caller never gets the frames of such a step, and while they are pending the library makes no other)
+        self.is_stopped = reply.is_err();
+        let reply = reply?;
+        frames.extend(self.frames()?);
+        called.map(|()| reply)
+    }
+
+    /// A random word.
+    pub(crate) fn word(&mut self) -> u64 {
+        (self.words)()
+    }
+
+    pub(crate) fn slot(&mut self) -> *mut Slot {
+        self.slot.get_mut()
+    }
+
+    /// The slot, for an export that only tells.
+    pub(crate) fn shared_slot(&self) -> *mut Slot {
+        self.slot.get()
     }
 
     /// Refused if it is stopped.

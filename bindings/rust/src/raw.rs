@@ -15,6 +15,20 @@ impl Slot {
 /// and frees its memory by `malloc` and `free`, from any thread.
 unsafe impl Send for Slot {}
 
+/// A place for a plan, likewise.
+#[repr(C)]
+pub struct PlanSlot {
+    full: bool,
+    plan: *mut u8,
+}
+
+impl PlanSlot {
+    pub const EMPTY: PlanSlot = PlanSlot { full: false, plan: std::ptr::null_mut() };
+}
+
+/// (as a node may)
+unsafe impl Send for PlanSlot {}
+
 /// What is told of a node.
 #[repr(C)]
 #[derive(Default)]
@@ -31,6 +45,9 @@ macro_rules! exports {
         extern "C" {
             $(pub fn $name(slot: *mut Slot, $($argument: $type),*) -> u16;)*
             pub fn zomtagi_free(slot: *mut Slot);
+            pub fn zomtagi_plan_begin(plan: *mut PlanSlot, now: u64, tick: u64, quiet: u64) -> u16;
+            pub fn zomtagi_plan_end(plan: *mut PlanSlot);
+            pub fn zomtagi_plan_remove(plan: *mut PlanSlot, member: u16) -> u16;
             pub fn zomtagi_empty_file(node: u16, buffer: *mut u8, size: usize, len: &mut usize) -> u16;
             pub fn zomtagi_clean_copy(bytes: *const u8, len: usize, node: u16, buffer: *mut u8, size: usize,
                 copy_len: &mut usize) -> u16;
@@ -72,6 +89,11 @@ exports! {
     zomtagi_sent();
     zomtagi_begin_batch();
     zomtagi_end_batch();
+    zomtagi_plan_add(plan: *mut PlanSlot, now: u64, member: u16);
+    zomtagi_plan_wake(plan: *mut PlanSlot, at: &mut u64);
+    zomtagi_drive_time(plan: *mut PlanSlot, now: u64, word: u64);
+    zomtagi_drive_frame(plan: *mut PlanSlot, now: u64, frame: *const u8, len: usize, word: u64);
+    zomtagi_drive_failure(plan: *mut PlanSlot, now: u64, peer: u16, word: u64);
     zomtagi_keep_context(number: &mut u64);
     zomtagi_forget_context(number: u64);
     zomtagi_prefixes(buffer: *mut u8, size: usize, len: &mut usize);

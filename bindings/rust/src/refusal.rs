@@ -115,7 +115,7 @@ refusals! {
     Nothing = 38, "there is nothing to hand out, or no batch to end";
     NotAddressed = 40, "the frame is addressed to another node";
     NoSuchRead = 43, "there is no context of this number";
-    NoNode = 80, "there is no node in the slot";
+    NoNode = 80, "there is no node in the slot, or no plan in its own";
     ShortBuffer = 81, "the buffer is shorter than what it should hold";
     BadLife = 82, "lives are numbered from 1";
     Memory = 99, "memory ran out";

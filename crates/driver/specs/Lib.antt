@@ -3,3 +3,5 @@
 pub mod Plan
 -- what comes of many tasks
 pub mod Duty
+-- a node with its plan: what a call of a driver does
+pub mod Driving

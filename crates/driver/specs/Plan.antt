@@ -1,6 +1,6 @@
 -- What a driver does next: when a tick is due, with whom an exchange is begun, through whom the
 -- node joins, and who is given up. The rule is our own.
-use Rattle.std.specs.Prelude.{◌≡◌, ◌<◌, ◌⊎◌, ◌+◌, ℕ, nat_le, nat_lt, min, Bool, true, false, not, ◌&&◌, if◌then◌else◌, List, [], ◌∷◌, ◌++◌, length, map, filter, nat_eq, slice_get, Option, Some, None}
+use Rattle.std.specs.Prelude.{◌≡◌, ◌<◌, ◌⊎◌, ◌+◌, ℕ, nat_le, nat_lt, min, Bool, true, false, not, ◌&&◌, ◌||◌, if◌then◌else◌, List, [], ◌∷◌, ◌++◌, length, map, filter, nat_eq, slice_get, Option, Some, None}
 use Rattle.std.specs.List.{list_any}
 use Rattle.driver.specs.declared.member.Member.{Member}
 use Rattle.driver.specs.declared.member.Change.{Change}
@@ -48,11 +48,11 @@ abbrev pub changed : Change → ℕ → List Member → List Member
 changed change node members = map (learn change node) members
 
 -- the members but that of the node; one that is added now; whether there is one
-abbrev pub is_other : ℕ → Member → Bool
-is_other node m = not (nat_eq m.node node)
+abbrev pub is_of_another : ℕ → Member → Bool
+is_of_another node m = not (nat_eq m.node node)
 
 abbrev pub others : ℕ → List Member → List Member
-others node members = filter (is_other node) members
+others node members = filter (is_of_another node) members
 
 abbrev pub new_member : (now node : ℕ) → Member
 new_member now node =
@@ -60,6 +60,14 @@ new_member now node =
 
 abbrev pub has_member : ℕ → List Member → Bool
 has_member node members = list_any (λ m. nat_eq m.node node) members
+
+-- some member of the node passes the test
+abbrev pub has_member_that : (Member → Bool) → ℕ → List Member → Bool
+has_member_that test node members = list_any (λ m. nat_eq m.node node && test m) members
+
+-- the node was given up, and no frame came from it since
+abbrev pub is_given_up : ℕ → List Member → Bool
+is_given_up node members = has_member_that (λ m. m.is_down) node members
 
 -- it sent nothing for so long, and isn't given up yet
 abbrev pub is_silent : ℕ → ℕ → Member → Bool
@@ -99,6 +107,21 @@ task_of now neighbours p =
     else if p.owes_exchange then exchange_task (slice_get p.members p.partner)
     else if nat_le p.due now then Some Tick
     else down_task p.pace.quiet now p.members
+
+-- ---- when something is next
+
+-- something is owed
+abbrev pub is_owed : (neighbours : ℕ) → PlanParts → Bool
+is_owed neighbours p = (p.owes_join && are_few neighbours p.members) || p.owes_exchange
+
+-- from when on the member is silent, if that is sooner and it isn't given up yet
+abbrev pub sooner : (quiet first : ℕ) → Member → ℕ
+sooner quiet first m = if m.is_down then first else min first (m.heard + quiet)
+
+-- from when on one of the members is silent, if that is sooner
+abbrev pub soonest : (quiet first : ℕ) → List Member → ℕ
+soonest quiet first [] = first
+soonest quiet first (m ∷ members) = soonest quiet (sooner quiet first m) members
 
 -- ---- what follows
 
@@ -145,8 +168,8 @@ still_owed owed members = owed && nat_lt 0 (length members)
 
 -- if it is a member, nobody is of this node any more, and both turns begin anew with the first
 -- member
-abbrev pub without : (node : ℕ) → PlanParts → PlanParts
-without node p = record p {
+abbrev pub taken_out : (node : ℕ) → PlanParts → PlanParts
+taken_out node p = record p {
   members = others node p.members;
   contact = 0;
   partner = 0;
@@ -154,4 +177,4 @@ without node p = record p {
 }
 
 abbrev pub without_member : (node : ℕ) → PlanParts → PlanParts
-without_member node p = if has_member node p.members then without node p else p
+without_member node p = if has_member node p.members then taken_out node p else p

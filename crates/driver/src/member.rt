@@ -1,5 +1,5 @@
-ghost use Rattle.std.specs.Prelude.{◌≡◌, ◌≤◌, ◌+◌, nat_le, not, ◌&&◌};
-ghost use Rattle.driver.specs.Plan.{changed, is_other, is_silent, learn, made, others};
+ghost use Rattle.std.specs.Prelude.{◌≡◌, ◌≤◌, ◌+◌, ◌<◌, ◌^◌, nat_le, not, ◌&&◌};
+ghost use Rattle.driver.specs.Plan.{changed, is_of_another, is_silent, learn, made, others, sooner};
 
 use meta_types::NodeId;
 
@@ -58,7 +58,7 @@ impl Member {
 
     /// Returns whether it is not of this node.
     fn is_other(&self, node: NodeId) -> bool
-        ensures { result ≡ is_other node self.now }
+        ensures { result ≡ is_of_another node self.now }
     {
         self.node != node
     }
@@ -68,6 +68,17 @@ impl Member {
         ensures { result ≡ is_silent quiet now self.now }
     {
         !self.is_down && self.heard <= now && now - self.heard >= quiet
+    }
+
+    /// Returns from when on it is silent, if that is sooner and it isn't given up yet.
+    pub(crate) fn sooner(&self, quiet: u64, first: u64) -> u64
+        ensures { result ≡ sooner quiet first self.now }
+    {
+        if self.is_down {
+            first
+        } else {
+            first.min(self.heard.saturating_add(quiet))
+        }
     }
 }
 

@@ -1,7 +1,7 @@
 //! What is due, what is owed, and to whom.
 
 ghost use Rattle.std.specs.Prelude.{◌≡◌, ◌≤◌, ◌↔◌, ◌++◌, ◌∷◌, [], ℕ, IsSome, IsTrue, OnOk, OnErr, slice_get, length, false, true};
-ghost use Rattle.driver.specs.Plan.{after, are_few, down_task, has_member, heard_from, join_task, new_plan, next_place, still_owed, task_of, with_member, without_member};
+ghost use Rattle.driver.specs.Plan.{after, are_few, down_task, has_member, heard_from, is_given_up, is_owed, join_task, new_plan, next_place, soonest, still_owed, task_of, with_member, without_member};
 
 use crate::member::{Change, Member, change_each, take_out};
 use crate::task::Task;
@@ -115,6 +115,17 @@ fn down_task(quiet: u64, now: u64, members: &[Member]) -> Option<Task>
     None
 }
 
+/// Returns from when on one of the members is silent, if that is sooner.
+fn soonest(quiet: u64, first: u64, members: &[Member]) -> u64
+    ensures { result ≡ soonest quiet first members.now }
+{
+    let mut soonest = first;
+    for member in members {
+        soonest = member.sooner(quiet, soonest);
+    }
+    soonest
+}
+
 impl Plan {
     /// Makes a plan without members, whose first tick is due now.
     pub fn new(alloc: Global, pace: Pace, now: u64) -> Self
@@ -186,6 +197,34 @@ impl Plan {
             return Some(Task::Tick);
         }
         down_task(self.pace.quiet, now, self.members.as_slice())
+    }
+
+    /// Returns from when on something is to be done next, of a node with this many neighbours, if
+    /// nothing happens before.
+    pub fn wake(&self, neighbours: usize) -> u64
+        ensures { (now : ℕ) → IsSome (task_of now neighbours self.now) ↔ (result ≤ now) }
+    {
+        let _contact = self.contact; // (for its type)
+        if self.is_owed(neighbours) {
+            return 0;
+        }
+        soonest(self.pace.quiet, self.due, self.members.as_slice())
+    }
+
+    /// Returns whether something is owed for the last tick.
+    fn is_owed(&self, neighbours: usize) -> bool
+        ensures { result ≡ is_owed neighbours self.now }
+    {
+        (self.owes_join && are_few(neighbours, self.members.as_slice())) || self.owes_exchange
+    }
+
+    /// Returns whether the node is a member that was given up, and no frame came from it since.
+    pub fn is_given_up(&self, node: NodeId) -> bool
+        ensures { result ≡ is_given_up node self.now.members }
+    {
+        self.members
+            .iter()
+            .any(|member| member.node == node && member.is_down)
     }
 
     /// Marks the task as done.

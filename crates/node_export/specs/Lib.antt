@@ -1,5 +1,5 @@
 -- What must be believed of the exports, in the order in which to read it.
--- what a handle owns: a box of a hosted node, or nothing
+-- what a handle owns: a box of a hosted node, or of a plan, or nothing
 pub mod Held
 -- what a call does with the node that a slot lends it
 pub mod Lending
@@ -7,3 +7,5 @@ pub mod Lending
 pub mod Spelling
 -- what each export does with the node in the slot, and what it returns and hands out
 pub mod Exports
+-- what it does with that node and its plan
+pub mod Driving

@@ -10,19 +10,22 @@
 //! zomtagi_tick(&slot, random());
 //! ```
 //!
-//! Read `making`, `steps`, `writing`, `batching`, `handing`, `contexts`, `reading`, `checking`,
-//! `copying` and `sealing`; `numbers` has what they return, `reply` how a reply is spelled, and
-//! `slot` where the program keeps the node, with `parts` for how a box is taken apart.
+//! Read `making`, `steps`, `writing`, `batching`, `driving`, `handing`, `contexts`, `reading`,
+//! `checking`, `copying` and `sealing`; `numbers` has what they return, `reply` how a reply is
+//! spelled, and `slot` and `plan_slot` where the program keeps the node and its plan, with `parts`
+//! for how a box is taken apart.
 #![tactic(auto)]
 
 mod batching;
 mod checking;
 mod contexts;
 mod copying;
+mod driving;
 mod handing;
 mod making;
 mod numbers;
 mod parts;
+mod plan_slot;
 mod reading;
 mod reply;
 mod sealing;
@@ -31,5 +34,6 @@ mod steps;
 mod writing;
 
 pub use numbers::{BAD_LIFE, NO_NODE, OK, SHORT_BUFFER};
+pub use plan_slot::PlanSlot;
 pub use reading::About;
 pub use slot::Slot;

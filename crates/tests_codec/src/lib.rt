@@ -1,9 +1,8 @@
-//! The tests of frames, seals, inboxes and plans: of `frame_fields`, `frame_readers`, `meta_frame`,
-//! `sealed_frames`, `inbox` and `driver`, over their public calls, apart from them, since a crate
-//! is proved once more with its tests. They show what no contract says: that each call that takes
-//! memory succeeds if there is enough, and when it is made again after memory was refused. The
-//! stored run of the program `plumctl` shows what is refused and what is printed. No crate uses
-//! this one.
+//! The tests of frames, seals and inboxes: of `frame_fields`, `frame_readers`, `meta_frame`,
+//! `sealed_frames` and `inbox`, over their public calls, apart from them, since a crate is proved
+//! once more with its tests. They show what no contract says: that each call that takes memory
+//! succeeds if there is enough, and when it is made again after memory was refused. The stored run
+//! of the program `plumctl` shows what is refused and what is printed. No crate uses this one.
 #![tactic(auto)]
 
 // What a function of a test costs to prove grows with each place at which it may end while it owns
@@ -30,8 +29,6 @@ mod kept;
 mod kinds;
 #[cfg(test)]
 mod large;
-#[cfg(test)]
-mod plans;
 #[cfg(test)]
 mod published_seals;
 #[cfg(test)]

@@ -1,6 +1,6 @@
 //! The tests of nodes and of what stands in them and around them: resolvers and watches, the
-//! overlay, one node, and a world. What a text can say is a row of `rows`. They stand apart, since
-//! a crate is proved once more with its tests. No crate uses this one.
+//! overlay, one node, its plan, and a world. What a text can say is a row of `rows`. They stand
+//! apart, since a crate is proved once more with its tests. No crate uses this one.
 #![tactic(auto)]
 
 // What is proved of a function grows with the places at which it may end while it owns something.
@@ -38,6 +38,8 @@ mod lives;
 mod overlay;
 #[cfg(test)]
 mod parts;
+#[cfg(test)]
+mod plans;
 #[cfg(test)]
 mod playing;
 #[cfg(test)]
