@@ -30,8 +30,8 @@ use Rattle.agreement.specs.World.{AcceptsAll, IsDeliveryOf, numbers_of}
 abbrev pub eager_of : World → ℕ → List ℕ
 eager_of w n = (node_at w n).state.overlay.cast.eager
 
--- the eager peers of each node of the tree are the nodes that an edge joins it with; so of two nodes
--- of the tree each is an eager peer of the other, or neither is
+-- the eager peers of each node of the tree are the nodes that an edge joins it with; so of two
+-- nodes of the tree each is an eager peer of the other, or neither is
 pub record IsEagerTree (w : World) (root : ℕ) (edges : List Exchange) : Type 0 where
   pub tree : IsTree root edges
   pub eager : (n m : ℕ) → is_in root edges n ≡ true

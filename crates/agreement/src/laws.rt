@@ -160,8 +160,8 @@ pub fn exchanges_outwards_repair()
         → known (after_meetings hs k (outwards edges)) n k p ≡ true }
 {}
 
-/// If each node of a tree passes on to the next what it knows, from the root to the leaves, all know
-/// what the root knew. Each node of a tree may be its root.
+/// If each node of a tree passes on to the next what it knows, from the root to the leaves, all
+/// know what the root knew. Each node of a tree may be its root.
 pub fn what_is_passed_on_along_a_tree_is_known_by_all()
     ensures known { (root : ℕ) (edges : List Exchange) → IsTree root edges
         → (before : Known) (n m : ℕ) → is_in root edges n ≡ true → before root m ≡ true

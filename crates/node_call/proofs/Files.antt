@@ -56,7 +56,7 @@ module _ {D : Type 0} (content : D → List ℕ) (may_leave : D → List ℕ →
 
 -- ---- why nothing is stored
 
-some_is : {A : Type 0} (x y : A) → Some x ≡ Some y → x ≡ y
+pub some_is : {A : Type 0} (x y : A) → Some x ≡ Some y → x ≡ y
 some_is x y is = ap (λ found. unwrap_or found x) is
 
 later_part : (a b : Bool) → (a && b) ≡ true → b ≡ true
@@ -64,7 +64,7 @@ later_part true b both = both
 later_part false b both = absurd (cc)
 
 -- of an object that a store may hold, for a file that isn't stopped
-full_alone : (gate : ℕ) (key : Key) (object : List Entry) (fault : FileFault)
+pub full_alone : (gate : ℕ) (key : Key) (object : List Entry) (fault : FileFault)
     → is_small_enough most_merged object ≡ true
     → refusal_of_append false gate key object ≡ Some fault
     → (fault ≡ FileFull) × (is_too_long_with gate (Object key object) ≡ true)

@@ -1,3 +1,4 @@
 pub mod Runs
 pub mod Listing
 pub mod Files
+pub mod Batching

@@ -5,6 +5,10 @@ use Rattle.node_events.specs.declared.fault.StepFault.TheVariants as OfStep
 use Rattle.node_events.specs.Fault as events
 use Rattle.node_file.specs.declared.fault.FileFault.{FileFault}
 use Rattle.node_file.specs.declared.fault.FileFault.TheVariants as OfFile
+use Rattle.node_file.specs.declared.batch_fault.BatchFault.{BatchFault}
+use Rattle.node_file.specs.declared.batch_fault.BatchFault.TheVariants as OfBatch
+use Rattle.node_call.specs.declared.batch.BatchRefusal.{BatchRefusal}
+use Rattle.node_call.specs.declared.batch.BatchRefusal.TheVariants.{TooMany, Write, Node}
 use Rattle.node_call.specs.declared.fault.LockFault.{LockFault}
 use Rattle.node_call.specs.declared.fault.LockFault.TheVariants.{Step, Device, FileFull, Stopped, JournalFull, NoSeat, SeatsMissing, BadLimit, Memory}
 
@@ -41,3 +45,9 @@ abbrev pub of_append : FileFault → LockFault
 of_append OfFile.FileFull = FileFull
 of_append OfFile.Device = Device
 of_append fault = Memory
+
+-- the refusal of an append of many: one object has no room, or the refusal is of the file
+abbrev pub of_batch : BatchFault → BatchRefusal
+of_batch OfBatch.TooMany = TooMany
+of_batch (OfBatch.Object place fault) = Write place (of_append fault)
+of_batch (OfBatch.File fault) = Node (of_append fault)

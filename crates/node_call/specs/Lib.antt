@@ -4,6 +4,8 @@ pub mod Journaled
 pub mod Stored
 -- what is made ready before an entry is kept
 pub mod Ready
+-- several writes, which are all made or none
+pub mod Batch
 -- what an accepted call returns
 pub mod Acknowledged
 -- the numbers and names of refusals

@@ -1,7 +1,9 @@
 -- What an event stores in a node's file, what the file is afterwards, and why it isn't stored.
-use Rattle.std.specs.Prelude.{◌≡◌, ◌≢◌, ◌⊎◌, ℕ, List, Option, None, false, true}
+use Rattle.std.specs.Prelude.{◌≡◌, ◌≢◌, ◌⊎◌, ℕ, List, map, Option, Some, None, false, true}
 use Rattle.std.specs.FinMap.{is_sorted}
 use Rattle.meta_types.specs.Order.{key_cmp}
+use Rattle.meta_types.specs.Name.{Key}
+use Rattle.dvvset.specs.Object.{Entry}
 use Rattle.meta_store.specs.Table.{Table}
 use Rattle.devices.specs.Device.{HasFailed}
 use Rattle.node_events.specs.Event.{stored_key}
@@ -15,7 +17,12 @@ use Rattle.node_file.specs.declared.fault.FileFault.TheVariants.{FileFull, Devic
 use Rattle.node_file.specs.declared.record.Record.{Record}
 use Rattle.node_file.specs.File.{OpensLike, file_state}
 use Rattle.node_file.specs.Stored.{IsTooLong, LeavesRecord, record_under, with_stored}
+use Rattle.node_file.specs.Batch.{refusal_of_batch, state_with_all}
+use Rattle.node_file.specs.declared.batch_fault.BatchFault.{BatchFault}
+use Rattle.node_file.specs.declared.batch_fault.BatchFault.TheVariants as batches
+use Rattle.node_file.specs.Clean.{row_record}
 use Rattle.node_file.specs.View.{FileView, IsSettled}
+use Rattle.node_readers.specs.Published.{Published}
 
 -- the record that an event stores, after which this is held: the object that is held under its key,
 -- if it stores one and something is held there
@@ -35,6 +42,30 @@ pub record HasStored {D : Type 0} (content : D → List ℕ) (may_leave : D → 
   pub tells : file_state (content new.device)
       ≡ with_stored stored (file_state (content old.device))
   pub settled : IsSettled content may_leave new
+
+-- the key and the object of each change
+abbrev pub stored_rows : List Published → List (Key × List Entry)
+stored_rows changes = map (λ c. (c.key, c.object)) changes
+
+-- the file has the objects of all these changes, one after the other, besides all that it had, and
+-- every crash leaves that
+pub record HasStoredAll {D : Type 0} (content : D → List ℕ) (may_leave : D → List ℕ → Type 0)
+    (changes : List Published) (old new : FileView D) : Type 0 where
+  pub tells : file_state (content new.device)
+      ≡ state_with_all (file_state (content old.device)) (map row_record (stored_rows changes))
+  pub settled : IsSettled content may_leave new
+
+-- why the objects of these changes aren't stored: a file of this closed gate has no room for the
+-- one at a place; its device failed, which stops it; or memory ran out
+abbrev pub RefusesStoringAll : {D : Type 0} → ℕ → List Published → ℕ → ℕ → FileView D → BatchFault
+    → Type 0
+RefusesStoringAll gate changes before now new (batches.Object place FileFull) =
+    (refusal_of_batch false gate (stored_rows changes) ≡ Some (batches.Object place FileFull))
+    × (new.is_stopped ≡ false)
+RefusesStoringAll gate changes before now new (batches.File Device) =
+    HasFailed before now × (new.is_stopped ≡ true)
+RefusesStoringAll gate changes before now new (batches.File Memory) = Unit {0}
+RefusesStoringAll gate changes before now new fault = ⊥
 
 -- unless the file is stopped, it holds what it held, and every crash leaves that
 abbrev pub IsStillWhole : {D : Type 0} → (D → List ℕ) → (D → List ℕ → Type 0)

@@ -179,7 +179,7 @@ fn make(
     Ok(Made { entry, change })
 }
 
-fn make_room(journal: &mut Vec<Entry>, limit: usize, steps: u64) -> Result<(), LockFault>
+pub(crate) fn make_room(journal: &mut Vec<Entry>, limit: usize, steps: u64) -> Result<(), LockFault>
     ensures same { journal.new.items ≡ journal.old.items }
     ensures room { OnOk result (vec_len journal.new < vec_capacity journal.new) }
     ensures few { OnOk result ((length journal.old.items < limit) × (steps < 2 ^ 64 - 1)) }
@@ -206,7 +206,10 @@ fn entry_of(event: &NodeEvent, attempt: &Attempt) -> Result<Entry, AllocError>
 }
 
 /// Returns a copy of what the store holds under the key, if there is a key.
-fn held_under(key: Option<&MetaKey>, store: &Store) -> Result<Option<Published>, AllocError>
+pub(crate) fn held_under(
+    key: Option<&MetaKey>,
+    store: &Store,
+) -> Result<Option<Published>, AllocError>
     requires { IfSome (option_copied key) (λ key. find key_cmp key store.now ≢ None) }
     ensures { IfOk result (IsHeldUnder (option_copied key.entry) store.now) }
 {

@@ -37,6 +37,14 @@ impl<L: Ledger> WriteSeat<L> {
         book.add(&mut self.share, 1);
     }
 
+    /// Counts as many accepted calls.
+    pub fn count_all(&mut self, calls: usize, book: &mut Book<L>)
+        ensures seat { self.new ≡ self.old + calls }
+        ensures total { book.new.total ≡ book.old.total + calls }
+    {
+        book.add(&mut self.share, calls as u64);
+    }
+
     /// Returns its part of the ledger, with what it counted.
     pub fn into_share(self) -> Share<L>
         ensures parts { result.parts ≡ 1 }

@@ -11,7 +11,7 @@ use Rattle.node_core.specs.declared.savepoint.Former.{Former}
 use Rattle.node_events.specs.declared.event.NodeEvent.{NodeEvent}
 use Rattle.node_core.specs.Attempt.{CanEndRest, IsAttempt, committed, ended, taken_back, undone}
 use Rattle.node_core.specs.Node.{IsInLife, NodeParts}
-use Rattle.node_core.specs.Savepoint.{CanHoldAgain, CanRollBack, SavepointParts, formers_of, held_again, rolled_back, with_formers_of}
+use Rattle.node_core.specs.Savepoint.{CanHoldAgain, CanRollBack, SavepointParts, formers_of, held_again, as_saved, with_formers_of}
 
 -- ---- the last change comes first
 
@@ -97,13 +97,13 @@ at_table p node incarnation table = record {
 }
 
 undone_alike : (p : SavepointParts) (a : Attempt) (s : NodeParts)
-    → rolled_back (with_formers_of a p) (committed a s) ≡ rolled_back p (taken_back a s)
+    → as_saved (with_formers_of a p) (committed a s) ≡ as_saved p (taken_back a s)
 unfolding at_table
 undone_alike p a s = λ i. at_table p (same_node a.end s i) (same_life a.end s i) (held_by_end a.end p.formers s i)
 
 pub rolled_alike : (p : SavepointParts) (a : Attempt) (event : NodeEvent) (old s : NodeParts) → IsAttempt old event s a
-    → rolled_back (with_formers_of a p) (committed a s) ≡ rolled_back p old
-rolled_alike p a event old s is = undone_alike p a s ∙ ap (rolled_back p) is.back
+    → as_saved (with_formers_of a p) (committed a s) ≡ as_saved p old
+rolled_alike p a event old s is = undone_alike p a s ∙ ap (as_saved p) is.back
 
 pub can_still : (p : SavepointParts) (a : Attempt) (event : NodeEvent) (old s : NodeParts) → IsAttempt old event s a
     → CanRollBack p old → CanRollBack (with_formers_of a p) (committed a s)

@@ -37,8 +37,8 @@ held_again [] table = table
 held_again (f ∷ later) table = with_former f.key f.before (held_again later table)
 
 -- the node is again what it was
-abbrev pub rolled_back : SavepointParts → NodeParts → NodeParts
-rolled_back p s = record s {
+abbrev pub as_saved : SavepointParts → NodeParts → NodeParts
+as_saved p s = record s {
   table = held_again p.formers s.table;
   overlay = p.overlay;
   watches = p.watches;
@@ -58,4 +58,4 @@ CanHoldAgain (f ∷ later) table =
 -- a node that stands here can be rolled back
 pub record CanRollBack (p : SavepointParts) (s : NodeParts) : Type 0 where
   pub held : CanHoldAgain p.formers s.table
-  pub in_life : IsInLife (rolled_back p s)
+  pub in_life : IsInLife (as_saved p s)

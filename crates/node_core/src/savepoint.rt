@@ -6,7 +6,7 @@ ghost use Rattle.std.specs.FinMap.{find};
 ghost use Rattle.std.specs.Option.{option_copied};
 ghost use Rattle.meta_types.specs.Order.{key_cmp};
 ghost use Rattle.meta_store.specs.Table.{IsHeld, with_former};
-ghost use Rattle.node_core.specs.Savepoint.{CanHoldAgain, CanRollBack, held_again, rolled_back, with_formers_of};
+ghost use Rattle.node_core.specs.Savepoint.{CanHoldAgain, CanRollBack, held_again, as_saved, with_formers_of};
 ghost use Rattle.node_core.specs.Step.{IsNodeStep, Rejects};
 
 use crate::attempt::{Attempt, End};
@@ -103,7 +103,7 @@ impl NodeState {
     /// Returns a savepoint. Fails only when memory runs out.
     pub fn savepoint(&self) -> Result<Savepoint, AllocError>
         ensures can { IfOk result (λ savepoint. CanRollBack savepoint self.now) }
-        ensures back { IfOk result (λ savepoint. rolled_back savepoint self.now ≡ self.now) }
+        ensures back { IfOk result (λ savepoint. as_saved savepoint self.now ≡ self.now) }
     {
         let (overlay, watches) = both(self.overlay.copy(), self.watches.copy())?;
         Ok(Savepoint {
@@ -117,8 +117,8 @@ impl NodeState {
         })
     }
 
-    /// Makes the step of an event, as [`NodeState::step_on`] does, so that it can be taken back
-    /// with all others since the savepoint. Refused as that is.
+    /// Makes the step of an event, so that it can be taken back with all others since the
+    /// savepoint. Refused as `step` is.
     pub fn step_since(
         &mut self,
         savepoint: &mut Savepoint,
@@ -128,7 +128,7 @@ impl NodeState {
         ensures step { IfOk result (IsNodeStep self.old event.now self.new) }
         ensures refused { IfErr result (λ fault. Rejects self.old event.now fault self.new) }
         ensures can { CanRollBack savepoint.new self.new }
-        ensures back { rolled_back savepoint.new self.new ≡ rolled_back savepoint.old self.old }
+        ensures back { as_saved savepoint.new self.new ≡ as_saved savepoint.old self.old }
     {
         let attempt = self.attempt(event)?;
         match savepoint.note(&attempt) {
@@ -143,7 +143,7 @@ impl NodeState {
     /// Takes all steps since the savepoint back: the node is what it was. It takes no memory.
     pub fn roll_back(&mut self, savepoint: Savepoint)
         requires { CanRollBack savepoint self.old }
-        ensures { self.new ≡ rolled_back savepoint self.old }
+        ensures { self.new ≡ as_saved savepoint self.old }
     {
         let Savepoint {
             overlay,

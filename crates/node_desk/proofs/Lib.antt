@@ -1,2 +1,3 @@
+pub mod Batched
 pub mod Kept
 pub mod Served

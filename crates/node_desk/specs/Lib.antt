@@ -4,5 +4,7 @@ pub mod Desk
 pub mod Starting
 -- a call that makes a step
 pub mod Acting
+-- what a batch of writes does
+pub mod Batching
 -- what is left of a node
 pub mod Closing

@@ -7,17 +7,20 @@
 //! reader.learn(done.revision()); // from here on this reader shows it or what came later
 //! ```
 //!
-//! Read `desk` (`Desk::act`), `seats`, `starting` and `closing`; `node_call` has what a call is
-//! made of.
+//! Read `desk`, `acting` (`Desk::act`), `batching` (`Desk::act_all`), `seats`, `starting` and
+//! `closing`; `node_call` has what a call is made of.
 #![tactic(auto)]
 
 mod acting;
+mod batching;
 mod closing;
 mod desk;
 mod outlets;
+mod outlets_all;
 mod seats;
 mod starting;
 
+pub use batching::Receipts;
 pub use closing::NotClosed;
 pub use desk::{Desk, MAX_SEATS};
 pub use starting::{Capacity, MAX_JOURNAL, NotStarted, Started};

@@ -86,7 +86,7 @@ impl<D: Device + Drop, J: Naming, H: Wait + Drop> Outlets<D, J, H> {
 }
 
 /// Returns the refusal of an append, as a refusal of a call.
-fn of_append(fault: FileFault) -> LockFault
+pub(crate) fn of_append(fault: FileFault) -> LockFault
     ensures { result ≡ of_append fault }
 {
     match fault {

@@ -1,5 +1,5 @@
 -- What is known of a call of a node through its lock.
-use Rattle.std.specs.Prelude.{◌≡◌, ◌≢◌, ◌+◌, ℕ, List, None, All, Result, MatchResult}
+use Rattle.std.specs.Prelude.{◌≡◌, ◌≢◌, ◌+◌, ◌<◌, ℕ, List, None, All, length, Result, MatchResult}
 use Rattle.meta_store.specs.Table.{Table}
 use Rattle.node_events.specs.Event.{stored_key}
 use Rattle.node_events.specs.declared.event.NodeEvent.{NodeEvent}
@@ -7,16 +7,23 @@ use Rattle.node_events.specs.declared.fault.StepFault.{StepFault}
 use Rattle.node_events.specs.declared.fault.StepFault.TheVariants as OfStep
 use Rattle.node_core.specs.Node.{NodeParts}
 use Rattle.node_core.specs.Step.{CanComeOf, IsNodeStep}
+use Rattle.node_file.specs.Batch.{most_batch}
 use Rattle.node_journal.specs.Closed.{ClosedNode}
+use Rattle.node_journal.specs.declared.receipt.Receipt.{Receipt}
 use Rattle.node_journal.specs.Entry.{stepped_of}
 use Rattle.node_readers.specs.Published.{Published, with_all}
 use Rattle.node_readers.specs.Views.{SeatView}
 use Rattle.node_call.specs.declared.fault.LockFault.{LockFault}
-use Rattle.node_call.specs.declared.fault.LockFault.TheVariants.{Step, Device, FileFull, JournalFull, NoSeat, SeatsMissing, BadLimit}
+use Rattle.node_call.specs.declared.fault.LockFault.TheVariants.{Step, Device, FileFull, Stopped, JournalFull, NoSeat, SeatsMissing, BadLimit, Memory}
 use Rattle.node_desk.specs.Closing.{IsWithin, RefusesClosing}
 use Rattle.node_call.specs.Acknowledged.{Acknowledged}
+use Rattle.node_call.specs.declared.batch.BatchRefusal.{BatchRefusal}
+use Rattle.node_call.specs.declared.batch.BatchRefusal.TheVariants as refusals
+use Rattle.node_call.specs.declared.write.Write.{Write}
+use Rattle.node_call.specs.Batch.{IsBatch, PreventsAt}
 use Rattle.node_call.specs.Journaled.{IsJournaled}
 use Rattle.node_call.specs.Ready.{CanStep}
+use Rattle.node_desk.specs.Batching.{CanBatch}
 use Rattle.node_desk.specs.Desk.{BeganWith, IsReceiptOf}
 
 -- the event makes the step of the receipt, at its place, from some state that a node comes to after
@@ -66,6 +73,54 @@ RefusesCall node incarnation opened event NoSeat = ⊥
 RefusesCall node incarnation opened event SeatsMissing = ⊥
 RefusesCall node incarnation opened event BadLimit = ⊥
 RefusesCall node incarnation opened event fault = Unit {0}
+
+-- ---- a batch of writes
+
+-- the writes are made, with these receipts, by some state that a node comes to after it opened with
+-- this table in this life; and what was published up to them makes the table that they leave
+pub record AnswersBatch (node incarnation : ℕ) (opened : Table) (writes : List Write)
+    (receipts : List Receipt) (list : List Published) : Type 0 where
+  pub old : NodeParts
+  pub new : NodeParts
+  pub changes : List Published
+  pub began : BeganWith node incarnation opened old
+  pub batch : IsBatch old writes receipts changes new
+  pub table : with_all opened list ≡ new.table
+
+-- some such state can make the writes
+pub record CanMakeAll (node incarnation : ℕ) (opened : Table) (writes : List Write) : Type 0 where
+  pub old : NodeParts
+  pub began : BeganWith node incarnation opened old
+  pub can : CanBatch old writes
+
+-- some such state can make the writes before this place, and then, with some journal, not that one
+pub record CanPrevent (node incarnation : ℕ) (opened : Table) (writes : List Write) (place : ℕ)
+    (fault : LockFault) : Type 0 where
+  pub old : NodeParts
+  pub limit : ℕ
+  pub count : ℕ
+  pub began : BeganWith node incarnation opened old
+  pub prevents : PreventsAt place old writes limit count fault
+
+-- why the write at this place refuses the batch: the file has no room for what they store, or it
+-- can't be made
+abbrev pub RefusesWriteOfCall : ℕ → ℕ → Table → List Write → ℕ → LockFault → Type 0
+RefusesWriteOfCall node incarnation opened writes place FileFull =
+    CanMakeAll node incarnation opened writes
+RefusesWriteOfCall node incarnation opened writes place fault =
+    CanPrevent node incarnation opened writes place fault
+
+-- why a batch is refused: it has too many writes; one of them is refused; or the device fails, the
+-- node is stopped, or memory runs out
+abbrev pub RefusesBatchCall : ℕ → ℕ → Table → List Write → BatchRefusal → Type 0
+RefusesBatchCall node incarnation opened writes refusals.TooMany = most_batch < length writes
+RefusesBatchCall node incarnation opened writes (refusals.Write place fault) =
+    RefusesWriteOfCall node incarnation opened writes place fault
+RefusesBatchCall node incarnation opened writes (refusals.Node Device) =
+    CanMakeAll node incarnation opened writes
+RefusesBatchCall node incarnation opened writes (refusals.Node Stopped) = Unit {0}
+RefusesBatchCall node incarnation opened writes (refusals.Node Memory) = Unit {0}
+RefusesBatchCall node incarnation opened writes (refusals.Node fault) = ⊥
 
 -- ---- when it is closed
 

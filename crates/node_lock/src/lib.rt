@@ -11,6 +11,13 @@
 //! let (closed, device) = node.close(writers, &readers)?;
 //! ```
 //!
+//! Several writes at once, which are stored by one pair of syncs, and made whole or not at all:
+//!
+//! ```
+//! let done = node.write_all(rt, &mut writers[0], writes)?; // a `Write` for each
+//! readers[0].learn(&done.revision); // this reader shows all of them, or what came later
+//! ```
+//!
 //! Read `node` (`Node`), then `node_desk` for what a call does under the lock, and `node_readers`
 //! for what a reader sees. The refusals, 51 `JournalFull` among them, are those of `LockFault`.
 #![tactic(auto)]
@@ -18,7 +25,8 @@
 mod node;
 
 pub use node::{Node, NotClosed, Started};
-pub use node_call::{Acknowledgement, LockFault, WriteSeat};
-pub use node_desk::{Capacity, MAX_JOURNAL, MAX_SEATS, NotStarted};
+pub use node_call::{Acknowledgement, BatchRefusal, LockFault, Write, WriteSeat};
+pub use node_desk::{Capacity, MAX_JOURNAL, MAX_SEATS, NotStarted, Receipts};
+pub use node_file::MAX_BATCH;
 pub use node_journal::{Closed, Entry, Receipt};
 pub use node_readers::{Beginning, Naming, PeekFault, ReadSeat, Revision, Shown};

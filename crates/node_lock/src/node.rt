@@ -1,18 +1,18 @@
 //! A desk under a lock, which threads share.
 
-ghost use Rattle.std.specs.Prelude.{◌≡◌, ◌≤◌, ◌⊎◌, ◌+◌, ℕ, None, length, sum_by, IfOk, IfErr, OnOk};
+ghost use Rattle.std.specs.Prelude.{◌≡◌, ◌≤◌, ◌⊎◌, ◌+◌, ℕ, None, length, sum_by, MatchResult, IfOk, IfErr, OnOk};
 ghost use Rattle.node_events.specs.declared.event.NodeEvent.TheVariants.{Read, Write, PutOver, Take, Tick, Join, PeerDown, Exchange, Keep, Watch, Changes, Hello, Leave};
 ghost use Rattle.node_call.specs.declared.fault.LockFault.TheVariants.{Memory, NoSeat, Stopped};
 ghost use Rattle.node_journal.specs.Closed.{EndsWithTable};
 ghost use Rattle.node_desk.specs.Desk.{BeganWith};
 ghost use Rattle.node_desk.specs.Starting.{AreNewReaders, AreNewWriters, IsFileOf, RefusesStarting, refusal_of_start};
-ghost use Rattle.node_lock.specs.Call.{AnswersCall, CanRefuseClosing, Counts, EndsList, RefusesCall};
+ghost use Rattle.node_lock.specs.Call.{AnswersBatch, AnswersCall, CanRefuseClosing, Counts, EndsList, RefusesBatchCall, RefusesCall};
 
 use devices::Device;
 use meta_store::{Context, Store};
 use meta_types::{ByteString, FullPrefix, MetaKey, NodeId, Value};
-use node_call::{Acknowledgement, LockFault, WriteSeat};
-use node_desk::{Capacity, Desk, NotStarted};
+use node_call::{Acknowledgement, BatchRefusal, LockFault, WriteSeat};
+use node_desk::{Capacity, Desk, NotStarted, Receipts};
 use node_events::NodeEvent;
 use node_file::NodeFile;
 use node_journal::Closed;
@@ -124,6 +124,25 @@ impl<D: Device + Drop, J: Naming, H: Wait + Drop> Node<D, J, H> {
             (RefusesCall J.node J.incarnation J.opening (PutOver key value)) }
     {
         self.act(rt, seat, NodeEvent::PutOver { key, value })
+    }
+
+    /// Makes all these writes, one after another, or none: their records come into the file by one
+    /// append, and readers are shown all that they changed at once. So one pair of syncs stores
+    /// them all. Refused as [`Desk::act_all`] is.
+    pub fn write_all<R: Wait>(
+        &self,
+        rt: &R,
+        seat: &mut WriteSeat<J>,
+        writes: Vec<node_call::Write>,
+    ) -> Result<Receipts<J>, BatchRefusal>
+        ensures answers { IfOk result (λ r. AnswersBatch J.node J.incarnation J.opening
+            writes.items r.receipts.items r.revision) }
+        ensures counted { MatchResult result
+            (λ r. seat.new ≡ seat.old + length r.receipts.items) (λ _. seat.new ≡ seat.old) }
+        ensures refused { IfErr result
+            (RefusesBatchCall J.node J.incarnation J.opening writes.items) }
+    {
+        self.desk.lock(rt).act_all(rt, seat, writes)
     }
 
     /// Takes a frame. Refused as [`Desk::act`] is.

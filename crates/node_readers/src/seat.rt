@@ -115,9 +115,10 @@ impl<J: Naming> ReadSeat<J> {
         Ok(shown?)
     }
 
-    /// Lends what stands under the key to `look`, and returns what that returned. This is the object
-    /// whose values and vector `peek` shows, or the absent object if nothing is held. Nothing is
-    /// copied: it takes no memory but what `look` takes, and never waits but as `look` does.
+    /// Lends what stands under the key to `look`, and returns what that returned. This is the
+    /// object whose values and vector `peek` shows, or the absent object if nothing is held.
+    /// Nothing is copied: it takes no memory but what `look` takes, and never waits but as `look`
+    /// does.
     ///
     /// `look` is called once, inside of the look, so the publisher waits for it. Let it be short,
     /// and let it call nothing of the node: a call that publishes, made there, would wait for
