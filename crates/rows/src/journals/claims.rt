@@ -2,8 +2,8 @@
 
 use meta_store::Context;
 use meta_types::ByteString;
-use node_core::{NodeState, Stepped};
-use node_events::{NodeEvent, Reply, StepFault};
+use node_core::NodeState;
+use node_events::{NodeEvent, Reply};
 use node_journal::{Closed, Entry, Receipt};
 use run_record::{Place, RecordFault};
 use std::alloc::{AllocError, Global};
@@ -72,27 +72,12 @@ fn waits(closed: &[Closed], at: Place, places: &[Place]) -> bool {
 /// Returns whether the node makes the journal from here on.
 fn makes(state: &mut NodeState, journal: &[Entry]) -> bool {
     for entry in journal {
-        if !makes_entry(state, entry) {
-            return false;
+        match state.step_on(&entry.event) {
+            Ok(given) if given.reply == entry.reply && given.outbox == entry.outbox => {}
+            _ => return false,
         }
     }
     true
-}
-
-fn makes_entry(state: &mut NodeState, entry: &Entry) -> bool {
-    let given = state.step_on(&entry.event);
-    let is_so = is_told(&given, entry);
-    // Dropped by a call, so that the proof doesn't take it apart.
-    drop(given);
-    is_so
-}
-
-/// Returns whether a step gave what the entry says.
-fn is_told(given: &Result<Stepped, StepFault>, entry: &Entry) -> bool {
-    match given {
-        Ok(given) => given.reply == entry.reply && given.outbox == entry.outbox,
-        Err(_) => false,
-    }
 }
 
 /// Returns whether the node makes its journal again by itself, and then holds its table.

@@ -43,7 +43,7 @@ impl Nodes {
 
     /// Begins a node that knows nobody, in place of one of the same number.
     fn begin(&mut self, alloc: Global, number: NodeId) -> Result<(), RowFault> {
-        drop(self.by_number.insert(number, Node::new(alloc, number))?);
+        self.by_number.insert(number, Node::new(alloc, number))?;
         self.at = Some(number);
         Ok(())
     }

@@ -6,7 +6,7 @@ use crate::words::{Words, node_of};
 use frame_fields::Nodes;
 use hyparview::ViewEvent;
 use meta_frame::{Message, NeighborAnswer, Priority};
-use meta_types::{NodeId, both};
+use meta_types::NodeId;
 use std::alloc::Global;
 
 /// Reads what follows a command, but for its random word.
@@ -31,17 +31,13 @@ pub fn read_event(
 
 /// Reads a message for another part, which changes no view.
 fn read_stray(words: &mut Words<'_>) -> Result<ViewEvent, RowFault> {
-    let message = stray_of(words.next()?);
-    let (message, from) = both(message, read_sender(words))?;
+    let message = match words.next()? {
+        "prune" => Message::Prune,
+        "hello" => Message::Hello { life: 2 },
+        _ => return Err(RowFault::Mistyped),
+    };
+    let from = read_sender(words)?;
     Ok(ViewEvent::Taken { from, message })
-}
-
-fn stray_of(word: &str) -> Result<Message, RowFault> {
-    match word {
-        "prune" => Ok(Message::Prune),
-        "hello" => Ok(Message::Hello { life: 2 }),
-        _ => Err(RowFault::Mistyped),
-    }
 }
 
 /// Reads a message for the views.
