@@ -245,8 +245,8 @@ pub fn exchanges_in_a_world_are_exchanges_of_knowledge(world: &World)
 /// The writer alone knows the write at first. At the end each node knows, under the key, what it
 /// knew and what the next one towards the writer knows; so all know what the writer knew, and where
 /// none knew more, all hold the same object. For n nodes of the tree these are n - 1 frames, each
-/// a GOSSIP. The tree is as it was, and one over each of its nodes, so the next write goes
-/// along it, too. Other nodes are as they were. The oldest frame first is one of the orders.
+/// a GOSSIP. The tree is as it was, and one over each of its nodes. Other nodes are as they were.
+/// The oldest frame first is one of the orders.
 pub fn a_write_reaches_all_along_eager_peers(world: &World)
     ensures written { (b : Broadcasts world.now)
         → OfAllTold world.now (λ t. IsNewWrite t b.writer b.key b.value) }

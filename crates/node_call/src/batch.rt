@@ -24,7 +24,7 @@ pub enum BatchRefusal {
     TooMany,
     /// The write at this place, counted from 0, is the first that is refused.
     Write { place: usize, fault: LockFault },
-    /// The node refuses it, whatever it writes: 34 `Stopped`, 30 `Device` or 99 `Memory`.
+    /// It isn't refused at one write: 34 `Stopped`, 30 `Device` or 99 `Memory`.
     Node(LockFault),
 }
 

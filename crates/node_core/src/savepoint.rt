@@ -140,7 +140,8 @@ impl NodeState {
         }
     }
 
-    /// Takes all steps since the savepoint back: the node is what it was. It takes no memory.
+    /// Takes back all steps that `step_since` made with it: the node is what it was. It takes no
+    /// memory.
     pub fn roll_back(&mut self, savepoint: Savepoint)
         requires { CanRollBack savepoint self.old }
         ensures { self.new ≡ as_saved savepoint self.old }

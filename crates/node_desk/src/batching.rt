@@ -38,7 +38,7 @@ impl<D: Device + Drop, J: Naming, H: Wait + Drop> Desk<D, J, H> {
     /// file has no room for, with 33 `FileFull`; with 30 `Device`, which stops the node. 99
     /// `Memory` may come at any time, and stops the node if a byte went out to the device, or if
     /// readers couldn't be shown the changes. A refused batch leaves all as before, except that if
-    /// it stops the node, a crash may leave all its objects in the file.
+    /// it stops the node, the file may have all its objects.
     pub fn act_all<R: Wait>(
         &mut self,
         rt: &R,
