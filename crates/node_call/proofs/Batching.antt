@@ -44,7 +44,7 @@ use Rattle.node_call.specs.declared.fault.LockFault.{LockFault}
 use Rattle.node_call.specs.declared.fault.LockFault.TheVariants.{FileFull, Memory}
 use Rattle.node_call.specs.declared.batch.Batch.{Batch}
 use Rattle.node_call.specs.declared.write.Write.{Write as BatchWrite}
-use Rattle.node_call.specs.Batch.{AreReceipts, IsBatch, IsMadeWrite, IsWrite, Keeps, PreventsAt, entries_of, event_written}
+use Rattle.node_call.specs.Batch.{AreReceipts, HasRoomFor, IsBatch, IsMadeWrite, IsWrite, Keeps, PreventsAt, entries_of, event_written}
 use Rattle.node_call.specs.Journaled.{IsJournaled, IsRunWith}
 use Rattle.node_call.specs.Ready.{HoldsChanged, IsKnownStep, Prevents}
 use Rattle.node_call.specs.Stored.{IsStoredOf, RefusesStoringAll, stored_rows}
@@ -180,6 +180,19 @@ as_many old new writes receipts changes b =
     sym (length-map receipts (λ (r : Receipt). r.entry))
     ∙ (sym (length-map (entries_of receipts) (λ (e : Entry). e.event)) ∙ (ap length b.events ∙ length-map writes event_written))
 
+-- if there was room for one write more, there was room for all
+pub room_on : (made : Result (Entry × Published) LockFault) (old mid : NodeParts) (writes : List BatchWrite) (w : BatchWrite) (receipts : List Receipt)
+    (changes : List Published) (limit : ℕ) (before journal : List Entry) → IsOk made
+    → OnOk made ((length journal < limit) × (mid.steps < 2 ^ 64 - 1)) → IsBatch old writes receipts changes mid
+    → journal ≡ before ++ entries_of receipts → HasRoomFor limit (length before) old (writes ++ w ∷ [])
+room_on (Ok m) old mid writes w receipts changes limit before journal ok few b was = λ some.
+    let long : length journal ≡ length before + length receipts =
+    ap length was ∙ omega (arith, length-append before (entries_of receipts), length-map receipts (λ (r : Receipt). r.entry)) in
+    let many = as_many old mid writes receipts changes b in
+    (omega (arith, few.0, long, many, length-append writes (w ∷ [])), omega (arith, few.1, b.steps, many, length-append writes (w ∷ [])))
+room_on (Err fault) old mid writes w receipts changes limit before journal ok few b was =
+    let clash : false ≡ true = ok in absurd (cc)
+
 -- ---- what a batch makes of a run
 
 pub runs_join_with : (es fs : List Entry) (cs ds : List Published) (old mid new : NodeParts) → IsRunWith old es cs mid → IsRunWith mid fs ds new
@@ -289,25 +302,25 @@ small_rows changes held =
     (All-weaker (λ (c : Published). IsHeld c.object) (λ (c : Published). is_small_enough most_merged c.object ≡ true) (λ c is. is.small) changes held)
 
 of_device : {D : Type 0} (gate : ℕ) (changes : List Published) (before now : ℕ) (new : FileView D) (fault : BatchFault) → IsBatchOfDevice fault before now
-    → (fault ≡ batches.File OfFile.Device → new.is_stopped ≡ true) → RefusesStoringAll gate changes before now new fault
-of_device gate changes before now new batches.TooMany is stops = absurd is
-of_device gate changes before now new (batches.Object place fault) is stops = absurd is
-of_device gate changes before now new (batches.File fault) is stops =
+    → (fault ≡ batches.File OfFile.Device → new.is_stopped ≡ true) → changes ≢ [] → RefusesStoringAll gate changes before now new fault
+of_device gate changes before now new batches.TooMany is stops some = absurd is
+of_device gate changes before now new (batches.Object place fault) is stops some = absurd is
+of_device gate changes before now new (batches.File fault) is stops some =
     let P : FileFault → Type 0 = λ f. RefusesStoringAll gate changes before now new (batches.File f) in
     ⊎_elim
-    (λ memory. subst P (sym memory.0) tt)
-    (λ failed. subst P (sym failed.0) (failed.1, stops (ap batches.File failed.0)))
+    (λ memory. subst P (sym memory.0) some)
+    (λ failed. subst P (sym failed.0) (some, (failed.1, stops (ap batches.File failed.0))))
     is
 
 pub refuses_all : {D : Type 0} (gate : ℕ) (changes : List Published) (before now : ℕ) (new : FileView D) (fault : BatchFault)
     → All (λ (c : Published). IsHeld c.object) changes → length changes ≤ most_batch
     → IsBatchOfDevice fault before now ⊎ (refusal_of_batch false gate (stored_rows changes) ≡ Some fault)
     → (fault ≡ batches.File OfFile.Device → new.is_stopped ≡ true)
-    → ((other : BatchFault) → refusal_of_batch false gate (stored_rows changes) ≡ Some other → new.is_stopped ≡ false)
+    → ((other : BatchFault) → refusal_of_batch false gate (stored_rows changes) ≡ Some other → new.is_stopped ≡ false) → changes ≢ []
     → RefusesStoringAll gate changes before now new fault
-refuses_all gate changes before now new fault held few cause stops goes =
+refuses_all gate changes before now new fault held few cause stops goes some =
     ⊎_elim
-    (λ device. of_device gate changes before now new fault device stops)
+    (λ device. of_device gate changes before now new fault device stops some)
     (λ refused.
     let short : length (stored_rows changes) ≤ most_batch = omega (arith, length-map {B = Key × List Cell} changes (λ (c : Published). (c.key, c.object)), few) in
     let full = refused_for_room (stored_rows changes) gate fault (small_rows changes held) short refused in
@@ -321,9 +334,11 @@ pub refuses_if_not : {D : Type 0} (r : Result (Unit {0}) BatchFault) (halted : B
     → IfErr r (λ fault. IsBatchOfDevice fault before now ⊎ (refusal_of_batch halted gate rows ≡ Some fault))
     → IfErr r (λ fault. fault ≡ batches.File OfFile.Device → new.is_stopped ≡ true)
     → ((other : BatchFault) → refusal_of_batch halted gate rows ≡ Some other → (r ≡ Err other) × (new ≡ old))
+    → (rows ≡ [] → halted ≡ false → IsOk r × (new ≡ old))
     → IfErr r (RefusesStoringAll gate changes before now new)
-refuses_if_not (Ok done) halted gate changes rows before now old new off going is held few cause stops same = tt
-refuses_if_not (Err fault) halted gate changes rows before now old new off going is held few cause stops same =
+refuses_if_not (Ok done) halted gate changes rows before now old new off going is held few cause stops same none = tt
+refuses_if_not (Err fault) halted gate changes rows before now old new off going is held few cause stops same none =
+    let some : changes ≢ [] = λ nothing. let clash : false ≡ true = (none (is ∙ ap stored_rows nothing) off).0 in absurd (cc) in
     let here : (other : BatchFault) → refusal_of_batch false gate (stored_rows changes) ≡ Some other → refusal_of_batch halted gate rows ≡ Some other =
     λ other refused. subst (λ b. refusal_of_batch b gate rows ≡ Some other) (sym off) (subst (λ ro. refusal_of_batch false gate ro ≡ Some other) (sym is) refused) in
     refuses_all gate changes before now new fault held few
@@ -332,3 +347,4 @@ refuses_if_not (Err fault) halted gate changes rows before now old new off going
     cause)
     stops
     (λ other refused. ap (λ (f : FileView _). f.is_stopped) (same other (here other refused)).1 ∙ going)
+    some

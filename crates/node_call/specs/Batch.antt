@@ -1,5 +1,5 @@
 -- A batch: several writes of a node, which are all made or none. The rule is our own.
-use Rattle.std.specs.Prelude.{◌≡◌, ◌≢◌, ◌+◌, ℕ, zero, suc, List, [], ◌∷◌, ◌++◌, length, map, All, None}
+use Rattle.std.specs.Prelude.{◌≡◌, ◌≢◌, ◌≤◌, ◌+◌, ◌-◌, ◌^◌, ℕ, zero, suc, List, [], ◌∷◌, ◌++◌, length, take, map, All, None}
 use Rattle.std.specs.FinMap.{find}
 use Rattle.meta_types.specs.Order.{key_cmp}
 use Rattle.meta_store.specs.Table.{IsTable}
@@ -65,6 +65,12 @@ pub record IsBatch (old : NodeParts) (writes : List Write) (receipts : List Rece
   pub life : new.incarnation ≡ old.incarnation
   pub steps : new.steps ≡ old.steps + length receipts
 
+-- a journal of this limit and length has room for the entries of all these writes, and the life of
+-- the node for their steps
+abbrev pub HasRoomFor : ℕ → ℕ → NodeParts → List Write → Type 0
+HasRoomFor limit count old writes = (writes ≢ [])
+    → (count + length writes ≤ limit) × (old.steps + length writes ≤ 2 ^ 64 - 1)
+
 -- the writes before the one at this place can be made, and then that one is prevented, in a journal
 -- of this limit and length
 abbrev pub PreventsAt : ℕ → NodeParts → List Write → ℕ → ℕ → LockFault → Type 0
@@ -74,6 +80,12 @@ PreventsAt zero old (write ∷ later) limit count fault =
 PreventsAt (suc place) old (write ∷ later) limit count fault =
     (between : NodeParts) × (s : Stepped) × IsNodeStep old (event_written write) between s
     × PreventsAt place between later limit (count + 1) fault
+
+-- the write at this place is the first that is refused: there is room for all before it
+pub record IsRefusedAt (place : ℕ) (old : NodeParts) (writes : List Write) (limit count : ℕ)
+    (fault : LockFault) : Type 0 where
+  pub room : HasRoomFor limit count old (take place writes)
+  pub prevents : PreventsAt place old writes limit count fault
 
 -- ---- what a private function says
 

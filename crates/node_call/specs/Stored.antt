@@ -1,5 +1,5 @@
 -- What an event stores in a node's file, what the file is afterwards, and why it isn't stored.
-use Rattle.std.specs.Prelude.{◌≡◌, ◌≢◌, ◌⊎◌, ℕ, List, map, Option, Some, None, false, true}
+use Rattle.std.specs.Prelude.{◌≡◌, ◌≢◌, ◌⊎◌, ℕ, List, [], map, Option, Some, None, false, true}
 use Rattle.std.specs.FinMap.{is_sorted}
 use Rattle.meta_types.specs.Order.{key_cmp}
 use Rattle.meta_types.specs.Name.{Key}
@@ -56,15 +56,15 @@ pub record HasStoredAll {D : Type 0} (content : D → List ℕ) (may_leave : D �
   pub settled : IsSettled content may_leave new
 
 -- why the objects of these changes aren't stored: a file of this closed gate has no room for the
--- one at a place; its device failed, which stops it; or memory ran out
+-- one at a place; or there is one, and its device failed, which stops it, or memory ran out
 abbrev pub RefusesStoringAll : {D : Type 0} → ℕ → List Published → ℕ → ℕ → FileView D → BatchFault
     → Type 0
 RefusesStoringAll gate changes before now new (batches.Object place FileFull) =
     (refusal_of_batch false gate (stored_rows changes) ≡ Some (batches.Object place FileFull))
     × (new.is_stopped ≡ false)
 RefusesStoringAll gate changes before now new (batches.File Device) =
-    HasFailed before now × (new.is_stopped ≡ true)
-RefusesStoringAll gate changes before now new (batches.File Memory) = Unit {0}
+    (changes ≢ []) × (HasFailed before now × (new.is_stopped ≡ true))
+RefusesStoringAll gate changes before now new (batches.File Memory) = changes ≢ []
 RefusesStoringAll gate changes before now new fault = ⊥
 
 -- unless the file is stopped, it holds what it held, and every crash leaves that

@@ -3,7 +3,7 @@
 ghost use Rattle.std.specs.Prelude.{◌≡◌, ◌⊎◌, ◌≤◌, ◌++◌, ◌∷◌, ℕ, [], length, take, Err, IsOk, IfOk, IfErr, OnOk, OnErr};
 ghost use Rattle.meta_store.specs.Table.{IsTable};
 ghost use Rattle.node_core.specs.Savepoint.{CanRollBack, as_saved};
-ghost use Rattle.node_call.specs.Batch.{IsBatch, Keeps, PreventsAt, entries_of};
+ghost use Rattle.node_call.specs.Batch.{HasRoomFor, IsBatch, IsRefusedAt, Keeps, entries_of};
 ghost use Rattle.node_call.specs.declared.batch.BatchRefusal.TheVariants as refusals;
 ghost use Rattle.node_call.specs.declared.fault.LockFault.{LockFault};
 ghost use Rattle.node_call.specs.declared.fault.LockFault.TheVariants.{Memory};
@@ -95,9 +95,11 @@ pub fn make_all(
         batch.new.changes.items state.new) }
     ensures journal { OnOk result
         (journal.new.items ≡ journal.old.items ++ entries_of batch.new.receipts.items) }
+    ensures room { OnOk result
+        (HasRoomFor limit (length journal.old.items) state.old writes.items) }
     ensures refused { IfErr result (λ r. (place : ℕ) × (fault : LockFault)
         × (r ≡ refusals.Write place fault)
-        × PreventsAt place state.old writes.items limit (length journal.old.items) fault) }
+        × IsRefusedAt place state.old writes.items limit (length journal.old.items) fault) }
     ensures front { take (length journal.old.items) journal.new.items ≡ journal.old.items }
     ensures can { CanRollBack savepoint.new state.new }
     ensures back { as_saved savepoint.new state.new ≡ as_saved savepoint.old state.old }

@@ -1,6 +1,6 @@
 //! What a batch stores is put into the file, before the batch is kept.
 
-ghost use Rattle.std.specs.Prelude.{◌≡◌, ◌≢◌, ◌≤◌, All, None, true, false, length, map, IfOk, IfErr, OnOk, OnErr};
+ghost use Rattle.std.specs.Prelude.{◌≡◌, ◌≢◌, ◌≤◌, [], All, None, true, false, length, map, IfOk, IfErr, OnOk, OnErr};
 ghost use Rattle.std.specs.FinMap.{find};
 ghost use Rattle.meta_types.specs.Order.{key_cmp};
 ghost use Rattle.devices.specs.Device.{LeavesOnly};
@@ -53,6 +53,7 @@ pub fn store_all<D: Device>(
 fn objects_of<'a>(alloc: Global, changes: &'a [Published]) -> Result<Vec<NewObject<'a>>, AllocError>
     ensures rows { IfOk result (λ objects. objects.items ≡ stored_rows changes.now) }
     ensures held { OnOk result (All (λ c. IsHeld c.object) changes.now) }
+    ensures some { OnErr result (changes.now ≢ []) }
 {
     let mut objects = Vec::new(alloc);
     for change in changes {

@@ -1,6 +1,6 @@
 -- What a batch of writes does at a desk.
-use Rattle.std.proofs.Common.{◌≡◌, ◌≢◌, ◌⊎◌, ◌+◌, ◌≤◌, ℕ, Bool, List, ◌++◌, length, map, false, inl, inr, refl, sym, ap, ◌∙◌, subst, arith, length-append}
-use Rattle.std.proofs.lemmas.List.{length-map}
+use Rattle.std.proofs.Common.{◌≡◌, ◌≢◌, ◌⊎◌, ◌+◌, ◌≤◌, ℕ, Bool, List, [], ◌++◌, length, map, false, inl, inr, refl, sym, ap, ◌∙◌, subst, arith, length-append}
+use Rattle.std.proofs.lemmas.List.{length-map, nil_from_length}
 use Rattle.std.proofs.lemmas.List.Sums.{fold-append}
 use Rattle.meta_store.specs.Table.{Table}
 use Rattle.devices.specs.Device.{IsDurable, LeavesOnly}
@@ -21,28 +21,34 @@ use Rattle.node_call.specs.declared.batch.BatchRefusal.TheVariants as refusals
 use Rattle.node_call.specs.declared.fault.LockFault.{LockFault}
 use Rattle.node_call.specs.declared.fault.LockFault.TheVariants.{FileFull, Device, Memory}
 use Rattle.node_call.specs.declared.write.Write.{Write}
-use Rattle.node_call.specs.Batch.{IsBatch, PreventsAt, entries_of, event_written}
+use Rattle.node_call.specs.Batch.{HasRoomFor, IsBatch, IsRefusedAt, entries_of, event_written}
 use Rattle.node_call.specs.Fault.{of_batch}
 use Rattle.node_call.specs.Stored.{IsStoredOf, RefusesStoringAll, stored_rows}
-use Rattle.node_call.proofs.Batching.{never_for_the_file, stored_all}
+use Rattle.node_call.proofs.Batching.{as_many, never_for_the_file, stored_all}
 use Rattle.node_call.proofs.Files.{untouched}
-use Rattle.node_desk.specs.Batching.{CanBatch, LeavesOfBatch, RefusesBatch, RefusesKeepingAll, RefusesWrite}
+use Rattle.node_desk.specs.Batching.{CanBatch, CanKeepAll, LeavesOfBatch, RefusesBatch, RefusesKeepingAll, RefusesWrite}
 use Rattle.node_desk.specs.Desk.{DeskView, IsOfLife}
 use Rattle.node_desk.proofs.Kept.{kept_within}
 
 -- ---- why it is refused
 
 pub refuses_write : {D : Type 0} (old : DeskView D) (writes : List Write) (place : ℕ) (fault : LockFault)
-    → PreventsAt place old.state writes old.limit (length old.journal) fault → RefusesWrite old writes place fault
-refuses_write old writes place FileFull p = absurd (never_for_the_file place old.state writes old.limit (length old.journal) p)
+    → IsRefusedAt place old.state writes old.limit (length old.journal) fault → RefusesWrite old writes place fault
+refuses_write old writes place FileFull p = absurd (never_for_the_file place old.state writes old.limit (length old.journal) p.prevents)
 refuses_write old writes place _ p = p
 
-pub refuses_batch : {D : Type 0} (failed : D → ℕ) (old new : DeskView D) (writes : List Write) (k : CanBatch old.state writes) (refusal : BatchRefusal)
-    → RefusesKeepingAll old.file.gate k.changes (failed old.file.device) (failed new.file.device) new.stopped refusal
+-- what changed something has writes
+some_written : (old : NodeParts) (writes : List Write) (k : CanBatch old writes) → k.changes ≢ [] → writes ≢ []
+some_written old writes k some none =
+    let many = as_many old k.new writes k.receipts k.changes k.batch in
+    some (nil_from_length k.changes (omega (arith, many, k.batch.one_each, ap length none)))
+
+pub refuses_batch : {D : Type 0} (failed : D → ℕ) (old new : DeskView D) (writes : List Write) (k : CanKeepAll old writes) (refusal : BatchRefusal)
+    → RefusesKeepingAll old.file.gate k.can.changes (failed old.file.device) (failed new.file.device) new.stopped refusal
     → RefusesBatch failed old writes refusal new
 refuses_batch failed old new writes k (refusals.Write place FileFull) r = ((k, r.0), r.1)
-refuses_batch failed old new writes k (refusals.Node Device) r = (k, r)
-refuses_batch failed old new writes k (refusals.Node Memory) r = λ _. k
+refuses_batch failed old new writes k (refusals.Node Device) r = (k, (some_written old.state writes k.can r.0, r.1))
+refuses_batch failed old new writes k (refusals.Node Memory) r = λ _. (k, some_written old.state writes k.can r)
 refuses_batch failed old new writes k _ r = absurd r
 
 -- ---- what a crash leaves
@@ -60,9 +66,7 @@ leaves_of_batch content moment left_since from to old writes k leaves =
 pub few_changes : (old new : NodeParts) (writes : List Write) (receipts : List Receipt) (changes : List Published) → IsBatch old writes receipts changes new
     → length writes ≤ most_batch → length changes ≤ most_batch
 few_changes old new writes receipts changes b few =
-    let counted : length receipts ≡ length writes =
-    sym (length-map receipts (λ (r : Receipt). r.entry)) ∙ (sym (length-map (entries_of receipts) (λ (e : Entry). e.event)) ∙ (ap length b.events ∙ length-map writes event_written)) in
-    omega (arith, counted, b.one_each, few)
+    omega (arith, as_many old new writes receipts changes b, b.one_each, few)
 
 pub batch_of_life : (number life : ℕ) (old new : NodeParts) (writes : List Write) (receipts : List Receipt) (changes : List Published)
     → IsOfLife number life old → IsBatch old writes receipts changes new → IsOfLife number life new
@@ -75,11 +79,11 @@ pub keeping_all_refused : {D : Type 0} (gate : ℕ) (changes : List Published) (
     → RefusesStoringAll gate changes before now file fault → RefusesKeepingAll gate changes before now file.is_stopped (of_batch fault)
 keeping_all_refused gate changes before now file (OfFile.Object place faults.FileFull) r = r
 keeping_all_refused gate changes before now file (OfFile.File faults.Device) r = r
-keeping_all_refused gate changes before now file (OfFile.File faults.Memory) r = tt
+keeping_all_refused gate changes before now file (OfFile.File faults.Memory) r = r
 keeping_all_refused gate changes before now file _ r = absurd r
 
 pub refused_at : {D : Type 0} (failed : D → ℕ) (old new : DeskView D) (writes : List Write) (refusal : BatchRefusal) (place : ℕ) (fault : LockFault)
-    → refusal ≡ refusals.Write place fault → PreventsAt place old.state writes old.limit (length old.journal) fault → new.stopped ≡ false
+    → refusal ≡ refusals.Write place fault → IsRefusedAt place old.state writes old.limit (length old.journal) fault → new.stopped ≡ false
     → RefusesBatch failed old writes refusal new
 refused_at failed old new writes refusal place fault is p going =
     subst (λ r. RefusesBatch failed old writes r new) (sym is) (refuses_write old writes place fault p, going)

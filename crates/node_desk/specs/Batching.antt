@@ -1,5 +1,5 @@
 -- What a batch of writes does to a desk: all of them are made, or none.
-use Rattle.std.specs.Prelude.{◌≡◌, ◌≢◌, ◌⊎◌, ◌<◌, ℕ, Bool, true, false, List, ◌++◌, length, map, Some}
+use Rattle.std.specs.Prelude.{◌≡◌, ◌≢◌, ◌⊎◌, ◌<◌, ℕ, Bool, true, false, List, [], ◌++◌, length, map, Some}
 use Rattle.devices.specs.Device.{HasFailed}
 use Rattle.node_core.specs.Node.{NodeParts}
 use Rattle.node_file.specs.Batch.{NoneOrAll, most_batch, refusal_of_batch}
@@ -14,7 +14,7 @@ use Rattle.node_call.specs.declared.batch.BatchRefusal.TheVariants as refusals
 use Rattle.node_call.specs.declared.fault.LockFault.{LockFault}
 use Rattle.node_call.specs.declared.fault.LockFault.TheVariants.{Device, FileFull, Stopped, Memory}
 use Rattle.node_call.specs.declared.write.Write.{Write}
-use Rattle.node_call.specs.Batch.{IsBatch, PreventsAt, entries_of}
+use Rattle.node_call.specs.Batch.{HasRoomFor, IsBatch, IsRefusedAt, entries_of}
 use Rattle.node_call.specs.Stored.{HasStoredAll, stored_rows}
 use Rattle.node_desk.specs.Desk.{DeskView}
 
@@ -36,6 +36,11 @@ pub record CanBatch (old : NodeParts) (writes : List Write) : Type 0 where
   pub new : NodeParts
   pub batch : IsBatch old writes receipts changes new
 
+-- it can make them, and its journal has room for their entries
+pub record CanKeepAll {D : Type 0} (old : DeskView D) (writes : List Write) : Type 0 where
+  pub can : CanBatch old.state writes
+  pub room : HasRoomFor old.limit (length old.journal) old.state writes
+
 -- ---- what a crash leaves on the way
 
 -- bytes that open as before, or that have all that the writes store
@@ -46,21 +51,21 @@ LeavesOfBatch old writes content bytes = OpensLike content bytes ⊎ ((k : CanBa
 -- ---- why it is refused
 
 -- the file has no room for what the write at this place stores, behind those before it
-abbrev pub FillsFileAt : ℕ → ℕ → NodeParts → List Write → Type 0
-FillsFileAt place gate old writes = (k : CanBatch old writes)
-    × (refusal_of_batch false gate (stored_rows k.changes)
+abbrev pub FillsFileAt : {D : Type 0} → ℕ → DeskView D → List Write → Type 0
+FillsFileAt place old writes = (k : CanKeepAll old writes)
+    × (refusal_of_batch false old.file.gate (stored_rows k.can.changes)
     ≡ Some (of_file.Object place faults.FileFull))
 
 -- why the write at this place refuses the batch: as it would refuse the call of its own, after the
 -- writes before it
 abbrev pub RefusesWrite : {D : Type 0} → DeskView D → List Write → ℕ → LockFault → Type 0
-RefusesWrite old writes place FileFull = FillsFileAt place old.file.gate old.state writes
+RefusesWrite old writes place FileFull = FillsFileAt place old writes
 RefusesWrite old writes place fault =
-    PreventsAt place old.state writes old.limit (length old.journal) fault
+    IsRefusedAt place old.state writes old.limit (length old.journal) fault
 
 -- why a batch is refused, and whether the node is stopped then: it has too many writes; one of them
 -- is refused; or the node is stopped, its device fails, which stops it, or memory runs out, which
--- may stop it once the writes were made
+-- may stop it once the writes were made. A batch without writes doesn't come to the device
 abbrev pub RefusesBatch : {D : Type 0} → (D → ℕ) → DeskView D → List Write → BatchRefusal
     → DeskView D → Type 0
 RefusesBatch failed old writes refusals.TooMany new =
@@ -69,19 +74,20 @@ RefusesBatch failed old writes (refusals.Write place fault) new =
     RefusesWrite old writes place fault × (new.stopped ≡ false)
 RefusesBatch failed old writes (refusals.Node Stopped) new =
     (old.stopped ≡ true) × ((new.stopped ≡ true) × (new.file ≡ old.file))
-RefusesBatch failed old writes (refusals.Node Device) new = CanBatch old.state writes
-    × (HasFailed (failed old.file.device) (failed new.file.device) × (new.stopped ≡ true))
+RefusesBatch failed old writes (refusals.Node Device) new =
+    CanKeepAll old writes × ((writes ≢ [])
+    × (HasFailed (failed old.file.device) (failed new.file.device) × (new.stopped ≡ true)))
 RefusesBatch failed old writes (refusals.Node Memory) new =
-    new.stopped ≡ true → CanBatch old.state writes
+    new.stopped ≡ true → CanKeepAll old writes × (writes ≢ [])
 RefusesBatch failed old writes (refusals.Node fault) new = ⊥
 
--- why the outlets refuse what a batch publishes: the file has no room for the object at a place;
--- its device failed, which stops it; or memory ran out
+-- why the outlets refuse what a batch publishes: the file has no room for the object at a place; or
+-- there is a change, and its device failed, which stops it, or memory ran out
 abbrev pub RefusesKeepingAll : ℕ → List Published → ℕ → ℕ → Bool → BatchRefusal → Type 0
 RefusesKeepingAll gate changes before now stopped (refusals.Write place FileFull) =
     (refusal_of_batch false gate (stored_rows changes)
     ≡ Some (of_file.Object place faults.FileFull)) × (stopped ≡ false)
 RefusesKeepingAll gate changes before now stopped (refusals.Node Device) =
-    HasFailed before now × (stopped ≡ true)
-RefusesKeepingAll gate changes before now stopped (refusals.Node Memory) = Unit {0}
+    (changes ≢ []) × (HasFailed before now × (stopped ≡ true))
+RefusesKeepingAll gate changes before now stopped (refusals.Node Memory) = changes ≢ []
 RefusesKeepingAll gate changes before now stopped refusal = ⊥

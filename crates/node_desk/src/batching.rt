@@ -5,6 +5,7 @@ ghost use Rattle.devices.specs.Device.{LeavesOnly};
 ghost use Rattle.node_file.specs.Batch.{most_batch};
 ghost use Rattle.node_core.specs.Savepoint.{CanRollBack, as_saved};
 ghost use Rattle.node_readers.specs.Published.{with_all};
+ghost use Rattle.node_call.specs.Batch.{HasRoomFor};
 ghost use Rattle.node_call.specs.Stored.{IsStillWhole};
 ghost use Rattle.node_call.specs.declared.batch.BatchRefusal.TheVariants as refusals;
 ghost use Rattle.node_call.specs.declared.fault.LockFault.TheVariants.{Stopped};
@@ -38,7 +39,8 @@ impl<D: Device + Drop, J: Naming, H: Wait + Drop> Desk<D, J, H> {
     /// file has no room for, with 33 `FileFull`; with 30 `Device`, which stops the node. 99
     /// `Memory` may come at any time, and stops the node if a byte went out to the device, or if
     /// readers couldn't be shown the changes. A refused batch leaves all as before, except that if
-    /// it stops the node, the file may have all its objects.
+    /// it stops the node, the file may have all its objects. A batch without writes changes
+    /// nothing.
     pub fn act_all<R: Wait>(
         &mut self,
         rt: &R,
@@ -47,6 +49,8 @@ impl<D: Device + Drop, J: Naming, H: Wait + Drop> Desk<D, J, H> {
     ) -> Result<Receipts<J>, BatchRefusal>
         ensures made { IfOk result (λ r. IsBatchMade D.content D.may_leave self.old
             writes.items r.receipts.items self.new) }
+        ensures room { OnOk result
+            (HasRoomFor self.old.limit (length self.old.journal) self.old.state writes.items) }
         ensures revision { IfOk result (λ r. r.revision ≡ self.new.list) }
         ensures makes { OnOk result (with_all J.opening self.new.list ≡ self.new.state.table) }
         ensures rest { KeepsSeats self.old self.new }

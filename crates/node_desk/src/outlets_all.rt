@@ -24,7 +24,7 @@ use std::sync::Wait;
 
 impl<D: Device + Drop, J: Naming, H: Wait + Drop> Outlets<D, J, H> {
     /// Does what may still fail of a batch: puts what the writes store into the file, and shows
-    /// readers what they changed.
+    /// readers what they changed, unless they changed nothing.
     pub(crate) fn store_and_show_all<R: Wait>(
         &mut self,
         rt: &R,
@@ -33,7 +33,8 @@ impl<D: Device + Drop, J: Naming, H: Wait + Drop> Outlets<D, J, H> {
         batch: &mut Batch,
     ) -> Result<(), BatchRefusal>
         requires file { (self.old.file.is_stopped ≡ false) × (self.old.file.is_served ≡ true) }
-        requires going { self.old.is_stopped ≡ false }
+        requires going { (self.old.is_stopped ≡ false)
+            × (self.old.publisher.stopped ≡ false) }
         requires few { length batch.old.changes.items ≤ most_batch }
         requires within { IsStoredOf store.now
             (file_state (D.content self.old.file.device)).contents.table }
@@ -62,6 +63,11 @@ impl<D: Device + Drop, J: Naming, H: Wait + Drop> Outlets<D, J, H> {
             (map row_record (stored_rows batch.old.changes.items))) }
         ensures whose { IsOfSameLife self.old.file self.new.file }
     {
+        if batch.changes.is_empty() {
+            // (for its type)
+            let _ = self.file.device();
+            return Ok(());
+        }
         let stored = store_all(alloc, &mut self.file, batch.changes.as_slice(), store);
         if let Err(fault) = stored {
             self.is_stopped = self.file.is_stopped();

@@ -1,5 +1,5 @@
 -- What is known of a call of a node through its lock.
-use Rattle.std.specs.Prelude.{◌≡◌, ◌≢◌, ◌+◌, ◌<◌, ℕ, List, None, All, length, Result, MatchResult}
+use Rattle.std.specs.Prelude.{◌≡◌, ◌≢◌, ◌+◌, ◌<◌, ℕ, List, [], None, All, length, Result, MatchResult}
 use Rattle.meta_store.specs.Table.{Table}
 use Rattle.node_events.specs.Event.{stored_key}
 use Rattle.node_events.specs.declared.event.NodeEvent.{NodeEvent}
@@ -20,7 +20,7 @@ use Rattle.node_call.specs.Acknowledged.{Acknowledged}
 use Rattle.node_call.specs.declared.batch.BatchRefusal.{BatchRefusal}
 use Rattle.node_call.specs.declared.batch.BatchRefusal.TheVariants as refusals
 use Rattle.node_call.specs.declared.write.Write.{Write}
-use Rattle.node_call.specs.Batch.{IsBatch, PreventsAt}
+use Rattle.node_call.specs.Batch.{IsBatch, IsRefusedAt}
 use Rattle.node_call.specs.Journaled.{IsJournaled}
 use Rattle.node_call.specs.Ready.{CanStep}
 use Rattle.node_desk.specs.Batching.{CanBatch}
@@ -100,7 +100,7 @@ pub record CanPrevent (node incarnation : ℕ) (opened : Table) (writes : List W
   pub limit : ℕ
   pub count : ℕ
   pub began : BeganWith node incarnation opened old
-  pub prevents : PreventsAt place old writes limit count fault
+  pub refused : IsRefusedAt place old writes limit count fault
 
 -- why the write at this place refuses the batch: the file has no room for what they store, or it
 -- can't be made
@@ -117,7 +117,7 @@ RefusesBatchCall node incarnation opened writes refusals.TooMany = most_batch < 
 RefusesBatchCall node incarnation opened writes (refusals.Write place fault) =
     RefusesWriteOfCall node incarnation opened writes place fault
 RefusesBatchCall node incarnation opened writes (refusals.Node Device) =
-    CanMakeAll node incarnation opened writes
+    CanMakeAll node incarnation opened writes × (writes ≢ [])
 RefusesBatchCall node incarnation opened writes (refusals.Node Stopped) = Unit {0}
 RefusesBatchCall node incarnation opened writes (refusals.Node Memory) = Unit {0}
 RefusesBatchCall node incarnation opened writes (refusals.Node fault) = ⊥

@@ -1,8 +1,9 @@
 //! A desk under a lock, which threads share.
 
-ghost use Rattle.std.specs.Prelude.{◌≡◌, ◌≤◌, ◌⊎◌, ◌+◌, ℕ, None, length, sum_by, MatchResult, IfOk, IfErr, OnOk};
+ghost use Rattle.std.specs.Prelude.{◌≡◌, ◌<◌, ◌≤◌, ◌⊎◌, ◌+◌, ℕ, None, length, sum_by, MatchResult, IsErr, IfOk, IfErr, OnOk};
 ghost use Rattle.node_events.specs.declared.event.NodeEvent.TheVariants.{Read, Write, PutOver, Take, Tick, Join, PeerDown, Exchange, Keep, Watch, Changes, Hello, Leave};
 ghost use Rattle.node_call.specs.declared.fault.LockFault.TheVariants.{Memory, NoSeat, Stopped};
+ghost use Rattle.node_file.specs.Batch.{most_batch};
 ghost use Rattle.node_journal.specs.Closed.{EndsWithTable};
 ghost use Rattle.node_desk.specs.Desk.{BeganWith};
 ghost use Rattle.node_desk.specs.Starting.{AreNewReaders, AreNewWriters, IsFileOf, RefusesStarting, refusal_of_start};
@@ -139,6 +140,7 @@ impl<D: Device + Drop, J: Naming, H: Wait + Drop> Node<D, J, H> {
             writes.items r.receipts.items r.revision) }
         ensures counted { MatchResult result
             (λ r. seat.new ≡ seat.old + length r.receipts.items) (λ _. seat.new ≡ seat.old) }
+        ensures many { most_batch < length writes.items → IsErr result }
         ensures refused { IfErr result
             (RefusesBatchCall J.node J.incarnation J.opening writes.items) }
     {

@@ -1,10 +1,10 @@
-use Rattle.std.proofs.Common.{◌≡◌, ◌+◌, List, [], ◌∷◌, ◌++◌, length, refl, sym, ap, subst, ◌∙◌, arith, append_assoc, length-append}
-use Rattle.std.proofs.lemmas.List.{length-map}
+use Rattle.std.proofs.Common.{◌≡◌, ◌+◌, List, [], ◌∷◌, ◌++◌, length, take, refl, sym, ap, subst, ◌∙◌, arith, append_assoc, length-append}
+use Rattle.std.proofs.lemmas.List.{length-map, take_at}
 use Rattle.node_journal.specs.declared.receipt.Receipt.{Receipt}
-use Rattle.node_call.specs.Batch.{PreventsAt, entries_of, event_written}
+use Rattle.node_call.specs.Batch.{HasRoomFor, PreventsAt, entries_of, event_written}
 use Rattle.node_call.specs.Ready.{Prevents}
 use Rattle.node_call.specs.declared.write.Write.{Write}
-use Rattle.node_call.proofs.Batching.{as_many, goes_on, not_kept, prevents_at}
+use Rattle.node_call.proofs.Batching.{as_many, goes_on, not_kept, prevents_at, room_on}
 use Rattle.node_call.proofs.batch.make_all.Goals as goal
 
 pub returns-in-Err-clause-refused : goal.returns-in-Err-clause-refused
@@ -32,8 +32,14 @@ returns-in-Err-clause-refused c =
       c.len-place.result,
       fault,
       refl,
-      subst (λ n. PreventsAt n old c.args.writes.items limit (length before) fault) (sym at)
-          (subst (λ (ws : List Write). PreventsAt (length yielded) old ws limit (length before) fault) all there),
+      record {
+        room =
+            subst (λ (ws : List Write). HasRoomFor limit (length before) old ws)
+            (sym (ap (take c.len-place.result) (sym all) ∙ take_at yielded (w ∷ later) c.len-place.result (sym at))) i.room;
+        prevents =
+            subst (λ n. PreventsAt n old c.args.writes.items limit (length before) fault) (sym at)
+            (subst (λ (ws : List Write). PreventsAt (length yielded) old ws limit (length before) fault) all there);
+      },
     )
 
 pub loop-write-preserved : goal.loop-write-preserved
@@ -48,6 +54,9 @@ loop-write-preserved c =
     record {
       batch = on.batch;
       journal = on.journal;
+      room =
+          room_on made.result c.args.state.now c.loop-write.state yielded c.in-Some.write c.loop-write.batch.receipts.items c.loop-write.batch.changes.items
+          c.args.limit c.args.journal.now.items c.loop-write.journal.items c.in_default.ensures.ok made.ensures.few i.batch i.journal;
       rest =
           append_assoc yielded (c.in-Some.write ∷ []) c.next.new.self.rest.items
           ∙ (ap (λ (l : List Write). yielded ++ l) (sym c.in-Some.ensures.steps.0) ∙ i.rest);

@@ -26,4 +26,4 @@ returns-in-Ok-clause-refused g c =
     let appended = c.append_all in
     refuses_if_not appended.result file.is_stopped file.gate c.args.changes.now c.as_slice.result.now (d.failed file.device) (d.failed appended.new.self.device)
     file appended.new.self c.requires.going c.requires.going (c.as_slice.ensures.value ∙ c.in-Ok.ensures.rows) c.in-Ok.ensures.held c.requires.few
-    appended.ensures.refused appended.ensures.stops appended.ensures.refusals
+    appended.ensures.refused appended.ensures.stops appended.ensures.refusals appended.ensures.none

@@ -2,10 +2,10 @@ use Rattle.std.proofs.Common.{◌≡◌, Global, Vec, length, vec_len, sym, ap, 
 use Rattle.meta_store.specs.Table.{Table}
 use Rattle.node_file.specs.File.{file_state}
 use Rattle.node_journal.specs.declared.receipt.Receipt.{Receipt}
-use Rattle.node_call.specs.Batch.{PreventsAt, entries_of}
+use Rattle.node_call.specs.Batch.{HasRoomFor, IsRefusedAt, entries_of}
 use Rattle.node_call.specs.Stored.{IsStoredOf}
 use Rattle.node_call.proofs.Batching.{journaled_all}
-use Rattle.node_desk.specs.Batching.{CanBatch}
+use Rattle.node_desk.specs.Batching.{CanBatch, CanKeepAll}
 use Rattle.node_desk.specs.Desk.{DeskView}
 use Rattle.node_desk.proofs.Batched.{batch_counts, batch_makes, batch_of_life, batch_within, few_changes, leaves_of_batch, nothing_left, refused_at, refuses_batch}
 use Rattle.node_desk.proofs.Kept.{began_on, kept_within}
@@ -54,7 +54,7 @@ returns-in-Err-clause-refused g c =
     let r = c.in-Err.ensures.refused in
     let writes = c.args.writes.items in
     refused_at g.D.Device.failed c.args.self.now _ writes c.in-Err.refusal r.0 r.1 r.2
-    (subst (λ (v : DeskView g.row.D.Denot). PreventsAt r.0 v.state writes v.limit (length v.journal) r.1) c.self.view_is r.3) c.if-self.false
+    (subst (λ (v : DeskView g.row.D.Denot). IsRefusedAt r.0 v.state writes v.limit (length v.journal) r.1) c.self.view_is r.3) c.if-self.false
 
 pub returns-in-Err-clause-any_moment : goal.returns-in-Err-clause-any_moment
 returns-in-Err-clause-any_moment g c = λ _.
@@ -65,6 +65,9 @@ returns-in-Err-clause-any_moment g c = λ _.
     rw (← c.self.view_is) (nothing_left d.content d.may_leave d.moment d.left_since device s.state c.args.writes.items (c.device.ensures.settled w.file).durable (g.met.D.Device.now_is_all device))
 
 -- ---- all were made
+
+pub store_and_show_all-done-requires-clause-going : goal.store_and_show_all-done-requires-clause-going
+store_and_show_all-done-requires-clause-going g c = (c.if-self.false, (c.self.invariant.8 c.if-self.false).publisher)
 
 pub store_and_show_all-done-requires-clause-few : goal.store_and_show_all-done-requires-clause-few
 store_and_show_all-done-requires-clause-few g c =
@@ -83,7 +86,7 @@ pub returns-in-Err-done-clause-refused : goal.returns-in-Err-done-clause-refused
 returns-in-Err-done-clause-refused g c =
     let s = c.self.inside in
     let batch = c.make_all-made.new.batch in
-    let k : CanBatch s.state c.args.writes.items =
+    let can : CanBatch s.state c.args.writes.items =
     record { receipts = batch.receipts.items; changes = batch.changes.items; new = c.make_all-made.new.state; batch = c.in_default.ensures.made } in
     let kept = c.store_and_show_all-done.new.self in
     let old : DeskView g.row.D.Denot = record {
@@ -104,6 +107,7 @@ returns-in-Err-done-clause-refused g c =
       file = kept.file;
       stopped = kept.is_stopped;
     } in
+    let k : CanKeepAll old c.args.writes.items = record { can = can; room = c.in_default.ensures.room } in
     rw (← c.self.view_is) (refuses_batch g.D.Device.failed old new c.args.writes.items k c.in-Err-done.refusal c.in-Err-done.ensures.refused)
 
 pub returns-in-Err-done-clause-whole : goal.returns-in-Err-done-clause-whole
