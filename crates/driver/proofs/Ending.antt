@@ -5,11 +5,11 @@ use Rattle.std.specs.Option.{option_map}
 use Rattle.std.proofs.lemmas.Option.{slice_get-map}
 use Rattle.std.proofs.lemmas.Bool.{and_parts, leb-true, or_cases}
 use Rattle.driver.specs.declared.member.Member.{Member}
-use Rattle.driver.specs.declared.member.Change.TheVariants.{Greeted, GivenUp}
+use Rattle.driver.specs.declared.member.MemberChange.TheVariants.{Greeted, GivenUp}
 use Rattle.driver.specs.declared.task.Task.{Task}
-use Rattle.driver.specs.declared.task.Task.TheVariants.{Tick, Hello, Join, Exchange, PeerDown}
-use Rattle.driver.specs.Plan.{PlanParts, after, are_few, changed, has_member_that, is_silent, last_time, learn, made, task_of}
-use Rattle.driver.specs.Duty.{Adds, AreTasksAt, Does, Fails, Happening, Hears, Leads, Removes, TasksEnd, one_if, ticks_in}
+use Rattle.driver.specs.declared.task.Task.TheVariants.{Tick, Hello, Join, BeginExchange, PeerDown}
+use Rattle.driver.specs.Plan.{PlanParts, after, are_few, all_learn, has_member_that, is_silent, last_time, learn, made, task_of}
+use Rattle.driver.specs.Duty.{MemberAdded, AreTasksAt, TaskDone, LinkFailed, PlanChange, FrameCame, Leads, MemberRemoved, TasksEnd, one_if, ticks_in}
 use Rattle.driver.proofs.Tasks.{down_due, exchange_owed, hello_due, join_due, tick_free}
 
 -- ---- how many members are silent
@@ -31,18 +31,18 @@ greeted_same : (quiet now : ℕ) (m : Member) (b : Bool) → is_silent quiet now
 greeted_same quiet now m true = refl
 greeted_same quiet now m false = refl
 
-silent_greeted : (quiet now n : ℕ) (members : List Member) → silent_in quiet now (changed Greeted n members) ≡ silent_in quiet now members
+silent_greeted : (quiet now n : ℕ) (members : List Member) → silent_in quiet now (all_learn Greeted n members) ≡ silent_in quiet now members
 unfolding silent_in
 silent_greeted quiet now n [] = refl
 silent_greeted quiet now n (m ∷ members) =
-    ap (λ (b : Bool). one_if b + silent_in quiet now (changed Greeted n members)) (greeted_same quiet now m (nat_eq m.node n))
+    ap (λ (b : Bool). one_if b + silent_in quiet now (all_learn Greeted n members)) (greeted_same quiet now m (nat_eq m.node n))
     ∙ ap (λ (k : ℕ). one_if (is_silent quiet now m) + k) (silent_greeted quiet now n members)
 
 given_less : (quiet now : ℕ) (m : Member) (b : Bool) → one_if (is_silent quiet now (cond b (made GivenUp m) m)) ≤ one_if (is_silent quiet now m)
 given_less quiet now m true = omega arith
 given_less quiet now m false = omega arith
 
-silent_given : (quiet now n : ℕ) (members : List Member) → silent_in quiet now (changed GivenUp n members) ≤ silent_in quiet now members
+silent_given : (quiet now n : ℕ) (members : List Member) → silent_in quiet now (all_learn GivenUp n members) ≤ silent_in quiet now members
 unfolding silent_in
 silent_given quiet now n [] = omega arith
 silent_given quiet now n (m ∷ members) = omega (arith, given_less quiet now m (nat_eq m.node n), silent_given quiet now n members)
@@ -52,7 +52,7 @@ given_none quiet now n m true is = refl
 given_none quiet now n m false is = absurd (cc)
 
 silent_fewer : (quiet now n : ℕ) (members : List Member) → has_member_that (is_silent quiet now) n members ≡ true
-    → silent_in quiet now (changed GivenUp n members) < silent_in quiet now members
+    → silent_in quiet now (all_learn GivenUp n members) < silent_in quiet now members
 unfolding silent_in
 silent_fewer quiet now n [] some = absurd (cc)
 silent_fewer quiet now n (m ∷ members) some =
@@ -91,14 +91,14 @@ unfolding for_join
 option_given n None = refl
 option_given n (Some m) = given_join n m (nat_eq m.node n)
 
-join_given : (n at : ℕ) (members : List Member) → for_join (slice_get (changed GivenUp n members) at) ≡ for_join (slice_get members at)
+join_given : (n at : ℕ) (members : List Member) → for_join (slice_get (all_learn GivenUp n members) at) ≡ for_join (slice_get members at)
 join_given n at members = ap for_join (slice_get-map (learn GivenUp n) members at) ∙ option_given n (slice_get members at)
 
 now_greeted : (m : Member) (b : Bool) → b ≡ true → with_hello (cond b (made Greeted m) m).is_greeted ≡ 1
 now_greeted m true is = refl
 now_greeted m false is = absurd (cc)
 
-join_greeted : (n at : ℕ) (members : List Member) (m : Member) → slice_get members at ≡ Some m → m.node ≡ n → for_join (slice_get (changed Greeted n members) at) ≡ 1
+join_greeted : (n at : ℕ) (members : List Member) (m : Member) → slice_get members at ≡ Some m → m.node ≡ n → for_join (slice_get (all_learn Greeted n members) at) ≡ 1
 unfolding for_join
 join_greeted n at members m there its =
     ap for_join (slice_get-map (learn Greeted n) members at ∙ ap (option_map (learn Greeted n)) there) ∙ now_greeted m (nat_eq m.node n) (eq-eqb m.node n its)
@@ -157,14 +157,14 @@ less now neighbours p (Hello n) is tick early =
     let due = hello_due now neighbours p n is in
     let owes = (and_parts p.owes_join (are_few neighbours p.members) due.joining).0 in
     let was = if_true p.owes_join (for_join (slice_get p.members p.contact)) owes in
-    let then = if_true p.owes_join (for_join (slice_get (changed Greeted n p.members) p.contact)) owes in
+    let then = if_true p.owes_join (for_join (slice_get (all_learn Greeted n p.members) p.contact)) owes in
     omega (arith, was, then, join_ungreeted (slice_get p.members p.contact) due.member due.there due.greeted, join_greeted n p.contact p.members due.member due.there due.its_node, silent_greeted p.pace.quiet now n p.members)
 less now neighbours p (Join n) is tick early =
     let due = join_due now neighbours p n is in
     let owes = (and_parts p.owes_join (are_few neighbours p.members) due.joining).0 in
     let was = if_true p.owes_join (for_join (slice_get p.members p.contact)) owes in
     omega (arith, was, (for_join_bounds (slice_get p.members p.contact)).0)
-less now neighbours p (Exchange n) is tick early =
+less now neighbours p (BeginExchange n) is tick early =
     let owed = ap one_if (exchange_owed now neighbours p n is).0 in
     omega (arith, owed)
 less now neighbours p (PeerDown n) is tick early =
@@ -177,41 +177,41 @@ same_pace : (now : ℕ) (p : PlanParts) (task : Task) → (after now task p).pac
 same_pace now p Tick = refl
 same_pace now p (Hello n) = refl
 same_pace now p (Join n) = refl
-same_pace now p (Exchange n) = refl
+same_pace now p (BeginExchange n) = refl
 same_pace now p (PeerDown n) = refl
 
-few : (old new : PlanParts) (happenings : List Happening) (now : ℕ) → Leads old happenings new → AreTasksAt now happenings → 1 ≤ old.pace.tick → now < last_time
-    → length happenings ≤ left now old
+few : (old new : PlanParts) (changes : List PlanChange) (now : ℕ) → Leads old changes new → AreTasksAt now changes → 1 ≤ old.pace.tick → now < last_time
+    → length changes ≤ left now old
 few old new [] now same at tick early = omega arith
-few old new (Hears t n ∷ rest) now leads at tick early = absurd at
-few old new (Fails n ∷ rest) now leads at tick early = absurd at
-few old new (Adds t n ∷ rest) now leads at tick early = absurd at
-few old new (Removes n ∷ rest) now leads at tick early = absurd at
-few old new (Does t near task ∷ rest) now (is, leads) (same, at) tick early =
+few old new (FrameCame t n ∷ rest) now leads at tick early = absurd at
+few old new (LinkFailed n ∷ rest) now leads at tick early = absurd at
+few old new (MemberAdded t n ∷ rest) now leads at tick early = absurd at
+few old new (MemberRemoved n ∷ rest) now leads at tick early = absurd at
+few old new (TaskDone t near task ∷ rest) now (is, leads) (same, at) tick early =
     let pace = ap (λ q. q.tick) (same_pace t old task) in
     let later = few (after t task old) new rest now leads at (omega (arith, pace)) early in
     let fewer = subst (λ (k : ℕ). left k (after t task old) < left k old) same (less t near old task is tick (omega arith)) in
     omega (arith, later, fewer)
 
-ticks : (old new : PlanParts) (happenings : List Happening) (now : ℕ) → Leads old happenings new → AreTasksAt now happenings → 1 ≤ old.pace.tick → now < last_time
-    → ticks_in happenings ≤ one_if (nat_le old.due now)
+ticks : (old new : PlanParts) (changes : List PlanChange) (now : ℕ) → Leads old changes new → AreTasksAt now changes → 1 ≤ old.pace.tick → now < last_time
+    → ticks_in changes ≤ one_if (nat_le old.due now)
 ticks old new [] now same at tick early = omega arith
-ticks old new (Hears t n ∷ rest) now leads at tick early = absurd at
-ticks old new (Fails n ∷ rest) now leads at tick early = absurd at
-ticks old new (Adds t n ∷ rest) now leads at tick early = absurd at
-ticks old new (Removes n ∷ rest) now leads at tick early = absurd at
-ticks old new (Does t near (Hello n) ∷ rest) now (is, leads) (same, at) tick early = ticks (after t (Hello n) old) new rest now leads at tick early
-ticks old new (Does t near (Join n) ∷ rest) now (is, leads) (same, at) tick early = ticks (after t (Join n) old) new rest now leads at tick early
-ticks old new (Does t near (Exchange n) ∷ rest) now (is, leads) (same, at) tick early = ticks (after t (Exchange n) old) new rest now leads at tick early
-ticks old new (Does t near (PeerDown n) ∷ rest) now (is, leads) (same, at) tick early = ticks (after t (PeerDown n) old) new rest now leads at tick early
-ticks old new (Does t near Tick ∷ rest) now (is, leads) (same, at) tick early =
+ticks old new (FrameCame t n ∷ rest) now leads at tick early = absurd at
+ticks old new (LinkFailed n ∷ rest) now leads at tick early = absurd at
+ticks old new (MemberAdded t n ∷ rest) now leads at tick early = absurd at
+ticks old new (MemberRemoved n ∷ rest) now leads at tick early = absurd at
+ticks old new (TaskDone t near (Hello n) ∷ rest) now (is, leads) (same, at) tick early = ticks (after t (Hello n) old) new rest now leads at tick early
+ticks old new (TaskDone t near (Join n) ∷ rest) now (is, leads) (same, at) tick early = ticks (after t (Join n) old) new rest now leads at tick early
+ticks old new (TaskDone t near (BeginExchange n) ∷ rest) now (is, leads) (same, at) tick early = ticks (after t (BeginExchange n) old) new rest now leads at tick early
+ticks old new (TaskDone t near (PeerDown n) ∷ rest) now (is, leads) (same, at) tick early = ticks (after t (PeerDown n) old) new rest now leads at tick early
+ticks old new (TaskDone t near Tick ∷ rest) now (is, leads) (same, at) tick early =
     let later = ticks (after t Tick old) new rest now leads at tick early in
     let due = subst (λ (k : ℕ). nat_le old.due k ≡ true) same (tick_free t near old is).2 in
     let none = subst (λ (k : ℕ). nat_le (after t Tick old).due k ≡ false) same (next_due t old tick (omega arith)) in
     omega (arith, later, ap one_if due, ap one_if none)
 
 pub tasks_end : TasksEnd
-tasks_end old new happenings now leads at tick early = (
-  omega (arith, ticks old new happenings now leads at tick early, one_most (nat_le old.due now)),
-  omega (arith, few old new happenings now leads at tick early, left_most now old),
+tasks_end old new changes now leads at tick early = (
+  omega (arith, ticks old new changes now leads at tick early, one_most (nat_le old.due now)),
+  omega (arith, few old new changes now leads at tick early, left_most now old),
 )

@@ -1,6 +1,6 @@
 -- what a task that is next says of its plan
 mod Tasks
--- members through a happening
+-- members through a change
 mod Members
 -- exchanges and joins go round
 pub mod Rounds
@@ -14,6 +14,8 @@ pub mod Downs
 pub mod Waking
 -- at one time the tasks come to an end
 pub mod Ending
+-- changes that lead from one plan to the other
+mod Leading
 -- tasks are done one after the other
 pub mod Working
 -- what a call does is a chain of tasks, and a part of the life of the node

@@ -1,4 +1,4 @@
--- Members through a happening: who they are, how many, and which of them pass a test.
+-- Members through a change: who they are, how many, and which of them pass a test.
 use Rattle.std.proofs.Common.{◌≡◌, ℕ, Bool, true, false, ◌&&◌, ◌||◌, cond, nat_eq, List, [], ◌∷◌, ◌++◌, map, filter, refl, sym, ap, subst, ◌∙◌}
 use Rattle.std.specs.List.{list_any}
 use Rattle.std.specs.Prelude.{slice_get, Some}
@@ -6,14 +6,14 @@ use Rattle.std.proofs.Common.{zero, suc, inl, inr, eq-eqb}
 use Rattle.std.proofs.lemmas.Bool.{and_from, and_left, and_parts, cases_Bool, eqb-true, or_cases, or_from, or_left, or_parts, or_right}
 use Rattle.std.proofs.lemmas.List.Folds.{list_any-append}
 use Rattle.driver.specs.declared.member.Member.{Member}
-use Rattle.driver.specs.declared.member.Change.{Change}
-use Rattle.driver.specs.declared.member.Change.TheVariants.{Greeted, GivenUp, Heard}
-use Rattle.driver.specs.Plan.{changed, has_member, has_member_that, learn, made}
+use Rattle.driver.specs.declared.member.MemberChange.{MemberChange}
+use Rattle.driver.specs.declared.member.MemberChange.TheVariants.{Greeted, GivenUp, Heard}
+use Rattle.driver.specs.Plan.{all_learn, has_member, has_member_that, learn, made}
 use Rattle.driver.specs.Duty.{nodes_of}
 
 -- ---- who they are
 
-made_node : (change : Change) (m : Member) → (made change m).node ≡ m.node
+made_node : (change : MemberChange) (m : Member) → (made change m).node ≡ m.node
 made_node Greeted m = refl
 made_node GivenUp m = refl
 made_node (Heard now) m = refl
@@ -22,13 +22,13 @@ either : (b : Bool) (m other : Member) → other.node ≡ m.node → (cond b oth
 either true m other same = same
 either false m other same = refl
 
-pub learn_node : (change : Change) (n : ℕ) (m : Member) → (learn change n m).node ≡ m.node
+pub learn_node : (change : MemberChange) (n : ℕ) (m : Member) → (learn change n m).node ≡ m.node
 learn_node change n m = either _ m (made change m) (made_node change m)
 
-pub nodes_changed : (change : Change) (n : ℕ) (members : List Member) → nodes_of (changed change n members) ≡ nodes_of members
+pub nodes_changed : (change : MemberChange) (n : ℕ) (members : List Member) → nodes_of (all_learn change n members) ≡ nodes_of members
 nodes_changed change n [] = refl
 nodes_changed change n (m ∷ members) =
-    ap (λ x. x ∷ nodes_of (changed change n members)) (learn_node change n m) ∙ ap (λ xs. m.node ∷ xs) (nodes_changed change n members)
+    ap (λ x. x ∷ nodes_of (all_learn change n members)) (learn_node change n m) ∙ ap (λ xs. m.node ∷ xs) (nodes_changed change n members)
 
 -- ---- a test, element by element
 
@@ -74,7 +74,7 @@ any_filter t p (m ∷ members) any = kept_any t (p m) m (filter p members) membe
 -- ---- a test of the members of a node
 
 -- another node learns something
-elsewhere : (g : Member → Bool) (n k : ℕ) (change : Change) (m : Member) (b : Bool) → nat_eq n k ≡ false → nat_eq m.node k ≡ b
+elsewhere : (g : Member → Bool) (n k : ℕ) (change : MemberChange) (m : Member) (b : Bool) → nat_eq n k ≡ false → nat_eq m.node k ≡ b
     → (nat_eq (cond b (made change m) m).node n && g (cond b (made change m) m)) ≡ (nat_eq m.node n && g m)
 elsewhere g n k change m true other is =
     let its : m.node ≡ k = eqb-true m.node k is in
@@ -85,35 +85,35 @@ elsewhere g n k change m true other is =
     and_left _ _ (ap (λ x. nat_eq x n) (made_node change m) ∙ apart) ∙ sym (and_left _ _ apart)
 elsewhere g n k change m false other is = refl
 
-pub changed_elsewhere : (g : Member → Bool) (n k : ℕ) (change : Change) (members : List Member) → nat_eq n k ≡ false
-    → has_member_that g n (changed change k members) ≡ has_member_that g n members
+pub changed_elsewhere : (g : Member → Bool) (n k : ℕ) (change : MemberChange) (members : List Member) → nat_eq n k ≡ false
+    → has_member_that g n (all_learn change k members) ≡ has_member_that g n members
 changed_elsewhere g n k change members other =
     any_map_same (λ m. nat_eq m.node n && g m) (learn change k) members (λ m. elsewhere g n k change m (nat_eq m.node k) other refl)
 
 -- the change keeps what the test looks at
-kept_by : (g : Member → Bool) (n : ℕ) (change : Change) (m : Member) (b : Bool) → g (made change m) ≡ g m
+kept_by : (g : Member → Bool) (n : ℕ) (change : MemberChange) (m : Member) (b : Bool) → g (made change m) ≡ g m
     → (nat_eq (cond b (made change m) m).node n && g (cond b (made change m) m)) ≡ (nat_eq m.node n && g m)
 kept_by g n change m true same = ap (λ x. nat_eq x n && g (made change m)) (made_node change m) ∙ ap (λ x. nat_eq m.node n && x) same
 kept_by g n change m false same = refl
 
-pub changed_same : (g : Member → Bool) (n k : ℕ) (change : Change) (members : List Member) → ((m : Member) → g (made change m) ≡ g m)
-    → has_member_that g n (changed change k members) ≡ has_member_that g n members
+pub changed_same : (g : Member → Bool) (n k : ℕ) (change : MemberChange) (members : List Member) → ((m : Member) → g (made change m) ≡ g m)
+    → has_member_that g n (all_learn change k members) ≡ has_member_that g n members
 changed_same g n k change members same =
     any_map_same (λ m. nat_eq m.node n && g m) (learn change k) members (λ m. kept_by g n change m (nat_eq m.node k) (same m))
 
 -- the change makes the test pass, or fail, at the node's members
-all_pass : (g : Member → Bool) (n k : ℕ) (change : Change) (m : Member) (b : Bool) → g (made change m) ≡ true
+all_pass : (g : Member → Bool) (n k : ℕ) (change : MemberChange) (m : Member) (b : Bool) → g (made change m) ≡ true
     → (nat_eq m.node n && g m) ≡ true → (nat_eq (cond b (made change m) m).node n && g (cond b (made change m) m)) ≡ true
 all_pass g n k change m true passes was =
     and_from _ _ (ap (λ x. nat_eq x n) (made_node change m) ∙ (and_parts (nat_eq m.node n) (g m) was).0) passes
 all_pass g n k change m false passes was = was
 
-pub changed_passes : (g : Member → Bool) (n k : ℕ) (change : Change) (members : List Member) → ((m : Member) → g (made change m) ≡ true)
-    → has_member_that g n members ≡ true → has_member_that g n (changed change k members) ≡ true
+pub changed_passes : (g : Member → Bool) (n k : ℕ) (change : MemberChange) (members : List Member) → ((m : Member) → g (made change m) ≡ true)
+    → has_member_that g n members ≡ true → has_member_that g n (all_learn change k members) ≡ true
 changed_passes g n k change members passes any =
     any_map_true (λ m. nat_eq m.node n && g m) (learn change k) members (λ m. all_pass g n k change m (nat_eq m.node k) (passes m)) any
 
-none_pass : (g : Member → Bool) (n k : ℕ) (change : Change) (m : Member) (b : Bool) → g (made change m) ≡ false
+none_pass : (g : Member → Bool) (n k : ℕ) (change : MemberChange) (m : Member) (b : Bool) → g (made change m) ≡ false
     → (nat_eq m.node n && g m) ≡ false → (nat_eq (cond b (made change m) m).node n && g (cond b (made change m) m)) ≡ false
 none_pass g n k change m true fails was = subst (λ x. (nat_eq (made change m).node n && x) ≡ false) (sym fails) (no_and (nat_eq (made change m).node n))
   where
@@ -122,13 +122,13 @@ none_pass g n k change m true fails was = subst (λ x. (nat_eq (made change m).n
     no_and false = refl
 none_pass g n k change m false fails was = was
 
-pub changed_fails : (g : Member → Bool) (n k : ℕ) (change : Change) (members : List Member) → ((m : Member) → g (made change m) ≡ false)
-    → has_member_that g n members ≡ false → has_member_that g n (changed change k members) ≡ false
+pub changed_fails : (g : Member → Bool) (n k : ℕ) (change : MemberChange) (members : List Member) → ((m : Member) → g (made change m) ≡ false)
+    → has_member_that g n members ≡ false → has_member_that g n (all_learn change k members) ≡ false
 changed_fails g n k change members fails none =
     any_map_false (λ m. nat_eq m.node n && g m) (learn change k) members (λ m. none_pass g n k change m (nat_eq m.node k) (fails m)) none
 
 -- once the node itself learned it, the test passes at one of its members, or fails at all
-here : (g : Member → Bool) (n : ℕ) (change : Change) (m : Member) (b : Bool) → nat_eq m.node n ≡ b → g (made change m) ≡ false
+here : (g : Member → Bool) (n : ℕ) (change : MemberChange) (m : Member) (b : Bool) → nat_eq m.node n ≡ b → g (made change m) ≡ false
     → (nat_eq (cond b (made change m) m).node n && g (cond b (made change m) m)) ≡ false
 here g n change m true is fails = subst (λ x. (nat_eq (made change m).node n && x) ≡ false) (sym fails) (no_and (nat_eq (made change m).node n))
   where
@@ -137,18 +137,18 @@ here g n change m true is fails = subst (λ x. (nat_eq (made change m).node n &&
     no_and false = refl
 here g n change m false is fails = and_left _ _ is
 
-pub changed_none : (g : Member → Bool) (n : ℕ) (change : Change) (members : List Member) → ((m : Member) → g (made change m) ≡ false)
-    → has_member_that g n (changed change n members) ≡ false
+pub changed_none : (g : Member → Bool) (n : ℕ) (change : MemberChange) (members : List Member) → ((m : Member) → g (made change m) ≡ false)
+    → has_member_that g n (all_learn change n members) ≡ false
 changed_none g n change members fails =
     none_map (λ m. nat_eq m.node n && g m) (learn change n) members (λ m. here g n change m (nat_eq m.node n) refl (fails m))
 
-found : (g : Member → Bool) (n : ℕ) (change : Change) (m : Member) (b : Bool) → nat_eq m.node n ≡ b → g (made change m) ≡ true
+found : (g : Member → Bool) (n : ℕ) (change : MemberChange) (m : Member) (b : Bool) → nat_eq m.node n ≡ b → g (made change m) ≡ true
     → b ≡ true → (nat_eq (cond b (made change m) m).node n && g (cond b (made change m) m)) ≡ true
 found g n change m true is passes its = and_from _ _ (ap (λ x. nat_eq x n) (made_node change m) ∙ is) passes
 found g n change m false is passes its = absurd (cc)
 
-pub changed_found : (g : Member → Bool) (n : ℕ) (change : Change) (members : List Member) → ((m : Member) → g (made change m) ≡ true)
-    → has_member n members ≡ true → has_member_that g n (changed change n members) ≡ true
+pub changed_found : (g : Member → Bool) (n : ℕ) (change : MemberChange) (members : List Member) → ((m : Member) → g (made change m) ≡ true)
+    → has_member n members ≡ true → has_member_that g n (all_learn change n members) ≡ true
 changed_found g n change [] passes has = absurd (cc)
 changed_found g n change (m ∷ members) passes has =
     elim (or_cases (nat_eq m.node n) (has_member n members) has) [

@@ -14,12 +14,12 @@ use Rattle.node_hosted.specs.Unstored.{spelled}
 use Rattle.node_hosted.specs.declared.fault.HostFault.{HostFault}
 use Rattle.node_hosted.specs.declared.fault.HostFault.TheVariants.{Argument, Step, FileFull, Stopped, Pending, Nothing, NoSuchRead, Memory}
 use Rattle.driver.specs.declared.member.Member.{Member}
-use Rattle.driver.specs.declared.member.Change.{Change}
-use Rattle.driver.specs.declared.member.Change.TheVariants.{Greeted, GivenUp}
+use Rattle.driver.specs.declared.member.MemberChange.{MemberChange}
+use Rattle.driver.specs.declared.member.MemberChange.TheVariants.{Greeted, GivenUp}
 use Rattle.driver.specs.declared.task.Task.{Task}
-use Rattle.driver.specs.declared.task.Task.TheVariants.{Tick, Hello, Join, Exchange, PeerDown}
-use Rattle.driver.specs.Plan.{PlanParts, after, changed, has_member, has_member_that, learn, task_of}
-use Rattle.driver.specs.Driving.{Driver, OnlyMemoryRefuses, Works, event_of, neighbours_of, with_open_batch}
+use Rattle.driver.specs.declared.task.Task.TheVariants.{Tick, Hello, Join, BeginExchange, PeerDown}
+use Rattle.driver.specs.Plan.{PlanParts, after, all_learn, has_member, has_member_that, learn, task_of}
+use Rattle.driver.specs.Driving.{Driver, OnlyMemoryRefuses, Works, event_for, neighbours_of, with_open_batch}
 use Rattle.driver.proofs.Members.{any_at, any_map_same, learn_node}
 use Rattle.driver.proofs.Tasks.{down_due, exchange_there, hello_due, join_due}
 use Rattle.driver.proofs.Working.{IsOpen, open_after}
@@ -42,25 +42,25 @@ abbrev IsForMember : List Member → Task → Type 0
 IsForMember members Tick = Unit {0}
 IsForMember members (Hello n) = has_member n members ≡ true
 IsForMember members (Join n) = has_member n members ≡ true
-IsForMember members (Exchange n) = has_member n members ≡ true
+IsForMember members (BeginExchange n) = has_member n members ≡ true
 IsForMember members (PeerDown n) = has_member n members ≡ true
 
 for_member : (now neighbours : ℕ) (p : PlanParts) (task : Task) → task_of now neighbours p ≡ Some task → IsForMember p.members task
 for_member now neighbours p Tick is = tt
 for_member now neighbours p (Hello n) is = let due = hello_due now neighbours p n is in at_place p.members p.contact n due.member due.there due.its_node
 for_member now neighbours p (Join n) is = let due = join_due now neighbours p n is in at_place p.members p.contact n due.member due.there due.its_node
-for_member now neighbours p (Exchange n) is = let found = exchange_there now neighbours p n is in at_place p.members p.partner n found.0 found.1.0 found.1.1
+for_member now neighbours p (BeginExchange n) is = let found = exchange_there now neighbours p n is in at_place p.members p.partner n found.0 found.1.0 found.1.1
 for_member now neighbours p (PeerDown n) is = of_any (λ m. not m.is_down) n p.members (down_due now neighbours p n is).0
 
 -- ---- the node stays no member
 
-same_member : (n : ℕ) (change : Change) (k : ℕ) (members : List Member) → has_member n (changed change k members) ≡ has_member n members
+same_member : (n : ℕ) (change : MemberChange) (k : ℕ) (members : List Member) → has_member n (all_learn change k members) ≡ has_member n members
 same_member n change k members = any_map_same (λ m. nat_eq m.node n) (learn change k) members (λ m. ap (λ x. nat_eq x n) (learn_node change k m))
 
 after_same : (n now : ℕ) (task : Task) (p : PlanParts) → has_member n (after now task p).members ≡ has_member n p.members
 after_same n now Tick p = refl
 after_same n now (Join k) p = refl
-after_same n now (Exchange k) p = refl
+after_same n now (BeginExchange k) p = refl
 after_same n now (Hello k) p = same_member n Greeted k p.members
 after_same n now (PeerDown k) p = same_member n GivenUp k p.members
 
@@ -71,7 +71,7 @@ stays_none : EachStepCounts → (now word : ℕ) (old new : Driver) (tasks : Lis
 stays_none counts now word old new [] same none = subst IsNoMember (sym same) none
 stays_none counts now word old new (task ∷ tasks) (between, (does, works)) none =
     let acts = does.acts in
-    let node = (counts.step old.node.state (event_of word task) between.node.state acts.stepped acts.step).node in
+    let node = (counts.step old.node.state (event_for word task) between.node.state acts.stepped acts.step).node in
     let then = ap (λ (p : PlanParts). has_member between.node.state.node p.members) does.plan ∙ after_same between.node.state.node now task old.plan
     ∙ ap (λ n. has_member n old.plan.members) node ∙ none in
     stays_none counts now word between new tasks works then
@@ -85,47 +85,47 @@ no_refusal false n own fault first is refused = absurd (cc)
 itself : (members : List Member) (n own : ℕ) → has_member n members ≡ true → has_member own members ≡ false → n ≡ own → ⊥
 itself members n own is none same = let clash = sym is ∙ ap (λ k. has_member k members) same ∙ none in absurd (cc)
 
-local_of : (word : ℕ) (task : Task) (input : Input) (s : NodeParts) (fault : StepFault) → IsInput (event_of word task) input → refusal_of input s ≡ Some fault
-    → refusal_of_event (event_of word task) s ≡ Some fault
+local_of : (word : ℕ) (task : Task) (input : Input) (s : NodeParts) (fault : StepFault) → IsInput (event_for word task) input → refusal_of input s ≡ Some fault
+    → refusal_of_event (event_for word task) s ≡ Some fault
 local_of word Tick (Local same) s fault is first = subst (λ (e : NodeEvent). refusal_of_event e s ≡ Some fault) is first
 local_of word (Hello n) (Local same) s fault is first = subst (λ (e : NodeEvent). refusal_of_event e s ≡ Some fault) is first
 local_of word (Join n) (Local same) s fault is first = subst (λ (e : NodeEvent). refusal_of_event e s ≡ Some fault) is first
-local_of word (Exchange n) (Local same) s fault is first = subst (λ (e : NodeEvent). refusal_of_event e s ≡ Some fault) is first
+local_of word (BeginExchange n) (Local same) s fault is first = subst (λ (e : NodeEvent). refusal_of_event e s ≡ Some fault) is first
 local_of word (PeerDown n) (Local same) s fault is first = subst (λ (e : NodeEvent). refusal_of_event e s ≡ Some fault) is first
 local_of word Tick (Received frame w) s fault is first = absurd is
 local_of word (Hello n) (Received frame w) s fault is first = absurd is
 local_of word (Join n) (Received frame w) s fault is first = absurd is
-local_of word (Exchange n) (Received frame w) s fault is first = absurd is
+local_of word (BeginExchange n) (Received frame w) s fault is first = absurd is
 local_of word (PeerDown n) (Received frame w) s fault is first = absurd is
 
 never : (members : List Member) (s : NodeParts) (word : ℕ) (task : Task) (fault : StepFault) → IsForMember members task → has_member s.node members ≡ false
-    → refusal_of_event (event_of word task) s ≡ Some fault → ⊥
+    → refusal_of_event (event_for word task) s ≡ Some fault → ⊥
 never members s word Tick fault its none refused = absurd (cc)
 never members s word (Hello n) fault its none refused = itself members n s.node its none (no_refusal (nat_eq n s.node) n s.node fault BadNode refl refused)
 never members s word (Join n) fault its none refused = itself members n s.node its none (no_refusal (nat_eq n s.node) n s.node fault BadNode refl refused)
-never members s word (Exchange n) fault its none refused = itself members n s.node its none (no_refusal (nat_eq n s.node) n s.node fault BadNode refl refused)
+never members s word (BeginExchange n) fault its none refused = itself members n s.node its none (no_refusal (nat_eq n s.node) n s.node fault BadNode refl refused)
 never members s word (PeerDown n) fault its none refused = itself members n s.node its none (no_refusal (nat_eq n s.node) n s.node fault BadNode refl refused)
 
-no_frame : (word : ℕ) (task : Task) (fault : StepFault) → IsNoFrame (event_of word task) fault → ⊥
+no_frame : (word : ℕ) (task : Task) (fault : StepFault) → IsNoFrame (event_for word task) fault → ⊥
 no_frame word Tick fault is = is
 no_frame word (Hello n) fault is = is
 no_frame word (Join n) fault is = is
-no_frame word (Exchange n) fault is = is
+no_frame word (BeginExchange n) fault is = is
 no_frame word (PeerDown n) fault is = is
 
 fits : (gate : Option ℕ) → IsOverfullWith gate None → ⊥
 fits None full = full
 fits (Some at) full = full
 
-not_full : (word : ℕ) (task : Task) (old : HostedParts) → Overfills old (event_of word task) → ⊥
+not_full : (word : ℕ) (task : Task) (old : HostedParts) → Overfills old (event_for word task) → ⊥
 not_full word Tick old over = fits (next_gate old) over.full
 not_full word (Hello n) old over = fits (next_gate old) over.full
 not_full word (Join n) old over = fits (next_gate old) over.full
-not_full word (Exchange n) old over = fits (next_gate old) over.full
+not_full word (BeginExchange n) old over = fits (next_gate old) over.full
 not_full word (PeerDown n) old over = fits (next_gate old) over.full
 
 refused : (members : List Member) (n : HostedParts) (word : ℕ) (task : Task) (fault : HostFault) → IsOpen n → IsForMember members task → has_member n.state.node members ≡ false
-    → RefusesActing n (event_of word task) n fault → fault ≡ Memory
+    → RefusesActing n (event_for word task) n fault → fault ≡ Memory
 refused members n word task (Argument fault) is its none why = absurd why
 refused members n word task (Step fault) is its none why =
     elim why.1 [

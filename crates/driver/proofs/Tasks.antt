@@ -6,9 +6,9 @@ use Rattle.std.proofs.lemmas.Option.{slice_get-map}
 use Rattle.std.proofs.lemmas.Bool.{and_from, and_parts, or_left, or_right}
 use Rattle.driver.specs.declared.member.Member.{Member}
 use Rattle.driver.specs.declared.task.Task.{Task}
-use Rattle.driver.specs.declared.task.Task.TheVariants.{Tick, Hello, Join, Exchange, PeerDown}
+use Rattle.driver.specs.declared.task.Task.TheVariants.{Tick, Hello, Join, BeginExchange, PeerDown}
 use Rattle.driver.specs.Plan.{PlanParts, are_few, down_task, exchange_task, has_member_that, is_silent, join_task, task_of}
-use Rattle.driver.specs.Duty.{node_at, nodes_of}
+use Rattle.driver.specs.Duty.{number_at, nodes_of}
 
 -- how a task comes to be next
 pub data IsNext (joining owed due : Bool) (join exchange down : Option Task) (task : Task) : Type 0 where
@@ -46,9 +46,9 @@ join_of : (m : Option Member) (task : Task) → join_task m ≡ Some task → Is
 join_of None task is = absurd (cc)
 join_of (Some k) task is = greeting k.is_greeted k task refl is
 
-exchange_of : (m : Option Member) (task : Task) → exchange_task m ≡ Some task → (k : Member) × ((m ≡ Some k) × (task ≡ Exchange k.node))
+exchange_of : (m : Option Member) (task : Task) → exchange_task m ≡ Some task → (k : Member) × ((m ≡ Some k) × (task ≡ BeginExchange k.node))
 exchange_of None task is = absurd (cc)
-exchange_of (Some k) task is = let e : task ≡ Exchange k.node = cc in (k, (refl, e))
+exchange_of (Some k) task is = let e : task ≡ BeginExchange k.node = cc in (k, (refl, e))
 
 -- a node that is given up: it was silent, and wasn't given up
 record IsDownOf (quiet now : ℕ) (members : List Member) (task : Task) : Type 0 where
@@ -73,7 +73,7 @@ down_of quiet now [] task is = absurd (cc)
 down_of quiet now (m ∷ members) task is =
     silent_first quiet now (is_silent quiet now m) m members task (down_task quiet now members) refl (down_of quiet now members task) is
 
-pub node_there : (members : List Member) (at : ℕ) (k : Member) → slice_get members at ≡ Some k → node_at (nodes_of members) at ≡ k.node
+pub node_there : (members : List Member) (at : ℕ) (k : Member) → slice_get members at ≡ Some k → number_at (nodes_of members) at ≡ k.node
 node_there members at k is =
     ap (λ (o : Option ℕ). unwrap_or o 0) (slice_get-map (λ (m : Member). m.node) members at) ∙ ap (λ (o : Option Member). unwrap_or (option_map (λ (m : Member). m.node) o) 0) is
 
@@ -84,39 +84,39 @@ pub tick_free : (now neighbours : ℕ) (p : PlanParts) → task_of now neighbour
 tick_free now neighbours p is =
     elim (is_next now neighbours p Tick is) [
       | ByJoin joining join ↦ elim (join_of (slice_get p.members p.contact) Tick join) [ Greets k there greeted says ↦ absurd (cc) | Joins k there greeted says ↦ absurd (cc) ]
-      | ByExchange joining owed exchange ↦ let found = exchange_of (slice_get p.members p.partner) Tick exchange in let clash : Tick ≡ Exchange found.0.node = found.1.1 in absurd (cc)
+      | ByExchange joining owed exchange ↦ let found = exchange_of (slice_get p.members p.partner) Tick exchange in let clash : Tick ≡ BeginExchange found.0.node = found.1.1 in absurd (cc)
       | ByTick joining owed due says ↦ (joining, owed, due)
       | ByDown joining owed down ↦ let found = down_of p.pace.quiet now p.members Tick down in let clash : Tick ≡ PeerDown found.node = found.says in absurd (cc)
     ]
 
 -- an exchange comes only if it is owed, and is with the partner
-pub exchange_owed : (now neighbours : ℕ) (p : PlanParts) (n : ℕ) → task_of now neighbours p ≡ Some (Exchange n)
-    → (p.owes_exchange ≡ true) × (node_at (nodes_of p.members) p.partner ≡ n)
+pub exchange_owed : (now neighbours : ℕ) (p : PlanParts) (n : ℕ) → task_of now neighbours p ≡ Some (BeginExchange n)
+    → (p.owes_exchange ≡ true) × (number_at (nodes_of p.members) p.partner ≡ n)
 exchange_owed now neighbours p n is =
-    elim (is_next now neighbours p (Exchange n) is) [
-      | ByJoin joining join ↦ elim (join_of (slice_get p.members p.contact) (Exchange n) join) [ Greets k there greeted says ↦ absurd (cc) | Joins k there greeted says ↦ absurd (cc) ]
+    elim (is_next now neighbours p (BeginExchange n) is) [
+      | ByJoin joining join ↦ elim (join_of (slice_get p.members p.contact) (BeginExchange n) join) [ Greets k there greeted says ↦ absurd (cc) | Joins k there greeted says ↦ absurd (cc) ]
       | ByExchange joining owed exchange ↦
-          let found = exchange_of (slice_get p.members p.partner) (Exchange n) exchange in
-          let says : Exchange n ≡ Exchange found.0.node = found.1.1 in
+          let found = exchange_of (slice_get p.members p.partner) (BeginExchange n) exchange in
+          let says : BeginExchange n ≡ BeginExchange found.0.node = found.1.1 in
           let same : found.0.node ≡ n = cc in
           (owed, node_there p.members p.partner found.0 found.1.0 ∙ same)
       | ByTick joining owed due says ↦ absurd (cc)
-      | ByDown joining owed down ↦ let found = down_of p.pace.quiet now p.members (Exchange n) down in let clash : Exchange n ≡ PeerDown found.node = found.says in absurd (cc)
+      | ByDown joining owed down ↦ let found = down_of p.pace.quiet now p.members (BeginExchange n) down in let clash : BeginExchange n ≡ PeerDown found.node = found.says in absurd (cc)
     ]
 
 -- it is with the member at the partner's place
-pub exchange_there : (now neighbours : ℕ) (p : PlanParts) (n : ℕ) → task_of now neighbours p ≡ Some (Exchange n)
+pub exchange_there : (now neighbours : ℕ) (p : PlanParts) (n : ℕ) → task_of now neighbours p ≡ Some (BeginExchange n)
     → (k : Member) × ((slice_get p.members p.partner ≡ Some k) × (k.node ≡ n))
 exchange_there now neighbours p n is =
-    elim (is_next now neighbours p (Exchange n) is) [
-      | ByJoin joining join ↦ elim (join_of (slice_get p.members p.contact) (Exchange n) join) [ Greets k there greeted says ↦ absurd (cc) | Joins k there greeted says ↦ absurd (cc) ]
+    elim (is_next now neighbours p (BeginExchange n) is) [
+      | ByJoin joining join ↦ elim (join_of (slice_get p.members p.contact) (BeginExchange n) join) [ Greets k there greeted says ↦ absurd (cc) | Joins k there greeted says ↦ absurd (cc) ]
       | ByExchange joining owed exchange ↦
-          let found = exchange_of (slice_get p.members p.partner) (Exchange n) exchange in
-          let says : Exchange n ≡ Exchange found.0.node = found.1.1 in
+          let found = exchange_of (slice_get p.members p.partner) (BeginExchange n) exchange in
+          let says : BeginExchange n ≡ BeginExchange found.0.node = found.1.1 in
           let same : found.0.node ≡ n = cc in
           (found.0, (found.1.0, same))
       | ByTick joining owed due says ↦ absurd (cc)
-      | ByDown joining owed down ↦ let found = down_of p.pace.quiet now p.members (Exchange n) down in let clash : Exchange n ≡ PeerDown found.node = found.says in absurd (cc)
+      | ByDown joining owed down ↦ let found = down_of p.pace.quiet now p.members (BeginExchange n) down in let clash : BeginExchange n ≡ PeerDown found.node = found.says in absurd (cc)
     ]
 
 -- what is done for a join: it is owed, and neighbours are few
@@ -134,7 +134,7 @@ join_due now neighbours p n is =
         | Greets k there greeted says ↦ absurd (cc)
         | Joins k there greeted says ↦ let same : k.node ≡ n = cc in record { joining = joining; member = k; there = there; greeted = greeted; its_node = same }
       ]
-      | ByExchange joining owed exchange ↦ let found = exchange_of (slice_get p.members p.partner) (Join n) exchange in let clash : Join n ≡ Exchange found.0.node = found.1.1 in absurd (cc)
+      | ByExchange joining owed exchange ↦ let found = exchange_of (slice_get p.members p.partner) (Join n) exchange in let clash : Join n ≡ BeginExchange found.0.node = found.1.1 in absurd (cc)
       | ByTick joining owed due says ↦ absurd (cc)
       | ByDown joining owed down ↦ let found = down_of p.pace.quiet now p.members (Join n) down in let clash : Join n ≡ PeerDown found.node = found.says in absurd (cc)
     ]
@@ -146,7 +146,7 @@ hello_due now neighbours p n is =
         | Greets k there greeted says ↦ let same : k.node ≡ n = cc in record { joining = joining; member = k; there = there; greeted = greeted; its_node = same }
         | Joins k there greeted says ↦ absurd (cc)
       ]
-      | ByExchange joining owed exchange ↦ let found = exchange_of (slice_get p.members p.partner) (Hello n) exchange in let clash : Hello n ≡ Exchange found.0.node = found.1.1 in absurd (cc)
+      | ByExchange joining owed exchange ↦ let found = exchange_of (slice_get p.members p.partner) (Hello n) exchange in let clash : Hello n ≡ BeginExchange found.0.node = found.1.1 in absurd (cc)
       | ByTick joining owed due says ↦ absurd (cc)
       | ByDown joining owed down ↦ let found = down_of p.pace.quiet now p.members (Hello n) down in let clash : Hello n ≡ PeerDown found.node = found.says in absurd (cc)
     ]
@@ -158,7 +158,7 @@ down_due now neighbours p n is =
       | ByJoin joining join ↦ elim (join_of (slice_get p.members p.contact) (PeerDown n) join) [ Greets k there greeted says ↦ absurd (cc) | Joins k there greeted says ↦ absurd (cc) ]
       | ByExchange joining owed exchange ↦
           let found = exchange_of (slice_get p.members p.partner) (PeerDown n) exchange in
-          let clash : PeerDown n ≡ Exchange found.0.node = found.1.1 in
+          let clash : PeerDown n ≡ BeginExchange found.0.node = found.1.1 in
           absurd (cc)
       | ByTick joining owed due says ↦ absurd (cc)
       | ByDown joining owed down ↦

@@ -5,7 +5,7 @@ use Rattle.std.proofs.lemmas.Bool.{cases_eq, cases_lt, cond-true, eqb-true, lt-l
 use Rattle.peer_lists.specs.Lists.{has}
 use Rattle.driver.specs.declared.member.Member.{Member}
 use Rattle.driver.specs.Plan.{has_member, next_place}
-use Rattle.driver.specs.Duty.{EachHasItsTurn, node_at, nodes_of, partners_in, round_from}
+use Rattle.driver.specs.Duty.{EachHasItsTurn, number_at, nodes_of, partners_in, round_from}
 use Rattle.driver.proofs.Rounds.{exchanges_go_round}
 
 next_more : (len at : ℕ) → at + 1 < len → next_place len at ≡ at + 1
@@ -19,14 +19,14 @@ next_first : (len at : ℕ) → len ≤ at + 1 → next_place len at ≡ 0
 next_first len at last = no_more len at (nat_lt (at + 1) len) refl last
 
 abbrev IsIn : (count at : ℕ) → List ℕ → ℕ → Type 0
-IsIn count at nodes p = has (round_from count at nodes) (node_at nodes p) ≡ true
+IsIn count at nodes p = has (round_from count at nodes) (number_at nodes p) ≡ true
 
 -- the places from this one on
 onward : (count at : ℕ) (nodes : List ℕ) (p : ℕ) → at ≤ p → p < length nodes → p < at + count → IsIn count at nodes p
 onward zero at nodes p from within few = absurd (omega arith)
 onward (suc more) at nodes p from within few =
     elim (cases_eq at p) [
-      | inl same ↦ or_left _ _ (eq-eqb (node_at nodes p) (node_at nodes at) (ap (node_at nodes) (sym same)))
+      | inl same ↦ or_left _ _ (eq-eqb (number_at nodes p) (number_at nodes at) (ap (number_at nodes) (sym same)))
       | inr apart ↦
           let later : at + 1 ≤ p = omega (arith, apart) in
           let next = next_more (length nodes) at (omega arith) in
@@ -47,7 +47,7 @@ in_round count at nodes p from all within =
     elim (cases_lt p at) [ inl before ↦ around count at nodes p before from (omega arith) | inr later ↦ onward count at nodes p later within (omega arith) ]
 
 -- a member is at some place
-place_of : (n : ℕ) (members : List Member) → has_member n members ≡ true → (p : ℕ) × ((p < length (nodes_of members)) × (node_at (nodes_of members) p ≡ n))
+place_of : (n : ℕ) (members : List Member) → has_member n members ≡ true → (p : ℕ) × ((p < length (nodes_of members)) × (number_at (nodes_of members) p ≡ n))
 place_of n [] is = absurd (cc)
 place_of n (m ∷ members) is =
     elim (or_cases (nat_eq m.node n) (has_member n members) is) [
@@ -56,12 +56,12 @@ place_of n (m ∷ members) is =
     ]
 
 pub each_has_its_turn : EachHasItsTurn
-each_has_its_turn old new happenings n leads keep place enough is_member =
+each_has_its_turn old new changes n leads keep place enough is_member =
     let found = place_of n old.members is_member in
     let nodes = nodes_of old.members in
     let count = length-map old.members (λ (m : Member). m.node) in
     let some : 0 < length old.members = omega (arith, found.1.0, count) in
     let from : old.partner < length nodes = elim place [ inl first ↦ omega (arith, first, some, count) | inr low ↦ omega (arith, low, count) ] in
-    let round = (exchanges_go_round old new happenings leads keep some).0 in
-    let is = in_round (length (partners_in happenings)) old.partner nodes found.0 from (omega (arith, enough, count)) found.1.0 in
-    subst (λ k. has (partners_in happenings) k ≡ true) found.1.1 (subst (λ (ns : List ℕ). has ns (node_at nodes found.0) ≡ true) (sym round) is)
+    let round = (exchanges_go_round old new changes leads keep some).0 in
+    let is = in_round (length (partners_in changes)) old.partner nodes found.0 from (omega (arith, enough, count)) found.1.0 in
+    subst (λ k. has (partners_in changes) k ≡ true) found.1.1 (subst (λ (ns : List ℕ). has ns (number_at nodes found.0) ≡ true) (sym round) is)

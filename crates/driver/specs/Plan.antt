@@ -3,11 +3,11 @@
 use Rattle.std.specs.Prelude.{◌≡◌, ◌<◌, ◌⊎◌, ◌+◌, ℕ, nat_le, nat_lt, min, Bool, true, false, not, ◌&&◌, ◌||◌, if◌then◌else◌, List, [], ◌∷◌, ◌++◌, length, map, filter, nat_eq, slice_get, Option, Some, None}
 use Rattle.std.specs.List.{list_any}
 use Rattle.driver.specs.declared.member.Member.{Member}
-use Rattle.driver.specs.declared.member.Change.{Change}
-use Rattle.driver.specs.declared.member.Change.TheVariants.{Greeted, GivenUp, Heard}
+use Rattle.driver.specs.declared.member.MemberChange.{MemberChange}
+use Rattle.driver.specs.declared.member.MemberChange.TheVariants.{Greeted, GivenUp, Heard}
 use Rattle.driver.specs.declared.plan.Pace.{Pace}
 use Rattle.driver.specs.declared.task.Task.{Task}
-use Rattle.driver.specs.declared.task.Task.TheVariants.{Tick, Hello, Join, Exchange, PeerDown}
+use Rattle.driver.specs.declared.task.Task.TheVariants.{Tick, Hello, Join, BeginExchange, PeerDown}
 
 -- the pace; the other nodes; the places of the member through which the next join is, and of that
 -- with which the next exchange is; when the next tick is due; whether a join and an exchange are
@@ -35,17 +35,17 @@ new_plan pace now = record {
 
 -- ---- members
 
-abbrev pub made : Change → Member → Member
+abbrev pub made : MemberChange → Member → Member
 made Greeted m = record m { is_greeted = true }
 made GivenUp m = record m { is_down = true }
 made (Heard now) m = record m { heard = now; is_down = false }
 
 -- the member, once this became of the node
-abbrev pub learn : Change → ℕ → Member → Member
+abbrev pub learn : MemberChange → ℕ → Member → Member
 learn change node m = if nat_eq m.node node then made change m else m
 
-abbrev pub changed : Change → ℕ → List Member → List Member
-changed change node members = map (learn change node) members
+abbrev pub all_learn : MemberChange → ℕ → List Member → List Member
+all_learn change node members = map (learn change node) members
 
 -- the members but that of the node; one that is added now; whether there is one
 abbrev pub is_of_another : ℕ → Member → Bool
@@ -90,7 +90,7 @@ join_task (Some m) = if m.is_greeted then Some (Join m.node) else Some (Hello m.
 
 abbrev pub exchange_task : Option Member → Option Task
 exchange_task None = None
-exchange_task (Some m) = Some (Exchange m.node)
+exchange_task (Some m) = Some (BeginExchange m.node)
 
 -- the first that is silent is given up
 abbrev pub down_task : ℕ → ℕ → List Member → Option Task
@@ -144,19 +144,19 @@ after now Tick p = record p {
   owes_join = true;
   owes_exchange = nat_lt 0 (length p.members);
 }
-after now (Hello n) p = record p { members = changed Greeted n p.members }
+after now (Hello n) p = record p { members = all_learn Greeted n p.members }
 after now (Join n) p = record p {
   owes_join = false;
   contact = next_place (length p.members) p.contact;
 }
-after now (Exchange n) p = record p {
+after now (BeginExchange n) p = record p {
   owes_exchange = false;
   partner = next_place (length p.members) p.partner;
 }
-after now (PeerDown n) p = record p { members = changed GivenUp n p.members }
+after now (PeerDown n) p = record p { members = all_learn GivenUp n p.members }
 
 abbrev pub heard_from : (now node : ℕ) → PlanParts → PlanParts
-heard_from now node p = record p { members = changed (Heard now) node p.members }
+heard_from now node p = record p { members = all_learn (Heard now) node p.members }
 
 abbrev pub with_member : (now node : ℕ) → PlanParts → PlanParts
 with_member now node p = if has_member node p.members then p

@@ -1,14 +1,15 @@
 //! What a program calls when something happens: a node does what its plan has next, and then what
 //! the call is made for, as one batch.
 
-ghost use Rattle.std.specs.Prelude.{◌≡◌, ◌≤◌, ◌↔◌, ℕ, IsSome, OnOk, OnErr, IfErr, Ok, Some, false, true};
+ghost use Rattle.std.specs.Prelude.{◌≡◌, ◌≤◌, ◌↔◌, ℕ, IsSome, OnOk, OnErr, IfErr, Some, false, true};
 ghost use Rattle.meta_frame.specs.Frame.{Spells};
 ghost use Rattle.meta_frame.specs.declared.message.Frame.{Frame};
 ghost use Rattle.node_events.specs.declared.event.NodeEvent.TheVariants.{Take};
 ghost use Rattle.node_hosted.specs.Hosting.{RefusesActing};
-ghost use Rattle.driver.specs.Driving.{DoesTask, DoesWork, Drives, HearsSender, MakesStep, OfAsking, OfFailure, OfFrame, OfTime, TellsDown, driver_of, event_of, heard_if_known, neighbours_of, next_task, with_other};
+ghost use Rattle.driver.specs.Driving.{DoesTask, DoesWork, Drives, DrivesTime, HearsSender, OfAsking, OfFailure, OfFrame, TellsDown, TriesStep, driver_of, event_for, heard_if_known, neighbours_of, next_task, with_other};
 ghost use Rattle.driver.specs.Plan.{is_given_up};
 
+use crate::driven::Driven;
 use crate::plan::Plan;
 use crate::task::Task;
 use meta_frame::read_header;
@@ -26,38 +27,37 @@ const MOST_TASKS: usize = 24;
 /// All calls of this file begin a batch, do what is next, do what they are made for, and end the
 /// batch: the host then stores the records, and fetches the reply of the last step and the frames
 /// of all, also if the call was refused. A task that is refused, for want of memory, stays next,
-/// and with it those behind it; what the call is made for is done all the same, and only `on_time`
-/// returns the refusal.
+/// and with it those behind it; what the call is made for is done all the same.
 ///
 /// Refused with 34 `Stopped`, and with 37 `Pending` until all that the call before gave was stored
 /// and fetched; then nothing is done. With 99 `Memory` if a task is.
 pub fn on_time(node: &mut HostedNode, plan: &mut Plan, now: u64, word: u64) -> Result<(), HostFault>
-    ensures { Drives now word OfTime (driver_of node.old plan.old) result
+    ensures { DrivesTime now word (driver_of node.old plan.old) result
         (driver_of node.new plan.new) }
 {
     node.begin_batch()?;
-    let worked = work(node, plan, now, word);
+    let outcome = work(node, plan, now, word);
     close(node);
-    worked
+    outcome
 }
 
 /// Does what is next, and hands the node bytes that came. Their sender counts as heard of. Refused
-/// as `on_time` is, then as `HostedNode::act` is.
+/// as `on_time` is, then, by `Driven::own`, as `HostedNode::act` is.
 pub fn on_frame(
     node: &mut HostedNode,
     plan: &mut Plan,
     now: u64,
     frame: ByteString,
     word: u64,
-) -> Result<(), HostFault>
-    ensures { Drives now word (OfFrame now word frame) (driver_of node.old plan.old) result
+) -> Result<Driven, HostFault>
+    ensures { Drives now word (OfFrame frame) (driver_of node.old plan.old) result
         (driver_of node.new plan.new) }
 {
     node.begin_batch()?;
-    let _worked = work(node, plan, now, word);
+    let worked = work(node, plan, now, word); // before the frame
     let taken = take(node, plan, now, frame, word);
     close(node);
-    taken
+    Ok(Driven { worked, own: taken })
 }
 
 /// Does what is next, and tells the node that a peer is down, a link to which failed, unless that
@@ -68,15 +68,15 @@ pub fn on_failure(
     now: u64,
     peer: NodeId,
     word: u64,
-) -> Result<(), HostFault>
-    ensures { Drives now word (OfFailure now word peer) (driver_of node.old plan.old) result
+) -> Result<Driven, HostFault>
+    ensures { Drives now word (OfFailure peer) (driver_of node.old plan.old) result
         (driver_of node.new plan.new) }
 {
     node.begin_batch()?;
-    let _worked = work(node, plan, now, word);
+    let worked = work(node, plan, now, word); // before the failure
     let told = tell_down(node, plan, now, peer, word);
     close(node);
-    told
+    Ok(Driven { worked, own: told })
 }
 
 /// Does what is next, and has the node make the step of an event, whose reply is then handed out.
@@ -87,15 +87,15 @@ pub fn ask(
     now: u64,
     event: NodeEvent,
     word: u64,
-) -> Result<(), HostFault>
+) -> Result<Driven, HostFault>
     ensures { Drives now word (OfAsking event) (driver_of node.old plan.old) result
         (driver_of node.new plan.new) }
 {
     node.begin_batch()?;
-    let _worked = work(node, plan, now, word);
+    let worked = work(node, plan, now, word); // before the event
     let asked = node.act(event);
     close(node);
-    asked
+    Ok(Driven { worked, own: asked })
 }
 
 /// Returns from when on the plan has something for the node to do, if nothing happens before.
@@ -163,18 +163,18 @@ fn do_task(
     requires next { next_task now (driver_of node.old plan.old) ≡ Some task.now }
     ensures done { OnOk result (DoesTask now word (driver_of node.old plan.old) task.now
         (driver_of node.new plan.new)) }
-    ensures refused { IfErr result (RefusesActing node.old (event_of word task.now) node.new) }
+    ensures refused { IfErr result (RefusesActing node.old (event_for word task.now) node.new) }
     ensures same { OnErr result (plan.new ≡ plan.old) }
 {
-    node.act(event_of(task, word))?;
+    node.act(event_for(task, word))?;
     plan.done(now, task);
     let _keys = node.state().store().len(); // (for its type)
     Ok(())
 }
 
 /// Returns what the node is asked to do for a task.
-fn event_of(task: &Task, word: u64) -> NodeEvent
-    ensures { result ≡ event_of word task.now }
+fn event_for(task: &Task, word: u64) -> NodeEvent
+    ensures { result ≡ event_for word task.now }
 {
     match task {
         Task::Tick => NodeEvent::Tick { word },
@@ -183,7 +183,7 @@ fn event_of(task: &Task, word: u64) -> NodeEvent
             contact: *contact,
             word,
         },
-        Task::Exchange(peer) => NodeEvent::Exchange { peer: *peer },
+        Task::BeginExchange(peer) => NodeEvent::Exchange { peer: *peer },
         Task::PeerDown(peer) => NodeEvent::PeerDown { peer: *peer, word },
     }
 }
@@ -196,7 +196,7 @@ fn take(
     frame: ByteString,
     word: u64,
 ) -> Result<(), HostFault>
-    ensures { MakesStep (Take frame word) (HearsSender now frame) (driver_of node.old plan.old)
+    ensures { TriesStep (Take frame word) (HearsSender now frame) (driver_of node.old plan.old)
         result (driver_of node.new plan.new) }
 {
     let sender = sender_of(frame.as_slice());

@@ -4,7 +4,7 @@
 ghost use Rattle.std.specs.Prelude.{List, ℕ, IfSome};
 ghost use Rattle.dvvset.specs.Object.{IsVector};
 ghost use Rattle.node_core.specs.Growing.{context_of_write};
-ghost use Rattle.driver.specs.Driving.{IsOfOneLife, NothingIsPastDue, OnlyMemoryRefuses, OfAsking, OfFailure, OfFrame, OfTime, WorkIsLed};
+ghost use Rattle.driver.specs.Driving.{CallIsLed, ChangesLeadOn, IsOfOneLife, NothingIsPastDue, OnlyMemoryRefuses, OfAsking, OfFailure, OfFrame, OfTime};
 ghost use Rattle.driver.specs.Duty.{DownsComeOnce, EachHasItsTurn, ExchangesGoRound, HellosComeFirst, HellosComeOnce, JoinsComeFirst, JoinsGoRound, TasksEnd};
 
 use node_core::laws::each_step_counts;
@@ -44,10 +44,12 @@ pub fn tasks_end()
     ensures { TasksEnd }
 {}
 
-/// What a call has done of its plan is a chain of tasks, each of which was next; and nothing is
-/// past due then, unless one was refused.
+/// A call changes its plan by tasks that were next, and by what it is made for, so that the laws
+/// above hold of calls, one after the other. Nothing is past due once the tasks are done, unless
+/// one was refused.
 pub fn a_call_does_what_is_next()
-    ensures led { WorkIsLed }
+    ensures led { CallIsLed }
+    ensures on { ChangesLeadOn }
     ensures all { NothingIsPastDue }
 {}
 
@@ -61,12 +63,10 @@ pub fn only_memory_refuses_tasks()
 /// A call is a part of the life of its node, so all that is proved of hosted nodes and their files
 /// holds under a driver.
 pub fn a_call_is_of_one_life(node: &HostedNode, event: &NodeEvent)
-    ensures of_time { IsOfOneLife (λ now word. OfTime) node.now }
-    ensures of_frames { (bytes : List ℕ)
-        → IsOfOneLife (λ now word. OfFrame now word bytes) node.now }
-    ensures of_failures { (peer : ℕ)
-        → IsOfOneLife (λ now word. OfFailure now word peer) node.now }
-    ensures of_asking { IsOfOneLife (λ now word. OfAsking event.now) node.now }
+    ensures of_time { IsOfOneLife OfTime node.now }
+    ensures of_frames { (bytes : List ℕ) → IsOfOneLife (OfFrame bytes) node.now }
+    ensures of_failures { (peer : ℕ) → IsOfOneLife (OfFailure peer) node.now }
+    ensures of_asking { IsOfOneLife (OfAsking event.now) node.now }
 {
     let _keys = node.state().store().len(); // (for its type)
     reveal_context(event);

@@ -1,5 +1,5 @@
 ghost use Rattle.std.specs.Prelude.{◌≡◌, ◌≤◌, ◌+◌, ◌<◌, ◌^◌, nat_le, not, ◌&&◌};
-ghost use Rattle.driver.specs.Plan.{changed, is_of_another, is_silent, learn, made, others, sooner};
+ghost use Rattle.driver.specs.Plan.{all_learn, is_of_another, is_silent, learn, made, others, sooner};
 
 use meta_types::NodeId;
 
@@ -17,7 +17,7 @@ pub struct Member {
 
 /// What became of a member.
 #[derive(Clone, Copy)]
-pub(crate) enum Change {
+pub(crate) enum MemberChange {
     Greeted,
     GivenUp,
     Heard(u64),
@@ -25,19 +25,19 @@ pub(crate) enum Change {
 
 impl Member {
     /// Returns the member, once this became of it.
-    fn with(self, change: Change) -> Member
+    fn with(self, change: MemberChange) -> Member
         ensures { result ≡ made change self }
     {
         match change {
-            Change::Greeted => Member {
+            MemberChange::Greeted => Member {
                 is_greeted: true,
                 ..self
             },
-            Change::GivenUp => Member {
+            MemberChange::GivenUp => Member {
                 is_down: true,
                 ..self
             },
-            Change::Heard(now) => Member {
+            MemberChange::Heard(now) => Member {
                 heard: now,
                 is_down: false,
                 ..self
@@ -46,7 +46,7 @@ impl Member {
     }
 
     /// Returns the member, once this became of the node.
-    fn learn(self, node: NodeId, change: Change) -> Member
+    fn learn(self, node: NodeId, change: MemberChange) -> Member
         ensures { result ≡ learn change node self }
     {
         if self.node == node {
@@ -83,8 +83,8 @@ impl Member {
 }
 
 /// This became of the member of the node.
-pub(crate) fn change_each(members: &mut Vec<Member>, node: NodeId, change: Change)
-    ensures { members.new.items ≡ changed change node members.old.items }
+pub(crate) fn change_each(members: &mut Vec<Member>, node: NodeId, change: MemberChange)
+    ensures { members.new.items ≡ all_learn change node members.old.items }
 {
     for place in 0..members.len() {
         members[place] = members[place].learn(node, change);

@@ -3,7 +3,7 @@
 ghost use Rattle.std.specs.Prelude.{◌≡◌, ◌≤◌, ◌↔◌, ◌++◌, ◌∷◌, [], ℕ, IsSome, IsTrue, OnOk, OnErr, slice_get, length, false, true};
 ghost use Rattle.driver.specs.Plan.{after, are_few, down_task, has_member, heard_from, is_given_up, is_owed, join_task, new_plan, next_place, soonest, still_owed, task_of, with_member, without_member};
 
-use crate::member::{Change, Member, change_each, take_out};
+use crate::member::{Member, MemberChange, change_each, take_out};
 use crate::task::Task;
 use meta_types::NodeId;
 use std::alloc::{AllocError, Global};
@@ -191,7 +191,7 @@ impl Plan {
         }
         if self.owes_exchange {
             let partner = self.members.get(self.partner)?;
-            return Some(Task::Exchange(partner.node));
+            return Some(Task::BeginExchange(partner.node));
         }
         if self.due <= now {
             return Some(Task::Tick);
@@ -237,16 +237,16 @@ impl Plan {
                 self.owes_join = true;
                 self.owes_exchange = !self.members.is_empty();
             }
-            Task::Hello(node) => change_each(&mut self.members, *node, Change::Greeted),
+            Task::Hello(node) => change_each(&mut self.members, *node, MemberChange::Greeted),
             Task::Join(_) => {
                 self.owes_join = false;
                 self.contact = next_place(self.members.len(), self.contact);
             }
-            Task::Exchange(_) => {
+            Task::BeginExchange(_) => {
                 self.owes_exchange = false;
                 self.partner = next_place(self.members.len(), self.partner);
             }
-            Task::PeerDown(node) => change_each(&mut self.members, *node, Change::GivenUp),
+            Task::PeerDown(node) => change_each(&mut self.members, *node, MemberChange::GivenUp),
         }
     }
 
@@ -254,6 +254,6 @@ impl Plan {
     pub fn heard(&mut self, now: u64, node: NodeId)
         ensures { self.new ≡ heard_from now node self.old }
     {
-        change_each(&mut self.members, node, Change::Heard(now));
+        change_each(&mut self.members, node, MemberChange::Heard(now));
     }
 }

@@ -10,7 +10,7 @@ pub enum Task {
     /// A join through a member.
     Join(NodeId),
     /// An exchange with a member.
-    Exchange(NodeId),
+    BeginExchange(NodeId),
     /// A member doesn't answer.
     PeerDown(NodeId),
 }

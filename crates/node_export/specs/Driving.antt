@@ -2,10 +2,12 @@
 -- rule is our own.
 use Rattle.std.specs.Prelude.{◌≡◌, ◌⊎◌, ◌<◌, ◌≤◌, ◌↔◌, ℕ, Option, Some, None, Result, Ok, Err, IsSome}
 use Rattle.meta_types.specs.declared.fault.TypeFault.TheVariants.{BadNode}
+use Rattle.node_hosted.specs.Fault.{code_of}
 use Rattle.node_hosted.specs.Hosting.{HostedParts}
 use Rattle.node_hosted.specs.declared.fault.HostFault.{HostFault}
 use Rattle.node_hosted.specs.declared.fault.HostFault.TheVariants.{Argument, Memory}
-use Rattle.driver.specs.Driving.{Drives, Purpose, driver_of, next_task, with_other}
+use Rattle.driver.specs.declared.driven.Driven.{Driven}
+use Rattle.driver.specs.Driving.{Drives, DrivesTime, Purpose, driver_of, next_task, with_other}
 use Rattle.driver.specs.Plan.{PlanParts, without_member}
 use Rattle.node_export.specs.Exports.{answer_of}
 
@@ -17,12 +19,24 @@ InBoth does (Some n) (Some p) (Some m) (Some q) answer = does n p m q answer
 InBoth does (Some n) (Some p) m q answer = ⊥
 InBoth does n p m q answer = (answer ≡ 80) × (m ≡ n) × (q ≡ p)
 
--- the call was made, and the answer says how it ended
+-- the number of how it ended what a call was made for, or of why the call began nothing
+abbrev pub answer_of_own : Result Driven HostFault → ℕ
+answer_of_own (Ok driven) = answer_of driven.own
+answer_of_own (Err fault) = code_of fault
+
+-- the call was made, and the answer says how it ended what it was made for
 abbrev pub DrivesAs : (now word : ℕ) → Purpose
     → HostedParts → PlanParts → HostedParts → PlanParts → ℕ → Type 0
 DrivesAs now word purpose n p node plan answer =
-    (outcome : Result (Unit {0}) HostFault) × ((answer ≡ answer_of outcome)
+    (outcome : Result Driven HostFault) × ((answer ≡ answer_of_own outcome)
     × Drives now word purpose (driver_of n p) outcome (driver_of node plan))
+
+-- the call for the tasks alone was made, and the answer says how they ended
+abbrev pub DrivesTimeAs : (now word : ℕ)
+    → HostedParts → PlanParts → HostedParts → PlanParts → ℕ → Type 0
+DrivesTimeAs now word n p node plan answer =
+    (outcome : Result (Unit {0}) HostFault) × ((answer ≡ answer_of outcome)
+    × DrivesTime now word (driver_of n p) outcome (driver_of node plan))
 
 -- nothing was done, for this cause
 abbrev pub LeavesBoth : ℕ → HostedParts → PlanParts → HostedParts → PlanParts → ℕ → Type 0
@@ -46,7 +60,7 @@ abbrev pub LacksOne : Option HostedParts → Option PlanParts → Option HostedP
 LacksOne n p node plan = ((n ≡ None) ⊎ (p ≡ None)) × (node ≡ n) × (plan ≡ p)
 
 -- no node has the number that was named, and all stays
-abbrev pub BadPeer : HostedParts → PlanParts → Result (Unit {0}) HostFault
+abbrev pub BadPeer : HostedParts → PlanParts → Result Driven HostFault
     → HostedParts → PlanParts → Type 0
 BadPeer n p outcome node plan =
     (outcome ≡ Err (Argument BadNode)) × (node ≡ n) × (plan ≡ p)

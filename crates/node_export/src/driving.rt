@@ -1,15 +1,15 @@
 //! A node that does what its plan has next. The program keeps the plan in a slot of its own.
 
 ghost use Rattle.std.specs.Prelude.{◌≡◌, ◌≢◌, ◌⊎◌, ◌<◌, Some, None, Err, IfSome, IfNone};
-ghost use Rattle.driver.specs.Driving.{Drives, OfFailure, OfFrame, OfTime, driver_of};
+ghost use Rattle.driver.specs.Driving.{Drives, OfFailure, OfFrame, driver_of};
 ghost use Rattle.driver.specs.Plan.{new_plan};
 ghost use Rattle.node_hosted.specs.declared.fault.HostFault.{HostFault};
-ghost use Rattle.node_export.specs.Driving.{AddsMember, AddsOrRefuses, BadPeer, DrivesAs, DrivesCopied, DrivesPeer, InBoth, LacksOne, RemovesMember, RemovesOrRefuses, TellsWake};
+ghost use Rattle.node_export.specs.Driving.{AddsMember, AddsOrRefuses, BadPeer, DrivesAs, DrivesCopied, DrivesPeer, DrivesTimeAs, InBoth, LacksOne, RemovesMember, RemovesOrRefuses, TellsWake, answer_of_own};
 
 use crate::numbers::{NO_NODE, OK, answer_of};
 use crate::plan_slot::PlanSlot;
 use crate::slot::Slot;
-use driver::{Pace, Plan, add_member, on_failure, on_frame, on_time, wake};
+use driver::{Driven, Pace, Plan, add_member, on_failure, on_frame, on_time, wake};
 use meta_types::{ByteString, NodeId, TypeFault};
 use node_hosted::{HostFault, HostedNode};
 use std::alloc::Global;
@@ -132,7 +132,7 @@ pub extern "C" fn zomtagi_drive_time(
     now: u64,
     word: u64,
 ) -> u16
-    ensures { InBoth (DrivesAs now word OfTime) slot.old.handle.held plan.old.handle.held
+    ensures { InBoth (DrivesTimeAs now word) slot.old.handle.held plan.old.handle.held
         slot.new.handle.held plan.new.handle.held result }
 {
     let Some((mut node, mut its)) = take_both(alloc, slot, plan) else {
@@ -156,14 +156,14 @@ pub extern "C" fn zomtagi_drive_frame(
     frame: &[u8],
     word: u64,
 ) -> u16
-    ensures { InBoth (DrivesCopied now word (OfFrame now word frame.now))
+    ensures { InBoth (DrivesCopied now word (OfFrame frame.now))
         slot.old.handle.held plan.old.handle.held slot.new.handle.held plan.new.handle.held
         result }
 {
     let Some((mut node, mut its)) = take_both(alloc, slot, plan) else {
         return NO_NODE;
     };
-    let answer = answer_of(take_copy(alloc, &mut node, &mut its, now, frame, word));
+    let answer = answer_of_own(take_copy(alloc, &mut node, &mut its, now, frame, word));
     slot.put(node);
     plan.put(its);
     answer
@@ -176,8 +176,8 @@ fn take_copy(
     now: u64,
     frame: &[u8],
     word: u64,
-) -> Result<(), HostFault>
-    ensures { Drives now word (OfFrame now word frame.now) (driver_of node.old plan.old) result
+) -> Result<Driven, HostFault>
+    ensures { Drives now word (OfFrame frame.now) (driver_of node.old plan.old) result
         (driver_of node.new plan.new)
         ⊎ ((result ≡ Err HostFault.Memory) × (node.new ≡ node.old) × (plan.new ≡ plan.old)) }
 {
@@ -197,14 +197,14 @@ pub extern "C" fn zomtagi_drive_failure(
     peer: u16,
     word: u64,
 ) -> u16
-    ensures { InBoth (DrivesPeer peer now word (OfFailure now word peer))
+    ensures { InBoth (DrivesPeer peer now word (OfFailure peer))
         slot.old.handle.held plan.old.handle.held slot.new.handle.held plan.new.handle.held
         result }
 {
     let Some((mut node, mut its)) = take_both(alloc, slot, plan) else {
         return NO_NODE;
     };
-    let answer = answer_of(fail(&mut node, &mut its, now, peer, word));
+    let answer = answer_of_own(fail(&mut node, &mut its, now, peer, word));
     slot.put(node);
     plan.put(its);
     answer
@@ -216,13 +216,28 @@ fn fail(
     now: u64,
     peer: u16,
     word: u64,
-) -> Result<(), HostFault>
-    ensures lawful { peer < 16 → Drives now word (OfFailure now word peer)
+) -> Result<Driven, HostFault>
+    ensures lawful { peer < 16 → Drives now word (OfFailure peer)
         (driver_of node.old plan.old) result (driver_of node.new plan.new) }
     ensures unlawful { (peer < 16 → ⊥) → BadPeer node.old plan.old result node.new plan.new }
 {
     let peer = NodeId::new(peer)?;
     on_failure(node, plan, now, peer, word)
+}
+
+/// Returns the number that says how it ended what a call is made for.
+fn answer_of_own(outcome: Result<Driven, HostFault>) -> u16
+    ensures { result ≡ answer_of_own outcome }
+{
+    match outcome {
+        Ok(
+            Driven {
+                worked: _worked,
+                own,
+            },
+        ) => answer_of(own),
+        Err(fault) => fault.code(),
+    }
 }
 
 /// Takes the node and the plan out of their slots, if both are there.

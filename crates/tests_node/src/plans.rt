@@ -32,7 +32,7 @@ fn is_of(task: &Task, letter: u8, number: u16) -> bool {
         Task::Tick => letter == b'T' && number == 0,
         Task::Hello(node) => letter == b'H' && number == node.number(),
         Task::Join(node) => letter == b'J' && number == node.number(),
-        Task::Exchange(node) => letter == b'X' && number == node.number(),
+        Task::BeginExchange(node) => letter == b'X' && number == node.number(),
         Task::PeerDown(node) => letter == b'P' && number == node.number(),
     }
 }

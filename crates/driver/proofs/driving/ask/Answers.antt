@@ -1,4 +1,4 @@
-use Rattle.std.proofs.Common.{inr, ap, subst}
+use Rattle.std.proofs.Common.{ap, subst}
 use Rattle.node_hosted.specs.Hosting.{HostedParts}
 use Rattle.driver.specs.Driving.{DoesWork, driver_of}
 use Rattle.driver.proofs.Working.{IsOpen, Stays, acted, made_open, opened, worked_open}
@@ -23,14 +23,13 @@ returns c =
     let plan = c.work-worked.new.plan in
     let asked = acted c.args.event plan c.work-worked.new.node c.act-asked.new.self c.act-asked.result c.act-asked.ensures.acts c.act-asked.ensures.refused in
     let between = driver_of c.work-worked.new.node plan in
-    let works = subst (λ (n : HostedParts). DoesWork c.args.now c.args.word (driver_of n c.args.plan.now) c.work-worked.result between) c.in_ok-begin_batch.ensures.2 c.work-worked.ensures in
-    inr (record {
+    let work = subst (λ (n : HostedParts). DoesWork c.args.now c.args.word (driver_of n c.args.plan.now) c.work-worked.result between) c.in_ok-begin_batch.ensures.2 c.work-worked.ensures in
+    record {
       ready = c.in_ok-begin_batch.ensures.0;
       closed = c.in_ok-begin_batch.ensures.1;
-      worked = c.work-worked.result;
       between = between;
-      works = works;
-      done = driver_of c.act-asked.new.self plan;
-      own = asked;
+      work = work;
+      last = driver_of c.act-asked.new.self plan;
+      fulfils = asked;
       ends = ap (λ (n : HostedParts). driver_of n plan) c.close.ensures;
-    })
+    }
