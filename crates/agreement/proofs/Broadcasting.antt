@@ -35,9 +35,10 @@ use Rattle.agreement.proofs.Frontier.{IsFrontier, all_reached_in, has_parent}
 use Rattle.agreement.proofs.InTurn.{Begun}
 use Rattle.agreement.proofs.Longer.{grown, shows_end, told_later}
 use Rattle.agreement.proofs.Meetings.{same_bool}
-use Rattle.agreement.proofs.Spreading.{IsBegun, Spreading, all_delivered, nothing_due, root_low, started}
+use Rattle.agreement.proofs.Spreading.{IsBegun, Spreading, all_delivered, nothing_due, started}
 use Rattle.agreement.proofs.Passing.{all_reached, no_more_passed_on, over_another, not_reached}
 use Rattle.agreement.proofs.Written.{written_in}
+use Rattle.agreement.proofs.Writing.{peers_stay, writer_low}
 
 -- under another key
 with_set-other : (v : Knowledge) (k : Key) (S : Places) (l : Key) → l ≢ k → with_set v k S l ≡ v l
@@ -51,17 +52,25 @@ no_peers : (w : World) (n : ℕ) → length w.nodes ≤ n → (m : ℕ) → has 
 no_peers w n high m = ap (λ (node : ImagedNode). has node.state.overlay.cast.eager m) (get_or_past w.nodes n (new_node n) high)
 
 module _ (world : World) (begun : Begun world) (links : (n : ℕ) → n < length world.nodes → HasLinks (node_at world n).state.overlay.cast) (b : Broadcasts world) where
+  -- the write left the tree as it was
+  tree_left : IsEagerTree world b.writer b.edges
+  tree_left = record {
+    tree = b.tree.tree;
+    eager = λ n m place.
+        ap (λ peers. has peers m) (peers_stay b.before world b.writer b.key b.value b.write.event b.write.answer b.is_write b.wrote.comes n) ∙ b.tree.eager n m place;
+  }
+
   -- the nodes of the tree are nodes of the world
   in_world : (n : ℕ) → is_in b.writer b.edges n ≡ true → n < length world.nodes
   in_world n place =
       ⊎_elim
       (λ (at : n ≡ b.writer). subst (λ i. i < length world.nodes) (sym at)
-      (root_low begun.told.history begun.is_history b.key b.writer b.edges b.tree.tree b.before world b.value b.write.event b.write.answer b.is_write b.wrote.comes))
+      (writer_low b.before world b.writer b.key b.value b.write.event b.write.answer b.is_write b.wrote.comes))
       (λ parent.
       ⊎_elim
       (λ (low : n < length world.nodes). low)
       (λ high.
-      absurd (false≢true (sym (no_peers world n high parent.0) ∙ b.tree.eager n parent.0 place
+      absurd (false≢true (sym (no_peers world n high parent.0) ∙ tree_left.eager n parent.0 place
       ∙ or_right (has_edge b.edges n parent.0) (has_edge b.edges parent.0 n) parent.1)))
       (cases_lt n (length world.nodes)))
       (has_parent b.writer b.edges n place)
@@ -75,12 +84,12 @@ module _ (world : World) (begun : Begun world) (links : (n : ℕ) → n < length
     is_history : IsHistory t.history
     is_history = subst (λ (u : Told). IsHistory u.history) (one_told world.accepted world.frames begun.told t begun.tells tells) begun.is_history
 
-    is_written : IsNewWrite t b.writer b.key b.value
+    is_written : IsNewWrite b.before t b.writer b.key b.value
     is_written = written_in b.before world b.write b.writer b.key b.value b.is_write b.wrote.comes t tells
 
     begins : IsBegun t.history is_history b.key b.writer b.edges b.tree.tree b.before world
     begins = record {
-      joined = b.tree.eager;
+      joined = tree_left.eager;
       distinct = λ n low. (links n low).eager_once;
       its_number = begun.standing.numbers;
       held = λ n low. begun.standing.shows t tells n b.key low;
@@ -177,7 +186,7 @@ module _ (world : World) (begun : Begun world) (links : (n : ℕ) → n < length
 
   -- ---- the laws
 
-  pub all_written : OfAllTold world (λ t. IsNewWrite t b.writer b.key b.value)
+  pub all_written : OfAllTold world (λ t. IsNewWrite b.before t b.writer b.key b.value)
   all_written = λ t tells. is_written t tells
 
   pub sends : SendsGossip b.before b.after b.key (length b.deliveries)
@@ -191,8 +200,11 @@ module _ (world : World) (begun : Begun world) (links : (n : ℕ) → n < length
       same_bool ((ends begun.told begun.tells).reached n) (is_in b.writer b.edges n) ((ends begun.told begun.tells).in_tree n) (all_were_reached begun.told begun.tells n)) in
       omega (arith, counted, same)
 
-  pub tree_stays : IsEagerTree b.after b.writer b.edges
-  tree_stays = record { tree = b.tree.tree; eager = λ n m place. ap (λ peers. has peers m) ((ends begun.told begun.tells).eager n) ∙ b.tree.eager n m place }
+  pub tree_stays : IsEagerTree world b.writer b.edges × IsEagerTree b.after b.writer b.edges
+  tree_stays = (
+    tree_left,
+    record { tree = b.tree.tree; eager = λ n m place. ap (λ peers. has peers m) ((ends begun.told begun.tells).eager n) ∙ tree_left.eager n m place },
+  )
 
   pub others_stay : (n : ℕ) → is_in b.writer b.edges n ≡ false → node_at b.after n ≡ node_at world n
   others_stay n out = (ends begun.told begun.tells).untouched n (no_other_reached begun.told begun.tells n out)

@@ -40,10 +40,14 @@ pub mod Delivering
 pub mod Exchanged
 -- rounds of exchanges, one after the other
 pub mod InTurn
+-- drivers whose exchanges are all delivered in a window
+pub mod Windows
 -- a step of a node that writes, or takes a GOSSIP
 pub mod Gossiping
 -- what a write tells
 pub mod Written
+-- a write in a world
+pub mod Writing
 -- a write goes along a tree, delivery by delivery
 pub mod Spreading
 -- what a broadcast along a tree leaves

@@ -35,7 +35,7 @@ pub record Grown (old : World) (run : List Accepted) (new : World) : Type 0 wher
   pub frames : new.frames ≡ old.frames ++ more
 
 -- one event
-grown_one : (old new : World) (a : Accepted) → Outcome old a.event (Ok a.answer) new → Grown old (a ∷ []) new
+pub grown_one : (old new : World) (a : Accepted) → Outcome old a.event (Ok a.answer) new → Grown old (a ∷ []) new
 unfolding Outcome
 grown_one old new a accepts =
     let c : Changes old (node_of_event a.event) a.answer new = changes old (node_of_event a.event) (doing_in old a.event) a.answer new accepts.makes in
@@ -150,15 +150,19 @@ pub each_append : (frames : List Frame) (first later : List Accepted) (t : Told)
 each_append frames [] later t = refl
 each_append frames (a ∷ first) later t = each_append frames first later (tell_accepted frames a t)
 
--- what a world told is in front of what it tells after a run
-pub told_later : (old : World) (run : List Accepted) (new : World) → Grown old run new → (t u : Told) → Tells old.accepted old.frames t → Tells new.accepted new.frames u → IsLater t u
-told_later old run new g t u tells also =
+-- by the frames of a later world the events of an earlier one tell what they told
+pub told_still : (old : World) (run : List Accepted) (new : World) → Grown old run new → (t u : Told) → Tells old.accepted old.frames t → (also : Tells new.accepted new.frames u)
+    → tell_each also.frames old.accepted nothing_told ≡ t
+told_still old run new g t u tells also =
     let p = parted Spells also.frames old.frames g.more (subst (Pairwise Spells also.frames) g.frames also.spelled) in
     let same : p.front ≡ tells.frames = one_spelling p.front tells.frames old.frames p.fits tells.spelled in
     let all : also.frames ≡ tells.frames ++ p.back = p.whole ∙ ap (λ fs. fs ++ p.back) same in
-    let before : tell_each also.frames old.accepted nothing_told ≡ t =
-    ap (λ fs. tell_each fs old.accepted nothing_told) all ∙ tell_each_more tells.frames p.back 0 old.accepted nothing_told tells.in_order ∙ tells.tells in
+    ap (λ fs. tell_each fs old.accepted nothing_told) all ∙ tell_each_more tells.frames p.back 0 old.accepted nothing_told tells.in_order ∙ tells.tells
+
+-- what a world told is in front of what it tells after a run
+pub told_later : (old : World) (run : List Accepted) (new : World) → Grown old run new → (t u : Told) → Tells old.accepted old.frames t → Tells new.accepted new.frames u → IsLater t u
+told_later old run new g t u tells also =
     let after : tell_each also.frames run t ≡ u =
-    sym (ap (tell_each also.frames run) before) ∙ sym (each_append also.frames old.accepted run nothing_told)
+    sym (ap (tell_each also.frames run) (told_still old run new g t u tells also)) ∙ sym (each_append also.frames old.accepted run nothing_told)
     ∙ sym (ap (λ xs. tell_each also.frames xs nothing_told) g.accepted) ∙ also.tells in
     subst (IsLater t) after (by_each also.frames run t)

@@ -52,10 +52,11 @@ use Rattle.agreement.specs.Tree.{IsTree, after_passing_all, are_joined, has_edge
 use Rattle.agreement.specs.World.{AcceptsAll, IsDeliveryOf, numbers_of}
 use Rattle.agreement.proofs.Along.{count_more, count_tree}
 use Rattle.agreement.proofs.Frontier.{IsFrontier, and_also, edge_from, edge_in, edge_to, edges_to, first_frontier, next_frontier, root_in, was_due}
-use Rattle.agreement.proofs.Gossiping.{Spreads, TakesGossip, Writes, gossips, puts, takes_gossip, writes as wrote}
+use Rattle.agreement.proofs.Gossiping.{Spreads, TakesGossip, gossips, takes_gossip}
 use Rattle.agreement.proofs.Moving.{as_many, at_each, here, others, sent_numbers}
 use Rattle.agreement.proofs.Pending.{IsPending, envelopes_pending, mapped, pending_longer, unmapped}
 use Rattle.agreement.proofs.Passing.{all_reached, along_edge, or-swap, root_stays}
+use Rattle.agreement.proofs.Writing.{Wrote, wrote_by, writer_low}
 
 -- ---- lists
 
@@ -346,55 +347,14 @@ module _ (hs : List Happening) (history : IsHistory hs) (key : Key) (root : ℕ)
 
   -- ---- the write
 
-  -- a node wrote under a key
-  record Wrote (n : ℕ) (k : Key) (answer : Answer) : Type 0 where
-    step : NodeEvent
-    makes : MakesStep before n step answer first
-    low : n < length before.nodes
-    writes : Writes (node_at before n).state makes.state makes.given k
-
-  wrote_by : (n : ℕ) (k : Key) (v : ValueParts) (event : Event) (answer : Answer) → IsWriteOf n k v event → Outcome before event (Ok answer) first → Wrote n k answer
-  unfolding Outcome
-  wrote_by n k v (events.Step m (OfNode.Write l u context)) answer is accepts =
-      let makes : MakesStep before m (OfNode.Write l u context) answer first = accepts.makes in
-      subst (λ i. Wrote i k answer) is.0 (subst (λ x. Wrote m x answer) is.1.0 (record {
-        step = OfNode.Write l u context;
-        makes = makes;
-        low = has_node before (events.Step m (OfNode.Write l u context)) accepts.no_refusal;
-        writes = wrote (node_at before m).state makes.state l u context makes.given makes.makes;
-      }))
-  wrote_by n k v (events.Step m (OfNode.PutOver l u)) answer is accepts =
-      let makes : MakesStep before m (OfNode.PutOver l u) answer first = accepts.makes in
-      subst (λ i. Wrote i k answer) is.0 (subst (λ x. Wrote m x answer) is.1.0 (record {
-        step = OfNode.PutOver l u;
-        makes = makes;
-        low = has_node before (events.Step m (OfNode.PutOver l u)) accepts.no_refusal;
-        writes = puts (node_at before m).state makes.state l u makes.given makes.makes;
-      }))
-  wrote_by n k v (events.Put m l u read) answer is accepts =
-      let makes : MakesStep before m (OfNode.Write l u (numbered before.contexts read)) answer first = accepts.makes in
-      subst (λ i. Wrote i k answer) is.0 (subst (λ x. Wrote m x answer) is.1.0 (record {
-        step = OfNode.Write l u (numbered before.contexts read);
-        makes = makes;
-        low = has_node before (events.Put m l u read) accepts.no_refusal;
-        writes = wrote (node_at before m).state makes.state l u (numbered before.contexts read) makes.given makes.makes;
-      }))
-  wrote_by n k v _ answer is accepts = absurd is
-
-  -- the root is a node of the world
-  pub root_low : (value : ValueParts) (event : Event) (answer : Answer) → IsWriteOf root key value event → Outcome before event (Ok answer) first → root < length first.nodes
-  root_low value event answer is accepts =
-      let o : Wrote root key answer = wrote_by root key value event answer is accepts in
-      subst (λ c. root < c) (sym (as_many before first root answer o.step o.makes o.low)) o.low
-
   -- what it sent is on its way, along each edge from the root
   pub started : IsBegun → (value : ValueParts) (event : Event) (answer : Answer) → IsWriteOf root key value event → Outcome before event (Ok answer) first → Spreading (numbers_of answer.sent) 0 first
   started b value event answer is accepts =
-      let o : Wrote root key answer = wrote_by root key value event answer is accepts in
+      let o : Wrote before first root key answer = wrote_by before first root key value event answer is accepts in
       let its : node_at first root ≡ arrived o.makes.state (stored_key o.step) (node_at before root) = here before first root answer o.step o.makes o.low in
       let peers : List ℕ = (node_at before root).state.overlay.cast.eager in
       let same : eager_of first root ≡ (node_at before root).state.overlay.cast.eager = ap (λ (n : ImagedNode). n.state.overlay.cast.eager) its ∙ o.writes.spreads.eager in
-      let low : root < length first.nodes = root_low value event answer is accepts in
+      let low : root < length first.nodes = writer_low before first root key value event answer is accepts in
       let number : (node_at before root).state.node ≡ root = sym o.writes.spreads.node ∙ ap (λ (n : ImagedNode). n.state.node) (sym its) ∙ b.its_number root low in
       let table : table_at first root ≡ with_object key o.writes.object (table_at before root) = ap (λ (n : ImagedNode). n.state.table) its ∙ o.writes.spreads.table in
       let of_root : IsObjectOf (writes hs) key (learns root) (object_at (table_at first root) key) =

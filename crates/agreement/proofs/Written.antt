@@ -1,5 +1,5 @@
--- What a write tells: its place is known to its node alone.
-use Rattle.std.proofs.Common.{◌≡◌, ◌≢◌, ℕ, ◌<◌, true, false, List, [], ◌∷◌, ◌++◌, length, append-nil, append_assoc, Option, Some, None, Ok, refl, sym, ap, subst, ◌∙◌, arith, eqb}
+-- What a write tells: its place is behind all that was told before, and known to its node alone.
+use Rattle.std.proofs.Common.{◌≡◌, ◌≢◌, ℕ, ◌+◌, ◌<◌, ◌≤◌, true, false, List, [], ◌∷◌, ◌++◌, length, length-append, append-nil, append_assoc, Option, Some, None, Ok, refl, sym, ap, subst, ◌∙◌, arith, eqb}
 use Rattle.std.specs.Prelude.{◌||◌, slice_get}
 use Rattle.std.proofs.lemmas.Bool.{eq-eqb, false_from_ne_true, or_right}
 use Rattle.meta_types.specs.Name.{Key}
@@ -26,7 +26,7 @@ use Rattle.world_core.specs.Outcome.{Outcome}
 use Rattle.world_core.specs.Tells.{Told, nothing_told, tell_accepted, tell_each, tell_event, tell_frames, tell_sending}
 use Rattle.world_core.specs.World.{World}
 use Rattle.agreement.specs.Broadcast.{IsWriteOf, IsNewWrite}
-use Rattle.agreement.proofs.Longer.{each_append}
+use Rattle.agreement.proofs.Longer.{each_append, grown_one, told_still}
 use Rattle.agreement.proofs.Pending.{seam}
 
 -- ---- in a history
@@ -59,26 +59,32 @@ no_other_knows_it hs n k v r m apart =
 
 -- ---- in what is told
 
--- it ends with the write
-record EndsWithWrite (hs : List Happening) (n : ℕ) (k : Key) (v : ValueParts) : Type 0 where
+-- what was told, and perhaps a read, and at the end the write
+record EndsWithWrite (earlier hs : List Happening) (n : ℕ) (k : Key) (v : ValueParts) : Type 0 where
   before : List Happening
   read : Option ℕ
+  longer : length earlier ≤ length before
   is : hs ≡ before ++ Wrote n k v read ∷ []
 
-ends_with_write : (n : ℕ) (k : Key) (v : ValueParts) (event : Event) → IsWriteOf n k v event → (t : Told) → EndsWithWrite (tell_event event t).history n k v
+ends_with_write : (n : ℕ) (k : Key) (v : ValueParts) (event : Event) → IsWriteOf n k v event → (t : Told) → EndsWithWrite t.history (tell_event event t).history n k v
 ends_with_write n k v (events.Step m (OfNode.Write l u context)) is t = record {
   before = t.history;
   read = None;
+  longer = omega arith;
   is = λ i. t.history ++ Wrote (is.0 i) (is.1.0 i) (is.1.1 i) None ∷ [];
 }
-ends_with_write n k v (events.Step m (OfNode.PutOver l u)) is t = record {
-  before = t.history ++ Looked m l ∷ [];
-  read = Some (length t.history);
-  is = λ i. (t.history ++ Looked m l ∷ []) ++ Wrote (is.0 i) (is.1.0 i) (is.1.1 i) (Some (length t.history)) ∷ [];
-}
+ends_with_write n k v (events.Step m (OfNode.PutOver l u)) is t =
+    let long : length (t.history ++ Looked m l ∷ []) ≡ length t.history + length (Looked m l ∷ []) = length-append t.history (Looked m l ∷ []) in
+    record {
+      before = t.history ++ Looked m l ∷ [];
+      read = Some (length t.history);
+      longer = omega (arith, long);
+      is = λ i. (t.history ++ Looked m l ∷ []) ++ Wrote (is.0 i) (is.1.0 i) (is.1.1 i) (Some (length t.history)) ∷ [];
+    }
 ends_with_write n k v (events.Put m l u read) is t = record {
   before = t.history;
   read = numbered t.looks read;
+  longer = omega arith;
   is = λ i. t.history ++ Wrote (is.0 i) (is.1.0 i) (is.1.1 i) (numbered t.looks read) ∷ [];
 }
 ends_with_write n k v _ is t = absurd is
@@ -109,11 +115,11 @@ of_frames n (f ∷ fs) t =
       knows = λ m k p. rest.knows m k p ∙ one.knows m k p;
     }
 
-written : (n : ℕ) (k : Key) (v : ValueParts) (event : Event) → IsWriteOf n k v event → (sender : ℕ) (fs : List Frame) (t : Told)
-    → IsNewWrite (tell_frames sender fs (tell_event event t)) n k v
-written n k v event is sender fs t =
+written : (n : ℕ) (k : Key) (v : ValueParts) (event : Event) → IsWriteOf n k v event → (sender : ℕ) (fs : List Frame) (before : World) (t : Told) → OfAllTold before (λ u. t ≡ u)
+    → IsNewWrite before (tell_frames sender fs (tell_event event t)) n k v
+written n k v event is sender fs before t tells_it =
     let told : Told = tell_event event t in
-    let end : EndsWithWrite (tell_event event t).history n k v = ends_with_write n k v event is t in
+    let end : EndsWithWrite t.history (tell_event event t).history n k v = ends_with_write n k v event is t in
     let after : OfFrames (tell_event event t) (tell_frames sender fs (tell_event event t)) = of_frames sender fs told in
     let at : ℕ = length end.before in
     record {
@@ -121,17 +127,20 @@ written n k v event is sender fs t =
       read = end.read;
       told = ap (λ hs. slice_get hs (length end.before)) (after.longer ∙ ap (λ hs. hs ++ after.more) end.is ∙ append_assoc end.before (Wrote n k v end.read ∷ []) after.more)
           ∙ seam end.before after.more (Wrote n k v end.read);
+      behind = λ u tells. subst (λ (s : Told). length s.history ≤ length end.before) (tells_it u tells) end.longer;
       by_writer = after.knows n k at ∙ ap (λ hs. known hs n k (length end.before)) end.is ∙ knows_its_write end.before n k v end.read;
       by_no_other = λ m apart. after.knows m k at ∙ ap (λ hs. known hs m k (length end.before)) end.is ∙ no_other_knows_it end.before n k v end.read m apart;
     }
 
 -- in a world that a write has just left
 pub written_in : (before w : World) (a : Accepted) (n : ℕ) (k : Key) (v : ValueParts) → IsWriteOf n k v a.event → Outcome before a.event (Ok a.answer) w
-    → OfAllTold w (λ t. IsNewWrite t n k v)
+    → OfAllTold w (λ t. IsNewWrite before t n k v)
 unfolding Outcome
 written_in before w a n k v is accepts = λ t tells.
     let first : Told = tell_each tells.frames before.accepted nothing_told in
     let last : tell_accepted tells.frames a first ≡ t =
     sym (each_append tells.frames before.accepted (a ∷ []) nothing_told)
     ∙ sym (ap (λ xs. tell_each tells.frames xs nothing_told) accepts.accepted) ∙ tells.tells in
-    subst (λ u. IsNewWrite u n k v) last (written n k v a.event is (node_of_event a.event) (frames_at a.answer.sent tells.frames) first)
+    subst (λ u. IsNewWrite before u n k v) last
+    (written n k v a.event is (node_of_event a.event) (frames_at a.answer.sent tells.frames) before first
+    (λ u earlier. told_still before (a ∷ []) w (grown_one before w a accepts) u t earlier tells))

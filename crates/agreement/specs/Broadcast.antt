@@ -1,6 +1,6 @@
 -- A write in a world where eager peers make a tree, and the delivery of each frame that it brings
 -- forth. The rule is our own.
-use Rattle.std.specs.Prelude.{◌≡◌, ◌≢◌, ℕ, ◌<◌, true, false, List, [], ◌∷◌, ◌++◌, length, map, slice_get, All, Option, Some, Ok}
+use Rattle.std.specs.Prelude.{◌≡◌, ◌≢◌, ℕ, ◌<◌, ◌≤◌, true, false, List, [], ◌∷◌, ◌++◌, length, map, slice_get, All, Option, Some, Ok}
 use Rattle.meta_types.specs.Name.{Key}
 use Rattle.meta_types.specs.Value.{ValueParts}
 use Rattle.meta_frame.specs.declared.message.Frame.{Frame}
@@ -62,15 +62,15 @@ DeliverInAnyOrder pending [] = pending ≡ []
 DeliverInAnyOrder pending (a ∷ later) =
     (left : List ℕ) × (DeliversOne pending a left × DeliverInAnyOrder left later)
 
--- a node of the world has just written, and eager peers make a tree over it; then each frame that
--- this brings forth is delivered, and nothing else happens
+-- eager peers make a tree over a node, which writes, and this is the world that the write leaves;
+-- then each frame that it brings forth is delivered, and nothing else happens
 pub record Broadcasts (world : World) : Type 0 where
   pub writer : ℕ
   pub key : Key
   pub value : ValueParts
   pub edges : List Exchange
-  pub tree : IsEagerTree world writer edges
   pub before : World
+  pub tree : IsEagerTree before writer edges
   pub write : Accepted
   pub is_write : IsWriteOf writer key value write.event
   pub wrote : Passes before write.event (Ok write.answer) world
@@ -81,11 +81,14 @@ pub record Broadcasts (world : World) : Type 0 where
 
 -- ---- what is then known
 
--- the write has a place in what is told, and its node alone knows it
-pub record IsNewWrite (t : Told) (writer : ℕ) (key : Key) (value : ValueParts) : Type 0 where
+-- the write has a place in what is told, behind all that the world before it told, and its node
+-- alone knows it
+pub record IsNewWrite (before : World) (t : Told) (writer : ℕ) (key : Key) (value : ValueParts)
+    : Type 0 where
   pub place : ℕ
   pub read : Option ℕ
   pub told : slice_get t.history place ≡ Some (Wrote writer key value read)
+  pub behind : OfAllTold before (λ u. length u.history ≤ place)
   pub by_writer : known t.history writer key place ≡ true
   pub by_no_other : (n : ℕ) → n ≢ writer → known t.history n key place ≡ false
 

@@ -21,5 +21,9 @@ pub use Rattle.world_core.specs.Knowledge
 pub use Rattle.world_core.specs.Outcome
 -- whole exchanges in a world
 pub mod World
+-- a window in which drivers begin exchanges
+pub use Rattle.driver.specs.Plan
+pub use Rattle.driver.specs.Duty
+pub mod Window
 -- a write along a tree of eager peers in a world
 pub mod Broadcast

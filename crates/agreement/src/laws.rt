@@ -1,7 +1,7 @@
 //! The laws of what is forgotten, of rounds, of trees, and of exchanges and a broadcast in a world.
 //! The contract of a function is the law; its body does nothing, or says of which world.
 
-ghost use Rattle.std.specs.Prelude.{◌≡◌, ◌≢◌, ◌↔◌, ◌⊎◌, ◌∷◌, ◌++◌, ◌<◌, ◌≤◌, ◌+◌, ◌*◌, ◌%◌, ◌^◌, ◌||◌, ℕ, [], true, false, List, length, map};
+ghost use Rattle.std.specs.Prelude.{◌≡◌, ◌≢◌, ◌↔◌, ◌⊎◌, ◌∷◌, ◌++◌, ◌<◌, ◌≤◌, ◌+◌, ◌*◌, ◌%◌, ◌^◌, ◌||◌, ℕ, [], true, false, List, length, map, Ok};
 ghost use Rattle.meta_types.specs.Name.{Key};
 ghost use Rattle.meta_types.specs.Value.{ValueParts};
 ghost use Rattle.dvvset.specs.Object.{Entry};
@@ -17,10 +17,12 @@ ghost use Rattle.agreement.specs.Schedules.{four_rounds, log_up, rounds_for};
 ghost use Rattle.agreement.specs.Tree.{IsSameTree, IsTree, after_passing_all, in_and_out, is_in, outwards};
 ghost use Rattle.agreement.specs.Meeting.{SufficeFor, after_meetings};
 ghost use Rattle.agreement.specs.World.{AllShowTheSame, BothHoldAll, CollidesAlong, CollidesIn, CollidesInRounds, DeliverAll, Exchanges, IsIdle, KnowAfterAll, KnowWhatRootKnew, RoundsInTurn, RunsAlong, ShowTheSame, ShowTheSameInTree};
-ghost use Rattle.agreement.specs.Broadcast.{Broadcasts, DeliverInAnyOrder, HoldTheSame, IsEagerTree, IsNewWrite, KnowUnderWhatRootKnew, KnowWhatWasPassedOn, NoneKnewMore, SendsGossip};
+ghost use Rattle.agreement.specs.Window.{AllAreDelivered};
+ghost use Rattle.agreement.specs.Broadcast.{Broadcasts, DeliverInAnyOrder, HoldTheSame, IsEagerTree, IsNewWrite, IsWriteOf, KnowUnderWhatRootKnew, KnowWhatWasPassedOn, NoneKnewMore, SendsGossip, eager_of};
 ghost use Rattle.plumtree.specs.Lawful.{HasLinks};
 ghost use Rattle.world_core.specs.declared.answer.Accepted.{Accepted};
 ghost use Rattle.world_core.specs.Knowledge.{OfAllTold};
+ghost use Rattle.world_core.specs.Outcome.{Passes};
 ghost use Rattle.world_core.specs.Refusal.{node_at};
 ghost use Rattle.world_core.specs.World.{World as W};
 
@@ -238,18 +240,36 @@ pub fn exchanges_in_a_world_are_exchanges_of_knowledge(world: &World)
     a_world_tells_a_history(world);
 }
 
-/// A write in a world, where the eager peers of the writer and of all that they lead to make a
-/// tree, and then the delivery of each frame that this brings forth, once and in any order, with
-/// nothing between; `world` is as the write left it.
+/// Drivers whose members are all other nodes, and a window in which they add and remove none, each
+/// ticks as often as it has members and owes no exchange in the end, and each exchange that one of
+/// them begins is delivered whole: then all know all. In a world, where these exchanges come in
+/// rounds and nothing else happens, all nodes then show the same, whatever was lost before; or two
+/// unequal byte strings, hashed for the tables of two nodes that exchange when their round began,
+/// have one digest.
+pub fn a_window_of_exchanges_makes_all_agree(world: &World)
+    ensures know { (many : ℕ) (es : List Exchange)
+        → AllAreDelivered many es → KnowAll many (after_all own es) }
+    ensures agree { (rounds : List (List Exchange)) → AreRounds rounds
+        → AllAreDelivered (length world.now.nodes) (exchanges_of rounds)
+        → (new : W) (ran : RoundsInTurn world.now rounds new)
+        → AllShowTheSame new ⊎ CollidesInRounds world.now rounds new ran }
+{
+    a_world_tells_a_history(world);
+}
+
+/// Eager peers make a tree over a node of a world, and the node writes: `world` is as the write
+/// left it. Then each frame that this brings forth is delivered, once and in any order, with
+/// nothing between.
 ///
-/// The writer alone knows the write at first. At the end each node knows, under the key, what it
-/// knew and what the next one towards the writer knows; so all know what the writer knew, and where
-/// none knew more, all hold the same object. For n nodes of the tree these are n - 1 frames, each
-/// a GOSSIP. The tree is as it was, and one over each of its nodes. Other nodes are as they were.
-/// The oldest frame first is one of the orders.
+/// The write is new, behind all that was told before it, and the writer alone knows it at first. At
+/// the end each node knows, under the key, what it knew and what the next one towards the writer
+/// knows; so all know what the writer knew, and where none knew more, all hold the same object. For
+/// n nodes of the tree these are n - 1 frames, each a GOSSIP. No write changes eager peers: so the
+/// tree is as it was after the write, and at the end, too; and it is one over each of its nodes.
+/// Other nodes are as they were. The oldest frame first is one of the orders.
 pub fn a_write_reaches_all_along_eager_peers(world: &World)
     ensures written { (b : Broadcasts world.now)
-        → OfAllTold world.now (λ t. IsNewWrite t b.writer b.key b.value) }
+        → OfAllTold world.now (λ t. IsNewWrite b.before t b.writer b.key b.value) }
     ensures known { (b : Broadcasts world.now)
         → OfAllTold world.now (λ t. KnowWhatWasPassedOn t b.edges b.key b.after) }
     ensures reaches { (b : Broadcasts world.now)
@@ -260,10 +280,15 @@ pub fn a_write_reaches_all_along_eager_peers(world: &World)
         ≡ count_known (length world.now.nodes) (is_in b.writer b.edges) }
     ensures gossip { (b : Broadcasts world.now)
         → SendsGossip b.before b.after b.key (length b.deliveries) }
-    ensures stays { (b : Broadcasts world.now) → IsEagerTree b.after b.writer b.edges }
-    ensures any_writer { (root : ℕ) (edges : List Exchange) → IsEagerTree world.now root edges
+    ensures leaves { (before : W) (write : Accepted) (n : ℕ) (key : Key) (value : ValueParts)
+        → IsWriteOf n key value write.event
+        → Passes before write.event (Ok write.answer) world.now
+        → (m : ℕ) → eager_of world.now m ≡ eager_of before m }
+    ensures stays { (b : Broadcasts world.now) → IsEagerTree world.now b.writer b.edges
+        × IsEagerTree b.after b.writer b.edges }
+    ensures any_writer { (w : W) (root : ℕ) (edges : List Exchange) → IsEagerTree w root edges
         → (node : ℕ) → is_in root edges node ≡ true
-        → (others : List Exchange) × IsEagerTree world.now node others }
+        → (others : List Exchange) × IsEagerTree w node others }
     ensures others { (b : Broadcasts world.now) (n : ℕ) → is_in b.writer b.edges n ≡ false
         → node_at b.after n ≡ node_at world.now n }
     ensures in_turn { (pending : List ℕ) (accepted : List Accepted)

@@ -6,7 +6,7 @@
 //!
 //! Read `specs/Left.antt`, `laws` up to `an_overwritten_write_is_never_shown_again`, then
 //! `specs/Rounds.antt`, `Schedules.antt`, `Tree.antt`, `Meeting.antt`, `World.antt`,
-//! `Broadcast.antt` and the other laws.
+//! `Window.antt`, `Broadcast.antt` and the other laws.
 #![tactic(auto)]
 
 pub mod laws;
