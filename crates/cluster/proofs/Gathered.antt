@@ -10,6 +10,7 @@ use Rattle.meta_types.specs.First.{first_that_applies}
 use Rattle.node_call.specs.declared.fault.LockFault.{LockFault}
 use Rattle.inbox.specs.Views.{InboxView}
 use Rattle.cluster_worker.specs.Fault.{of_node}
+use Rattle.cluster_worker.specs.Frames.{up_to_most}
 use Rattle.cluster_worker.specs.Passes.{ArePassesOf}
 use Rattle.cluster_worker.specs.Plan.{refusal_of_run}
 use Rattle.cluster_worker.specs.Serving.{IsServed, LifeView, life_of_file, lives_from}
@@ -22,7 +23,7 @@ use Rattle.cluster_worker.specs.declared.plan.Limits.{Limits}
 use Rattle.cluster_worker.specs.declared.serving.ServedFile.{ServedFile}
 use Rattle.cluster_worker.specs.declared.worker.Job.{Job}
 use Rattle.cluster_worker.specs.declared.worker.Worked.{Worked}
-use Rattle.cluster.specs.Run.{CanRun, IsPutTogether, IsRunOf, RefusesGathering, RefusesRun, up_to_most}
+use Rattle.cluster.specs.Run.{CanRun, IsPutTogether, IsRunOf, RefusesGathering, RefusesRun}
 use Rattle.cluster.specs.declared.run.ClusterRun.{ClusterRun}
 
 -- who is stopped, once there is one worker more

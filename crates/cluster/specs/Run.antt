@@ -1,7 +1,8 @@
 -- What a run of a cluster leaves, and why there is none.
-use Rattle.std.specs.Prelude.{◌≡◌, ℕ, min, List, [], length, map, filter, replicate, sum_by, Some, None}
+use Rattle.std.specs.Prelude.{◌≡◌, ℕ, List, [], length, map, filter, replicate, sum_by, Some, None}
 use Rattle.std.specs.List.{AllZip, flat_map}
 use Rattle.node_call.specs.declared.fault.LockFault.TheVariants.{SeatsMissing}
+use Rattle.cluster_worker.specs.Frames.{up_to_most}
 use Rattle.cluster_worker.specs.Plan.{largest, refusal_of_run}
 use Rattle.cluster_worker.specs.Serving.{CanServeAll, CannotServeOne, LifeView}
 use Rattle.cluster_worker.specs.Worked.{HasWorked}
@@ -11,10 +12,6 @@ use Rattle.cluster_worker.specs.declared.plan.ClusterPlan.{ClusterPlan}
 use Rattle.cluster_worker.specs.declared.plan.Limits.{Limits}
 use Rattle.cluster_worker.specs.declared.worker.Worked.{Worked}
 use Rattle.cluster.specs.declared.run.ClusterRun.{ClusterRun}
-
--- a count that stays at its greatest value
-abbrev pub up_to_most : ℕ → ℕ
-up_to_most n = min n 18446744073709551615
 
 -- what these workers leave, put together in their order
 pub record IsPutTogether (all : List Worked) (run : ClusterRun) : Type 0 where

@@ -3,4 +3,6 @@ pub mod Dealt
 pub mod Made
 pub mod Begun
 pub mod Putting
+pub mod Sent
+pub mod Conveying
 pub mod Working

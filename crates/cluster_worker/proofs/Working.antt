@@ -1,7 +1,7 @@
 -- What a worker keeps through its turns.
 use Rattle.std.proofs.Common.{◌≡◌, ◌≤◌, ◌+◌, ℕ, nat_lt, Bool, true, false, ◌||◌, List, ◌∷◌, [], ◌++◌, length, All, Some, None, Ok, Err, Result, IfOk, sum_by, inl, inr, ⊎_elim, refl, sym, ap, ◌∙◌, subst, arith}
 use Rattle.std.specs.Prelude.{slice_get}
-use Rattle.std.proofs.lemmas.Bool.{le-ltb, ltb-false}
+use Rattle.std.proofs.lemmas.Bool.{le-ltb}
 use Rattle.std.proofs.lemmas.List.{length_push}
 use Rattle.std.proofs.lemmas.List.Elements.{All-nil, All-push}
 use Rattle.std.proofs.lemmas.List.Sums.{sum_by_push}
@@ -20,13 +20,10 @@ use Rattle.inbox.specs.Views.{InboxView, TakeView}
 use Rattle.node_lock.specs.Call.{AnswersCall, CanRefuseClosing}
 use Rattle.cluster_worker.specs.Call.{IsAsked}
 use Rattle.cluster_worker.specs.Passes.{ArePassesInto, ArePassesOf, lines_of}
-use Rattle.cluster_worker.specs.Plan.{refusal_of_run}
 use Rattle.cluster_worker.specs.Serving.{LifeView}
 use Rattle.cluster_worker.specs.Turns.{IsWorkerOf}
 use Rattle.cluster_worker.specs.Worked.{EndsRun, HasWorked, IsLeftOfLife, IsReceiptIn, frames_in}
 use Rattle.cluster_worker.specs.declared.fault.ClusterFault.{ClusterFault}
-use Rattle.cluster_worker.specs.declared.plan.ClusterPlan.{ClusterPlan}
-use Rattle.cluster_worker.specs.declared.plan.Limits.{Limits}
 use Rattle.cluster_worker.specs.declared.turns.Worker.{Worker}
 use Rattle.cluster_worker.specs.declared.worker.Worked.{Worked}
 
@@ -121,6 +118,13 @@ worked_of inboxes life calls worker closed seats (Ok w) was began run counts one
       lost = subst (λ n. n ≤ frames_in w.receipts.items) (sym lost)
           (subst (λ v. worker.lost ≤ frames_in v.items) (sym receipts) was.lost);
     }
+
+-- its passes are of the same inboxes
+pub connected_of : (inboxes : List InboxView) (worker : Worker) (result : Result Worked LockFault)
+    → ArePassesOf inboxes worker.passes → IfOk result (λ w. w.passes ≡ worker.passes)
+    → IfOk result (λ w. ArePassesOf inboxes w.passes)
+connected_of inboxes worker (Ok w) are same = subst (ArePassesOf inboxes) (sym same) are
+connected_of inboxes worker (Err fault) are same = tt
 
 -- ---- why a node isn't closed
 

@@ -8,6 +8,8 @@ pub mod Serving
 pub mod Passes
 -- what a worker asks of its node
 pub mod Call
+-- what becomes of frames: of those that are sent, and of those that are taken
+pub mod Frames
 -- what comes of a worker
 pub mod Worked
 -- what a worker keeps through all turns

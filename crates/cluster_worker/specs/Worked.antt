@@ -4,6 +4,7 @@ use Rattle.std.specs.List.{AllZip}
 use Rattle.meta_store.specs.Table.{Table}
 use Rattle.node_file.specs.View.{FileView}
 use Rattle.node_desk.specs.Desk.{BeganWith}
+use Rattle.node_events.specs.declared.event.NodeEvent.{NodeEvent}
 use Rattle.node_journal.specs.Closed.{ClosedNode, EndsWithTable}
 use Rattle.node_journal.specs.declared.receipt.Receipt.{Receipt}
 use Rattle.node_lock.specs.Call.{AnswersCall}
@@ -12,6 +13,7 @@ use Rattle.node_call.specs.Acknowledged.{Acknowledged}
 use Rattle.node_call.specs.declared.fault.LockFault.{LockFault}
 use Rattle.node_call.specs.declared.fault.LockFault.TheVariants.{Memory, SeatsMissing}
 use Rattle.cluster_worker.specs.Call.{IsAsked}
+use Rattle.cluster_worker.specs.Frames.{Conveys, up_to_most}
 use Rattle.cluster_worker.specs.Passes.{ArePassesOf}
 use Rattle.cluster_worker.specs.Serving.{IsServed, LifeView}
 use Rattle.cluster_worker.specs.declared.passes.Passes.{Passes}
@@ -43,6 +45,15 @@ pub record HasWorked (life : LifeView) (w : Worked) : Type 0 where
   pub receipts : All (IsReceiptIn life) w.receipts.items
   pub counted : length w.receipts.items ≤ w.closed.base.steps + length w.closed.journal
   pub lost : w.lost ≤ frames_in w.receipts.items
+
+-- what became of the frames of a worker that had these passes: its calls took those that its pass
+-- took, and of those that the calls of its receipts sent the lost ones are counted, while the
+-- others were put
+pub record HasConveyed (before : Passes) (w : Worked) : Type 0 where
+  pub asked : List NodeEvent
+  pub lost : ℕ
+  pub told : w.lost ≡ up_to_most lost
+  pub conveys : Conveys asked w.receipts.items lost before w.passes
 
 -- why a worker ends the whole run: memory ran out, or seats of its node are missing, so that it
 -- isn't closed

@@ -1,7 +1,8 @@
 //! Sending the frames of a call.
 
-ghost use Rattle.std.specs.Prelude.{◌≤◌, length, IfOk};
+ghost use Rattle.std.specs.Prelude.{◌≡◌, IfOk, IsFalse, IsTrue};
 ghost use Rattle.cluster_worker.specs.Passes.{ArePassesInto};
+ghost use Rattle.cluster_worker.specs.Frames.{AreSent, IsPut, addressee_of};
 
 use inbox::{Inbox, PutPass};
 use meta_types::ByteString;
@@ -9,7 +10,9 @@ use std::alloc::AllocError;
 use std::sync::Wait;
 
 /// Returns the number of the addressee that a frame names; `None` if it is too short to name one.
-fn addressee(frame: &[u8]) -> Option<usize> {
+fn addressee(frame: &[u8]) -> Option<usize>
+    ensures { result ≡ addressee_of frame.now }
+{
     let high = frame.get(6)?;
     let low = frame.get(7)?;
     Some(usize::from(u16::from_be_bytes([*high, *low])))
@@ -20,6 +23,8 @@ fn addressee(frame: &[u8]) -> Option<usize> {
 fn send<R: Wait>(rt: &R, inboxes: &[Inbox], puts: &mut Vec<PutPass>, frame: ByteString) -> bool
     requires passes { ArePassesInto inboxes.now puts.old.items }
     ensures passes { ArePassesInto inboxes.now puts.new.items }
+    ensures put { IsTrue result → IsPut puts.old.items frame puts.new.items }
+    ensures lost { IsFalse result → puts.new.items ≡ puts.old.items }
 {
     match addressee(frame.as_slice()) {
         Some(node) if node < puts.len() => inboxes[node].put(rt, &mut puts[node], frame).is_ok(),
@@ -36,7 +41,8 @@ pub(crate) fn send_all<R: Wait>(
 ) -> Result<u64, AllocError>
     requires passes { ArePassesInto inboxes.now puts.old.items }
     ensures passes { ArePassesInto inboxes.now puts.new.items }
-    ensures lost { IfOk result (λ lost. lost ≤ length frames.now) }
+    ensures sent { IfOk result
+        (λ lost. AreSent puts.old.items frames.now lost puts.new.items) }
 {
     let mut lost = 0u64;
     for frame in frames {

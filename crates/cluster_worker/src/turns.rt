@@ -1,11 +1,14 @@
 //! The turns of a node, in the thread of its worker.
 
-ghost use Rattle.std.specs.Prelude.{◌≡◌, ◌≤◌, [], IfErr, IfOk};
+ghost use Rattle.std.specs.Prelude.{◌≡◌, ◌≤◌, List, [], ◌∷◌, IfErr, IfOk};
+ghost use Rattle.node_events.specs.declared.event.NodeEvent.{NodeEvent as Event};
+ghost use Rattle.inbox.specs.Views.{TakeView};
 ghost use Rattle.cluster_worker.specs.Call.{IsAfterRefusal, IsAsked, IsOfTurn, event_of};
 ghost use Rattle.node_call.specs.declared.fault.LockFault.TheVariants.{Memory};
+ghost use Rattle.cluster_worker.specs.Frames.{TakesFor};
 ghost use Rattle.cluster_worker.specs.Passes.{ArePassesOf};
 ghost use Rattle.cluster_worker.specs.Serving.{life_of};
-ghost use Rattle.cluster_worker.specs.Turns.{EndsTurns, IsWorkerOf};
+ghost use Rattle.cluster_worker.specs.Turns.{EndsTurns, IsWorkerOf, UnlessFailed, WorksOn, with_takes};
 ghost use Rattle.cluster_worker.specs.declared.turns.Ending.TheVariants.{Failed};
 
 use crate::call::{Call, write_of};
@@ -118,6 +121,9 @@ fn make<D: Device + Drop, J: Naming, H: Wait + Drop, R: Wait, G>(
         (life_of J.node J.incarnation J.opening) seat.old worker.old }
     ensures worker { IsWorkerOf shared.now.inboxes.now
         (life_of J.node J.incarnation J.opening) seat.new worker.new }
+    ensures works { (takes : TakeView)
+        → TakesFor (event_of call.now) takes worker.old.passes.takes → UnlessFailed result
+        (WorksOn (event_of call.now ∷ []) (with_takes takes worker.old) worker.new) }
     ensures ending { IfErr result EndsTurns }
 {
     worker.receipts.reserve(1)?;
@@ -144,6 +150,9 @@ fn call_of<R: Wait, G>(
 ) -> Result<Call, AllocError>
     requires passes { ArePassesOf shared.now.inboxes.now passes.old }
     ensures passes { ArePassesOf shared.now.inboxes.now passes.new }
+    ensures puts { passes.new.puts ≡ passes.old.puts }
+    ensures takes { IfOk result
+        (λ call. TakesFor (event_of call) passes.old.takes passes.new.takes) }
     ensures asked { IfOk result (λ call. IsOfTurn turn (event_of call)) }
 {
     if turn % 4 == 0 {
@@ -172,6 +181,8 @@ fn make_turn<D: Device + Drop, J: Naming, H: Wait + Drop, R: Wait, G>(
         (life_of J.node J.incarnation J.opening) seat.old worker.old }
     ensures worker { IsWorkerOf shared.now.inboxes.now
         (life_of J.node J.incarnation J.opening) seat.new worker.new }
+    ensures works { UnlessFailed result ((event : Event) × IsOfTurn turn event
+        × WorksOn (event ∷ []) worker.old worker.new) }
     ensures ending { IfErr result EndsTurns }
 {
     let call = call_of(shared, &mut worker.passes, &mut worker.words, turn)?;
@@ -189,6 +200,8 @@ fn join_first<D: Device + Drop, J: Naming, H: Wait + Drop, R: Wait, G>(
         (life_of J.node J.incarnation J.opening) seat.old worker.old }
     ensures worker { IsWorkerOf shared.now.inboxes.now
         (life_of J.node J.incarnation J.opening) seat.new worker.new }
+    ensures works { UnlessFailed result
+        ((asked : List Event) × WorksOn asked worker.old worker.new) }
     ensures ending { IfErr result EndsTurns }
 {
     if worker.node.number() == 0 {
@@ -212,6 +225,8 @@ pub(crate) fn make_all<D: Device + Drop, J: Naming, H: Wait + Drop, R: Wait, G: 
         (life_of J.node J.incarnation J.opening) seat.old worker.old }
     ensures worker { IsWorkerOf shared.now.inboxes.now
         (life_of J.node J.incarnation J.opening) seat.new worker.new }
+    ensures works { UnlessFailed result
+        ((asked : List Event) × WorksOn asked worker.old worker.new) }
     ensures ending { IfErr result EndsTurns }
 {
     join_first(shared, node, seat, worker)?;

@@ -3,9 +3,10 @@
 ghost use Rattle.std.specs.Prelude.{◌≡◌, ◌≤◌, IfOk, IfErr};
 ghost use Rattle.node_desk.specs.Starting.{AreNewReaders, AreNewWriters, IsFileOf};
 ghost use Rattle.node_call.specs.declared.fault.LockFault.TheVariants.{Memory};
-ghost use Rattle.cluster_worker.specs.Turns.{EndsTurns, IsWorkerOf};
+ghost use Rattle.cluster_worker.specs.Passes.{ArePassesOf};
+ghost use Rattle.cluster_worker.specs.Turns.{EndsTurns, IsWorkerOf, ending_of};
 ghost use Rattle.cluster_worker.specs.Serving.{life_of, life_of_file};
-ghost use Rattle.cluster_worker.specs.Worked.{EndsRun, HasWorked, IsJob};
+ghost use Rattle.cluster_worker.specs.Worked.{EndsRun, HasConveyed, HasWorked, IsJob};
 
 use crate::passes::Passes;
 use crate::serving::ServedFile;
@@ -32,6 +33,8 @@ pub struct Job<D: Device> {
 pub struct Worked {
     pub node: NodeId,
     pub closed: Closed,
+    /// The passes that it had, which know what was taken and put by them.
+    pub passes: Passes,
     /// The receipts of the accepted calls, in order.
     pub receipts: Vec<Receipt>,
     /// How many of the frames that were sent are lost.
@@ -48,6 +51,8 @@ pub fn work<D: Device + Drop, R: Wait, G: TurnHook>(
 ) -> Result<Worked, LockFault>
     requires { IsJob D.content shared.now.inboxes.now job.served.file job.served.table job.passes }
     ensures worked { IfOk result (HasWorked (life_of_file job.served.file job.served.table)) }
+    ensures conveyed { IfOk result (HasConveyed job.passes) }
+    ensures connected { IfOk result (λ w. ArePassesOf shared.now.inboxes.now w.passes) }
     ensures refused { IfErr result EndsRun }
 {
     let tokens = (Blank::new(9), Beginning::new());
@@ -68,6 +73,8 @@ fn work_as<J: Naming, D: Device + Drop, R: Wait, G: TurnHook>(
     requires job { IsJob D.content shared.now.inboxes.now
         job.served.file job.served.table job.passes }
     ensures worked { IfOk result (HasWorked (life_of_file job.served.file job.served.table)) }
+    ensures conveyed { IfOk result (HasConveyed job.passes) }
+    ensures connected { IfOk result (λ w. ArePassesOf shared.now.inboxes.now w.passes) }
     ensures refused { IfErr result EndsRun }
 {
     let Job { served, passes } = job;
@@ -107,6 +114,8 @@ fn use_node<J: Naming, D: Device + Drop, H: Wait + Drop, R: Wait, G: TurnHook>(
     requires writers { AreNewWriters 1 started.writers.items }
     requires readers { AreNewReaders 0 started.readers.items }
     ensures worked { IfOk result (HasWorked (life_of J.node J.incarnation J.opening)) }
+    ensures conveyed { IfOk result (HasConveyed worker.passes) }
+    ensures connected { IfOk result (λ w. ArePassesOf shared.now.inboxes.now w.passes) }
     ensures refused { IfErr result EndsRun }
 {
     let mut worker = worker;
@@ -136,8 +145,10 @@ fn outcome_of(closed: Closed, worker: Worker, made: Result<(), Ending>) -> Resul
     requires { IfErr made EndsTurns }
     ensures node { IfOk result (λ w. w.node ≡ worker.node) }
     ensures closed { IfOk result (λ w. w.closed ≡ closed) }
+    ensures passes { IfOk result (λ w. w.passes ≡ worker.passes) }
     ensures receipts { IfOk result (λ w. w.receipts ≡ worker.receipts) }
     ensures lost { IfOk result (λ w. w.lost ≡ worker.lost) }
+    ensures stopped { IfOk result (λ w. made ≡ ending_of w.is_stopped) }
     ensures refused { IfErr result (λ fault. fault ≡ Memory) }
 {
     match is_stopped(made) {
@@ -149,10 +160,10 @@ fn outcome_of(closed: Closed, worker: Worker, made: Result<(), Ending>) -> Resul
                 receipts,
                 lost,
             } = worker;
-            drop(passes);
             Ok(Worked {
                 node,
                 closed,
+                passes,
                 receipts,
                 lost,
                 is_stopped,
@@ -169,7 +180,8 @@ fn outcome_of(closed: Closed, worker: Worker, made: Result<(), Ending>) -> Resul
 /// run.
 fn is_stopped(made: Result<(), Ending>) -> Result<bool, LockFault>
     requires { IfErr made EndsTurns }
-    ensures { IfErr result (λ fault. fault ≡ Memory) }
+    ensures stopped { IfOk result (λ stopped. made ≡ ending_of stopped) }
+    ensures refused { IfErr result (λ fault. fault ≡ Memory) }
 {
     match made {
         Ok(()) => Ok(false),

@@ -1,5 +1,5 @@
 use Rattle.std.proofs.Common.{rules, ◌≡◌, ◌+◌, length}
-use Rattle.cluster.specs.Run.{up_to_most}
+use Rattle.cluster_worker.specs.Frames.{up_to_most}
 use Rattle.cluster.proofs.Gathered.{one_more, then_on_ok}
 use Rattle.cluster.proofs.run.ClusterRun.add.Goals as goal
 
