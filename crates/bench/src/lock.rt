@@ -2,17 +2,23 @@
 //!
 //! - `peek`: looks a second of one reader or four, and writes a second of one writer, side by side.
 //! - `calls`: the nanoseconds of a call that writes in memory, and of the bare step in it.
+//! - `looks`: looks a second of one reader at values of 1,000 bytes, which it copies or is lent.
 //! - `disk FOLDER`: acknowledged writes a second on a file in the folder, and by how many bytes
 //!   each of them lets it grow.
+//! - `batch FOLDER`: the same of batches, and bare writes and syncs of as many bytes.
+//! - `callers FOLDER`: the same of threads that write side by side.
 //!
 //! With other words it prints nothing. `bench/lock` of the repository has what stands beside it.
 
+mod callers;
 mod calls;
 mod disk;
+mod looks;
 mod memory;
 mod peeks;
 mod writing;
 
+use disk::Call;
 use memory::Work;
 use node_lock::Capacity;
 use std::io;
@@ -23,9 +29,9 @@ use std::thread::Threads;
 /// How many keys are written.
 const KEYS: u32 = 8_192;
 
-/// Returns the seats of a node: one writes, and four look.
+/// Returns the seats of a node: eight write, and four look.
 fn seats() -> Capacity {
-    Capacity::new(1, 4)
+    Capacity::new(8, 4)
 }
 
 pub(crate) fn run<R: Threads + Wait + Clock + Print + Sync>(
@@ -36,7 +42,22 @@ pub(crate) fn run<R: Threads + Wait + Clock + Print + Sync>(
     match words {
         [part] if part.as_str() == "peek" => memory::measure(handle, rt.alloc(), Work::Peeks),
         [part] if part.as_str() == "calls" => memory::measure(handle, rt.alloc(), Work::Calls),
-        [part, folder] if part.as_str() == "disk" => disk::measure(rt, handle, folder.as_str()),
+        [part] if part.as_str() == "looks" => memory::measure(handle, rt.alloc(), Work::Looks),
+        [part, folder] => run_on_file(rt, handle, part.as_str(), folder.as_str()),
+        _ => Ok(()),
+    }
+}
+
+fn run_on_file<R: Threads + Wait + Clock + Print + Sync>(
+    rt: &HostRuntime,
+    handle: &R,
+    part: &str,
+    folder: &str,
+) -> io::Result<()> {
+    match part {
+        "disk" => disk::measure(rt, handle, folder, disk::Work::Alone(Call::PutOver)),
+        "batch" => disk::measure_batches(rt, handle, folder),
+        "callers" => disk::measure(rt, handle, folder, disk::Work::Callers),
         _ => Ok(()),
     }
 }

@@ -47,7 +47,11 @@ fn key_in_turn(alloc: Global, number: u32, prefixes: u32) -> io::Result<MetaKey>
 
 /// Makes a value of 100 bytes.
 pub(crate) fn value(alloc: Global) -> io::Result<Value> {
-    Value::new(0, Some(vec![in alloc; b'a'; BODY]?)).map_err(refused)
+    value_of(alloc, BODY)
+}
+
+fn value_of(alloc: Global, body: usize) -> io::Result<Value> {
+    Value::new(0, Some(vec![in alloc; b'a'; body]?)).map_err(refused)
 }
 
 /// Keys, and the value that is written under them.
@@ -60,11 +64,16 @@ pub(crate) struct Rows {
 impl Rows {
     /// Makes `count` keys of one full prefix.
     pub(crate) fn new(alloc: Global, count: u32) -> io::Result<Self> {
+        Rows::with_body(alloc, count, BODY)
+    }
+
+    /// Makes `count` keys of one full prefix, and a value of `body` bytes.
+    pub(crate) fn with_body(alloc: Global, count: u32, body: usize) -> io::Result<Self> {
         let mut keys = Vec::with_capacity(alloc, count as usize)?;
         for number in 0..count {
             keys.push(key(alloc, number)?)?;
         }
-        Rows::of(alloc, keys)
+        Rows::of(alloc, keys, body)
     }
 
     /// Makes `count` keys, under `prefixes` full prefixes by turns.
@@ -73,11 +82,11 @@ impl Rows {
         for number in 0..count {
             keys.push(key_in_turn(alloc, number, prefixes)?)?;
         }
-        Rows::of(alloc, keys)
+        Rows::of(alloc, keys, BODY)
     }
 
-    fn of(alloc: Global, keys: Vec<MetaKey>) -> io::Result<Self> {
-        let (keys, value) = both(Ok(keys), value(alloc))?;
+    fn of(alloc: Global, keys: Vec<MetaKey>, body: usize) -> io::Result<Self> {
+        let (keys, value) = both(Ok(keys), value_of(alloc, body))?;
         Ok(Rows { keys, value })
     }
 

@@ -12,30 +12,43 @@ use std::alloc::Global;
 use std::io::{self, Write};
 
 /// Opens the file at the path, or makes one, begins a life, and appends without end, with the
-/// numbers after the number in the file's object. Each is printed once it was acknowledged.
-pub(crate) fn append(rt: &HostRuntime, path: &str) -> io::Result<()> {
+/// numbers after the number in the file's object. Each is printed once it was acknowledged. With a
+/// batch so many are appended at once, and the last of them is printed.
+pub(crate) fn append(rt: &HostRuntime, path: &str, batch: Option<u64>) -> io::Result<()> {
     let at = key(rt.alloc(), 0)?;
-    let done = append_at(rt, path, &at);
+    let done = append_at(rt, path, &at, batch);
     drop(at);
     done
 }
 
-fn append_at(rt: &HostRuntime, path: &str, at: &MetaKey) -> io::Result<()> {
+fn append_at(rt: &HostRuntime, path: &str, at: &MetaKey, batch: Option<u64>) -> io::Result<()> {
     let (file, table) = go_on_at(rt, path)?;
     let mut kept = Kept::of(file, table);
-    let done = append_under(rt, &mut kept, at);
+    let done = append_under(rt, &mut kept, at, batch);
     drop(kept);
     done
 }
 
-fn append_under(rt: &HostRuntime, kept: &mut Kept<FileDevice>, at: &MetaKey) -> io::Result<()> {
-    for number in number_in(kept.table(), at)..u64::MAX {
-        append_one(rt, kept, at, number.saturating_add(1))?;
+fn append_under(
+    rt: &HostRuntime,
+    kept: &mut Kept<FileDevice>,
+    at: &MetaKey,
+    batch: Option<u64>,
+) -> io::Result<()> {
+    for _append in 0..u64::MAX {
+        let before = number_in(kept.table(), at);
+        let last = before.saturating_add(batch.unwrap_or(1));
+        if batch.is_some() {
+            append_batch(rt.alloc(), kept, at, before, last)?;
+        } else {
+            append_one(rt, kept, at, last)?;
+        }
+        acknowledge(rt, last)?;
     }
     Ok(())
 }
 
-/// Appends the object of this number, and prints it.
+/// Appends the object of this number.
 fn append_one(
     rt: &HostRuntime,
     kept: &mut Kept<FileDevice>,
@@ -46,7 +59,29 @@ fn append_one(
     let done = kept.append(rt, at, &object);
     drop(object);
     done?;
-    acknowledge(rt, number)
+    Ok(())
+}
+
+/// Appends the objects of the numbers after `before` up to `last` at once.
+fn append_batch(
+    alloc: Global,
+    kept: &mut Kept<FileDevice>,
+    at: &MetaKey,
+    before: u64,
+    last: u64,
+) -> io::Result<()> {
+    let objects = objects_of(alloc, at, before, last)?;
+    let done = kept.append_all(alloc, at, objects.as_slice());
+    drop(objects);
+    done
+}
+
+fn objects_of(alloc: Global, at: &MetaKey, before: u64, last: u64) -> io::Result<Vec<Entries>> {
+    let mut objects = Vec::new(alloc);
+    for number in before..last {
+        objects.push(object_of(alloc, at, number.saturating_add(1))?)?;
+    }
+    Ok(objects)
 }
 
 /// Prints the number, at once.

@@ -1,7 +1,7 @@
 //! How fast appends are and how fast a file opens.
 
 use crate::begun::{begin_at, begin_in_memory, read};
-use crate::file::bare::append_bare;
+use crate::file::bare::bare_writes;
 use crate::file::kept::Kept;
 use crate::rows::{actor, key, value};
 use crate::samples::{median, print, rate, refused};
@@ -118,30 +118,6 @@ fn append_rounds(
     Ok(())
 }
 
-/// Makes a round of bare writes of `size` bytes, and adds the nanoseconds of each to `samples`.
-/// Returns where the next one goes.
-fn bare_writes(
-    rt: &HostRuntime,
-    file: &File,
-    gate: u64,
-    size: usize,
-    samples: &mut Vec<u128>,
-) -> io::Result<u64> {
-    let bytes = vec![in rt.alloc(); 7u8; size]?;
-    let mut gate = gate;
-    for _ in 0..IN_ROUND {
-        samples.push(time_of_bare(rt, file, gate, &bytes)?)?;
-        gate = gate.saturating_add(bytes.len() as u64);
-    }
-    Ok(gate)
-}
-
-fn time_of_bare(rt: &HostRuntime, file: &File, gate: u64, bytes: &[u8]) -> io::Result<u128> {
-    let start = Instant::now(rt)?;
-    append_bare(file, gate, bytes)?;
-    Ok(start.elapsed(rt)?.as_nanos())
-}
-
 /// Makes appends and bare writes of the same size by turns, so that the disk is the same for both.
 fn in_turn(
     rt: &HostRuntime,
@@ -153,7 +129,7 @@ fn in_turn(
     let mut gate = kept.len() as u64;
     for round in 0..ROUNDS {
         let size = appends(rt, kept, objects, round, &mut appended)?;
-        gate = bare_writes(rt, bare, gate, size, &mut written)?;
+        gate = bare_writes(rt, bare, gate, size, IN_ROUND as usize, &mut written)?;
     }
     print_rate(rt, "append_fdatasync", appended.as_mut_slice())?;
     print_rate(rt, "append_fdatasync_limit", written.as_mut_slice())

@@ -4,7 +4,7 @@ ghost use Rattle.std.specs.Prelude.{◌≡◌, ◌≤◌};
 ghost use Rattle.node_desk.specs.Starting.{IsFileOf};
 
 use crate::begun::begin_in_memory;
-use crate::lock::{calls, peeks, seats};
+use crate::lock::{calls, looks, peeks, seats};
 use crate::started::{close, start};
 use devices::{Device, MemoryDevice};
 use meta_store::Store;
@@ -25,6 +25,8 @@ pub(crate) enum Work {
     Peeks,
     /// One thread writes.
     Calls,
+    /// One thread looks.
+    Looks,
 }
 
 /// Measures the work on a new node.
@@ -62,6 +64,7 @@ fn use_node<J: Naming + Send + Sync, R: Threads + Wait + Clock + Print + Sync>(
     let done = match work {
         Work::Peeks => peeks::run(rt, alloc, &node, &mut writers, &mut readers),
         Work::Calls => calls::run(rt, alloc, &node, &mut writers),
+        Work::Looks => looks::run(rt, alloc, &node, &mut writers, &mut readers),
     };
     drop(close::<MemoryDevice, J, R>(node, writers, readers)?);
     done

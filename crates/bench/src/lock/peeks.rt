@@ -4,7 +4,7 @@ use crate::lock::KEYS;
 use crate::lock::writing::{fill, put_over};
 use crate::rows::{Dice, Rows};
 use crate::samples::{median, rate, refused};
-use devices::MemoryDevice;
+use devices::{Device, MemoryDevice};
 use meta_types::both;
 use node_lock::{Naming, Node, ReadSeat, WriteSeat};
 use std::alloc::{AllocError, Global};
@@ -50,7 +50,7 @@ struct Shared {
 
 /// A seat that comes back from its thread, and how many times the call was made; `None` if a call
 /// was refused.
-type Done<S> = (S, Option<u64>);
+pub(crate) type Done<S> = (S, Option<u64>);
 
 /// Prints how often readers look and a writer writes, in each setting.
 pub(crate) fn run<J: Naming + Send + Sync, R: Threads + Wait + Clock + Print + Sync>(
@@ -78,7 +78,7 @@ fn measure_all<J: Naming + Send + Sync, R: Threads + Wait + Clock + Print + Sync
     writers: &mut Vec<WriteSeat<J>>,
     readers: &mut Vec<ReadSeat<J>>,
 ) -> io::Result<()> {
-    fill_by(rt, node, shared, writers)?;
+    fill_by(rt, &shared.rows, node, writers)?;
     for (count, is_paced) in SETTINGS {
         let setting = Setting {
             readers: count,
@@ -89,16 +89,17 @@ fn measure_all<J: Naming + Send + Sync, R: Threads + Wait + Clock + Print + Sync
     Ok(())
 }
 
-fn fill_by<J: Naming, R: Wait>(
+/// Writes the value under each of the keys, by one of the seats.
+pub(crate) fn fill_by<J: Naming, R: Wait>(
     rt: &R,
+    rows: &Rows,
     node: &Node<MemoryDevice, J, &R>,
-    shared: &Shared,
     writers: &mut Vec<WriteSeat<J>>,
 ) -> io::Result<()> {
     let Some(mut seat) = writers.pop() else {
         return Err(refused(()));
     };
-    let done = fill(rt, &shared.rows, node, &mut seat);
+    let done = fill(rt, rows, node, &mut seat);
     writers.push(seat).map_err(refused).and(done)
 }
 
@@ -153,7 +154,11 @@ fn sample<J: Naming + Send + Sync, R: Threads + Wait + Clock + Sync>(
 }
 
 /// Takes `count` of the seats, or all if there are fewer.
-fn taken<S: Drop>(alloc: Global, seats: &mut Vec<S>, count: usize) -> Result<Vec<S>, AllocError> {
+pub(crate) fn taken<S: Drop>(
+    alloc: Global,
+    seats: &mut Vec<S>,
+    count: usize,
+) -> Result<Vec<S>, AllocError> {
     let mut taken = Vec::new(alloc);
     for _seat in 0..count {
         if let Some(seat) = seats.pop() {
@@ -173,7 +178,10 @@ fn back<S: Drop>(seats: &mut Vec<S>, done: Done<S>) -> Option<u64> {
 }
 
 /// Puts all seats back. Returns how many times the call was made in sum.
-fn all_back<S: Drop>(seats: &mut Vec<S>, done: Result<Vec<Done<S>>, AllocError>) -> Option<u64> {
+pub(crate) fn all_back<S: Drop>(
+    seats: &mut Vec<S>,
+    done: Result<Vec<Done<S>>, AllocError>,
+) -> Option<u64> {
     let mut sum = Some(0u64);
     for one in done.ok()? {
         sum = match (sum, back(seats, one)) {
@@ -199,28 +207,40 @@ fn side_by_side<J: Naming + Send + Sync, R: Threads + Wait + Clock + Sync>(
     shared.is_over.store(false, Ordering::SeqCst);
     thread::join(
         rt,
-        move || write(rt, node, shared, is_paced, seat),
+        move || write_beside(rt, node, shared, is_paced, seat),
         move || thread::map_vec(rt, seats, &|seat: ReadSeat<J>| look(rt, shared, seat)),
     )
 }
 
-/// Writes until the time is over.
-fn write<J: Naming, R: Wait + Clock>(
+/// Writes until the time is over, and says so.
+fn write_beside<J: Naming, R: Wait + Clock>(
     rt: &R,
     node: &Node<MemoryDevice, J, &R>,
     shared: &Shared,
     is_paced: bool,
     seat: WriteSeat<J>,
 ) -> Done<WriteSeat<J>> {
-    let mut seat = seat;
-    let count = write_on(rt, node, &shared.rows, is_paced, &mut seat);
+    let done = write(rt, node, &shared.rows, is_paced, seat);
     shared.is_over.store(true, Ordering::SeqCst);
+    done
+}
+
+/// Writes until the time is over.
+pub(crate) fn write<D: Device + Drop, J: Naming, R: Wait + Clock>(
+    rt: &R,
+    node: &Node<D, J, &R>,
+    rows: &Rows,
+    is_paced: bool,
+    seat: WriteSeat<J>,
+) -> Done<WriteSeat<J>> {
+    let mut seat = seat;
+    let count = write_on(rt, node, rows, is_paced, &mut seat);
     (seat, count.ok())
 }
 
-fn write_on<J: Naming, R: Wait + Clock>(
+fn write_on<D: Device + Drop, J: Naming, R: Wait + Clock>(
     rt: &R,
-    node: &Node<MemoryDevice, J, &R>,
+    node: &Node<D, J, &R>,
     rows: &Rows,
     is_paced: bool,
     seat: &mut WriteSeat<J>,
