@@ -63,7 +63,8 @@ class Refused(Exception):
 
 
 class Slot(ctypes.Structure):
-    """A place for a node, as zomtagi_slot_new of zomtagi.h makes it: two words of zeros, which only the exports change."""
+    """A place for a node or a plan, as zomtagi_slot_new and zomtagi_plan_new of zomtagi.h make it: two words of zeros, which only
+    the exports change."""
 
     _fields_ = [("words", ctypes.c_void_p * 2)]
 
@@ -80,7 +81,7 @@ class Info(ctypes.Structure):
     ]
 
 
-# The arguments of each export: s the slot, b bytes and their length, 1 2 4 8 a number of so many bytes, z a size, p a pointer
+# The arguments of each export: s a slot, b bytes and their length, 1 2 4 8 a number of so many bytes, z a size, p a pointer
 # through which it tells something, o the buffer for what it hands out, its size, and a pointer to the length.
 EXPORTS = {
     "new": "s24", "serve": "sb2", "free": "s", "empty_file": "2o", "clean_copy": "b2o", "read": "sbbb", "keep": "sbbb",
@@ -88,6 +89,8 @@ EXPORTS = {
     "join": "s28", "peer_down": "s28", "exchange": "s2", "hello": "s2", "leave": "s", "watch": "sbbz", "changes": "s8",
     "record": "spo", "stored": "s1", "reply": "so", "frame": "so", "sent": "s", "keep_context": "sp", "forget_context": "s8",
     "prefixes": "so", "list": "sbbo", "peek": "sbbbo", "neighbours": "so", "root": "so", "about": "sp",
+    "plan_begin": "s888", "plan_end": "s", "plan_add": "ss82", "plan_remove": "s2", "plan_wake": "ssp",
+    "drive_time": "ss88", "drive_frame": "ss8b8", "drive_failure": "ss828",
     "check_file": "b2p", "check_frame": "bp", "seal": "bbo", "open": "bbp",
 }  # fmt: skip
 SIZE, POINTER = ctypes.c_size_t, ctypes.c_void_p
@@ -100,7 +103,7 @@ LIBRARY = ctypes.CDLL(os.environ.get("ZOMTAGI_SO", f"{HERE}/libzomtagi.so"))
 for _name, _kinds in EXPORTS.items():
     _export = LIBRARY[f"zomtagi_{_name}"]
     _export.argtypes = [it for kind in _kinds for it in TYPES[kind]]
-    _export.restype = None if _name == "free" else ctypes.c_uint16
+    _export.restype = None if _name in ("free", "plan_end") else ctypes.c_uint16
     setattr(LIBRARY, _name, _export)
 
 
@@ -235,6 +238,10 @@ class Node:
     def step(self, name, *words):
         """Makes a step, and returns its reply and the frames to send."""
         call(name, self.slot, *words)
+        return self.given()
+
+    def given(self):
+        """Stores what is to be stored, and returns the reply of the last step, if there was one, and the frames to send."""
         self.store()
         reply, frames = told("reply", self.slot), []
         while (frame := told("frame", self.slot)) is not None:
@@ -328,3 +335,53 @@ class Node:
         info = Info()
         call("about", self.slot, ctypes.byref(info))
         return info
+
+
+class Driver:
+    """A node that is driven by a plan, for one life: it ticks, joins, begins exchanges and gives silent members up.
+
+    Times are milliseconds from any moment on, and never fall. Call on_time once the time has come that wake tells, on_frame when
+    bytes come, and on_failure when a link fails; and after each call, also if it was refused, send what frames returns.
+    """
+
+    def __init__(self, node, now, tick=1_000, quiet=60_000):
+        """The first tick is due now. A member that sends nothing for `quiet` counts as down: let it be longer than a tick for each."""
+        self.node, self.plan, self.waiting = node, Slot(), []
+        call("plan_begin", self.plan, now, tick, quiet)
+
+    def __del__(self):
+        LIBRARY.plan_end(self.plan)
+
+    def add(self, now, member):
+        call("plan_add", self.node.slot, self.plan, now, member)
+
+    def remove(self, now, member):
+        self.on_failure(now, member)
+        call("plan_remove", self.plan, member)
+
+    def wake(self):
+        """From when on there is something to do, if nothing happens before."""
+        at = ctypes.c_uint64()
+        call("plan_wake", self.node.slot, self.plan, ctypes.byref(at))
+        return at.value
+
+    def on_time(self, now):
+        self.drive("drive_time", now)
+
+    def on_frame(self, now, frame):
+        self.drive("drive_frame", now, frame)
+
+    def on_failure(self, now, peer):
+        self.drive("drive_failure", now, peer)
+
+    def drive(self, name, *words):
+        """Makes a call that is a batch, and fetches what it gave, also if it was refused."""
+        try:
+            call(name, self.node.slot, self.plan, *words, secrets.randbits(64))
+        finally:
+            self.waiting += self.node.given()[1]
+
+    def frames(self):
+        """The frames to send, of all calls since this was called last; those of calls of the node aren't among them."""
+        frames, self.waiting = self.waiting, []
+        return frames
