@@ -47,7 +47,7 @@ use Rattle.node_call.specs.declared.write.Write.{Write as BatchWrite}
 use Rattle.node_call.specs.Batch.{AreReceipts, HasRoomFor, IsBatch, IsMadeWrite, IsWrite, Keeps, PreventsAt, entries_of, event_written}
 use Rattle.node_call.specs.Journaled.{IsJournaled, IsRunWith}
 use Rattle.node_call.specs.Ready.{HoldsChanged, IsKnownStep, Prevents}
-use Rattle.node_call.specs.Stored.{IsStoredOf, RefusesStoringAll, stored_rows}
+use Rattle.node_call.specs.Stored.{HasFileRoomFor, IsStoredOf, RefusesStoringAll, stored_rows}
 use Rattle.node_call.proofs.Files.{full_alone, some_is}
 use Rattle.node_call.proofs.Listing.{grows_by, holds_changed, put_in}
 use Rattle.node_call.proofs.Runs.{run_on}
@@ -301,31 +301,68 @@ small_rows changes held =
     All-map (λ (row : Key × List Cell). is_small_enough most_merged row.1 ≡ true) (λ (c : Published). (c.key, c.object)) changes
     (All-weaker (λ (c : Published). IsHeld c.object) (λ (c : Published). is_small_enough most_merged c.object ≡ true) (λ c is. is.small) changes held)
 
+none_unless : {A : Type 0} (o : Option A) → ((x : A) → o ≡ Some x → ⊥) → o ≡ None
+none_unless None never = refl
+none_unless (Some x) never = absurd (never x refl)
+
+-- what ends otherwise than for want of room has room
+has_room : {A : Type 0} (r : Result A BatchFault) (gate : ℕ) (changes : List Published) → All (λ (c : Published). IsHeld c.object) changes
+    → length changes ≤ most_batch → ((place : ℕ) → r ≡ Err (batches.Object place OfFile.FileFull) → ⊥)
+    → ((other : BatchFault) → refusal_of_batch false gate (stored_rows changes) ≡ Some other → r ≡ Err other) → HasFileRoomFor gate changes
+has_room r gate changes held few otherwise only =
+    let short : length (stored_rows changes) ≤ most_batch = omega (arith, length-map {B = Key × List Cell} changes (λ (c : Published). (c.key, c.object)), few) in
+    none_unless (refusal_of_batch false gate (stored_rows changes))
+    (λ other refused.
+    let full = refused_for_room (stored_rows changes) gate other (small_rows changes held) short refused in
+    otherwise full.0 (only other refused ∙ ap Err full.1))
+
 of_device : {D : Type 0} (gate : ℕ) (changes : List Published) (before now : ℕ) (new : FileView D) (fault : BatchFault) → IsBatchOfDevice fault before now
-    → (fault ≡ batches.File OfFile.Device → new.is_stopped ≡ true) → changes ≢ [] → RefusesStoringAll gate changes before now new fault
-of_device gate changes before now new batches.TooMany is stops some = absurd is
-of_device gate changes before now new (batches.Object place fault) is stops some = absurd is
-of_device gate changes before now new (batches.File fault) is stops some =
+    → (fault ≡ batches.File OfFile.Device → new.is_stopped ≡ true) → HasFileRoomFor gate changes → changes ≢ []
+    → RefusesStoringAll gate changes before now new fault
+of_device gate changes before now new batches.TooMany is stops room some = absurd is
+of_device gate changes before now new (batches.Object place fault) is stops room some = absurd is
+of_device gate changes before now new (batches.File fault) is stops room some =
     let P : FileFault → Type 0 = λ f. RefusesStoringAll gate changes before now new (batches.File f) in
     ⊎_elim
-    (λ memory. subst P (sym memory.0) some)
-    (λ failed. subst P (sym failed.0) (some, (failed.1, stops (ap batches.File failed.0))))
+    (λ memory. subst P (sym memory.0) (some, λ _. room))
+    (λ failed. subst P (sym failed.0) (some, (room, (failed.1, stops (ap batches.File failed.0)))))
     is
+
+of_no_object : (r : Result (Unit {0}) BatchFault) (fault : BatchFault) (before now : ℕ) → r ≡ Err fault → IsBatchOfDevice fault before now → (place : ℕ)
+    → r ≡ Err (batches.Object place OfFile.FileFull) → ⊥
+of_no_object r batches.TooMany before now err is place same = is
+of_no_object r (batches.Object at other) before now err is place same = is
+of_no_object r (batches.File fault) before now err is place same = absurd (cc (err, same))
+
+is_fault : (r : Result (Unit {0}) BatchFault) (fault other : BatchFault) → r ≡ Err fault → r ≡ Err other → fault ≡ other
+is_fault r fault other err same = cc (err, same)
+
+-- what is stored has room
+pub room_of_all : (r : Result (Unit {0}) BatchFault) (halted : Bool) (gate : ℕ) (changes : List Published) (rows : List (Key × List Cell))
+    → halted ≡ false → rows ≡ stored_rows changes → All (λ (c : Published). IsHeld c.object) changes → length changes ≤ most_batch
+    → ((other : BatchFault) → refusal_of_batch halted gate rows ≡ Some other → r ≡ Err other)
+    → OnOk r (HasFileRoomFor gate changes)
+room_of_all (Err fault) halted gate changes rows off is held few only = tt
+room_of_all (Ok done) halted gate changes rows off is held few only =
+    has_room (Ok done) gate changes held few (λ place clash. absurd (cc (clash)))
+    (λ other refused. only other
+    (subst (λ b. refusal_of_batch b gate rows ≡ Some other) (sym off) (subst (λ ro. refusal_of_batch false gate ro ≡ Some other) (sym is) refused)))
 
 pub refuses_all : {D : Type 0} (gate : ℕ) (changes : List Published) (before now : ℕ) (new : FileView D) (fault : BatchFault)
     → All (λ (c : Published). IsHeld c.object) changes → length changes ≤ most_batch
     → IsBatchOfDevice fault before now ⊎ (refusal_of_batch false gate (stored_rows changes) ≡ Some fault)
     → (fault ≡ batches.File OfFile.Device → new.is_stopped ≡ true)
-    → ((other : BatchFault) → refusal_of_batch false gate (stored_rows changes) ≡ Some other → new.is_stopped ≡ false) → changes ≢ []
-    → RefusesStoringAll gate changes before now new fault
+    → ((other : BatchFault) → refusal_of_batch false gate (stored_rows changes) ≡ Some other → (fault ≡ other) × (new.is_stopped ≡ false))
+    → changes ≢ [] → RefusesStoringAll gate changes before now new fault
 refuses_all gate changes before now new fault held few cause stops goes some =
     ⊎_elim
-    (λ device. of_device gate changes before now new fault device stops some)
+    (λ device. of_device gate changes before now new fault device stops
+    (has_room {A = Unit {0}} (Err fault) gate changes held few (of_no_object (Err fault) fault before now refl device) (λ other is. ap Err (goes other is).0)) some)
     (λ refused.
     let short : length (stored_rows changes) ≤ most_batch = omega (arith, length-map {B = Key × List Cell} changes (λ (c : Published). (c.key, c.object)), few) in
     let full = refused_for_room (stored_rows changes) gate fault (small_rows changes held) short refused in
     subst (λ f. RefusesStoringAll gate changes before now new f) (sym full.1)
-    (subst (λ f. refusal_of_batch false gate (stored_rows changes) ≡ Some f) full.1 refused, goes fault refused))
+    (subst (λ f. refusal_of_batch false gate (stored_rows changes) ≡ Some f) full.1 refused, (goes fault refused).1))
     cause
 
 pub refuses_if_not : {D : Type 0} (r : Result (Unit {0}) BatchFault) (halted : Bool) (gate : ℕ) (changes : List Published) (rows : List (Key × List Cell))
@@ -346,5 +383,6 @@ refuses_if_not (Err fault) halted gate changes rows before now old new off going
     (λ refused. inr (subst (λ ro. refusal_of_batch false gate ro ≡ Some fault) is (subst (λ b. refusal_of_batch b gate rows ≡ Some fault) off refused)))
     cause)
     stops
-    (λ other refused. ap (λ (f : FileView _). f.is_stopped) (same other (here other refused)).1 ∙ going)
+    (λ other refused. let so = same other (here other refused) in
+    (is_fault (Err fault) fault other refl so.0, ap (λ (f : FileView _). f.is_stopped) so.1 ∙ going))
     some

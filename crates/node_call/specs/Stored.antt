@@ -55,16 +55,23 @@ pub record HasStoredAll {D : Type 0} (content : D → List ℕ) (may_leave : D �
       ≡ state_with_all (file_state (content old.device)) (map row_record (stored_rows changes))
   pub settled : IsSettled content may_leave new
 
+-- a file of this closed gate has room for the objects of these changes, one behind the other
+abbrev pub HasFileRoomFor : ℕ → List Published → Type 0
+HasFileRoomFor gate changes = refusal_of_batch false gate (stored_rows changes) ≡ None
+
 -- why the objects of these changes aren't stored: a file of this closed gate has no room for the
--- one at a place; or there is one, and its device failed, which stops it, or memory ran out
+-- one at a place; or there is one, and room for all, and its device failed, which stops it, or
+-- memory ran out, which may stop it
 abbrev pub RefusesStoringAll : {D : Type 0} → ℕ → List Published → ℕ → ℕ → FileView D → BatchFault
     → Type 0
 RefusesStoringAll gate changes before now new (batches.Object place FileFull) =
     (refusal_of_batch false gate (stored_rows changes) ≡ Some (batches.Object place FileFull))
     × (new.is_stopped ≡ false)
 RefusesStoringAll gate changes before now new (batches.File Device) =
-    (changes ≢ []) × (HasFailed before now × (new.is_stopped ≡ true))
-RefusesStoringAll gate changes before now new (batches.File Memory) = changes ≢ []
+    (changes ≢ []) × (HasFileRoomFor gate changes
+    × (HasFailed before now × (new.is_stopped ≡ true)))
+RefusesStoringAll gate changes before now new (batches.File Memory) =
+    (changes ≢ []) × (new.is_stopped ≡ true → HasFileRoomFor gate changes)
 RefusesStoringAll gate changes before now new fault = ⊥
 
 -- unless the file is stopped, it holds what it held, and every crash leaves that

@@ -8,7 +8,7 @@ ghost use Rattle.meta_store.specs.Table.{IsHeld};
 ghost use Rattle.node_file.specs.Batch.{NoneOrAll, most_batch};
 ghost use Rattle.node_file.specs.Clean.{row_record};
 ghost use Rattle.node_file.specs.File.{file_state};
-ghost use Rattle.node_call.specs.Stored.{HasStoredAll, IsOfSameLife, IsStillWhole, IsStoredOf, RefusesStoringAll, stored_rows};
+ghost use Rattle.node_call.specs.Stored.{HasFileRoomFor, HasStoredAll, IsOfSameLife, IsStillWhole, IsStoredOf, RefusesStoringAll, stored_rows};
 
 use devices::Device;
 use meta_store::Store;
@@ -32,6 +32,7 @@ pub fn store_all<D: Device>(
     requires held { All (λ c. find key_cmp c.key store.now ≢ None) changes.now }
     ensures stored { OnOk result
         (HasStoredAll D.content D.may_leave changes.now file.old file.new) }
+    ensures room { OnOk result (HasFileRoomFor file.old.gate changes.now) }
     ensures going { OnOk result (file.new.is_stopped ≡ false) }
     ensures refused { IfErr result (RefusesStoringAll file.old.gate changes.now
         (D.failed file.old.device) (D.failed file.new.device) file.new) }

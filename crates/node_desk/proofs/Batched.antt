@@ -47,8 +47,9 @@ pub refuses_batch : {D : Type 0} (failed : D → ℕ) (old new : DeskView D) (wr
     → RefusesKeepingAll old.file.gate k.can.changes (failed old.file.device) (failed new.file.device) new.stopped refusal
     → RefusesBatch failed old writes refusal new
 refuses_batch failed old new writes k (refusals.Write place FileFull) r = ((k, r.0), r.1)
-refuses_batch failed old new writes k (refusals.Node Device) r = (k, (some_written old.state writes k.can r.0, r.1))
-refuses_batch failed old new writes k (refusals.Node Memory) r = λ _. (k, some_written old.state writes k.can r)
+refuses_batch failed old new writes k (refusals.Node Device) r =
+    (record { keep = k; room = r.1.0 }, (some_written old.state writes k.can r.0, r.1.1))
+refuses_batch failed old new writes k (refusals.Node Memory) r = λ stopped. (record { keep = k; room = r.1 stopped }, some_written old.state writes k.can r.0)
 refuses_batch failed old new writes k _ r = absurd r
 
 -- ---- what a crash leaves

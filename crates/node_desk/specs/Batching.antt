@@ -15,7 +15,7 @@ use Rattle.node_call.specs.declared.fault.LockFault.{LockFault}
 use Rattle.node_call.specs.declared.fault.LockFault.TheVariants.{Device, FileFull, Stopped, Memory}
 use Rattle.node_call.specs.declared.write.Write.{Write}
 use Rattle.node_call.specs.Batch.{HasRoomFor, IsBatch, IsRefusedAt, entries_of}
-use Rattle.node_call.specs.Stored.{HasStoredAll, stored_rows}
+use Rattle.node_call.specs.Stored.{HasFileRoomFor, HasStoredAll, stored_rows}
 use Rattle.node_desk.specs.Desk.{DeskView}
 
 -- the writes are made, with these receipts, whose entries are journaled; what they published goes
@@ -41,6 +41,11 @@ pub record CanKeepAll {D : Type 0} (old : DeskView D) (writes : List Write) : Ty
   pub can : CanBatch old.state writes
   pub room : HasRoomFor old.limit (length old.journal) old.state writes
 
+-- and its file has room for the objects that they store
+pub record CanStoreAll {D : Type 0} (old : DeskView D) (writes : List Write) : Type 0 where
+  pub keep : CanKeepAll old writes
+  pub room : HasFileRoomFor old.file.gate keep.can.changes
+
 -- ---- what a crash leaves on the way
 
 -- bytes that open as before, or that have all that the writes store
@@ -65,7 +70,7 @@ RefusesWrite old writes place fault =
 
 -- why a batch is refused, and whether the node is stopped then: it has too many writes; one of them
 -- is refused; or the node is stopped, its device fails, which stops it, or memory runs out, which
--- may stop it once the writes were made. A batch without writes doesn't come to the device
+-- may stop it once there was room for all. A batch without writes doesn't come to the device
 abbrev pub RefusesBatch : {D : Type 0} → (D → ℕ) → DeskView D → List Write → BatchRefusal
     → DeskView D → Type 0
 RefusesBatch failed old writes refusals.TooMany new =
@@ -75,19 +80,21 @@ RefusesBatch failed old writes (refusals.Write place fault) new =
 RefusesBatch failed old writes (refusals.Node Stopped) new =
     (old.stopped ≡ true) × ((new.stopped ≡ true) × (new.file ≡ old.file))
 RefusesBatch failed old writes (refusals.Node Device) new =
-    CanKeepAll old writes × ((writes ≢ [])
+    CanStoreAll old writes × ((writes ≢ [])
     × (HasFailed (failed old.file.device) (failed new.file.device) × (new.stopped ≡ true)))
 RefusesBatch failed old writes (refusals.Node Memory) new =
-    new.stopped ≡ true → CanKeepAll old writes × (writes ≢ [])
+    new.stopped ≡ true → CanStoreAll old writes × (writes ≢ [])
 RefusesBatch failed old writes (refusals.Node fault) new = ⊥
 
 -- why the outlets refuse what a batch publishes: the file has no room for the object at a place; or
--- there is a change, and its device failed, which stops it, or memory ran out
+-- there is a change, and room for all, and its device failed, which stops it, or memory ran out,
+-- which may stop it
 abbrev pub RefusesKeepingAll : ℕ → List Published → ℕ → ℕ → Bool → BatchRefusal → Type 0
 RefusesKeepingAll gate changes before now stopped (refusals.Write place FileFull) =
     (refusal_of_batch false gate (stored_rows changes)
     ≡ Some (of_file.Object place faults.FileFull)) × (stopped ≡ false)
 RefusesKeepingAll gate changes before now stopped (refusals.Node Device) =
-    (changes ≢ []) × (HasFailed before now × (stopped ≡ true))
-RefusesKeepingAll gate changes before now stopped (refusals.Node Memory) = changes ≢ []
+    (changes ≢ []) × (HasFileRoomFor gate changes × (HasFailed before now × (stopped ≡ true)))
+RefusesKeepingAll gate changes before now stopped (refusals.Node Memory) =
+    (changes ≢ []) × (stopped ≡ true → HasFileRoomFor gate changes)
 RefusesKeepingAll gate changes before now stopped refusal = ⊥

@@ -6,7 +6,7 @@ use Rattle.node_file.specs.Clean.{row_record}
 use Rattle.node_file.specs.File.{file_state}
 use Rattle.node_file.specs.Fold.{with_record}
 use Rattle.node_call.specs.Stored.{stored_rows}
-use Rattle.node_call.proofs.Batching.{few_stored, refuses_if_not, stored_all}
+use Rattle.node_call.proofs.Batching.{few_stored, refuses_if_not, room_of_all, stored_all}
 use Rattle.node_call.proofs.storing_all.store_all.Goals as goal
 
 pub append_all-requires-clause-room : goal.append_all-requires-clause-room
@@ -27,3 +27,10 @@ returns-in-Ok-clause-refused g c =
     refuses_if_not appended.result file.is_stopped file.gate c.args.changes.now c.as_slice.result.now (d.failed file.device) (d.failed appended.new.self.device)
     file appended.new.self c.requires.going c.requires.going (c.as_slice.ensures.value ∙ c.in-Ok.ensures.rows) c.in-Ok.ensures.held c.requires.few
     appended.ensures.refused appended.ensures.stops appended.ensures.refusals appended.ensures.none
+
+pub returns-in-Ok-clause-room : goal.returns-in-Ok-clause-room
+returns-in-Ok-clause-room g c =
+    let file = c.args.file.now in
+    let appended = c.append_all in
+    room_of_all appended.result file.is_stopped file.gate c.args.changes.now c.as_slice.result.now c.requires.going (c.as_slice.ensures.value ∙ c.in-Ok.ensures.rows)
+    c.in-Ok.ensures.held c.requires.few (λ other refused. (appended.ensures.refusals other refused).0)
