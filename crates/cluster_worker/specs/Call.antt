@@ -1,5 +1,5 @@
 -- What a worker asks of its node, and when it makes no more turns.
-use Rattle.std.specs.Prelude.{◌≡◌, ◌≢◌, ◌+◌, ◌%◌, ℕ, [], ◌∷◌, ◌++◌, codes, decimal, Some, Result, Err, IsOk}
+use Rattle.std.specs.Prelude.{◌≡◌, ◌≢◌, ◌≤◌, ◌+◌, ◌%◌, ℕ, zero, suc, Bool, true, false, List, [], ◌∷◌, ◌++◌, length, codes, decimal, Some, Result, Err, IsOk}
 use Rattle.meta_types.specs.Name.{Key}
 use Rattle.meta_types.specs.Value.{ValueParts}
 use Rattle.node_events.specs.declared.event.NodeEvent.{NodeEvent}
@@ -42,6 +42,31 @@ IsOfTurn turn event = ⊥
 abbrev pub IsAsked : NodeEvent → Type 0
 IsAsked (events.Join contact word) = contact ≡ 0
 IsAsked event = (turn : ℕ) × IsOfTurn turn event
+
+-- what is asked for before the turns: that the node joins through node 0, if it isn't node 0 itself
+abbrev pub IsFirst : ℕ → List NodeEvent → Type 0
+IsFirst zero asked = asked ≡ []
+IsFirst (suc n) asked = (word : ℕ) × (asked ≡ events.Join 0 word ∷ [])
+
+-- one call of each turn, from this turn on
+abbrev pub AreOfTurns : ℕ → List NodeEvent → Type 0
+AreOfTurns turn [] = Unit {0}
+AreOfTurns turn (event ∷ later) = IsOfTurn turn event × AreOfTurns (turn + 1) later
+
+-- of so many turns all are made, or, if the node was stopped, no more than that
+abbrev pub HasMade : Bool → ℕ → ℕ → Type 0
+HasMade false turns made = made ≡ turns
+HasMade true turns made = made ≤ turns
+
+-- what a node is asked for in a run of so many turns: first its join, and then the call of each turn
+-- that it makes
+pub record AreAsked (node turns : ℕ) (is_stopped : Bool) (asked : List NodeEvent) : Type 0 where
+  pub first : List NodeEvent
+  pub joins : IsFirst node first
+  pub later : List NodeEvent
+  pub of_turns : AreOfTurns 1 later
+  pub made : HasMade is_stopped turns (length later)
+  pub all : asked ≡ first ++ later
 
 -- what follows a refusal: 30 and 34 end the turns of the node, 52 and 99 the run; any other costs
 -- the turn

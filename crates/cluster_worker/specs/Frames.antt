@@ -1,13 +1,13 @@
 -- What becomes of frames: of those that the calls of a node send, and of those that it takes.
-use Rattle.std.specs.Prelude.{◌≡◌, ◌⊎◌, ◌+◌, ℕ, min, nat_lt, if◌then◌else◌, List, [], ◌∷◌, length, map, take, drop, slice_get, slice_set, Option, Some, None}
+use Rattle.std.specs.Prelude.{◌≡◌, ◌⊎◌, ◌+◌, ℕ, min, nat_lt, true, if◌then◌else◌, List, [], ◌∷◌, length, map, take, drop, slice_get, slice_set, Option, Some, None}
 use Rattle.std.specs.Int.{from_be_bytes, w16}
 use Rattle.std.specs.List.{flat_map}
 use mathlib.Core.List.{Sublist}
 use Rattle.node_events.specs.declared.event.NodeEvent.{NodeEvent}
 use Rattle.node_events.specs.declared.event.NodeEvent.TheVariants as events
 use Rattle.node_journal.specs.declared.receipt.Receipt.{Receipt}
-use Rattle.inbox.specs.Moments.{WasEmpty}
-use Rattle.inbox.specs.Views.{PutView, TakeView, with_put, with_taken}
+use Rattle.inbox.specs.Moments.{WasEmpty, WasFull}
+use Rattle.inbox.specs.Views.{InboxView, PutView, TakeView, with_put, with_taken}
 use Rattle.cluster_worker.specs.declared.passes.Passes.{Passes}
 
 -- ---- those that are sent
@@ -25,13 +25,32 @@ pub record IsPut (old : List PutView) (frame : List ℕ) (new : List PutView) : 
   pub there : slice_get old node ≡ Some pass
   pub puts : new ≡ slice_set old node (with_put pass frame)
 
+-- the frame names an addressee, and its inbox was closed or full
+pub record FindsNoRoom (inboxes : List InboxView) (old : List PutView) (frame : List ℕ) : Type 0 where
+  pub node : ℕ
+  pub named : addressee_of frame ≡ Some node
+  pub inbox : InboxView
+  pub its : slice_get inboxes node ≡ Some inbox
+  pub pass : PutView
+  pub there : slice_get old node ≡ Some pass
+  pub cause : (inbox.closed ≡ true) ⊎ WasFull inbox.room pass
+
+-- there is no pass to an addressee that the frame would name
+abbrev pub HasNoAddressee : List PutView → List ℕ → Type 0
+HasNoAddressee old frame = (node : ℕ) → addressee_of frame ≡ Some node → slice_get old node ≡ None
+
+-- why a frame is lost
+abbrev pub IsLost : List InboxView → List PutView → List ℕ → Type 0
+IsLost inboxes old frame = HasNoAddressee old frame ⊎ FindsNoRoom inboxes old frame
+
 -- each of these frames in turn is put by the pass to its addressee, or is one of so many that are
 -- lost
-abbrev pub AreSent : List PutView → List (List ℕ) → ℕ → List PutView → Type 0
-AreSent old [] lost new = (lost ≡ 0) × (new ≡ old)
-AreSent old (frame ∷ later) lost new =
-    ((between : List PutView) × IsPut old frame between × AreSent between later lost new)
-    ⊎ ((fewer : ℕ) × (lost ≡ fewer + 1) × AreSent old later fewer new)
+abbrev pub AreSent : List InboxView → List PutView → List (List ℕ) → ℕ → List PutView → Type 0
+AreSent inboxes old [] lost new = (lost ≡ 0) × (new ≡ old)
+AreSent inboxes old (frame ∷ later) lost new =
+    ((between : List PutView) × IsPut old frame between × AreSent inboxes between later lost new)
+    ⊎ ((fewer : ℕ) × (lost ≡ fewer + 1) × IsLost inboxes old frame
+    × AreSent inboxes old later fewer new)
 
 -- ---- those that are taken
 
@@ -58,11 +77,11 @@ outboxes_of receipts = flat_map (λ r. r.entry.outbox) receipts
 -- these calls were asked for, one after another, and these receipts are of some of them, in order:
 -- the pass to take took the frame of each `Take` and no other, and of the frames that the receipts
 -- have so many are lost, while each other was put
-pub record Conveys (asked : List NodeEvent) (receipts : List Receipt) (lost : ℕ)
-    (before after : Passes) : Type 0 where
+pub record Conveys (inboxes : List InboxView) (asked : List NodeEvent) (receipts : List Receipt)
+    (lost : ℕ) (before after : Passes) : Type 0 where
   pub given : Sublist (map (λ r. r.entry.event) receipts) asked
   pub takes : TakesForAll asked before.takes after.takes
-  pub puts : AreSent before.puts.items (outboxes_of receipts) lost after.puts.items
+  pub puts : AreSent inboxes before.puts.items (outboxes_of receipts) lost after.puts.items
 
 -- a count that stays at its greatest value
 abbrev pub up_to_most : ℕ → ℕ

@@ -24,12 +24,13 @@ pub record IsWorkerOf (inboxes : List InboxView) (life : LifeView) (calls : ℕ)
 
 -- a worker asked for these calls, kept the receipts of those that were accepted, and counted the
 -- frames that are lost
-pub record WorksOn (asked : List NodeEvent) (old new : Worker) : Type 0 where
+pub record WorksOn (inboxes : List InboxView) (asked : List NodeEvent) (old new : Worker)
+    : Type 0 where
   pub more : List Receipt
   pub receipts : new.receipts.items ≡ old.receipts.items ++ more
   pub lost : ℕ
   pub told : up_to_most new.lost ≡ up_to_most (old.lost + lost)
-  pub conveys : Conveys asked more lost old.passes new.passes
+  pub conveys : Conveys inboxes asked more lost old.passes new.passes
 
 -- the worker, with this pass to take
 abbrev pub with_takes : TakeView → Worker → Worker

@@ -12,7 +12,7 @@ use Rattle.inbox.specs.Views.{InboxView}
 use Rattle.node_call.specs.Acknowledged.{Acknowledged}
 use Rattle.node_call.specs.declared.fault.LockFault.{LockFault}
 use Rattle.node_call.specs.declared.fault.LockFault.TheVariants.{Memory, SeatsMissing}
-use Rattle.cluster_worker.specs.Call.{IsAsked}
+use Rattle.cluster_worker.specs.Call.{AreAsked, IsAsked}
 use Rattle.cluster_worker.specs.Frames.{Conveys, up_to_most}
 use Rattle.cluster_worker.specs.Passes.{ArePassesOf}
 use Rattle.cluster_worker.specs.Serving.{IsServed, LifeView}
@@ -46,14 +46,16 @@ pub record HasWorked (life : LifeView) (w : Worked) : Type 0 where
   pub counted : length w.receipts.items ≤ w.closed.base.steps + length w.closed.journal
   pub lost : w.lost ≤ frames_in w.receipts.items
 
--- what became of the frames of a worker that had these passes: its calls took those that its pass
--- took, and of those that the calls of its receipts sent the lost ones are counted, while the
--- others were put
-pub record HasConveyed (before : Passes) (w : Worked) : Type 0 where
+-- what became of the frames of a worker that had these passes, in so many turns: its calls took
+-- those that its pass took, and of those that the calls of its receipts sent the lost ones are
+-- counted, while the others were put
+pub record HasConveyed (inboxes : List InboxView) (turns : ℕ) (before : Passes) (w : Worked)
+    : Type 0 where
   pub asked : List NodeEvent
+  pub are : AreAsked w.node turns w.is_stopped asked
   pub lost : ℕ
   pub told : w.lost ≡ up_to_most lost
-  pub conveys : Conveys asked w.receipts.items lost before w.passes
+  pub conveys : Conveys inboxes asked w.receipts.items lost before w.passes
 
 -- why a worker ends the whole run: memory ran out, or seats of its node are missing, so that it
 -- isn't closed

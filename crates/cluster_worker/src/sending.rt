@@ -2,7 +2,7 @@
 
 ghost use Rattle.std.specs.Prelude.{◌≡◌, IfOk, IsFalse, IsTrue};
 ghost use Rattle.cluster_worker.specs.Passes.{ArePassesInto};
-ghost use Rattle.cluster_worker.specs.Frames.{AreSent, IsPut, addressee_of};
+ghost use Rattle.cluster_worker.specs.Frames.{AreSent, IsLost, IsPut, addressee_of};
 
 use inbox::{Inbox, PutPass};
 use meta_types::ByteString;
@@ -24,7 +24,8 @@ fn send<R: Wait>(rt: &R, inboxes: &[Inbox], puts: &mut Vec<PutPass>, frame: Byte
     requires passes { ArePassesInto inboxes.now puts.old.items }
     ensures passes { ArePassesInto inboxes.now puts.new.items }
     ensures put { IsTrue result → IsPut puts.old.items frame puts.new.items }
-    ensures lost { IsFalse result → puts.new.items ≡ puts.old.items }
+    ensures lost { IsFalse result
+        → (puts.new.items ≡ puts.old.items) × IsLost inboxes.now puts.old.items frame }
 {
     match addressee(frame.as_slice()) {
         Some(node) if node < puts.len() => inboxes[node].put(rt, &mut puts[node], frame).is_ok(),
@@ -42,7 +43,7 @@ pub(crate) fn send_all<R: Wait>(
     requires passes { ArePassesInto inboxes.now puts.old.items }
     ensures passes { ArePassesInto inboxes.now puts.new.items }
     ensures sent { IfOk result
-        (λ lost. AreSent puts.old.items frames.now lost puts.new.items) }
+        (λ lost. AreSent inboxes.now puts.old.items frames.now lost puts.new.items) }
 {
     let mut lost = 0u64;
     for frame in frames {

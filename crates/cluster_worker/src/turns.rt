@@ -1,9 +1,9 @@
 //! The turns of a node, in the thread of its worker.
 
-ghost use Rattle.std.specs.Prelude.{◌≡◌, ◌≤◌, List, [], ◌∷◌, IfErr, IfOk};
+ghost use Rattle.std.specs.Prelude.{◌≡◌, ◌≤◌, List, [], ◌∷◌, IfErr, IfOk, is_err};
 ghost use Rattle.node_events.specs.declared.event.NodeEvent.{NodeEvent as Event};
 ghost use Rattle.inbox.specs.Views.{TakeView};
-ghost use Rattle.cluster_worker.specs.Call.{IsAfterRefusal, IsAsked, IsOfTurn, event_of};
+ghost use Rattle.cluster_worker.specs.Call.{AreAsked, IsAfterRefusal, IsAsked, IsFirst, IsOfTurn, event_of};
 ghost use Rattle.node_call.specs.declared.fault.LockFault.TheVariants.{Memory};
 ghost use Rattle.cluster_worker.specs.Frames.{TakesFor};
 ghost use Rattle.cluster_worker.specs.Passes.{ArePassesOf};
@@ -123,7 +123,8 @@ fn make<D: Device + Drop, J: Naming, H: Wait + Drop, R: Wait, G>(
         (life_of J.node J.incarnation J.opening) seat.new worker.new }
     ensures works { (takes : TakeView)
         → TakesFor (event_of call.now) takes worker.old.passes.takes → UnlessFailed result
-        (WorksOn (event_of call.now ∷ []) (with_takes takes worker.old) worker.new) }
+        (WorksOn shared.now.inboxes.now (event_of call.now ∷ []) (with_takes takes worker.old)
+        worker.new) }
     ensures ending { IfErr result EndsTurns }
 {
     worker.receipts.reserve(1)?;
@@ -182,7 +183,7 @@ fn make_turn<D: Device + Drop, J: Naming, H: Wait + Drop, R: Wait, G>(
     ensures worker { IsWorkerOf shared.now.inboxes.now
         (life_of J.node J.incarnation J.opening) seat.new worker.new }
     ensures works { UnlessFailed result ((event : Event) × IsOfTurn turn event
-        × WorksOn (event ∷ []) worker.old worker.new) }
+        × WorksOn shared.now.inboxes.now (event ∷ []) worker.old worker.new) }
     ensures ending { IfErr result EndsTurns }
 {
     let call = call_of(shared, &mut worker.passes, &mut worker.words, turn)?;
@@ -200,8 +201,8 @@ fn join_first<D: Device + Drop, J: Naming, H: Wait + Drop, R: Wait, G>(
         (life_of J.node J.incarnation J.opening) seat.old worker.old }
     ensures worker { IsWorkerOf shared.now.inboxes.now
         (life_of J.node J.incarnation J.opening) seat.new worker.new }
-    ensures works { UnlessFailed result
-        ((asked : List Event) × WorksOn asked worker.old worker.new) }
+    ensures works { UnlessFailed result ((asked : List Event) × IsFirst worker.old.node asked
+        × WorksOn shared.now.inboxes.now asked worker.old worker.new) }
     ensures ending { IfErr result EndsTurns }
 {
     if worker.node.number() == 0 {
@@ -225,8 +226,9 @@ pub(crate) fn make_all<D: Device + Drop, J: Naming, H: Wait + Drop, R: Wait, G: 
         (life_of J.node J.incarnation J.opening) seat.old worker.old }
     ensures worker { IsWorkerOf shared.now.inboxes.now
         (life_of J.node J.incarnation J.opening) seat.new worker.new }
-    ensures works { UnlessFailed result
-        ((asked : List Event) × WorksOn asked worker.old worker.new) }
+    ensures works { UnlessFailed result ((asked : List Event)
+        × AreAsked worker.old.node shared.now.plan.turns (is_err result) asked
+        × WorksOn shared.now.inboxes.now asked worker.old worker.new) }
     ensures ending { IfErr result EndsTurns }
 {
     join_first(shared, node, seat, worker)?;

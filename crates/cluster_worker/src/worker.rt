@@ -51,7 +51,8 @@ pub fn work<D: Device + Drop, R: Wait, G: TurnHook>(
 ) -> Result<Worked, LockFault>
     requires { IsJob D.content shared.now.inboxes.now job.served.file job.served.table job.passes }
     ensures worked { IfOk result (HasWorked (life_of_file job.served.file job.served.table)) }
-    ensures conveyed { IfOk result (HasConveyed job.passes) }
+    ensures conveyed { IfOk result
+        (HasConveyed shared.now.inboxes.now shared.now.plan.turns job.passes) }
     ensures connected { IfOk result (λ w. ArePassesOf shared.now.inboxes.now w.passes) }
     ensures refused { IfErr result EndsRun }
 {
@@ -73,7 +74,8 @@ fn work_as<J: Naming, D: Device + Drop, R: Wait, G: TurnHook>(
     requires job { IsJob D.content shared.now.inboxes.now
         job.served.file job.served.table job.passes }
     ensures worked { IfOk result (HasWorked (life_of_file job.served.file job.served.table)) }
-    ensures conveyed { IfOk result (HasConveyed job.passes) }
+    ensures conveyed { IfOk result
+        (HasConveyed shared.now.inboxes.now shared.now.plan.turns job.passes) }
     ensures connected { IfOk result (λ w. ArePassesOf shared.now.inboxes.now w.passes) }
     ensures refused { IfErr result EndsRun }
 {
@@ -114,7 +116,8 @@ fn use_node<J: Naming, D: Device + Drop, H: Wait + Drop, R: Wait, G: TurnHook>(
     requires writers { AreNewWriters 1 started.writers.items }
     requires readers { AreNewReaders 0 started.readers.items }
     ensures worked { IfOk result (HasWorked (life_of J.node J.incarnation J.opening)) }
-    ensures conveyed { IfOk result (HasConveyed worker.passes) }
+    ensures conveyed { IfOk result
+        (HasConveyed shared.now.inboxes.now shared.now.plan.turns worker.passes) }
     ensures connected { IfOk result (λ w. ArePassesOf shared.now.inboxes.now w.passes) }
     ensures refused { IfErr result EndsRun }
 {

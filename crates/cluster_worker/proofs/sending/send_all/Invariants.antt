@@ -6,6 +6,6 @@ use Rattle.cluster_worker.proofs.sending.send_all.Given as goal
 abbrev pub invariant-loop-frame : goal.invariant-loop-frame
 invariant-loop-frame g l = record {
   passes : ArePassesInto l.inboxes l.puts.items;
-  sent : AreSent l.fn.puts.items (take l.frame-index l.frames) l.lost l.puts.items;
+  sent : AreSent l.inboxes l.fn.puts.items (take l.frame-index l.frames) l.lost l.puts.items;
   few : l.lost ≤ l.frame-index;
 }

@@ -1,4 +1,4 @@
-use Rattle.std.proofs.Common.{rules, ◌≡◌, ◌≤◌, [], IfOk, set, ap, ◌∙◌, arith}
+use Rattle.std.proofs.Common.{rules, ◌≡◌, ◌≤◌, [], IfOk, set, ap, sym, ◌∙◌, arith}
 use Rattle.cluster_worker.specs.Serving.{life_of}
 use Rattle.cluster_worker.specs.Worked.{frames_in}
 use Rattle.cluster_worker.specs.declared.worker.Worked.{Worked}
@@ -23,7 +23,7 @@ returns-in-Ok-clause-conveyed g c =
     let none : first.receipts.items ≡ [] = none_left first.receipts.items began.counted in
     let zero : first.lost ≡ 0 = omega (arith, began.lost, ap frames_in none) in
     let few : IfOk c.outcome_of.result (λ (w : Worked). w.lost ≤ 18446744073709551615) = search rules in
-    conveyed_of first made.new.worker made.result c.outcome_of.result none zero made.ensures.works said.passes said.receipts said.lost said.stopped few
+    conveyed_of c.args.shared.now.inboxes.now c.args.shared.now.plan.turns first made.new.worker made.result c.outcome_of.result none zero made.ensures.works (made.ensures.worker.node ∙ sym began.node) said.node said.passes said.receipts said.lost said.stopped few
 
 pub returns-in-Ok-clause-connected : goal.returns-in-Ok-clause-connected
 returns-in-Ok-clause-connected g c =
