@@ -27,7 +27,7 @@ def agree(drivers, now, frames):
             frames += driver.frames()
         if len({driver.node.root() for driver in drivers}) == 1:
             return now
-        now = min(driver.wake() for driver in drivers)
+        now = max(now, min(driver.wake() for driver in drivers))
 
 
 def shown(node):

@@ -4,6 +4,7 @@
 mod drivers;
 
 use drivers::{Cluster, Links, NODES, PACE};
+use zomtagi::{Driver, Node};
 
 /// Lets so many ticks of each node pass.
 fn ticks(cluster: &mut Cluster, count: u64) {
@@ -63,4 +64,22 @@ fn a_silent_member_is_given_up() {
     ticks(&mut cluster, 80);
     assert!(cluster.living().all(|node| !node.neighbours().unwrap().contains(&15)));
     assert!(cluster.fewest_neighbours() > 0);
+}
+
+#[test]
+fn who_is_down_stays_no_neighbour_through_which_joins_go() {
+    let mut driver = Driver::new(Node::new(0, 1).unwrap(), 0, PACE).unwrap();
+    driver.add(0, 1).unwrap();
+    driver.add(0, 2).unwrap();
+    // Each tick joins through one of them; neither is there, so each link fails.
+    for tick in 0..6 {
+        let now = tick * PACE.tick;
+        driver.on_time(now).unwrap();
+        let contact = 1 + (tick % 2) as u16;
+        assert_eq!(driver.node().neighbours().unwrap(), [contact]);
+        driver.frames();
+        driver.on_failure(now, contact).unwrap();
+        driver.frames();
+        assert_eq!(driver.node().neighbours().unwrap(), []);
+    }
 }

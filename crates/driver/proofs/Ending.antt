@@ -5,7 +5,7 @@ use Rattle.std.specs.Option.{option_map}
 use Rattle.std.proofs.lemmas.Option.{slice_get-map}
 use Rattle.std.proofs.lemmas.Bool.{and_parts, leb-true, or_cases}
 use Rattle.driver.specs.declared.member.Member.{Member}
-use Rattle.driver.specs.declared.member.MemberChange.TheVariants.{Greeted, GivenUp}
+use Rattle.driver.specs.declared.member.MemberChange.TheVariants.{Greeted, GivenUp, Heard, Tried}
 use Rattle.driver.specs.declared.task.Task.{Task}
 use Rattle.driver.specs.declared.task.Task.TheVariants.{Tick, Hello, Join, BeginExchange, PeerDown}
 use Rattle.driver.specs.Plan.{PlanParts, after, are_few, all_learn, has_member_that, is_silent, last_time, learn, made, task_of}
@@ -50,6 +50,24 @@ silent_given quiet now n (m ∷ members) = omega (arith, given_less quiet now m 
 given_none : (quiet now n : ℕ) (m : Member) (b : Bool) → b ≡ true → one_if (is_silent quiet now (cond b (made GivenUp m) m)) ≡ 0
 given_none quiet now n m true is = refl
 given_none quiet now n m false is = absurd (cc)
+
+-- who is tried again isn't silent yet, unless that is at once
+not_yet : (quiet now : ℕ) (b : Bool) → nat_le (now + quiet) now ≡ b → 1 ≤ quiet → b ≡ false
+not_yet quiet now true is some = absurd (omega (arith, leb-true (now + quiet) now is))
+not_yet quiet now false is some = refl
+
+tried_less : (quiet now : ℕ) (m : Member) (down : Bool) → 1 ≤ quiet → one_if (is_silent quiet now (cond down (made (Heard now) m) m)) ≤ one_if (is_silent quiet now m)
+tried_less quiet now m true some = omega (arith, ap one_if (not_yet quiet now (nat_le (now + quiet) now) refl some))
+tried_less quiet now m false some = omega arith
+
+joined_less : (quiet now : ℕ) (m : Member) (b : Bool) → 1 ≤ quiet → one_if (is_silent quiet now (cond b (made (Tried now) m) m)) ≤ one_if (is_silent quiet now m)
+joined_less quiet now m true some = tried_less quiet now m m.is_down some
+joined_less quiet now m false some = omega arith
+
+silent_tried : (quiet now n : ℕ) (members : List Member) → 1 ≤ quiet → silent_in quiet now (all_learn (Tried now) n members) ≤ silent_in quiet now members
+unfolding silent_in
+silent_tried quiet now n [] some = omega arith
+silent_tried quiet now n (m ∷ members) some = omega (arith, joined_less quiet now m (nat_eq m.node n) some, silent_tried quiet now n members some)
 
 silent_fewer : (quiet now n : ℕ) (members : List Member) → has_member_that (is_silent quiet now) n members ≡ true
     → silent_in quiet now (all_learn GivenUp n members) < silent_in quiet now members
@@ -146,28 +164,29 @@ next_due : (now : ℕ) (p : PlanParts) → 1 ≤ p.pace.tick → now < last_time
 next_due now p tick early = not_due now (min (now + p.pace.tick) last_time) (nat_le (min (now + p.pace.tick) last_time) now) refl (omega arith)
 
 -- each task leaves less
-less : (now neighbours : ℕ) (p : PlanParts) (task : Task) → task_of now neighbours p ≡ Some task → 1 ≤ p.pace.tick → now < last_time → left now (after now task p) < left now p
+less : (now neighbours : ℕ) (p : PlanParts) (task : Task) → task_of now neighbours p ≡ Some task → 1 ≤ p.pace.tick → 1 ≤ p.pace.quiet → now < last_time
+    → left now (after now task p) < left now p
 unfolding left join_left due_left
-less now neighbours p Tick is tick early =
+less now neighbours p Tick is tick some early =
     let free = tick_free now neighbours p is in
     let was = if_true (nat_le p.due now) 4 free.2 in
     let later = ap if_due (next_due now p tick early) in
     omega (arith, was, later, (for_join_bounds (slice_get p.members p.contact)).1, (for_join_bounds (slice_get p.members p.contact)).0, one_most (nat_lt 0 (length p.members)))
-less now neighbours p (Hello n) is tick early =
+less now neighbours p (Hello n) is tick some early =
     let due = hello_due now neighbours p n is in
     let owes = (and_parts p.owes_join (are_few neighbours p.members) due.joining).0 in
     let was = if_true p.owes_join (for_join (slice_get p.members p.contact)) owes in
     let then = if_true p.owes_join (for_join (slice_get (all_learn Greeted n p.members) p.contact)) owes in
     omega (arith, was, then, join_ungreeted (slice_get p.members p.contact) due.member due.there due.greeted, join_greeted n p.contact p.members due.member due.there due.its_node, silent_greeted p.pace.quiet now n p.members)
-less now neighbours p (Join n) is tick early =
+less now neighbours p (Join n) is tick some early =
     let due = join_due now neighbours p n is in
     let owes = (and_parts p.owes_join (are_few neighbours p.members) due.joining).0 in
     let was = if_true p.owes_join (for_join (slice_get p.members p.contact)) owes in
-    omega (arith, was, (for_join_bounds (slice_get p.members p.contact)).0)
-less now neighbours p (BeginExchange n) is tick early =
+    omega (arith, was, (for_join_bounds (slice_get p.members p.contact)).0, silent_tried p.pace.quiet now n p.members some)
+less now neighbours p (BeginExchange n) is tick some early =
     let owed = ap one_if (exchange_owed now neighbours p n is).0 in
     omega (arith, owed)
-less now neighbours p (PeerDown n) is tick early =
+less now neighbours p (PeerDown n) is tick some early =
     let same = ap (λ (k : ℕ). cond p.owes_join k 0) (join_given n p.contact p.members) in
     omega (arith, same, silent_fewer p.pace.quiet now n p.members (down_due now neighbours p n is).1)
 
@@ -180,17 +199,17 @@ same_pace now p (Join n) = refl
 same_pace now p (BeginExchange n) = refl
 same_pace now p (PeerDown n) = refl
 
-few : (old new : PlanParts) (changes : List PlanChange) (now : ℕ) → Leads old changes new → AreTasksAt now changes → 1 ≤ old.pace.tick → now < last_time
+few : (old new : PlanParts) (changes : List PlanChange) (now : ℕ) → Leads old changes new → AreTasksAt now changes → 1 ≤ old.pace.tick → 1 ≤ old.pace.quiet → now < last_time
     → length changes ≤ left now old
-few old new [] now same at tick early = omega arith
-few old new (FrameCame t n ∷ rest) now leads at tick early = absurd at
-few old new (LinkFailed n ∷ rest) now leads at tick early = absurd at
-few old new (MemberAdded t n ∷ rest) now leads at tick early = absurd at
-few old new (MemberRemoved n ∷ rest) now leads at tick early = absurd at
-few old new (TaskDone t near task ∷ rest) now (is, leads) (same, at) tick early =
-    let pace = ap (λ q. q.tick) (same_pace t old task) in
-    let later = few (after t task old) new rest now leads at (omega (arith, pace)) early in
-    let fewer = subst (λ (k : ℕ). left k (after t task old) < left k old) same (less t near old task is tick (omega arith)) in
+few old new [] now same at tick some early = omega arith
+few old new (FrameCame t n ∷ rest) now leads at tick some early = absurd at
+few old new (LinkFailed n ∷ rest) now leads at tick some early = absurd at
+few old new (MemberAdded t n ∷ rest) now leads at tick some early = absurd at
+few old new (MemberRemoved n ∷ rest) now leads at tick some early = absurd at
+few old new (TaskDone t near task ∷ rest) now (is, leads) (same, at) tick some early =
+    let pace = same_pace t old task in
+    let later = few (after t task old) new rest now leads at (omega (arith, ap (λ q. q.tick) pace)) (omega (arith, ap (λ q. q.quiet) pace)) early in
+    let fewer = subst (λ (k : ℕ). left k (after t task old) < left k old) same (less t near old task is tick some (omega arith)) in
     omega (arith, later, fewer)
 
 ticks : (old new : PlanParts) (changes : List PlanChange) (now : ℕ) → Leads old changes new → AreTasksAt now changes → 1 ≤ old.pace.tick → now < last_time
@@ -213,5 +232,5 @@ ticks old new (TaskDone t near Tick ∷ rest) now (is, leads) (same, at) tick ea
 pub tasks_end : TasksEnd
 tasks_end old new changes now leads at tick early = (
   omega (arith, ticks old new changes now leads at tick early, one_most (nat_le old.due now)),
-  omega (arith, few old new changes now leads at tick early, left_most now old),
+  (λ some. omega (arith, few old new changes now leads at tick some early, left_most now old)),
 )

@@ -2,11 +2,11 @@
 use Rattle.std.proofs.Common.{◌≡◌, ◌⊎◌, inl, inr, ℕ, Bool, true, false, not, ◌&&◌, cond, nat_eq, List, [], ◌∷◌, ◌++◌, refl, sym, ap, ◌∙◌, eq-eqb}
 use Rattle.std.proofs.lemmas.Bool.{and_from, eqb-true, not_from_false, or_from, or_left, or_right}
 use Rattle.peer_lists.specs.Lists.{has}
-use Rattle.driver.specs.declared.member.MemberChange.TheVariants.{Greeted, GivenUp, Heard}
+use Rattle.driver.specs.declared.member.MemberChange.TheVariants.{Greeted, GivenUp, Heard, Tried}
 use Rattle.driver.specs.declared.task.Task.TheVariants.{Tick, Hello, Join, BeginExchange, PeerDown}
 use Rattle.driver.specs.Plan.{PlanParts, after, has_member, has_member_that, heard_from, is_of_another, new_member, with_member, taken_out, without_member}
 use Rattle.driver.specs.Duty.{MemberAdded, TaskDone, LinkFailed, PlanChange, FrameCame, HellosComeFirst, HellosComeOnce, KeepMembers, Leads, MemberRemoved, greeted_in, is_greeted}
-use Rattle.driver.proofs.Members.{added_none, any_at, any_filter, changed_elsewhere, changed_fails, changed_none, changed_same}
+use Rattle.driver.proofs.Members.{added_none, any_at, any_filter, changed_elsewhere, changed_fails, changed_none, changed_same, tried_greeted}
 use Rattle.driver.proofs.Tasks.{hello_due, join_due}
 
 -- ---- before
@@ -43,7 +43,9 @@ hellos_come_first old new [] now neighbours n (is, leads) =
 hellos_come_first old new (TaskDone at near (Hello k) ∷ before) now neighbours n (is, leads) =
     by_hello n k at old before (nat_eq n k) refl (hellos_come_first (after at (Hello k) old) new before now neighbours n leads)
 hellos_come_first old new (TaskDone at near Tick ∷ before) now neighbours n (is, leads) = hellos_come_first (after at Tick old) new before now neighbours n leads
-hellos_come_first old new (TaskDone at near (Join k) ∷ before) now neighbours n (is, leads) = hellos_come_first (after at (Join k) old) new before now neighbours n leads
+hellos_come_first old new (TaskDone at near (Join k) ∷ before) now neighbours n (is, leads) =
+    of_before n old (after at (Join k) old) before (λ greeted. sym (changed_same (λ m. m.is_greeted) n k (Tried at) old.members (tried_greeted at)) ∙ greeted)
+    (hellos_come_first (after at (Join k) old) new before now neighbours n leads)
 hellos_come_first old new (TaskDone at near (BeginExchange k) ∷ before) now neighbours n (is, leads) = hellos_come_first (after at (BeginExchange k) old) new before now neighbours n leads
 hellos_come_first old new (TaskDone at near (PeerDown k) ∷ before) now neighbours n (is, leads) =
     of_before n old (after at (PeerDown k) old) before (λ greeted. sym (changed_same (λ m. m.is_greeted) n k GivenUp old.members (λ m. refl)) ∙ greeted)
@@ -80,7 +82,8 @@ once n p new (LinkFailed k ∷ rest) (can, leads) keep none =
 once n p new (TaskDone now near (PeerDown k) ∷ rest) (is, leads) keep none =
     once n (after now (PeerDown k) p) new rest leads keep (changed_same (λ m. not m.is_greeted) n k GivenUp p.members (λ m. refl) ∙ none)
 once n p new (TaskDone now near Tick ∷ rest) (is, leads) keep none = once n (after now Tick p) new rest leads keep none
-once n p new (TaskDone now near (Join k) ∷ rest) (is, leads) keep none = once n (after now (Join k) p) new rest leads keep none
+once n p new (TaskDone now near (Join k) ∷ rest) (is, leads) keep none =
+    once n (after now (Join k) p) new rest leads keep (changed_same (λ m. not m.is_greeted) n k (Tried now) p.members (λ m. ap not (tried_greeted now m)) ∙ none)
 once n p new (TaskDone now near (BeginExchange k) ∷ rest) (is, leads) keep none = once n (after now (BeginExchange k) p) new rest leads keep none
 once n p new (TaskDone now near (Hello k) ∷ rest) (is, leads) keep none =
     let due = hello_due now near p k is in

@@ -38,9 +38,9 @@ led now word old new (task ∷ tasks) (between, (does, works)) =
     }
 
 pub nothing_is_past_due : NothingIsPastDue
-nothing_is_past_due now word old new does members tick early =
+nothing_is_past_due now word old new does members tick quiet early =
     let is = led now word old new does.tasks does.works in
-    let few = (tasks_end old.plan new.plan is.changes now is.leads is.at tick early).1 in
+    let few = (tasks_end old.plan new.plan is.changes now is.leads is.at tick early).1 quiet in
     let same = as_many now is.changes is.at ∙ ap (λ (ts : List Task). length ts) is.are in
     elim does.ends [ inl none ↦ none | inr all ↦ absurd (omega (arith, few, same, all, members)) ]
 

@@ -7,20 +7,36 @@ use Rattle.std.proofs.lemmas.Bool.{and_from, and_left, and_parts, cases_Bool, eq
 use Rattle.std.proofs.lemmas.List.Folds.{list_any-append}
 use Rattle.driver.specs.declared.member.Member.{Member}
 use Rattle.driver.specs.declared.member.MemberChange.{MemberChange}
-use Rattle.driver.specs.declared.member.MemberChange.TheVariants.{Greeted, GivenUp, Heard}
+use Rattle.driver.specs.declared.member.MemberChange.TheVariants.{Greeted, GivenUp, Heard, Tried}
 use Rattle.driver.specs.Plan.{all_learn, has_member, has_member_that, learn, made}
 use Rattle.driver.specs.Duty.{nodes_of}
 
 -- ---- who they are
 
+either : (b : Bool) (m other : Member) → other.node ≡ m.node → (cond b other m).node ≡ m.node
+either true m other same = same
+either false m other same = refl
+
 made_node : (change : MemberChange) (m : Member) → (made change m).node ≡ m.node
 made_node Greeted m = refl
 made_node GivenUp m = refl
 made_node (Heard now) m = refl
+made_node (Tried now) m = either m.is_down m (made (Heard now) m) refl
 
-either : (b : Bool) (m other : Member) → other.node ≡ m.node → (cond b other m).node ≡ m.node
-either true m other same = same
-either false m other same = refl
+-- who is tried again is greeted as before, and up
+pub tried_greeted : (now : ℕ) (m : Member) → (made (Tried now) m).is_greeted ≡ m.is_greeted
+tried_greeted now m = same m.is_down
+  where
+    same : (b : Bool) → (cond b (made (Heard now) m) m).is_greeted ≡ m.is_greeted
+    same true = refl
+    same false = refl
+
+pub tried_up : (now : ℕ) (m : Member) → (made (Tried now) m).is_down ≡ false
+tried_up now m = up m.is_down refl
+  where
+    up : (b : Bool) → m.is_down ≡ b → (cond b (made (Heard now) m) m).is_down ≡ false
+    up true is = refl
+    up false is = is
 
 pub learn_node : (change : MemberChange) (n : ℕ) (m : Member) → (learn change n m).node ≡ m.node
 learn_node change n m = either _ m (made change m) (made_node change m)

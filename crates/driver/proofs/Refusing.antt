@@ -15,7 +15,7 @@ use Rattle.node_hosted.specs.declared.fault.HostFault.{HostFault}
 use Rattle.node_hosted.specs.declared.fault.HostFault.TheVariants.{Argument, Step, FileFull, Stopped, Pending, Nothing, NoSuchRead, Memory}
 use Rattle.driver.specs.declared.member.Member.{Member}
 use Rattle.driver.specs.declared.member.MemberChange.{MemberChange}
-use Rattle.driver.specs.declared.member.MemberChange.TheVariants.{Greeted, GivenUp}
+use Rattle.driver.specs.declared.member.MemberChange.TheVariants.{Greeted, GivenUp, Tried}
 use Rattle.driver.specs.declared.task.Task.{Task}
 use Rattle.driver.specs.declared.task.Task.TheVariants.{Tick, Hello, Join, BeginExchange, PeerDown}
 use Rattle.driver.specs.Plan.{PlanParts, after, all_learn, has_member, has_member_that, learn, task_of}
@@ -59,7 +59,7 @@ same_member n change k members = any_map_same (λ m. nat_eq m.node n) (learn cha
 
 after_same : (n now : ℕ) (task : Task) (p : PlanParts) → has_member n (after now task p).members ≡ has_member n p.members
 after_same n now Tick p = refl
-after_same n now (Join k) p = refl
+after_same n now (Join k) p = same_member n (Tried now) k p.members
 after_same n now (BeginExchange k) p = refl
 after_same n now (Hello k) p = same_member n Greeted k p.members
 after_same n now (PeerDown k) p = same_member n GivenUp k p.members

@@ -5,7 +5,7 @@ use Rattle.std.proofs.lemmas.List.{length-map}
 use Rattle.std.proofs.lemmas.Bool.{and_from, lt-ltb}
 use Rattle.driver.specs.declared.member.Member.{Member}
 use Rattle.driver.specs.declared.member.MemberChange.{MemberChange}
-use Rattle.driver.specs.declared.member.MemberChange.TheVariants.{Greeted, GivenUp, Heard}
+use Rattle.driver.specs.declared.member.MemberChange.TheVariants.{Greeted, GivenUp, Heard, Tried}
 use Rattle.driver.specs.declared.task.Task.{Task}
 use Rattle.driver.specs.declared.task.Task.TheVariants.{Tick, Hello, Join, BeginExchange, PeerDown}
 use Rattle.driver.specs.Plan.{PlanParts, after, are_few, all_learn, heard_from, learn, next_place}
@@ -45,7 +45,9 @@ go old new (TaskDone now neighbours (Hello n) ∷ rest) (is, leads) keep some =
 go old new (TaskDone now neighbours (PeerDown n) ∷ rest) (is, leads) keep some =
     of_same old new rest (all_learn GivenUp n old.members) (nodes_changed GivenUp n old.members)
     (go (after now (PeerDown n) old) new rest leads keep (some_changed GivenUp n old.members some))
-go old new (TaskDone now neighbours (Join n) ∷ rest) (is, leads) keep some = go (after now (Join n) old) new rest leads keep some
+go old new (TaskDone now neighbours (Join n) ∷ rest) (is, leads) keep some =
+    of_same old new rest (all_learn (Tried now) n old.members) (nodes_changed (Tried now) n old.members)
+    (go (after now (Join n) old) new rest leads keep (some_changed (Tried now) n old.members some))
 go old new (TaskDone now neighbours Tick ∷ rest) (is, leads) keep some =
     let later = go (after now Tick old) new rest leads keep some in
     let free = ap one_if (tick_free now neighbours old is).1 in
@@ -89,7 +91,9 @@ joins_go_round old new (TaskDone now neighbours (PeerDown n) ∷ rest) (is, lead
 joins_go_round old new (TaskDone now neighbours Tick ∷ rest) (is, leads) keep = joins_go_round (after now Tick old) new rest leads keep
 joins_go_round old new (TaskDone now neighbours (BeginExchange n) ∷ rest) (is, leads) keep = joins_go_round (after now (BeginExchange n) old) new rest leads keep
 joins_go_round old new (TaskDone now neighbours (Join n) ∷ rest) (is, leads) keep =
-    let later = joins_go_round (after now (Join n) old) new rest leads keep in
+    let later : contacts_in rest ≡ round_from (length (contacts_in rest)) (next_place (length old.members) old.contact) (nodes_of old.members) =
+    subst (λ (ns : List ℕ). contacts_in rest ≡ round_from (length (contacts_in rest)) (next_place (length old.members) old.contact) ns)
+    (nodes_changed (Tried now) n old.members) (joins_go_round (after now (Join n) old) new rest leads keep) in
     let due = join_due now neighbours old n is in
     let first = node_there old.members old.contact due.member due.there ∙ due.its_node in
     let count = length-map old.members (λ (m : Member). m.node) in

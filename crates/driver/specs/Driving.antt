@@ -197,11 +197,11 @@ ChangesLeadOn = (old between new : PlanParts) (first later : List PlanChange)
     × (KeepMembers first → KeepMembers later → KeepMembers (first ++ later))
 
 -- Nothing is past due once a call has done what is next, unless a task was refused: of a plan with
--- as many members as there are nodes, a pace of at least 1, and a time before the last one.
+-- at most 16 members, `tick` and `quiet` of at least 1, and a time before the last one.
 abbrev pub NothingIsPastDue : Type 0
 NothingIsPastDue = (now word : ℕ) (old new : Driver) → DoesWork now word old (Ok tt) new
-    → length old.plan.members ≤ 16 → 1 ≤ old.plan.pace.tick → now < last_time
-    → next_task now new ≡ None
+    → length old.plan.members ≤ 16 → 1 ≤ old.plan.pace.tick → 1 ≤ old.plan.pace.quiet
+    → now < last_time → next_task now new ≡ None
 
 -- A task is refused for want of memory alone, unless the node is a member of its own plan.
 abbrev pub OnlyMemoryRefuses : Type 0

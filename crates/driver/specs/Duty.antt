@@ -177,12 +177,13 @@ AreTasksAt now [] = Unit {0}
 AreTasksAt now (TaskDone at neighbours task ∷ rest) = (at ≡ now) × AreTasksAt now rest
 AreTasksAt now (change ∷ rest) = ⊥
 
--- At one time the tasks come to an end: there is one tick at most, and there are seven tasks at
--- most, and one more for each member.
+-- At one time the tasks come to an end: there is one tick at most, and, if nobody counts as silent
+-- at once, there are seven tasks at most, and one more for each member.
 abbrev pub TasksEnd : Type 0
 TasksEnd = (old new : PlanParts) (changes : List PlanChange) (now : ℕ)
     → Leads old changes new → AreTasksAt now changes → 1 ≤ old.pace.tick → now < last_time
-    → (ticks_in changes ≤ 1) × (length changes ≤ 7 + length old.members)
+    → (ticks_in changes ≤ 1)
+    × (1 ≤ old.pace.quiet → length changes ≤ 7 + length old.members)
 
 -- ---- who is down
 
@@ -192,10 +193,16 @@ IsGivingUp n (TaskDone now neighbours (PeerDown node)) = node ≡ n
 IsGivingUp n (LinkFailed node) = node ≡ n
 IsGivingUp n change = ⊥
 
--- Once a member was given up, and until a frame comes from it, the node isn't told again that it
--- is down.
+-- Once a member was given up, and until a frame comes from it or a join through it is begun, the
+-- node isn't told again that it is down.
 abbrev pub DownsComeOnce : Type 0
 DownsComeOnce = (old new : PlanParts) (first : PlanChange) (rest : List PlanChange) (n : ℕ)
     → Leads old (first ∷ rest) new → KeepMembers rest → has_member n old.members ≡ true
-    → IsGivingUp n first → has (heard_in rest) n ≡ false
+    → IsGivingUp n first → has (heard_in rest) n ≡ false → has (contacts_in rest) n ≡ false
     → has (downs_in (plan_after first old) rest) n ≡ false
+
+-- A member through which a join is begun isn't given up any more: if it fails, the node is told
+-- again.
+abbrev pub JoinsTryAgain : Type 0
+JoinsTryAgain = (old new : PlanParts) (now neighbours n : ℕ)
+    → Leads old (TaskDone now neighbours (Join n) ∷ []) new → is_given_up n new.members ≡ false

@@ -4,7 +4,7 @@ use Rattle.std.specs.Prelude.{◌≡◌, ◌<◌, ◌⊎◌, ◌+◌, ℕ, nat_l
 use Rattle.std.specs.List.{list_any}
 use Rattle.driver.specs.declared.member.Member.{Member}
 use Rattle.driver.specs.declared.member.MemberChange.{MemberChange}
-use Rattle.driver.specs.declared.member.MemberChange.TheVariants.{Greeted, GivenUp, Heard}
+use Rattle.driver.specs.declared.member.MemberChange.TheVariants.{Greeted, GivenUp, Heard, Tried}
 use Rattle.driver.specs.declared.plan.Pace.{Pace}
 use Rattle.driver.specs.declared.task.Task.{Task}
 use Rattle.driver.specs.declared.task.Task.TheVariants.{Tick, Hello, Join, BeginExchange, PeerDown}
@@ -39,6 +39,7 @@ abbrev pub made : MemberChange → Member → Member
 made Greeted m = record m { is_greeted = true }
 made GivenUp m = record m { is_down = true }
 made (Heard now) m = record m { heard = now; is_down = false }
+made (Tried now) m = if m.is_down then record m { heard = now; is_down = false } else m
 
 -- the member, once this became of the node
 abbrev pub learn : MemberChange → ℕ → Member → Member
@@ -65,7 +66,7 @@ has_member node members = list_any (λ m. nat_eq m.node node) members
 abbrev pub has_member_that : (Member → Bool) → ℕ → List Member → Bool
 has_member_that test node members = list_any (λ m. nat_eq m.node node && test m) members
 
--- the node was given up, and no frame came from it since
+-- the node was given up, and since then no frame came from it, and no join through it was begun
 abbrev pub is_given_up : ℕ → List Member → Bool
 is_given_up node members = has_member_that (λ m. m.is_down) node members
 
@@ -137,7 +138,8 @@ next_place count at = if nat_lt (at + 1) count then at + 1 else 0
 abbrev pub last_time : ℕ
 last_time = 18446744073709551615
 
--- a tick owes a join and an exchange; each of these goes on to the next member
+-- a tick owes a join and an exchange; each of these goes on to the next member. A member that was
+-- given up is tried again by a join through it: it is a neighbour then, and may be given up anew
 abbrev pub after : (now : ℕ) → Task → PlanParts → PlanParts
 after now Tick p = record p {
   due = min (now + p.pace.tick) last_time;
@@ -146,6 +148,7 @@ after now Tick p = record p {
 }
 after now (Hello n) p = record p { members = all_learn Greeted n p.members }
 after now (Join n) p = record p {
+  members = all_learn (Tried now) n p.members;
   owes_join = false;
   contact = next_place (length p.members) p.contact;
 }

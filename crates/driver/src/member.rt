@@ -1,4 +1,5 @@
 ghost use Rattle.std.specs.Prelude.{◌≡◌, ◌≤◌, ◌+◌, ◌<◌, ◌^◌, nat_le, not, ◌&&◌};
+ghost use Rattle.driver.specs.declared.member.MemberChange.TheVariants.{Heard};
 ghost use Rattle.driver.specs.Plan.{all_learn, is_of_another, is_silent, learn, made, others, sooner};
 
 use meta_types::NodeId;
@@ -7,11 +8,13 @@ use meta_types::NodeId;
 #[derive(Clone, Copy, Debug, PartialEq, Eq)]
 pub struct Member {
     pub node: NodeId,
-    /// When a frame last came from it; at first, when it was added. In milliseconds.
+    /// When a frame last came from it; at first, when it was added; once it was given up, when it
+    /// was tried again. In milliseconds.
     pub heard: u64,
     /// Whether a hello was said to it since it was added.
     pub is_greeted: bool,
-    /// Whether the node was told that it is down, and no frame came from it since.
+    /// Whether the node was told that it is down, and since then no frame came from it, and it
+    /// wasn't tried again.
     pub is_down: bool,
 }
 
@@ -21,6 +24,8 @@ pub(crate) enum MemberChange {
     Greeted,
     GivenUp,
     Heard(u64),
+    /// A join through it was begun: if it was given up, it counts as heard of once more.
+    Tried(u64),
 }
 
 impl Member {
@@ -37,11 +42,20 @@ impl Member {
                 is_down: true,
                 ..self
             },
-            MemberChange::Heard(now) => Member {
-                heard: now,
-                is_down: false,
-                ..self
-            },
+            MemberChange::Heard(now) => self.up(now),
+            MemberChange::Tried(now) if self.is_down => self.up(now),
+            MemberChange::Tried(_) => self,
+        }
+    }
+
+    /// Returns the member as it is up at this time.
+    fn up(self, now: u64) -> Member
+        ensures { result ≡ made (Heard now) self }
+    {
+        Member {
+            heard: now,
+            is_down: false,
+            ..self
         }
     }
 

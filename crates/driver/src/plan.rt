@@ -218,7 +218,8 @@ impl Plan {
         (self.owes_join && are_few(neighbours, self.members.as_slice())) || self.owes_exchange
     }
 
-    /// Returns whether the node is a member that was given up, and no frame came from it since.
+    /// Returns whether the node is a member that was given up, and since then no frame came from
+    /// it, and it wasn't tried again.
     pub fn is_given_up(&self, node: NodeId) -> bool
         ensures { result ≡ is_given_up node self.now.members }
     {
@@ -238,9 +239,11 @@ impl Plan {
                 self.owes_exchange = !self.members.is_empty();
             }
             Task::Hello(node) => change_each(&mut self.members, *node, MemberChange::Greeted),
-            Task::Join(_) => {
+            Task::Join(node) => {
                 self.owes_join = false;
                 self.contact = next_place(self.members.len(), self.contact);
+                // It is a neighbour now: if it is down, the node has to be told so once more.
+                change_each(&mut self.members, *node, MemberChange::Tried(now));
             }
             Task::BeginExchange(_) => {
                 self.owes_exchange = false;

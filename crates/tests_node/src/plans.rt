@@ -1,4 +1,5 @@
-//! What a plan of two members says, tick after tick, of a node without neighbours.
+//! What a plan of two members says, tick after tick, of a node without neighbours. Nobody answers, so
+//! each is given up, and again once a join through it was begun.
 
 use driver::{Pace, Plan, Task};
 use meta_types::NodeId;
@@ -7,7 +8,7 @@ use std::alloc::{AllocError, Global};
 /// A task: when it is next, its first letter (an exchange's is X), and the number of its member.
 struct Row(u64, u8, u16);
 
-static WANTED: [Row; 17] = [
+static WANTED: [Row; 18] = [
     Row(0, b'T', 0),
     Row(0, b'H', 1),
     Row(0, b'J', 1),
@@ -16,14 +17,15 @@ static WANTED: [Row; 17] = [
     Row(1_000, b'H', 2),
     Row(1_000, b'J', 2),
     Row(1_000, b'X', 2),
+    Row(1_500, b'P', 1),
+    Row(1_500, b'P', 2),
     Row(2_000, b'T', 0),
     Row(2_000, b'J', 1),
     Row(2_000, b'X', 1),
-    Row(2_500, b'P', 1),
-    Row(2_500, b'P', 2),
     Row(3_000, b'T', 0),
     Row(3_000, b'J', 2),
     Row(3_000, b'X', 2),
+    Row(3_500, b'P', 1),
     Row(4_000, b'T', 0),
 ];
 
@@ -68,7 +70,7 @@ fn add(plan: &mut Plan, number: u16) -> Result<(), AllocError> {
 fn played(alloc: Global) -> Result<bool, AllocError> {
     let pace = Pace {
         tick: 1_000,
-        quiet: 2_500,
+        quiet: 1_500,
     };
     let mut plan = Plan::new(alloc, pace, 0);
     add(&mut plan, 1)?;

@@ -129,7 +129,7 @@ impl Cluster {
             let wakes = self.drivers.iter().zip(0..).filter_map(|(it, number)| Some((it.as_ref()?.wake(), number)));
             let (wake, number) = wakes.min().unwrap_or((u64::MAX, 0));
             let come = self.coming.first_key_value().map_or(u64::MAX, |((at, _), _)| *at);
-            self.now = wake.min(come).min(end);
+            self.now = wake.min(come).min(end).max(self.now); // (something may be past due)
             if wake <= self.now {
                 self.call(number, |driver, now| {
                     driver.on_time(now).unwrap();
