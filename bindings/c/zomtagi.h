@@ -318,7 +318,7 @@ uint16_t zomtagi_end_batch(zomtagi_slot *slot);
  * choose; after each tick one exchange, with one member after the other; while the node has fewer
  * neighbours than three and than there are members, also a hello, if there was none in this life,
  * and a join, through one member after the other; and a member that sent nothing for too long counts
- * as down, once until a frame comes from it.
+ * as down, once until a frame comes from it or the plan joins through it.
  *
  * A plan is of one life of one node, and begins without members: name all other nodes. Times are in
  * milliseconds from any moment on, and never fall. Call zomtagi_drive_time when the time has come
@@ -439,7 +439,10 @@ uint16_t zomtagi_stored(zomtagi_slot *slot, uint8_t is_stored);
  *               its body (8) and the body, or 0 (1 byte), for a tombstone
  *   2 wrote     3 taken     4 fresh     5 stale     6 done     (nothing follows)
  *   7 watching  the number of the watch (8)
- *   8 changed   how many changes were missed (8), the number of keys (8), then each key
+ *   8 changed   how many changes were missed (8), the number of the others (8), then of each, the
+ *               oldest first, its key and its version vector after the change: the number of writers
+ *               (8), and of each, in the order of nodes and lives, the node (2), its life (4; 0 in
+ *               what a file of version 1 brought), and how many of its writes are known (8)
  *
  * A key is its prefix, its sub-prefix and its name, each with its length before it, in 2 bytes.
  * Refused with 80 NoNode, 38 Nothing, 81 ShortBuffer; 99 Memory, after which it may be called

@@ -51,7 +51,8 @@ NOTHING, SHORT_BUFFER = 38, 81
 Value = namedtuple("Value", "body stamp", defaults=[0])  # (the body of a tombstone is None)
 Read = namedtuple("Read", "values context")  # (the context takes memory until Node.forget forgets it)
 Listed = namedtuple("Listed", "key is_deleted")
-Changes = namedtuple("Changes", "missed keys")
+Change = namedtuple("Change", "key vector")  # (of each writer known its node, its life, and how many of its writes)
+Changes = namedtuple("Changes", "missed noted")
 
 
 class Refused(Exception):
@@ -152,6 +153,10 @@ class Fields:
 
     def values(self):
         return [self.value() for _ in range(self.number())]
+
+    def change(self):
+        key = self.names(3)
+        return Change(key, [(self.number(2), self.number(4), self.number()) for _ in range(self.number())])
 
 
 def to(frame):
@@ -304,7 +309,7 @@ class Node:
         """Returns what the watch has noted."""
         reply, _ = self.step("changes", number)
         reply.take(1)
-        return Changes(reply.number(), [reply.names(3) for _ in range(reply.number())])
+        return Changes(reply.number(), [reply.change() for _ in range(reply.number())])
 
     # What the node holds, without a step.
 

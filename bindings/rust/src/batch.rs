@@ -3,6 +3,21 @@ use crate::node::Node;
 use crate::types::{Context, Key, Value};
 
 /// The steps of a [`Node::batch`].
+///
+/// ```
+/// use zomtagi::{Batch, Error, Key, Node, Value};
+///
+/// fn set_all(batch: &mut Batch<'_>, keys: &[Key], value: &Value) -> Result<(), Error> {
+///     keys.iter().try_for_each(|key| batch.write_over(key, value))
+/// }
+///
+/// let mut node = Node::new(0, 1)?;
+/// let keys = ["colour", "size"].map(|name| Key::new("app", "flags", name));
+/// let (set, _frames) = node.batch(|batch| set_all(batch, &keys, &Value::text("on")))?;
+/// set?;
+/// assert_eq!(node.peek(&keys[1])?, [Value::text("on")]);
+/// # Ok::<(), Error>(())
+/// ```
 pub struct Batch<'a> {
     node: &'a mut Node,
     is_open: bool,

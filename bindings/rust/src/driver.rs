@@ -28,7 +28,7 @@ pub struct Pace {
 ///
 /// After each tick it begins one exchange, with one member after the other. While it has fewer neighbours than three and than
 /// there are members it also says hello to a member, unless it did, and joins through it, again one after the other. It tells the
-/// node once that a member is down, until a frame came from that.
+/// node once that a member is down, until a frame came from that or a join went through it.
 ///
 /// Times are milliseconds from any moment on, and never fall. The program calls [`Driver::on_time`] once the time has come that
 /// [`Driver::wake`] tells, [`Driver::on_frame`] when bytes come, and [`Driver::on_failure`] when a link fails; and after each

@@ -10,9 +10,23 @@ use std::process;
 use std::sync::atomic::{compiler_fence, AtomicU32, Ordering};
 
 /// The length of a key.
+///
+/// ```
+/// use zomtagi::{SealKeys, SEAL_KEY_LEN};
+///
+/// let keys = SealKeys::new([7; SEAL_KEY_LEN]); // (yours are random)
+/// # assert!(keys.seal(b"frame").is_ok());
+/// ```
 pub const SEAL_KEY_LEN: usize = 32;
 
 /// How many bytes a sealed frame has more than the frame.
+///
+/// ```
+/// use zomtagi::{SealKeys, SEAL_LEN};
+///
+/// assert_eq!(SealKeys::new([7; 32]).seal(b"frame")?.len(), 5 + SEAL_LEN);
+/// # Ok::<(), zomtagi::Error>(())
+/// ```
 pub const SEAL_LEN: usize = 16;
 
 /// The keys of a cluster: whoever has none of them gets no frame in, and a frame that changed on its way is a lost one.

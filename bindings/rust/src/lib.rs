@@ -56,4 +56,4 @@ pub use file::FileStore;
 pub use keys::{SealKeys, SEAL_KEY_LEN, SEAL_LEN};
 pub use node::{Node, Store};
 pub use refusal::Refusal;
-pub use types::{Changes, Context, Frame, FullPrefix, Key, Listed, Read, Taken, Value};
+pub use types::{Change, Changes, Context, Counter, Frame, FullPrefix, Key, Listed, Read, Taken, Value};

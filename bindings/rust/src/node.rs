@@ -3,7 +3,7 @@ use crate::error::Error;
 use crate::keys::SealKeys;
 use crate::raw::*;
 use crate::refusal::Refusal;
-use crate::types::{key_of, Changes, Context, Frame, FullPrefix, Key, Listed, Read, Taken, Value};
+use crate::types::{key_of, Change, Changes, Context, Counter, Frame, FullPrefix, Key, Listed, Read, Taken, Value};
 use std::cell::{RefCell, UnsafeCell};
 use std::collections::hash_map::RandomState;
 use std::fmt;
@@ -593,7 +593,7 @@ impl Node {
     /// # let (mut node, colour) = (Node::new(0, 1)?, Key::new("app", "flags", "colour"));
     /// let flags = node.watch(b"app", b"flags", 8)?;
     /// node.write_over(&colour, &Value::text("red"))?;
-    /// assert_eq!(node.changes(flags)?.keys, [colour]);
+    /// assert_eq!(node.changes(flags)?.noted[0].key, colour);
     /// assert_eq!(node.watch(b"app", b"flags", 0).unwrap_err().refusal(), Some(Refusal::BadWatch));
     /// # Ok::<(), zomtagi::Error>(())
     /// ```
@@ -612,16 +612,17 @@ impl Node {
     /// for text in ["red", "green", "blue"] {
     ///     node.write_over(&colour, &Value::text(text))?;
     /// }
-    /// assert_eq!(node.changes(flags)?, Changes { missed: 1, keys: vec![colour.clone(), colour] });
-    /// assert_eq!(node.changes(flags)?, Changes { missed: 0, keys: vec![] });
+    /// let changes = node.changes(flags)?;
+    /// assert_eq!((changes.missed, changes.noted.len()), (1, 2)); // the last two
+    /// assert_eq!(node.changes(flags)?, Changes { missed: 0, noted: vec![] });
     /// # Ok::<(), zomtagi::Error>(())
     /// ```
     pub fn changes(&mut self, number: u64) -> Result<Changes, Error> {
         let reply = self.step(|slot| unsafe { zomtagi_changes(slot, number) })?;
         let mut fields = Fields(&reply[1..]);
         let missed = fields.number();
-        let keys = (0..fields.number()).map(|_| fields.key()).collect();
-        Ok(Changes { missed, keys })
+        let noted = (0..fields.number()).map(|_| fields.change()).collect();
+        Ok(Changes { missed, noted })
     }
 
     /// The full prefixes that hold a key, in order.
@@ -993,5 +994,16 @@ impl Fields<'_> {
 
     fn key(&mut self) -> Key {
         Key { prefix: self.name(), sub: self.name(), name: self.name() }
+    }
+
+    fn change(&mut self) -> Change {
+        let key = self.key();
+        Change { key, vector: (0..self.number()).map(|_| self.counter()).collect() }
+    }
+
+    fn counter(&mut self) -> Counter {
+        let node = u16::from_be_bytes(self.take(2).try_into().expect("it has two bytes"));
+        let life = u32::from_be_bytes(self.take(4).try_into().expect("it has four bytes"));
+        Counter { node, life, count: self.number() }
     }
 }

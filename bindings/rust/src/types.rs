@@ -231,6 +231,48 @@ pub struct Listed {
     pub is_deleted: bool,
 }
 
+/// Of the known writes under a key, how many a node made in one of its lives.
+///
+/// ```
+/// use zomtagi::{Counter, Key, Node, Value};
+///
+/// let (mut node, colour) = (Node::new(3, 7)?, Key::new("app", "flags", "colour"));
+/// let flags = node.watch(b"app", b"flags", 8)?;
+/// node.write_over(&colour, &Value::text("red"))?;
+/// node.write_over(&colour, &Value::text("green"))?;
+/// assert_eq!(node.changes(flags)?.noted[1].vector, [Counter { node: 3, life: 7, count: 2 }]);
+/// # Ok::<(), zomtagi::Error>(())
+/// ```
+#[derive(Clone, Copy, Debug, PartialEq, Eq, PartialOrd, Ord, Hash)]
+pub struct Counter {
+    /// The number of the node.
+    pub node: u16,
+    /// The number of its life; 0 in what a file of version 1 brought.
+    pub life: u32,
+    /// How many of its writes, from 1.
+    pub count: u64,
+}
+
+/// A key that changed, by a write of this node or of another one, and which writes were known under it then.
+///
+/// ```
+/// use zomtagi::{Change, Counter, Key, Node, Value};
+///
+/// let (mut node, colour) = (Node::new(0, 1)?, Key::new("app", "flags", "colour"));
+/// let flags = node.watch(b"app", b"flags", 8)?;
+/// node.write_over(&colour, &Value::text("red"))?;
+/// let vector = vec![Counter { node: 0, life: 1, count: 1 }];
+/// assert_eq!(node.changes(flags)?.noted, [Change { key: colour, vector }]);
+/// # Ok::<(), zomtagi::Error>(())
+/// ```
+#[derive(Clone, Debug, PartialEq, Eq)]
+pub struct Change {
+    /// The key.
+    pub key: Key,
+    /// The version vector: a counter for each writer that is known, in the order of nodes and lives.
+    pub vector: Vec<Counter>,
+}
+
 /// The changes under a full prefix that a watch noted, oldest first, and how many it had missed. A key stands there once for each
 /// change, whoever wrote it, this node too.
 ///
@@ -241,16 +283,33 @@ pub struct Listed {
 /// let flags = node.watch(b"app", b"flags", 8)?;
 /// node.write_over(&colour, &Value::text("red"))?;
 /// node.write_over(&colour, &Value::tombstone())?;
-/// let Changes { missed, keys } = node.changes(flags)?;
-/// assert_eq!((missed, keys), (0, vec![colour.clone(), colour]));
+/// let Changes { missed, noted } = node.changes(flags)?;
+/// assert_eq!((missed, &noted[0].key, &noted[1].key), (0, &colour, &colour));
 /// # Ok::<(), zomtagi::Error>(())
 /// ```
-#[derive(Debug, PartialEq, Eq)]
+#[derive(Clone, Debug, PartialEq, Eq)]
 pub struct Changes {
     /// How many changes it had no room for.
     pub missed: u64,
-    /// The key of each other change.
-    pub keys: Vec<Key>,
+    /// The others.
+    pub noted: Vec<Change>,
+}
+
+impl Changes {
+    /// The key of each change that was noted.
+    ///
+    /// ```
+    /// use zomtagi::{Key, Node, Value};
+    ///
+    /// let (mut node, colour) = (Node::new(0, 1)?, Key::new("app", "flags", "colour"));
+    /// let flags = node.watch(b"app", b"flags", 8)?;
+    /// node.write_over(&colour, &Value::text("red"))?;
+    /// assert!(node.changes(flags)?.keys().eq([&colour]));
+    /// # Ok::<(), zomtagi::Error>(())
+    /// ```
+    pub fn keys(&self) -> impl Iterator<Item = &Key> {
+        self.noted.iter().map(|it| &it.key)
+    }
 }
 
 /// What came of a frame that was taken.

@@ -10,6 +10,7 @@ use std::path::PathBuf;
 use std::process::{Child, ChildStdin, Command, Stdio};
 use std::sync::atomic::{AtomicU16, Ordering};
 use std::sync::mpsc::{channel, Receiver};
+use std::sync::{Mutex, PoisonError};
 use std::thread;
 use std::time::{Duration, Instant};
 use zomtagi::{SealKeys, SEAL_LEN};
@@ -34,6 +35,9 @@ impl Process {
     }
 
     fn start_of(name: &str, nodes: u16) -> Process {
+        // (what another thread forks has a port of this one open until it has become another program)
+        static ONE_AT_A_TIME: Mutex<()> = Mutex::new(());
+        let _starting = ONE_AT_A_TIME.lock().unwrap_or_else(PoisonError::into_inner);
         let program = example("cluster");
         let (port, peer) = ports();
         let folder = Folder::new(name);

@@ -3,7 +3,7 @@
 use std::io;
 use std::panic::{catch_unwind, AssertUnwindSafe};
 use std::sync::{Arc, Mutex};
-use zomtagi::{Changes, Error, FileStore, Frame, Key, Listed, Node, Refusal, Store, Taken, Value};
+use zomtagi::{Change, Changes, Counter, Error, FileStore, Frame, Key, Listed, Node, Refusal, Store, Taken, Value};
 
 fn colour() -> Key {
     Key::new("app", "flags", "colour")
@@ -77,7 +77,8 @@ fn a_watch_hears_of_changes_and_a_list_has_the_keys() {
     let mut node = Node::new(0, 1).unwrap();
     let watch = node.watch(b"app", b"flags", 8).unwrap();
     node.write_over(&colour(), &Value::text("red")).unwrap();
-    assert_eq!(node.changes(watch).unwrap(), Changes { missed: 0, keys: vec![colour()] });
+    let vector = vec![Counter { node: 0, life: 1, count: 1 }];
+    assert_eq!(node.changes(watch).unwrap(), Changes { missed: 0, noted: vec![Change { key: colour(), vector }] });
     assert_eq!(node.list(b"app", b"flags").unwrap(), [listed(colour())]);
     assert_eq!(node.list(b"app", b"none").unwrap(), []);
 }
@@ -252,8 +253,9 @@ fn a_watch_counts_what_it_missed() {
     for key in &keys {
         node.write_over(key, &Value::text("x")).unwrap();
     }
-    assert_eq!(node.changes(watch).unwrap(), Changes { missed: 3, keys: keys[3..].to_vec() });
-    assert_eq!(node.changes(watch).unwrap(), Changes { missed: 0, keys: vec![] });
+    let changes = node.changes(watch).unwrap();
+    assert_eq!((changes.missed, changes.keys().cloned().collect::<Vec<_>>()), (3, keys[3..].to_vec()));
+    assert_eq!(node.changes(watch).unwrap(), Changes { missed: 0, noted: vec![] });
 }
 
 #[test]

@@ -1,11 +1,13 @@
 -- The bytes of a reply, and of what is told without a step, as a program is handed them. Numbers
 -- have their highest byte first. The rule is our own.
 use Rattle.std.specs.Prelude.{ℕ, Bool, List, [], ◌∷◌, ◌++◌, length, not, Option, Some, None, is_some, if◌then◌else◌}
-use Rattle.std.specs.Int.{w16, w64, to_be_bytes}
+use Rattle.std.specs.Int.{w16, w32, w64, to_be_bytes}
 use Rattle.std.specs.List.{flat_map, list_all}
+use Rattle.meta_types.specs.Actor.{incarnation_of_writer, node_of_writer}
 use Rattle.meta_types.specs.Name.{Key, Prefix}
 use Rattle.meta_types.specs.Value.{ValueParts}
 use Rattle.dvvset.specs.Clock.{values_of}
+use Rattle.dvvset.specs.Object.{Counter}
 use Rattle.frame_fields.specs.Field.{key, prefix}
 use Rattle.meta_store.specs.Table.{Table, keys_under, object_at, prefixes_of}
 use Rattle.subscriptions.specs.declared.change.Change.{Change}
@@ -29,11 +31,21 @@ value_bytes value = word value.stamp ++ body_bytes value.body
 abbrev pub values_bytes : List ValueParts → List ℕ
 values_bytes values = word (length values) ++ flat_map value_bytes values
 
--- the key of a change, as in a frame
-abbrev pub change_bytes : Change → List ℕ
-change_bytes change = key.spell change.key
+-- the node and the life of a writer, and how many of its writes are known
+abbrev pub counter_bytes : Counter → List ℕ
+counter_bytes c =
+    to_be_bytes w16 (node_of_writer c.id)
+    ++ (to_be_bytes w32 (incarnation_of_writer c.id) ++ word c.count)
 
--- how many changes there are, and the key of each
+-- how many writers a vector has, which in a frame take 2 bytes, and each
+abbrev pub vector_bytes : List Counter → List ℕ
+vector_bytes counters = word (length counters) ++ flat_map counter_bytes counters
+
+-- the key of a change, as in a frame, and its vector
+abbrev pub change_bytes : Change → List ℕ
+change_bytes change = key.spell change.key ++ vector_bytes change.vector
+
+-- how many changes there are, and each
 abbrev pub changes_bytes : List Change → List ℕ
 changes_bytes changes = word (length changes) ++ flat_map change_bytes changes
 

@@ -2,9 +2,10 @@
 
 ghost use Rattle.std.specs.Prelude.{◌≡◌, ◌++◌, IfOk, OnOk};
 ghost use Rattle.std.specs.List.{flat_map};
-ghost use Rattle.node_export.specs.Spelling.{change_bytes, changes_bytes, reply_bytes, value_bytes, values_bytes};
+ghost use Rattle.node_export.specs.Spelling.{change_bytes, changes_bytes, counter_bytes, reply_bytes, value_bytes, values_bytes, vector_bytes};
 
-use frame_fields::writing::{write_key, write_u8, write_u64};
+use dvvset::{Counter, Vector};
+use frame_fields::writing::{write_key, write_node, write_u8, write_u32, write_u64};
 use meta_types::Value;
 use node_events::Reply;
 use std::alloc::{AllocError, Global};
@@ -71,7 +72,7 @@ fn add_value(bytes: &mut Vec<u8>, value: &Value) -> Result<(), AllocError>
     }
 }
 
-/// Adds the number of changes, and the key of each.
+/// Adds the number of changes, and of each the key and the vector.
 fn add_changes(bytes: &mut Vec<u8>, changes: &[Change]) -> Result<(), AllocError>
     ensures { OnOk result (bytes.new.items ≡ bytes.old.items ++ changes_bytes changes.now) }
 {
@@ -83,7 +84,39 @@ fn add_each_change(bytes: &mut Vec<u8>, changes: &[Change]) -> Result<(), AllocE
     ensures { OnOk result (bytes.new.items ≡ bytes.old.items ++ flat_map change_bytes changes.now) }
 {
     for change in changes {
-        write_key(bytes, &change.key)?;
+        add_change(bytes, change)?;
     }
     Ok(())
+}
+
+fn add_change(bytes: &mut Vec<u8>, change: &Change) -> Result<(), AllocError>
+    ensures { OnOk result (bytes.new.items ≡ bytes.old.items ++ change_bytes change.now) }
+{
+    write_key(bytes, &change.key)?;
+    add_vector(bytes, &change.vector)
+}
+
+/// Adds the number of writers, and of each its node, its life, and how many of its writes are known.
+fn add_vector(bytes: &mut Vec<u8>, vector: &Vector) -> Result<(), AllocError>
+    ensures { OnOk result (bytes.new.items ≡ bytes.old.items ++ vector_bytes vector.now) }
+{
+    write_u64(bytes, vector.counters().len() as u64)?;
+    add_each_counter(bytes, vector.counters())
+}
+
+fn add_each_counter(bytes: &mut Vec<u8>, counters: &[Counter]) -> Result<(), AllocError>
+    ensures { OnOk result (bytes.new.items ≡ bytes.old.items ++ flat_map counter_bytes counters.now) }
+{
+    for counter in counters {
+        add_counter(bytes, *counter)?;
+    }
+    Ok(())
+}
+
+fn add_counter(bytes: &mut Vec<u8>, counter: Counter) -> Result<(), AllocError>
+    ensures { OnOk result (bytes.new.items ≡ bytes.old.items ++ counter_bytes counter) }
+{
+    write_node(bytes, counter.id().node())?;
+    write_u32(bytes, counter.id().incarnation())?;
+    write_u64(bytes, counter.count())
 }

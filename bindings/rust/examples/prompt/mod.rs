@@ -52,7 +52,7 @@ fn asked(driver: &mut Driver, now: u64, watch: &mut Option<u64>, line: &str) -> 
 /// Prints what a watch has noted.
 pub fn tell_changes(node: &mut Node, watch: Option<u64>) -> Result<(), Error> {
     let Some(watch) = watch else { return Ok(()) };
-    for key in node.changes(watch)?.keys {
+    for key in node.changes(watch)?.keys() {
         reply(&format!("changed {}", String::from_utf8_lossy(&key.name)));
     }
     Ok(())

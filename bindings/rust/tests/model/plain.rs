@@ -2,7 +2,7 @@
 
 use std::cmp::Reverse;
 use std::collections::{BTreeMap, BTreeSet, VecDeque};
-use zomtagi::{Changes, FullPrefix, Key, Listed, Taken, Value};
+use zomtagi::{Change, Changes, Counter, FullPrefix, Key, Listed, Taken, Value};
 
 /// Writes, by number.
 pub type Known = BTreeSet<usize>;
@@ -44,12 +44,18 @@ impl Writes {
         self.shown(known).into_iter().map(|it| it.value.clone()).collect()
     }
 
+    /// How many writes of each writer are known.
+    fn vector(&self, known: &Known) -> Vec<Counter> {
+        let mut counts = BTreeMap::new();
+        known.iter().for_each(|it| *counts.entry(self.0[*it].writer).or_insert(0) += 1);
+        counts.into_iter().map(|((node, life), count)| Counter { node, life, count }).collect()
+    }
+
     /// What is known, as an object in a frame: of each writer how many writes, and which values are shown.
     pub fn spelled(&self, known: &Known) -> Vec<u8> {
-        let mut counts = BTreeMap::new();
-        known.iter().for_each(|it| *counts.entry(self.0[*it].writer).or_insert(0_u64) += 1);
-        let mut bytes = (counts.len() as u16).to_be_bytes().to_vec();
-        for ((node, life), count) in counts {
+        let vector = self.vector(known);
+        let mut bytes = (vector.len() as u16).to_be_bytes().to_vec();
+        for Counter { node, life, count } in vector {
             let shown: Vec<&Write> = self.shown(known).into_iter().filter(|it| it.writer == (node, life)).collect();
             bytes.extend(node.to_be_bytes());
             bytes.extend(life.to_be_bytes());
@@ -75,15 +81,15 @@ struct Watch {
     under: FullPrefix,
     capacity: usize,
     missed: u64,
-    noted: VecDeque<Key>,
+    noted: VecDeque<(Key, Known)>,
 }
 
 impl Watch {
-    fn note(&mut self, key: &Key) {
+    fn note(&mut self, key: &Key, known: &Known) {
         if under(key) != self.under {
             return;
         }
-        self.noted.push_back(key.clone());
+        self.noted.push_back((key.clone(), known.clone()));
         if self.noted.len() > self.capacity {
             self.noted.pop_front();
             self.missed += 1;
@@ -136,8 +142,9 @@ impl Plain {
     }
 
     fn change(&mut self, key: &Key, more: &Known) {
-        self.table.entry(key.clone()).or_default().extend(more);
-        self.watches.iter_mut().for_each(|it| it.note(key));
+        let known = self.table.entry(key.clone()).or_default();
+        known.extend(more);
+        self.watches.iter_mut().for_each(|it| it.note(key, known));
     }
 
     /// What is known under the key goes into the file.
@@ -197,9 +204,9 @@ impl Plain {
     }
 
     /// What a watch hands out.
-    pub fn changes(&mut self, number: u64) -> Changes {
+    pub fn changes(&mut self, writes: &Writes, number: u64) -> Changes {
         let watch = self.watches.iter_mut().find(|it| it.number == number).expect("it was begun");
-        let keys = watch.noted.drain(..).collect();
-        Changes { missed: std::mem::take(&mut watch.missed), keys }
+        let noted = watch.noted.drain(..).map(|(key, known)| Change { key, vector: writes.vector(&known) }).collect();
+        Changes { missed: std::mem::take(&mut watch.missed), noted }
     }
 }

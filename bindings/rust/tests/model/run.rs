@@ -292,7 +292,7 @@ impl Run {
         for number in self.members[at].plain.watches() {
             self.tell(at, format!("tells the changes of watch {number}"));
             let member = &mut self.members[at];
-            assert_eq!(member.node.changes(number).unwrap(), member.plain.changes(number));
+            assert_eq!(member.node.changes(number).unwrap(), member.plain.changes(&self.writes, number));
         }
     }
 
