@@ -7,6 +7,8 @@
 // What is asserted doesn't depend on which thread comes first, unless a gate holds one of them.
 
 #[cfg(test)]
+mod contexts;
+#[cfg(test)]
 mod explained;
 #[cfg(test)]
 mod files;
