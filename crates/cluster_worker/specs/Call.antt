@@ -58,8 +58,8 @@ abbrev pub HasMade : Bool → ℕ → ℕ → Type 0
 HasMade false turns made = made ≡ turns
 HasMade true turns made = made ≤ turns
 
--- what a node is asked for in a run of so many turns: first its join, and then the call of each turn
--- that it makes
+-- what a node is asked for in a run of so many turns: first its join, and then one call of each
+-- turn that it makes
 pub record AreAsked (node turns : ℕ) (is_stopped : Bool) (asked : List NodeEvent) : Type 0 where
   pub first : List NodeEvent
   pub joins : IsFirst node first

@@ -26,7 +26,8 @@ pub record IsPut (old : List PutView) (frame : List ℕ) (new : List PutView) : 
   pub puts : new ≡ slice_set old node (with_put pass frame)
 
 -- the frame names an addressee, and its inbox was closed or full
-pub record FindsNoRoom (inboxes : List InboxView) (old : List PutView) (frame : List ℕ) : Type 0 where
+pub record FindsNoRoom (inboxes : List InboxView) (old : List PutView) (frame : List ℕ)
+    : Type 0 where
   pub node : ℕ
   pub named : addressee_of frame ≡ Some node
   pub inbox : InboxView

@@ -19,7 +19,7 @@ fn addressee(frame: &[u8]) -> Option<usize>
 }
 
 /// Puts a frame into the inbox of its addressee, and returns whether it is there. It isn't if that
-/// inbox is full, or if there is no such node.
+/// inbox is full or closed, or if the frame names no such node.
 fn send<R: Wait>(rt: &R, inboxes: &[Inbox], puts: &mut Vec<PutPass>, frame: ByteString) -> bool
     requires passes { ArePassesInto inboxes.now puts.old.items }
     ensures passes { ArePassesInto inboxes.now puts.new.items }

@@ -96,7 +96,8 @@ fn add_change(bytes: &mut Vec<u8>, change: &Change) -> Result<(), AllocError>
     add_vector(bytes, &change.vector)
 }
 
-/// Adds the number of writers, and of each its node, its life, and how many of its writes are known.
+/// Adds the number of writers, and of each its node, its life, and how many of its writes are
+/// known.
 fn add_vector(bytes: &mut Vec<u8>, vector: &Vector) -> Result<(), AllocError>
     ensures { OnOk result (bytes.new.items ≡ bytes.old.items ++ vector_bytes vector.now) }
 {
@@ -105,7 +106,8 @@ fn add_vector(bytes: &mut Vec<u8>, vector: &Vector) -> Result<(), AllocError>
 }
 
 fn add_each_counter(bytes: &mut Vec<u8>, counters: &[Counter]) -> Result<(), AllocError>
-    ensures { OnOk result (bytes.new.items ≡ bytes.old.items ++ flat_map counter_bytes counters.now) }
+    ensures { OnOk result
+        (bytes.new.items ≡ bytes.old.items ++ flat_map counter_bytes counters.now) }
 {
     for counter in counters {
         add_counter(bytes, *counter)?;

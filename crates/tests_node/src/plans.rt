@@ -1,4 +1,4 @@
-//! What a plan of two members says, tick after tick, of a node without neighbours. Nobody answers, so
+//! What a plan of two members says, tick after tick, of a node without neighbours. Nobody answers:
 //! each is given up, and again once a join through it was begun.
 
 use driver::{Pace, Plan, Task};
