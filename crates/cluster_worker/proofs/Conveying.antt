@@ -8,8 +8,8 @@ use Rattle.node_events.specs.declared.event.NodeEvent.{NodeEvent}
 use Rattle.node_events.specs.declared.event.NodeEvent.TheVariants.{Join}
 use Rattle.node_journal.specs.declared.receipt.Receipt.{Receipt}
 use Rattle.inbox.specs.Views.{InboxView, TakeView}
-use Rattle.cluster_worker.specs.Call.{AreAsked, AreOfTurns, HasMade, IsFirst, IsOfTurn}
-use Rattle.cluster_worker.specs.Frames.{AreSent, Conveys, TakesFor, TakesForAll, outboxes_of, up_to_most}
+use Rattle.cluster_worker.specs.Call.{AreAsked, AreOfTurns, HasMade, JoinsFirst, IsOfTurn}
+use Rattle.cluster_worker.specs.Frames.{ArePutOrLost, Conveys, TakesFor, TakesForAll, outboxes_of, up_to_most}
 use Rattle.cluster_worker.specs.Turns.{UnlessFailed, WorksOn, ending_of, with_takes}
 use Rattle.cluster_worker.specs.Worked.{HasConveyed}
 use Rattle.cluster_worker.specs.declared.passes.Passes.{Passes}
@@ -37,7 +37,7 @@ conveys_on inboxes asked then receipts more lost fewer before mid after was is =
       (sym (map-append (λ (r : Receipt). r.entry.event) receipts more))
       (Sub.append was.given is.given);
   takes = taken_on asked then before.takes mid.takes after.takes was.takes is.takes;
-  puts = subst (λ (l : List (List ℕ)). AreSent inboxes before.puts.items l (lost + fewer) after.puts.items)
+  puts = subst (λ (l : List (List ℕ)). ArePutOrLost inboxes before.puts.items l (lost + fewer) after.puts.items)
       (sym (flat_map-append (λ (r : Receipt). r.entry.outbox) receipts more))
       (sent_on inboxes before.puts.items (outboxes_of receipts) lost mid.puts.items (outboxes_of more) fewer after.puts.items (lost + fewer) was.puts is.puts refl);
 }
@@ -81,7 +81,7 @@ pub accepts : (inboxes : List InboxView) (event : NodeEvent) (takes : TakeView)
     (old new : Worker) (kept : List Receipt) (r : Receipt) (lost : ℕ) → TakesFor event takes old.passes.takes
     → new.passes.takes ≡ old.passes.takes → kept ≡ old.receipts.items
     → new.receipts.items ≡ kept ++ r ∷ [] → r.entry.event ≡ event
-    → AreSent inboxes old.passes.puts.items r.entry.outbox lost new.passes.puts.items
+    → ArePutOrLost inboxes old.passes.puts.items r.entry.outbox lost new.passes.puts.items
     → new.lost ≡ up_to_most (old.lost + lost)
     → WorksOn inboxes (event ∷ []) (with_takes takes old) new
 accepts inboxes event takes old new kept r lost for same was all is sent told = record {
@@ -92,7 +92,7 @@ accepts inboxes event takes old new kept r lost for same was all is sent told = 
   conveys = record {
     given = subst (λ (e : NodeEvent). Sublist (e ∷ []) (event ∷ [])) (sym is) (Sub.refl (event ∷ []));
     takes = (old.passes.takes, for, same);
-    puts = subst (λ (l : List (List ℕ)). AreSent inboxes old.passes.puts.items l lost new.passes.puts.items)
+    puts = subst (λ (l : List (List ℕ)). ArePutOrLost inboxes old.passes.puts.items l lost new.passes.puts.items)
         (sym (append-nil r.entry.outbox)) sent;
   };
 }
@@ -140,23 +140,23 @@ unless_err {A} result ending given P Q is same more fact =
 -- a worker of this node has asked for its first call, and for one in each turn before this one
 pub record HasAsked (inboxes : List InboxView) (node turn : ℕ) (old new : Worker) : Type 0 where
   pub first : List NodeEvent
-  pub joins : IsFirst node first
+  pub joins : JoinsFirst node first
   pub later : List NodeEvent
   pub of_turns : AreOfTurns 1 later
   pub number : length later + 1 ≡ turn
   pub works : WorksOn inboxes (first ++ later) old new
 
-pub first_none : (node : ℕ) → node ≡ 0 → IsFirst node []
+pub first_none : (node : ℕ) → node ≡ 0 → JoinsFirst node []
 first_none zero is = refl
 first_none (suc n) is = absurd (cc (is))
 
-pub first_some : (node contact word : ℕ) → (node ≡ 0 → ⊥) → contact ≡ 0 → IsFirst node (Join contact word ∷ [])
+pub first_some : (node contact word : ℕ) → (node ≡ 0 → ⊥) → contact ≡ 0 → JoinsFirst node (Join contact word ∷ [])
 first_some zero contact word some is = absurd (some refl)
 first_some (suc n) contact word some is = (word, ap (λ c. Join c word ∷ []) is)
 
 -- before the first turn
 pub first_asked : (inboxes : List InboxView) (node : ℕ) (old new : Worker)
-    → (asked : List NodeEvent) × IsFirst node asked × WorksOn inboxes asked old new
+    → (asked : List NodeEvent) × JoinsFirst node asked × WorksOn inboxes asked old new
     → HasAsked inboxes node 1 old new
 first_asked inboxes node old new is = record {
   first = is.0;

@@ -8,7 +8,7 @@ use Rattle.inbox.specs.Views.{InboxView, PutView, with_put}
 use Rattle.inbox.specs.declared.fault.InboxFault.{InboxFault}
 use Rattle.inbox.specs.declared.fault.InboxFault.TheVariants.{Closed, Full}
 use Rattle.inbox.specs.declared.fault.NotPut.{NotPut}
-use Rattle.cluster_worker.specs.Frames.{AreSent, FindsNoRoom, HasNoAddressee, IsLost, IsPut, addressee_of}
+use Rattle.cluster_worker.specs.Frames.{ArePutOrLost, FindsNoRoom, HasNoAddressee, IsLost, IsPut, addressee_of}
 use Rattle.cluster_worker.specs.Passes.{ArePassesInto}
 
 -- where the inbox took the frame, it is put by the pass to its addressee
@@ -81,12 +81,12 @@ no_pass puts i frame named past = λ node other. let same : node ≡ i = cc (oth
 -- frames that are sent after others
 pub sent_on : (inboxes : List InboxView) (old : List PutView) (frames : List (List ℕ)) (lost : ℕ)
     (mid : List PutView) (later : List (List ℕ)) (more : ℕ) (new : List PutView) (all : ℕ)
-    → AreSent inboxes old frames lost mid → AreSent inboxes mid later more new → all ≡ lost + more
-    → AreSent inboxes old (frames ++ later) all new
+    → ArePutOrLost inboxes old frames lost mid → ArePutOrLost inboxes mid later more new → all ≡ lost + more
+    → ArePutOrLost inboxes old (frames ++ later) all new
 sent_on inboxes old [] lost mid later more new all sent then sum =
     let same : all ≡ more = omega (arith, sum, sent.0) in
-    subst (λ (n : ℕ). AreSent inboxes old later n new) (sym same)
-    (subst (λ (l : List PutView). AreSent inboxes l later more new) sent.1 then)
+    subst (λ (n : ℕ). ArePutOrLost inboxes old later n new) (sym same)
+    (subst (λ (l : List PutView). ArePutOrLost inboxes l later more new) sent.1 then)
 sent_on inboxes old (frame ∷ frames) lost mid later more new all (inl sent) then sum =
     inl (sent.0, sent.1, sent_on inboxes sent.0 frames lost mid later more new all sent.2 then sum)
 sent_on inboxes old (frame ∷ frames) lost mid later more new all (inr sent) then sum =
@@ -94,29 +94,29 @@ sent_on inboxes old (frame ∷ frames) lost mid later more new all (inr sent) th
 
 -- one that is put
 pub one_put : (inboxes : List InboxView) (old : List PutView) (frame : List ℕ) (new : List PutView)
-    → IsPut old frame new → AreSent inboxes old (frame ∷ []) 0 new
+    → IsPut old frame new → ArePutOrLost inboxes old (frame ∷ []) 0 new
 one_put inboxes old frame new is = inl (new, is, (refl, refl))
 
 -- one that is lost
 pub one_lost : (inboxes : List InboxView) (old : List PutView) (frame : List ℕ)
     (new : List PutView) → (new ≡ old) × IsLost inboxes old frame
-    → AreSent inboxes old (frame ∷ []) 1 new
+    → ArePutOrLost inboxes old (frame ∷ []) 1 new
 one_lost inboxes old frame new is = inr (0, refl, is.1, (refl, is.0))
 
 -- the next of the frames, by a copy of it
 pub next_sent : (inboxes : List InboxView) (old : List PutView) (frames : List (List ℕ))
     (i lost : ℕ) (mid : List PutView) (frame copy : List ℕ) (more : ℕ) (new : List PutView)
     (all : ℕ) → i < length frames → frame ≡ get_or frames i frame → copy ≡ frame
-    → AreSent inboxes old (take i frames) lost mid → AreSent inboxes mid (copy ∷ []) more new
-    → all ≡ lost + more → AreSent inboxes old (take (i + 1) frames) all new
+    → ArePutOrLost inboxes old (take i frames) lost mid → ArePutOrLost inboxes mid (copy ∷ []) more new
+    → all ≡ lost + more → ArePutOrLost inboxes old (take (i + 1) frames) all new
 next_sent inboxes old frames i lost mid frame copy more new all within there same sent then sum =
-    subst (λ (l : List (List ℕ)). AreSent inboxes old l all new)
+    subst (λ (l : List (List ℕ)). ArePutOrLost inboxes old l all new)
     (ap (λ (f : List ℕ). take i frames ++ f ∷ []) (same ∙ there) ∙ sym (take_more frames i frame within))
     (sent_on inboxes old (take i frames) lost mid (copy ∷ []) more new all sent then sum)
 
 -- no more are lost than were sent
 pub few_lost : (inboxes : List InboxView) (old : List PutView) (frames : List (List ℕ)) (lost : ℕ)
-    (new : List PutView) → AreSent inboxes old frames lost new → lost ≤ length frames
+    (new : List PutView) → ArePutOrLost inboxes old frames lost new → lost ≤ length frames
 few_lost inboxes old [] lost new sent = omega (arith, sent.0)
 few_lost inboxes old (frame ∷ frames) lost new (inl sent) =
     omega (arith, few_lost inboxes sent.0 frames lost new sent.2)

@@ -44,9 +44,9 @@ IsAsked (events.Join contact word) = contact ≡ 0
 IsAsked event = (turn : ℕ) × IsOfTurn turn event
 
 -- what is asked for before the turns: that the node joins through node 0, if it isn't node 0 itself
-abbrev pub IsFirst : ℕ → List NodeEvent → Type 0
-IsFirst zero asked = asked ≡ []
-IsFirst (suc n) asked = (word : ℕ) × (asked ≡ events.Join 0 word ∷ [])
+abbrev pub JoinsFirst : ℕ → List NodeEvent → Type 0
+JoinsFirst zero asked = asked ≡ []
+JoinsFirst (suc n) asked = (word : ℕ) × (asked ≡ events.Join 0 word ∷ [])
 
 -- one call of each turn, from this turn on
 abbrev pub AreOfTurns : ℕ → List NodeEvent → Type 0
@@ -62,7 +62,7 @@ HasMade true turns made = made ≤ turns
 -- turn that it makes
 pub record AreAsked (node turns : ℕ) (is_stopped : Bool) (asked : List NodeEvent) : Type 0 where
   pub first : List NodeEvent
-  pub joins : IsFirst node first
+  pub joins : JoinsFirst node first
   pub later : List NodeEvent
   pub of_turns : AreOfTurns 1 later
   pub made : HasMade is_stopped turns (length later)

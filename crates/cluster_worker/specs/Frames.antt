@@ -46,12 +46,13 @@ IsLost inboxes old frame = HasNoAddressee old frame ⊎ FindsNoRoom inboxes old 
 
 -- each of these frames in turn is put by the pass to its addressee, or is one of so many that are
 -- lost
-abbrev pub AreSent : List InboxView → List PutView → List (List ℕ) → ℕ → List PutView → Type 0
-AreSent inboxes old [] lost new = (lost ≡ 0) × (new ≡ old)
-AreSent inboxes old (frame ∷ later) lost new =
-    ((between : List PutView) × IsPut old frame between × AreSent inboxes between later lost new)
+abbrev pub ArePutOrLost : List InboxView → List PutView → List (List ℕ) → ℕ → List PutView → Type 0
+ArePutOrLost inboxes old [] lost new = (lost ≡ 0) × (new ≡ old)
+ArePutOrLost inboxes old (frame ∷ later) lost new =
+    ((between : List PutView) × IsPut old frame between
+    × ArePutOrLost inboxes between later lost new)
     ⊎ ((fewer : ℕ) × (lost ≡ fewer + 1) × IsLost inboxes old frame
-    × AreSent inboxes old later fewer new)
+    × ArePutOrLost inboxes old later fewer new)
 
 -- ---- those that are taken
 
@@ -82,7 +83,7 @@ pub record Conveys (inboxes : List InboxView) (asked : List NodeEvent) (receipts
     (lost : ℕ) (before after : Passes) : Type 0 where
   pub given : Sublist (map (λ r. r.entry.event) receipts) asked
   pub takes : TakesForAll asked before.takes after.takes
-  pub puts : AreSent inboxes before.puts.items (outboxes_of receipts) lost after.puts.items
+  pub puts : ArePutOrLost inboxes before.puts.items (outboxes_of receipts) lost after.puts.items
 
 -- a count that stays at its greatest value
 abbrev pub up_to_most : ℕ → ℕ

@@ -2,7 +2,7 @@
 
 ghost use Rattle.std.specs.Prelude.{◌≡◌, IfOk, IsFalse, IsTrue};
 ghost use Rattle.cluster_worker.specs.Passes.{ArePassesInto};
-ghost use Rattle.cluster_worker.specs.Frames.{AreSent, IsLost, IsPut, addressee_of};
+ghost use Rattle.cluster_worker.specs.Frames.{ArePutOrLost, IsLost, IsPut, addressee_of};
 
 use inbox::{Inbox, PutPass};
 use meta_types::ByteString;
@@ -43,7 +43,7 @@ pub(crate) fn send_all<R: Wait>(
     requires passes { ArePassesInto inboxes.now puts.old.items }
     ensures passes { ArePassesInto inboxes.now puts.new.items }
     ensures sent { IfOk result
-        (λ lost. AreSent inboxes.now puts.old.items frames.now lost puts.new.items) }
+        (λ lost. ArePutOrLost inboxes.now puts.old.items frames.now lost puts.new.items) }
 {
     let mut lost = 0u64;
     for frame in frames {

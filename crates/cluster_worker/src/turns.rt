@@ -3,7 +3,7 @@
 ghost use Rattle.std.specs.Prelude.{◌≡◌, ◌≤◌, List, [], ◌∷◌, IfErr, IfOk, is_err};
 ghost use Rattle.node_events.specs.declared.event.NodeEvent.{NodeEvent as Event};
 ghost use Rattle.inbox.specs.Views.{TakeView};
-ghost use Rattle.cluster_worker.specs.Call.{AreAsked, IsAfterRefusal, IsAsked, IsFirst, IsOfTurn, event_of};
+ghost use Rattle.cluster_worker.specs.Call.{AreAsked, IsAfterRefusal, IsAsked, JoinsFirst, IsOfTurn, event_of};
 ghost use Rattle.node_call.specs.declared.fault.LockFault.TheVariants.{Memory};
 ghost use Rattle.cluster_worker.specs.Frames.{TakesFor};
 ghost use Rattle.cluster_worker.specs.Passes.{ArePassesOf};
@@ -201,7 +201,7 @@ fn join_first<D: Device + Drop, J: Naming, H: Wait + Drop, R: Wait, G>(
         (life_of J.node J.incarnation J.opening) seat.old worker.old }
     ensures worker { IsWorkerOf shared.now.inboxes.now
         (life_of J.node J.incarnation J.opening) seat.new worker.new }
-    ensures works { UnlessFailed result ((asked : List Event) × IsFirst worker.old.node asked
+    ensures works { UnlessFailed result ((asked : List Event) × JoinsFirst worker.old.node asked
         × WorksOn shared.now.inboxes.now asked worker.old worker.new) }
     ensures ending { IfErr result EndsTurns }
 {

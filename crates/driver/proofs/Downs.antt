@@ -5,7 +5,7 @@ use Rattle.peer_lists.specs.Lists.{has}
 use Rattle.driver.specs.declared.task.Task.TheVariants.{Tick, Hello, Join, BeginExchange, PeerDown}
 use Rattle.driver.specs.declared.member.MemberChange.TheVariants.{Greeted, GivenUp, Heard, Tried}
 use Rattle.driver.specs.Plan.{PlanParts, after, has_member, has_member_that, heard_from, is_given_up}
-use Rattle.driver.specs.Duty.{MemberAdded, TaskDone, DownsComeOnce, JoinsTryAgain, LinkFailed, PlanChange, FrameCame, KeepMembers, Leads, MemberRemoved, contacts_in, downs_in, heard_in}
+use Rattle.driver.specs.Duty.{MemberAdded, TaskDone, DownsComeOnce, JoinedCountsAsUp, LinkFailed, PlanChange, FrameCame, KeepMembers, Leads, MemberRemoved, contacts_in, downs_in, heard_in}
 use Rattle.driver.proofs.Members.{changed_elsewhere, changed_fails, changed_found, changed_none, changed_passes, changed_same, tried_up}
 use Rattle.driver.proofs.Tasks.{down_due}
 
@@ -94,6 +94,6 @@ downs_come_once old new (FrameCame now k) rest n leads keep is_member same none 
 downs_come_once old new (MemberAdded now k) rest n leads keep is_member same none apart = absurd same
 downs_come_once old new (MemberRemoved k) rest n leads keep is_member same none apart = absurd same
 
-pub joins_try_again : JoinsTryAgain
-joins_try_again old new now near n (is, same) =
+pub joined_counts_as_up : JoinedCountsAsUp
+joined_counts_as_up old new now near n (is, same) =
     ap (λ (p : PlanParts). is_given_up n p.members) same ∙ changed_none (λ m. m.is_down) n (Tried now) old.members (tried_up now)

@@ -203,6 +203,6 @@ DownsComeOnce = (old new : PlanParts) (first : PlanChange) (rest : List PlanChan
 
 -- A member through which a join is begun isn't given up any more: if it fails, the node is told
 -- again.
-abbrev pub JoinsTryAgain : Type 0
-JoinsTryAgain = (old new : PlanParts) (now neighbours n : ℕ)
+abbrev pub JoinedCountsAsUp : Type 0
+JoinedCountsAsUp = (old new : PlanParts) (now neighbours n : ℕ)
     → Leads old (TaskDone now neighbours (Join n) ∷ []) new → is_given_up n new.members ≡ false

@@ -5,7 +5,7 @@ ghost use Rattle.std.specs.Prelude.{List, ℕ, IfSome};
 ghost use Rattle.dvvset.specs.Object.{IsVector};
 ghost use Rattle.node_core.specs.Growing.{context_of_write};
 ghost use Rattle.driver.specs.Driving.{CallIsLed, ChangesLeadOn, IsOfOneLife, NothingIsPastDue, OnlyMemoryRefuses, OfAsking, OfFailure, OfFrame, OfTime};
-ghost use Rattle.driver.specs.Duty.{DownsComeOnce, EachHasItsTurn, ExchangesGoRound, HellosComeFirst, HellosComeOnce, JoinsComeFirst, JoinsGoRound, JoinsTryAgain, TasksEnd};
+ghost use Rattle.driver.specs.Duty.{DownsComeOnce, EachHasItsTurn, ExchangesGoRound, HellosComeFirst, HellosComeOnce, JoinsComeFirst, JoinsGoRound, JoinedCountsAsUp, TasksEnd};
 
 use node_core::laws::each_step_counts;
 use node_events::NodeEvent;
@@ -38,7 +38,7 @@ pub fn hellos_come_first()
 /// through it was begun: then the member is as any other.
 pub fn downs_come_once()
     ensures once { DownsComeOnce }
-    ensures again { JoinsTryAgain }
+    ensures again { JoinedCountsAsUp }
 {}
 
 /// At one time there are few tasks, and one tick at most: a program that is late ticks once.

@@ -1,7 +1,7 @@
 use Rattle.std.proofs.Common.{◌≡◌, ◌≤◌, ◌∙◌, length, refl, ap, subst, arith}
 use Rattle.node_journal.specs.declared.receipt.Receipt.{Receipt}
 use Rattle.cluster_worker.specs.Call.{event_of}
-use Rattle.cluster_worker.specs.Frames.{AreSent}
+use Rattle.cluster_worker.specs.Frames.{ArePutOrLost}
 use Rattle.cluster_worker.specs.Serving.{life_of}
 use Rattle.cluster_worker.proofs.Conveying.{accepts, refuses_one, unless}
 use Rattle.cluster_worker.proofs.Sent.{few_lost}
@@ -25,7 +25,7 @@ returns-in_ok-lost-in-Ok-clause-works g c =
     let r = c.into_receipt-receipt.result in
     let is : r.entry.event ≡ event_of c.args.call.now =
     ap (λ (x : Receipt). x.entry.event) c.into_receipt-receipt.ensures ∙ c.in-Ok.ensures.answers.receipt.is_event in
-    let sent = subst (λ l. AreSent c.args.shared.now.inboxes.now c.args.worker.now.passes.puts.items l c.in_ok-lost-in-Ok.field-0 c.send_all-lost.new.puts.items)
+    let sent = subst (λ l. ArePutOrLost c.args.shared.now.inboxes.now c.args.worker.now.passes.puts.items l c.in_ok-lost-in-Ok.field-0 c.send_all-lost.new.puts.items)
     c.as_slice-frames.ensures c.in_ok-lost-in-Ok.ensures.sent in
     λ takes for. accepts c.args.shared.now.inboxes.now (event_of c.args.call.now) takes c.args.worker.now _ c.reserve.new.self.items r c.in_ok-lost-in-Ok.field-0 for refl c.reserve.ensures.items c.push_reserved.ensures.items is sent c.saturating_add-worker.ensures
 
