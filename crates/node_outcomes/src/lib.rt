@@ -1,0 +1,4 @@
+//! Each event of a node has an outcome. The laws are in `laws`.
+#![tactic(auto)]
+
+pub mod laws;
