@@ -32,3 +32,11 @@ pub mod Differing
 pub mod Naming
 -- where a replay begins and ends
 pub mod Ending
+-- journals that a run has gone through up to a moment
+pub mod Upto
+-- each accepted event of a run is an entry
+pub mod Entries
+-- who supplies what an accepted event needs
+pub mod Supply
+-- journals that came of a run have no cause for a refusal
+pub mod Causeless

@@ -6,7 +6,7 @@ pub mod Giving
 pub mod Order
 -- why there is none
 pub mod Refusal
--- what a world holds, and the refusals in their order
+-- what a world holds, the refusals in their order, and whose journals have no cause
 pub mod Record
 -- the numbers and names of refusals
 pub mod Fault

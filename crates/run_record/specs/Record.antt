@@ -1,10 +1,11 @@
 -- A world that holds what many journals tell, or why there is none.
-use Rattle.std.specs.Prelude.{ℕ, ◌≡◌, ◌<◌, List, [], length, map, slice_get, All, Some, Result, Ok}
+use Rattle.std.specs.Prelude.{ℕ, ◌≡◌, ◌<◌, List, [], length, map, slice_get, All, Option, Some, None, Result, Ok}
 use Rattle.meta_store.specs.Table.{object_at}
 use Rattle.meta_types.specs.Name.{Key}
 use Rattle.node_core.specs.Node.{NodeParts, opening}
 use Rattle.node_core.specs.Run.{IsRun}
 use Rattle.node_core.specs.declared.state.Stepped.{Stepped}
+use Rattle.node_events.specs.declared.event.NodeEvent.TheVariants.{PutOver}
 use Rattle.node_journal.specs.declared.entry.Entry.{Entry}
 use Rattle.node_journal.specs.declared.receipt.Receipt.{Receipt}
 use Rattle.node_journal.specs.Closed.{AreWhole, ClosedNode, EndsWithTable}
@@ -14,6 +15,7 @@ use Rattle.run_record.specs.Refusal.{IsStuck, IsUnsent, NoneIsStuck, NoneIsUnsen
 use Rattle.world_core.specs.declared.answer.Accepted.{Accepted}
 use Rattle.world_core.specs.declared.answer.Answer.{Answer}
 use Rattle.world_core.specs.declared.event.Event.{Event}
+use Rattle.world_core.specs.declared.event.Event.TheVariants as events
 use Rattle.world_core.specs.declared.fault.WorldFault.{WorldFault}
 use Rattle.world_core.specs.Events.{Doing, Step}
 use Rattle.world_core.specs.Knowledge.{OfAllTold, ShowsKnown}
@@ -95,3 +97,50 @@ Refuses closed receipts (Unequal n) =
 Refuses closed receipts StrangeReceipt = NoneIsUnsent closed × (NoneIsStuck closed
     × (AllRanAsTold closed × IsStrange closed receipts))
 Refuses closed receipts Memory = Unit {0}
+
+-- ---- journals that came of a run have no cause
+
+-- a run of accepted events made this world, and the journals and tables are its nodes'
+pub record AreOfARun (closed : List ClosedNode) : Type 0 where
+  pub world : World
+  pub run : IsOfARun (length closed) world
+  pub journals : HoldsJournals closed world
+  pub tables : HoldsTables closed world
+
+-- a node writes over all that is shown
+abbrev pub IsPutOver : Event → Type 0
+IsPutOver (events.Step n (PutOver key value)) = Unit {0}
+IsPutOver event = ⊥
+
+-- the number of the read that a write names
+abbrev pub read_named : Event → Option ℕ
+read_named (events.Put n key value read) = Some read
+read_named event = None
+
+-- a `PutOver` made the read of this number, so no reply hands its context out
+pub record IsReadOfPutOver (w : World) (read : ℕ) : Type 0 where
+  pub at : ℕ
+  pub by : Accepted
+  pub there : slice_get w.accepted at ≡ Some by
+  pub put_over : IsPutOver by.event
+  pub number : by.answer.read ≡ Some read
+
+-- no write names the read of a `PutOver`
+abbrev pub NamesNoPutOver : World → Type 0
+NamesNoPutOver w =
+    All (λ a. (read : ℕ) → read_named a.event ≡ Some read → IsReadOfPutOver w read → ⊥) w.accepted
+
+-- 60, 61 and 62 have no cause; and if each receipt is of its entry, only want of memory refuses
+-- them
+pub record HaveNoCause (closed : List ClosedNode) : Type 0 where
+  pub sent : NoneIsUnsent closed
+  pub unstuck : NoneIsStuck closed
+  pub ran : AllRanAsTold closed
+  pub memory_alone : (receipts : List Receipt) (fault : RecordFault)
+      → All (IsKept closed) receipts → Refuses closed receipts fault → fault ≡ Memory
+
+-- the journals of a run of a world, in which no write names the read of a `PutOver`, are refused
+-- for want of memory alone
+abbrev pub ARunHasNoCause : Type 0
+ARunHasNoCause = (closed : List ClosedNode) → AreWhole closed → (told : AreOfARun closed)
+    → NamesNoPutOver told.world → HaveNoCause closed

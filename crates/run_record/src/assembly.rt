@@ -36,8 +36,11 @@ fn replayed(alloc: Global, closed: &[Closed], order: &[Turn]) -> Result<World, R
 /// history of all.
 ///
 /// Refused in this order: 60 `Unsent`, 61 `Stuck`, 62 `Unequal`, 63 `StrangeReceipt`, as
-/// `RecordFault` says of each. 99 `Memory` may come at any time. Journals that real nodes left, and
-/// receipts of their calls, are refused only when memory runs out; no contract can say so.
+/// `RecordFault` says of each. 99 `Memory` may come at any time. Journals that came of a run of a
+/// world, with receipts of their entries, are refused only when memory runs out
+/// (`laws::a_run_has_no_cause`). The one exception is 60 for a write that has read what a `PutOver`
+/// was shown, whose reply hands no context out: nodes that are driven through the replay of a world
+/// can name that read. That what threads did is a run of a world no contract can say.
 ///
 /// It takes memory for the world, which holds a copy of each event and frame, for a number, a turn
 /// and a mark of each entry, and time for each entry once, as long as the journals are those of

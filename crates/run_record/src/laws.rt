@@ -1,6 +1,6 @@
 //! Laws of refusals. The contract of each function is the law; its body does nothing.
 
-ghost use Rattle.run_record.specs.Record.{WhatIsClosedIsEqual};
+ghost use Rattle.run_record.specs.Record.{ARunHasNoCause, WhatIsClosedIsEqual};
 ghost use Rattle.run_record.specs.Refusal.{AStuckRunHasNoOrder};
 
 /// If some entries wait for one another, no order has each after one that gives what it needs.
@@ -12,4 +12,10 @@ pub fn a_stuck_run_has_no_order()
 /// leaves them, are never refused with 62.
 pub fn what_is_closed_is_equal()
     ensures { WhatIsClosedIsEqual }
+{}
+
+/// The journals of a run of a world are refused only when memory runs out, as long as no write
+/// names the read of a `PutOver`, which no reply hands out. If a receipt is of no entry, it is 63.
+pub fn a_run_has_no_cause()
+    ensures { ARunHasNoCause }
 {}
