@@ -1,12 +1,14 @@
 -- What is stored in the file, and what a crash leaves if nothing is.
-use Rattle.std.proofs.Common.{◌≡◌, ◌≢◌, ◌⊎◌, ⊎_elim, ℕ, Bool, true, false, not, ◌&&◌, List, [], ◌∷◌, Option, Some, None, refl, sym, ap, subst, ◌∙◌}
+use Rattle.std.proofs.Common.{◌≡◌, ◌≢◌, ◌⊎◌, ⊎_elim, ℕ, Bool, true, false, not, ◌&&◌, List, [], ◌∷◌, length, Option, Some, None, Result, Ok, Err, OnOk, refl, sym, ap, subst, ◌∙◌}
+use Rattle.std.proofs.lemmas.Bool.{le-leb}
 use Rattle.std.specs.Option.{unwrap_or}
 use Rattle.std.specs.FinMap.{find}
 use Rattle.meta_types.specs.First.{first_that_applies}
 use Rattle.meta_types.specs.Name.{Key}
 use Rattle.meta_types.specs.Order.{key_cmp}
 use Rattle.dvvset.specs.Object.{Entry}
-use Rattle.meta_store.specs.Table.{Table, is_small_enough, most_merged}
+use Rattle.meta_store.specs.Table.{Table, is_small_enough, most_entries, most_merged}
+use Rattle.meta_store.proofs.Sizes.{small_parts}
 use Rattle.meta_store.specs.declared.fault.StoreFault.TheVariants.{ObjectTooLarge}
 use Rattle.devices.specs.Device.{IsDurable, LeavesOnly}
 use Rattle.devices.proofs.Moments.{started}
@@ -23,7 +25,7 @@ use Rattle.node_file.specs.File.{FileState, OpensLike, opened}
 use Rattle.node_file.specs.Refusal.{has_spelling, is_too_long_with, refusal_of_append}
 use Rattle.node_file.specs.View.{FileView}
 use Rattle.node_file.specs.Stored.{object_record, record_under, with_stored}
-use Rattle.node_call.specs.Stored.{RefusesStoring, record_after}
+use Rattle.node_call.specs.Stored.{HasRecordRoom, RefusesStoring, record_after}
 
 kept_under : (key : Key) (held : Table) (found : Option (List Entry)) → find key_cmp key held ≡ found
     → (file : FileState) → KeepsKeys file.contents.table held
@@ -79,6 +81,35 @@ full_alone gate key object fault small refused =
       | false ↦ λ short is. absurd (cc)
     ] refl left
 
+spelled : (object : List Entry) → is_small_enough most_merged object ≡ true → has_spelling object ≡ true
+spelled object small =
+    let parts = small_parts most_merged object small in
+    λ i. le-leb (length object) most_entries parts.few i && parts.values i
+
+-- of an object that a store may hold, if the file would be too long with it
+full_of : (gate : ℕ) (key : Key) (object : List Entry) → is_small_enough most_merged object ≡ true
+    → is_too_long_with gate (Object key object) ≡ true
+    → refusal_of_append false gate key object ≡ Some FileFull
+full_of gate key object small long =
+    let fits = spelled object small in
+    λ i. first_that_applies ((fits i && long i, FileFull) ∷ (not (is_small_enough most_merged object), Store ObjectTooLarge) ∷ [])
+
+-- what is refused for another cause, or isn't refused, has room
+pub has_record_room : {A : Type 0} (r : Result A FileFault) (gate : ℕ) (key : Key) (object : List Entry)
+    → is_small_enough most_merged object ≡ true
+    → ((other : FileFault) → refusal_of_append false gate key object ≡ Some other → r ≡ Err other)
+    → (r ≡ Err FileFull → ⊥) → HasRecordRoom gate (Some (Object key object))
+has_record_room r gate key object small only otherwise long =
+    otherwise (only FileFull (full_of gate key object small long))
+
+pub stored_has_room : (r : Result (Unit {0}) FileFault) (gate : ℕ) (key : Key) (object : List Entry)
+    → is_small_enough most_merged object ≡ true
+    → ((other : FileFault) → refusal_of_append false gate key object ≡ Some other → r ≡ Err other)
+    → OnOk r (HasRecordRoom gate (Some (Object key object)))
+stored_has_room (Ok done) gate key object small only =
+    has_record_room (Ok done) gate key object small only (λ clash. absurd (cc (clash)))
+stored_has_room (Err fault) gate key object small only = tt
+
 something : (stored : Record) → Some stored ≢ None
 something stored none = absurd (cc)
 
@@ -86,14 +117,16 @@ pub refuses : {D : Type 0} (gate : ℕ) (key : Key) (object : List Entry) (befor
     (new : FileView D) (fault : FileFault) → is_small_enough most_merged object ≡ true
     → IsOfDevice fault before now ⊎ (refusal_of_append false gate key object ≡ Some fault)
     → (fault ≡ Device → new.is_stopped ≡ true)
-    → ((other : FileFault) → refusal_of_append false gate key object ≡ Some other → new.is_stopped ≡ false)
+    → ((other : FileFault) → refusal_of_append false gate key object ≡ Some other → (fault ≡ other) × (new.is_stopped ≡ false))
     → RefusesStoring gate (Some (Object key object)) before now new fault
 refuses gate key object before now new fault small cause stops goes =
     let P = RefusesStoring gate (Some (Object key object)) before now new in
+    let room : (fault ≢ FileFull) → HasRecordRoom gate (Some (Object key object)) =
+    λ another long. another (goes FileFull (full_of gate key object small long)).0 in
     ⊎_elim
     (λ device. ⊎_elim
-    (λ memory. subst P (sym memory.0) (something (Object key object)))
-    (λ failed. subst P (sym failed.0) (something (Object key object), (failed.1, stops failed.0)))
+    (λ memory. subst P (sym memory.0) (something (Object key object), room (λ full. absurd (cc (full, memory.0)))))
+    (λ failed. subst P (sym failed.0) (something (Object key object), (room (λ full. absurd (cc (full, failed.0))), (failed.1, stops failed.0))))
     device)
-    (λ refused. let full = full_alone gate key object fault small refused in subst P (sym full.0) (full.1, goes fault refused))
+    (λ refused. let full = full_alone gate key object fault small refused in subst P (sym full.0) (full.1, (goes fault refused).1))
     cause

@@ -55,6 +55,10 @@ pub record HasStoredAll {D : Type 0} (content : D → List ℕ) (may_leave : D �
       ≡ state_with_all (file_state (content old.device)) (map row_record (stored_rows changes))
   pub settled : IsSettled content may_leave new
 
+-- a file of this closed gate has room for the record, if there is one
+abbrev pub HasRecordRoom : ℕ → Option Record → Type 0
+HasRecordRoom gate stored = IsTooLong gate stored → ⊥
+
 -- a file of this closed gate has room for the objects of these changes, one behind the other
 abbrev pub HasFileRoomFor : ℕ → List Published → Type 0
 HasFileRoomFor gate changes = refusal_of_batch false gate (stored_rows changes) ≡ None
@@ -101,13 +105,15 @@ LeavesOfEvent old event content bytes =
 
 -- ---- why it isn't stored
 
--- something was to be stored, and a file of this closed gate is full; or its device, whose count of
--- failures was `before` and is `now`, failed, which stops the file; or memory ran out
+-- something was to be stored, and a file of this closed gate has no room for it; or it has room, and
+-- its device, whose count of failures was `before` and is `now`, failed, which stops the file, or
+-- memory ran out
 abbrev pub RefusesStoring : {D : Type 0} → ℕ → Option Record → ℕ → ℕ → FileView D → FileFault
     → Type 0
 RefusesStoring gate stored before now new FileFull =
     IsTooLong gate stored × (new.is_stopped ≡ false)
-RefusesStoring gate stored before now new Device =
-    (stored ≢ None) × (HasFailed before now × (new.is_stopped ≡ true))
-RefusesStoring gate stored before now new Memory = stored ≢ None
+RefusesStoring gate stored before now new Device = (stored ≢ None)
+    × (HasRecordRoom gate stored × (HasFailed before now × (new.is_stopped ≡ true)))
+RefusesStoring gate stored before now new Memory =
+    (stored ≢ None) × HasRecordRoom gate stored
 RefusesStoring gate stored before now new fault = ⊥

@@ -8,7 +8,7 @@ ghost use Rattle.node_events.specs.Event.{stored_key};
 ghost use Rattle.node_file.specs.File.{file_state};
 ghost use Rattle.node_file.specs.View.{IsSettled};
 ghost use Rattle.node_file.specs.Stored.{LeavesRecord, record_under};
-ghost use Rattle.node_call.specs.Stored.{HasStored, IsOfSameLife, IsStillWhole, IsStoredOf, RefusesStoring, record_after};
+ghost use Rattle.node_call.specs.Stored.{HasRecordRoom, HasStored, IsOfSameLife, IsStillWhole, IsStoredOf, RefusesStoring, record_after};
 
 use devices::Device;
 use meta_store::Store;
@@ -33,6 +33,8 @@ pub fn store_in<D: Device>(
     ensures stored { OnOk result (HasStored D.content D.may_leave
         (record_after event.now store.now) file.old file.new) }
     ensures going { OnOk result (file.new.is_stopped ≡ false) }
+    ensures file_room { OnOk result
+        (HasRecordRoom file.old.gate (record_after event.now store.now)) }
     ensures refused { IfErr result (RefusesStoring file.old.gate (record_after event.now store.now)
         (D.failed file.old.device) (D.failed file.new.device) file.new) }
     ensures whole { OnErr result (IsStillWhole D.content D.may_leave file.old file.new) }
@@ -64,6 +66,8 @@ fn store_under<D: Device>(
     ensures stored { OnOk result (HasStored D.content D.may_leave
         (record_under (Some key.now) store.now) file.old file.new) }
     ensures going { OnOk result (file.new.is_stopped ≡ false) }
+    ensures file_room { OnOk result
+        (HasRecordRoom file.old.gate (record_under (Some key.now) store.now)) }
     ensures refused { IfErr result (RefusesStoring file.old.gate
         (record_under (Some key.now) store.now) (D.failed file.old.device)
         (D.failed file.new.device) file.new) }

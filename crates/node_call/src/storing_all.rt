@@ -32,7 +32,7 @@ pub fn store_all<D: Device>(
     requires held { All (λ c. find key_cmp c.key store.now ≢ None) changes.now }
     ensures stored { OnOk result
         (HasStoredAll D.content D.may_leave changes.now file.old file.new) }
-    ensures room { OnOk result (HasFileRoomFor file.old.gate changes.now) }
+    ensures file_room { OnOk result (HasFileRoomFor file.old.gate changes.now) }
     ensures going { OnOk result (file.new.is_stopped ≡ false) }
     ensures refused { IfErr result (RefusesStoringAll file.old.gate changes.now
         (D.failed file.old.device) (D.failed file.new.device) file.new) }

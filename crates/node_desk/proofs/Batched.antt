@@ -6,7 +6,7 @@ use Rattle.meta_store.specs.Table.{Table}
 use Rattle.devices.specs.Device.{IsDurable, LeavesOnly}
 use Rattle.devices.proofs.Moments.{weaker}
 use Rattle.node_core.specs.Node.{NodeParts}
-use Rattle.node_file.specs.Batch.{NoneOrAll, most_batch, state_with_all}
+use Rattle.node_file.specs.Batch.{NoneOrAll, most_batch, refused_object, state_with_all}
 use Rattle.node_file.specs.View.{FileView}
 use Rattle.node_file.specs.declared.batch_fault.BatchFault.{BatchFault}
 use Rattle.node_file.specs.declared.batch_fault.BatchFault.TheVariants as OfFile
@@ -23,7 +23,7 @@ use Rattle.node_call.specs.declared.fault.LockFault.TheVariants.{FileFull, Devic
 use Rattle.node_call.specs.declared.write.Write.{Write}
 use Rattle.node_call.specs.Batch.{HasRoomFor, IsBatch, IsRefusedAt, entries_of, event_written}
 use Rattle.node_call.specs.Fault.{of_batch}
-use Rattle.node_call.specs.Stored.{IsStoredOf, RefusesStoringAll, stored_rows}
+use Rattle.node_call.specs.Stored.{HasFileRoomFor, IsStoredOf, RefusesStoringAll, stored_rows}
 use Rattle.node_call.proofs.Batching.{as_many, never_for_the_file, stored_all}
 use Rattle.node_call.proofs.Files.{untouched}
 use Rattle.node_desk.specs.Batching.{CanBatch, CanKeepAll, LeavesOfBatch, RefusesBatch, RefusesKeepingAll, RefusesWrite}
@@ -48,9 +48,16 @@ pub refuses_batch : {D : Type 0} (failed : D → ℕ) (old new : DeskView D) (wr
     → RefusesBatch failed old writes refusal new
 refuses_batch failed old new writes k (refusals.Write place FileFull) r = ((k, r.0), r.1)
 refuses_batch failed old new writes k (refusals.Node Device) r =
-    (record { keep = k; room = r.1.0 }, (some_written old.state writes k.can r.0, r.1.1))
-refuses_batch failed old new writes k (refusals.Node Memory) r = λ stopped. (record { keep = k; room = r.1 stopped }, some_written old.state writes k.can r.0)
+    (k, (r.1.0, (some_written old.state writes k.can r.0, r.1.1)))
+refuses_batch failed old new writes k (refusals.Node Memory) r = λ stopped. (k, (r.1 stopped, some_written old.state writes k.can r.0))
 refuses_batch failed old new writes k _ r = absurd r
+
+-- a batch that changes nothing has room
+pub nothing_has_room : (gate : ℕ) (changes : List Published) → length changes ≡ 0
+    → HasFileRoomFor gate changes
+unfolding refused_object
+nothing_has_room gate changes none =
+    subst (HasFileRoomFor gate) (sym (nil_from_length changes none)) refl
 
 -- ---- what a crash leaves
 

@@ -87,7 +87,7 @@ pub keeping_refused : {D : Type 0} (gate : ℕ) (stored : Option Record) (change
     → RefusesKeeping gate stored change before now file.is_stopped (of_append fault)
 keeping_refused gate stored change before now file OfFile.FileFull refused = refused
 keeping_refused gate stored change before now file OfFile.Device refused = refused
-keeping_refused gate stored change before now file OfFile.Memory refused = λ _. inl refused
+keeping_refused gate stored change before now file OfFile.Memory refused = λ _. (refused.1, inl refused.0)
 keeping_refused gate stored change before now file _ refused = absurd refused
 
 -- ---- what is stored goes on to be within what is held
@@ -160,7 +160,7 @@ own_refused failed old new after e change Device step room published keeping =
     (record { can = record { new = after; stepped = stepped_of e; step = step }; room = room }, keeping)
 own_refused failed old new after e change Memory step room published keeping = λ stops. (
   record { can = record { new = after; stepped = stepped_of e; step = step }; room = room },
-  ⊎_elim inl (λ some. inr (changed e.event e.reply after.table change published some)) (keeping stops),
+  ((keeping stops).0, ⊎_elim inl (λ some. inr (changed e.event e.reply after.table change published some)) (keeping stops).1),
 )
 own_refused failed old new after e change _ step room published keeping = absurd keeping
 

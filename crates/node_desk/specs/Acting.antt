@@ -16,7 +16,7 @@ use Rattle.node_call.specs.Ready.{CanStep, IsFullFor}
 use Rattle.node_desk.specs.Desk.{DeskView}
 use Rattle.node_call.specs.Journaled.{IsPublishedBy}
 use Rattle.node_file.specs.Stored.{IsTooLong}
-use Rattle.node_call.specs.Stored.{record_after}
+use Rattle.node_call.specs.Stored.{HasRecordRoom, record_after}
 
 -- the list goes on by what the event published, of what is held then
 pub record ListsChange (event : NodeEvent) (reply : Reply) (held : Table) (old new : List Published)
@@ -25,16 +25,16 @@ pub record ListsChange (event : NodeEvent) (reply : Reply) (held : Table) (old n
   pub published : IsPublishedBy event reply held changes
   pub list : new ≡ old ++ changes
 
--- why what is ready isn't kept: the file would be too long with what is to be stored; the device
--- failed, which stops the node; or memory ran out, which may stop it if something was to be stored
--- or published
+-- why what is ready isn't kept: the file has no room for what is to be stored; or it has, and the
+-- device failed, which stops the node, or memory ran out, which may stop it if something was to be
+-- stored or published
 abbrev pub RefusesKeeping : ℕ → Option Record → Option Published → ℕ → ℕ → Bool → LockFault → Type 0
 RefusesKeeping gate stored change before now stopped FileFull =
     IsTooLong gate stored × (stopped ≡ false)
 RefusesKeeping gate stored change before now stopped Device =
-    (stored ≢ None) × (HasFailed before now × (stopped ≡ true))
-RefusesKeeping gate stored change before now stopped Memory =
-    stopped ≡ true → (stored ≢ None) ⊎ (change ≢ None)
+    (stored ≢ None) × (HasRecordRoom gate stored × (HasFailed before now × (stopped ≡ true)))
+RefusesKeeping gate stored change before now stopped Memory = stopped ≡ true
+    → HasRecordRoom gate stored × ((stored ≢ None) ⊎ (change ≢ None))
 RefusesKeeping gate stored change before now stopped fault = ⊥
 
 abbrev pub IsFull : {D : Type 0} → DeskView D → Type 0
@@ -50,6 +50,11 @@ abbrev pub stored_by : {D : Type 0} {old : DeskView D} {event : NodeEvent} → C
     → Option Record
 stored_by {event = event} k = record_after event k.can.new.table
 
+-- its file has room for that
+abbrev pub HasFileRoom : {D : Type 0} {old : DeskView D} {event : NodeEvent} → CanKeep old event
+    → Type 0
+HasFileRoom {old = old} k = HasRecordRoom old.file.gate (stored_by k)
+
 -- it stores something, or changes what is held under a key
 abbrev pub LeavesSomething : {D : Type 0} {old : DeskView D} {event : NodeEvent}
     → CanKeep old event → Type 0
@@ -57,7 +62,8 @@ LeavesSomething {event = event} k =
     (stored_by k ≢ None) ⊎ ((key : Key) × IsKeyChanged event k.can.stepped.reply key)
 
 -- why a call is refused, and whether the node is stopped then: a device that fails while something
--- is stored stops it; memory that runs out may stop it if something is stored or published
+-- is stored stops it; memory that runs out may stop it if something is stored or published. Both
+-- only if the file has room
 abbrev pub Refuses : {D : Type 0} → (D → ℕ) → DeskView D → NodeEvent → LockFault → DeskView D
     → Type 0
 Refuses failed old event Stopped new =
@@ -68,8 +74,9 @@ Refuses failed old event JournalFull new =
     CanStep old.state event × (IsFull old × (new.stopped ≡ false))
 Refuses failed old event FileFull new = (k : CanKeep old event)
     × (IsTooLong old.file.gate (stored_by k) × (new.stopped ≡ false))
-Refuses failed old event Device new = (k : CanKeep old event) × ((stored_by k ≢ None)
-    × (HasFailed (failed old.file.device) (failed new.file.device) × (new.stopped ≡ true)))
+Refuses failed old event Device new =
+    (k : CanKeep old event) × ((stored_by k ≢ None) × (HasFileRoom k
+    × (HasFailed (failed old.file.device) (failed new.file.device) × (new.stopped ≡ true))))
 Refuses failed old event Memory new =
-    new.stopped ≡ true → (k : CanKeep old event) × LeavesSomething k
+    new.stopped ≡ true → (k : CanKeep old event) × (HasFileRoom k × LeavesSomething k)
 Refuses failed old event fault new = ⊥

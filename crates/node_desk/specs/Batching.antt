@@ -19,7 +19,7 @@ use Rattle.node_call.specs.Stored.{HasFileRoomFor, HasStoredAll, stored_rows}
 use Rattle.node_desk.specs.Desk.{DeskView}
 
 -- the writes are made, with these receipts, whose entries are journaled; what they published goes
--- on the list, and what they stored is in the file
+-- on the list, and what they stored is in the file, which had room for it
 pub record IsBatchMade {D : Type 0} (content : D → List ℕ) (may_leave : D → List ℕ → Type 0)
     (old : DeskView D) (writes : List Write) (receipts : List Receipt) (new : DeskView D)
     : Type 0 where
@@ -27,6 +27,7 @@ pub record IsBatchMade {D : Type 0} (content : D → List ℕ) (may_leave : D �
   pub batch : IsBatch old.state writes receipts changes new.state
   pub journal : new.journal ≡ old.journal ++ entries_of receipts
   pub list : new.list ≡ old.list ++ changes
+  pub file_room : HasFileRoomFor old.file.gate changes
   pub stored : HasStoredAll content may_leave changes old.file new.file
 
 -- the node can make the writes, which publish these changes
@@ -41,10 +42,10 @@ pub record CanKeepAll {D : Type 0} (old : DeskView D) (writes : List Write) : Ty
   pub can : CanBatch old.state writes
   pub room : HasRoomFor old.limit (length old.journal) old.state writes
 
--- and its file has room for the objects that they store
-pub record CanStoreAll {D : Type 0} (old : DeskView D) (writes : List Write) : Type 0 where
-  pub keep : CanKeepAll old writes
-  pub room : HasFileRoomFor old.file.gate keep.can.changes
+-- its file has room for the objects that they store
+abbrev pub HasFileRoomForAll : {D : Type 0} {old : DeskView D} {writes : List Write}
+    → CanKeepAll old writes → Type 0
+HasFileRoomForAll {old = old} k = HasFileRoomFor old.file.gate k.can.changes
 
 -- ---- what a crash leaves on the way
 
@@ -80,10 +81,10 @@ RefusesBatch failed old writes (refusals.Write place fault) new =
 RefusesBatch failed old writes (refusals.Node Stopped) new =
     (old.stopped ≡ true) × ((new.stopped ≡ true) × (new.file ≡ old.file))
 RefusesBatch failed old writes (refusals.Node Device) new =
-    CanStoreAll old writes × ((writes ≢ [])
-    × (HasFailed (failed old.file.device) (failed new.file.device) × (new.stopped ≡ true)))
+    (k : CanKeepAll old writes) × (HasFileRoomForAll k × ((writes ≢ [])
+    × (HasFailed (failed old.file.device) (failed new.file.device) × (new.stopped ≡ true))))
 RefusesBatch failed old writes (refusals.Node Memory) new =
-    new.stopped ≡ true → CanStoreAll old writes × (writes ≢ [])
+    new.stopped ≡ true → (k : CanKeepAll old writes) × (HasFileRoomForAll k × (writes ≢ []))
 RefusesBatch failed old writes (refusals.Node fault) new = ⊥
 
 -- why the outlets refuse what a batch publishes: the file has no room for the object at a place; or

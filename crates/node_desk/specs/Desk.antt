@@ -2,6 +2,7 @@
 use Rattle.std.specs.Prelude.{◌≡◌, ◌≢◌, ◌⊎◌, ◌≤◌, ◌-◌, ◌^◌, ℕ, nat_le, Bool, false, List, [], ◌∷◌, map, Option, None}
 use Rattle.meta_types.specs.First.{first_that_applies}
 use Rattle.meta_store.specs.Table.{Table}
+use Rattle.node_core.specs.Growing.{Descends}
 use Rattle.node_core.specs.Node.{NodeParts, opening}
 use Rattle.node_core.specs.Run.{IsRun}
 use Rattle.node_file.specs.View.{FileView}
@@ -61,11 +62,12 @@ pub record IsOfLife (number incarnation : ℕ) (state : NodeParts) : Type 0 wher
   pub node : state.node ≡ number
   pub life : state.incarnation ≡ incarnation
 
--- file and publisher go on, and what the file has is held
+-- file and publisher go on, and what the file has is held, with all events that it counts
 pub record IsGoing (file_stopped publisher_stopped : Bool) (stored held : Table) : Type 0 where
   pub file : file_stopped ≡ false
   pub publisher : publisher_stopped ≡ false
   pub within : IsStoredOf held stored
+  pub known : Descends stored held
 
 -- all except base and journal is as before
 pub record KeepsButJournal {D : Type 0} (old new : DeskView D) : Type 0 where

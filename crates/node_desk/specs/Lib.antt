@@ -6,5 +6,7 @@ pub mod Starting
 pub mod Acting
 -- what a batch of writes does
 pub mod Batching
+-- what stays of its writes, whatever a crash leaves
+pub mod Lasting
 -- what is left of a node
 pub mod Closing

@@ -7,7 +7,7 @@ ghost use Rattle.node_journal.specs.Entry.{stepped_of};
 ghost use Rattle.node_readers.specs.Published.{with_all};
 ghost use Rattle.node_desk.specs.Acting.{IsFull, ListsChange, Refuses};
 ghost use Rattle.node_desk.specs.Desk.{BeganWith, IsReceiptOf, KeepsAll, KeepsSeats};
-ghost use Rattle.node_call.specs.Stored.{HasStored, IsStillWhole, LeavesOfEvent, record_after};
+ghost use Rattle.node_call.specs.Stored.{HasRecordRoom, HasStored, IsStillWhole, LeavesOfEvent, record_after};
 ghost use Rattle.node_call.specs.declared.fault.LockFault.TheVariants.{Memory, Stopped};
 
 use crate::desk::Desk;
@@ -52,6 +52,8 @@ impl<D: Device + Drop, J: Naming, H: Wait + Drop> Desk<D, J, H> {
             (λ _. seat.new ≡ seat.old) }
         ensures stored { OnOk result (HasStored D.content D.may_leave
             (record_after event self.new.state.table) self.old.file self.new.file) }
+        ensures file_room { OnOk result (HasRecordRoom self.old.file.gate
+            (record_after event self.new.state.table)) }
         ensures going { OnOk result
             ((IsFull self.old → ⊥) × (self.new.stopped ≡ false)) }
         ensures stopped { self.old.stopped ≡ true → result ≡ Err Stopped }

@@ -6,6 +6,7 @@ ghost use Rattle.node_call.specs.Journaled.{IsJournaled};
 ghost use Rattle.node_journal.specs.Closed.{EndsWithTable};
 ghost use Rattle.node_desk.specs.Closing.{IsWithin, RefusesClosing};
 ghost use Rattle.node_desk.specs.Desk.{BeganWith};
+ghost use Rattle.node_desk.specs.Lasting.{KeepsWrites};
 
 use crate::desk::Desk;
 use crate::outlets::Outlets;
@@ -41,6 +42,8 @@ impl<D: Device + Drop, J: Naming, H: Wait + Drop> Desk<D, J, H> {
           table = self.state.table;
         }) }
         ensures device { IfOk result (λ r. r.1 ≡ self.file.device) }
+        ensures keeps { IfOk result (λ r. KeepsWrites D.may_leave J.node J.incarnation J.opening
+            r.0.base r.0.journal r.1) }
         ensures began { IfOk result (λ r. BeganWith J.node J.incarnation J.opening r.0.base) }
         ensures run { IfOk result (λ r. EndsWithTable r.0) }
         ensures journaled { IsJournaled self.base self.state self.journal self.list }

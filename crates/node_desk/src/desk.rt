@@ -38,6 +38,7 @@ impl<D: Device + Drop, J: Naming, H: Wait + Drop> Model for Desk<D, J, H> {
     ghost use Rattle.node_readers.specs.Published.{with_all};
     ghost use Rattle.node_file.specs.File.{file_state};
     ghost use Rattle.node_desk.specs.Desk.{BeganWith, DeskView, IsGoing, IsOfLife, most_seats};
+    ghost use Rattle.node_desk.specs.Lasting.{KeepsWrites};
     ghost use Rattle.node_call.specs.Journaled.{IsJournaled};
 
     ghost Value = { DeskView D };
@@ -65,5 +66,7 @@ impl<D: Device + Drop, J: Naming, H: Wait + Drop> Model for Desk<D, J, H> {
         × (d.outlets.is_stopped ≡ false
         → IsGoing d.outlets.file.is_stopped d.outlets.publisher.stopped
         (file_state (D.content d.outlets.file.device)).contents.table d.state.table)
-        × (d.out ≤ most_seats) };
+        × (d.out ≤ most_seats)
+        × KeepsWrites D.may_leave J.node J.incarnation J.opening d.base d.journal.items
+        d.outlets.file.device };
 }

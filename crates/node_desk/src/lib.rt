@@ -7,14 +7,15 @@
 //! reader.learn(done.revision()); // from here on this reader shows it or what came later
 //! ```
 //!
-//! Read `desk`, `acting` (`Desk::act`), `batching` (`Desk::act_all`), `seats`, `starting` and
-//! `closing`; `node_call` has what a call is made of.
+//! Read `desk`, `acting` (`Desk::act`), `batching` (`Desk::act_all`), `seats`, `starting`,
+//! `closing` and `laws`; `node_call` has what a call is made of.
 #![tactic(auto)]
 
 mod acting;
 mod batching;
 mod closing;
 mod desk;
+pub mod laws;
 mod outlets;
 mod outlets_all;
 mod seats;

@@ -8,7 +8,7 @@ ghost use Rattle.node_readers.specs.Published.{with_all};
 ghost use Rattle.node_readers.specs.Growth.{GrowsBy};
 ghost use Rattle.node_call.specs.Fault.{of_append};
 ghost use Rattle.node_call.specs.Ready.{listed};
-ghost use Rattle.node_call.specs.Stored.{HasStored, IsOfSameLife, IsStillWhole, IsStoredOf, record_after};
+ghost use Rattle.node_call.specs.Stored.{HasRecordRoom, HasStored, IsOfSameLife, IsStillWhole, IsStoredOf, record_after};
 ghost use Rattle.node_desk.specs.Acting.{RefusesKeeping};
 
 use devices::Device;
@@ -48,6 +48,8 @@ impl<D: Device + Drop, J: Naming, H: Wait + Drop> Outlets<D, J, H> {
             (GrowsBy (with_all J.opening self.old.publisher.list)) }
         ensures stored { OnOk result (HasStored D.content D.may_leave
             (record_after ready.old.entry.event store.now) self.old.file self.new.file) }
+        ensures file_room { OnOk result (HasRecordRoom self.old.file.gate
+            (record_after ready.old.entry.event store.now)) }
         ensures list { OnOk result
             (self.new.publisher.list ≡ self.old.publisher.list ++ listed ready.old.change) }
         ensures going { OnOk result ((self.new.file.is_stopped ≡ false)

@@ -10,7 +10,7 @@ ghost use Rattle.node_file.specs.File.{file_state};
 ghost use Rattle.node_readers.specs.Published.{with_all};
 ghost use Rattle.node_readers.specs.Growth.{GrowsByAll};
 ghost use Rattle.node_call.specs.Fault.{of_batch};
-ghost use Rattle.node_call.specs.Stored.{HasStoredAll, IsOfSameLife, IsStillWhole, IsStoredOf, stored_rows};
+ghost use Rattle.node_call.specs.Stored.{HasFileRoomFor, HasStoredAll, IsOfSameLife, IsStillWhole, IsStoredOf, stored_rows};
 ghost use Rattle.node_desk.specs.Batching.{RefusesKeepingAll};
 
 use crate::outlets::{Outlets, of_append};
@@ -43,6 +43,8 @@ impl<D: Device + Drop, J: Naming, H: Wait + Drop> Outlets<D, J, H> {
             batch.old.changes.items }
         ensures stored { OnOk result (HasStoredAll D.content D.may_leave batch.old.changes.items
             self.old.file self.new.file) }
+        ensures file_room { OnOk result
+            (HasFileRoomFor self.old.file.gate batch.old.changes.items) }
         ensures list { OnOk result
             (self.new.publisher.list ≡ self.old.publisher.list ++ batch.old.changes.items) }
         ensures going { OnOk result ((self.new.file.is_stopped ≡ false)

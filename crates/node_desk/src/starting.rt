@@ -229,6 +229,8 @@ fn desk_of<D: Device + Drop, J: Naming, H: Wait + Drop>(
     ensures writers { AreNewWriters capacity.writers result.writers.items }
     ensures readers { AreNewReaders capacity.readers result.readers.items }
 {
+    // (for its type)
+    let _ = file.device();
     let out = parts.writers.len() as u64;
     Started {
         desk: Desk {

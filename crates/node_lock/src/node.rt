@@ -6,6 +6,7 @@ ghost use Rattle.node_call.specs.declared.fault.LockFault.TheVariants.{Memory, N
 ghost use Rattle.node_file.specs.Batch.{most_batch};
 ghost use Rattle.node_journal.specs.Closed.{EndsWithTable};
 ghost use Rattle.node_desk.specs.Desk.{BeganWith};
+ghost use Rattle.node_desk.specs.Lasting.{KeepsWrites};
 ghost use Rattle.node_desk.specs.Starting.{AreNewReaders, AreNewWriters, IsFileOf, RefusesStarting, refusal_of_start};
 ghost use Rattle.node_lock.specs.Call.{AnswersBatch, AnswersCall, CanRefuseClosing, Counts, EndsList, RefusesBatchCall, RefusesCall};
 
@@ -366,6 +367,8 @@ impl<D: Device + Drop, J: Naming, H: Wait + Drop> Node<D, J, H> {
         seats: Vec<WriteSeat<J>>,
         readers: &[ReadSeat<J>],
     ) -> Result<(Closed, D), NotClosed<D, J, H>>
+        ensures keeps { IfOk result (λ r. KeepsWrites D.may_leave J.node J.incarnation J.opening
+            r.0.base r.0.journal r.1) }
         ensures began { IfOk result (λ r. BeganWith J.node J.incarnation J.opening r.0.base) }
         ensures run { IfOk result (λ r. EndsWithTable r.0) }
         ensures list { IfOk result (λ r. EndsList J.opening r.0 readers.now) }

@@ -28,8 +28,8 @@ returns-in-Ok-clause-refused g c =
     file appended.new.self c.requires.going c.requires.going (c.as_slice.ensures.value ∙ c.in-Ok.ensures.rows) c.in-Ok.ensures.held c.requires.few
     appended.ensures.refused appended.ensures.stops appended.ensures.refusals appended.ensures.none
 
-pub returns-in-Ok-clause-room : goal.returns-in-Ok-clause-room
-returns-in-Ok-clause-room g c =
+pub returns-in-Ok-clause-file_room : goal.returns-in-Ok-clause-file_room
+returns-in-Ok-clause-file_room g c =
     let file = c.args.file.now in
     let appended = c.append_all in
     room_of_all appended.result file.is_stopped file.gate c.args.changes.now c.as_slice.result.now c.requires.going (c.as_slice.ensures.value ∙ c.in-Ok.ensures.rows)

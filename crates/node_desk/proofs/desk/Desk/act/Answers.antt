@@ -7,7 +7,7 @@ use Rattle.node_call.specs.Acknowledged.{Acknowledged}
 use Rattle.node_call.specs.Journaled.{TellsOfEntry}
 use Rattle.node_call.specs.Ready.{entry_made, listed}
 use Rattle.node_file.specs.Stored.{LeavesRecord}
-use Rattle.node_call.specs.Stored.{HasStored, IsStoredOf, record_after}
+use Rattle.node_call.specs.Stored.{HasRecordRoom, HasStored, IsStoredOf, record_after}
 use Rattle.node_call.proofs.Listing.{grows_by}
 use Rattle.node_core.specs.Attempt.{committed}
 use Rattle.node_core.specs.Step.{IsNodeStep}
@@ -17,6 +17,11 @@ use Rattle.node_desk.specs.Acting.{IsFull, RefusesKeeping}
 use Rattle.node_desk.specs.Desk.{DeskView}
 use Rattle.devices.specs.Device.{LeavesOnly}
 use Rattle.node_desk.proofs.Kept.{began_on, call_refused, goes_on, kept_within, leaves_of, not_full, one_more, still_of_life, stored_within, told}
+use Rattle.node_core.specs.Growing.{Descends}
+use Rattle.node_core.specs.Node.{writer}
+use Rattle.node_events.specs.Event.{stored_key}
+use Rattle.node_events.specs.declared.event.NodeEvent.{NodeEvent}
+use Rattle.node_desk.proofs.Lasting.{keeps_left, keeps_stored, stored_known, written_there}
 use Rattle.node_desk.proofs.desk.Desk.act.Goals as goal
 
 pub store_and_show-done-requires-clause-within : goal.store_and_show-done-requires-clause-within
@@ -44,6 +49,14 @@ pub invariant_of-self-in-Err : goal.invariant_of-self-in-Err
 invariant_of-self-in-Err g c =
     let i = c.self.invariant in
     let w = i.8 c.if-self.false in
+    let s = c.self.inside in
+    let d = g.D.Device in
+    let n = g.J.Naming in
+    let new = committed c.in_ok-attempt.attempt c.prepare.new.state in
+    let r = c.in_ok-attempt.ensures.ready in
+    let e = c.in_ok-attempt.ready.entry in
+    let table_is = c.store.ensures ∙ c.in_ok-attempt.ensures.attempt.table in
+    let left = subst (λ (t : Table). LeavesOnly d.moment d.left_since s.outlets.file.device c.store_and_show-done.new.self.file.device (LeavesRecord (d.content s.outlets.file.device) (record_after e.event t))) table_is c.store_and_show-done.ensures.any_moment in
     rw (c.prepare.ensures.journal, c.in-Err.ensures.same, c.take_back.ensures, c.in_ok-attempt.ensures.attempt.back) (
       i.0,
       i.1,
@@ -57,8 +70,12 @@ invariant_of-self-in-Err g c =
         file = still.0;
         publisher = still.1 ∙ w.publisher;
         within = subst (λ (b : List ℕ). IsStoredOf c.self.inside.state.table (file_state b).contents.table) (sym (c.in-Err.ensures.whole going still.0).0) w.within;
+        known = subst (λ (b : List ℕ). Descends (file_state b).contents.table c.self.inside.state.table) (sym (c.in-Err.ensures.whole going still.0).0) w.known;
       }),
       i.9,
+      keeps_left d.content d.may_leave d.moment d.left_since n.node n.incarnation n.opening g.met.D.Device.now_counts s.base s.journal.items s.outlets.file.device
+          c.store_and_show-done.new.self.file.device (stored_key e.event) s.state.table new.table (g.met.D.Device.what_is_read_is_left s.outlets.file.device)
+          r.known.lawful w.known r.known.grows.descends left i.10,
     )
 
 pub returns-in-Err-clause-refused : goal.returns-in-Err-clause-refused
@@ -119,6 +136,7 @@ invariant_of-self-2 g c =
     let r = c.in_ok-attempt.ensures.ready in
     let e = c.in_ok-attempt.ready.entry in
     let n = g.J.Naming in
+    let d = g.D.Device in
     let go = goes_on s.base s.state new n.opening s.journal.items s.outlets.publisher.list (listed c.in_ok-attempt.ready.change) e i.0 i.6 r.known r.change in
     let steps = one_more s.state new (length e.outbox) r.known.counts c.in_ok-attempt.ensures.few.1 in
     let stored = subst (λ (t : Table). HasStored g.D.Device.content g.D.Device.may_leave (record_after e.event t) s.outlets.file c.store_and_show-done.new.self.file) table_is c.in_default.ensures.stored in
@@ -135,8 +153,13 @@ invariant_of-self-2 g c =
         file = c.in_default.ensures.going.0;
         publisher = c.in_default.ensures.going.1 w.publisher;
         within = stored_within e.event s.state.table new.table (file_state (g.D.Device.content s.outlets.file.device)) (file_state (g.D.Device.content c.store_and_show-done.new.self.file.device)) r.known.keeps w.within stored.tells;
+        known = stored_known e.event s.state.table new.table (file_state (d.content s.outlets.file.device)) (file_state (d.content c.store_and_show-done.new.self.file.device)) r.known.lawful w.known r.known.grows.descends stored.tells;
       }),
       i.9,
+      keeps_stored d.content d.may_leave d.moment d.left_since n.node n.incarnation n.opening s.base s.journal.items e s.outlets.file.device
+          c.store_and_show-done.new.self.file.device c.store_and_show-done.new.self.file.gate (writer s.state) s.state.table new.table
+          (g.met.D.Device.what_is_read_is_left s.outlets.file.device) r.known.lawful w.known r.known.grows.descends r.known.grows.tells
+          (written_there e.event e.reply s.state.table new.table r.known.grows.changes) stored.tells stored.settled.opens stored.settled.durable i.10,
     )
 
 pub returns-clause-any_moment : goal.returns-clause-any_moment
@@ -187,3 +210,13 @@ returns-clause-makes g c =
     let go = goes_on s.base s.state new n.opening s.journal.items s.outlets.publisher.list (listed c.in_ok-attempt.ready.change) e i.0 i.6 r.known r.change in
     let list = ap (λ (a : Acknowledged). a.list) c.of.ensures ∙ (c.again.ensures ∙ (c.revision.ensures ∙ c.in_default.ensures.list)) in
     rw (c.commit-reply.ensures.node, list) go.table
+
+pub returns-clause-file_room : goal.returns-clause-file_room
+returns-clause-file_room g c =
+    let new = committed c.in_ok-attempt.attempt c.prepare.new.state in
+    let table_is = c.store.ensures ∙ c.in_ok-attempt.ensures.attempt.table in
+    let is_event = ap (λ (e : Entry). e.event) c.in_ok-attempt.ensures.ready.entry in
+    let gate = c.self.inside.outlets.file.gate in
+    let e = c.in_ok-attempt.ready.entry in
+    let room = subst (λ (t : Table). HasRecordRoom gate (record_after e.event t)) table_is c.in_default.ensures.file_room in
+    rw (c.commit-reply.ensures.node, ← c.self.view_is) (subst (λ (x : NodeEvent). HasRecordRoom gate (record_after x new.table)) is_event room)

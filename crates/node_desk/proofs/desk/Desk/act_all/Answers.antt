@@ -1,5 +1,6 @@
-use Rattle.std.proofs.Common.{◌≡◌, Global, Vec, length, vec_len, sym, ap, ◌∙◌, subst, arith}
+use Rattle.std.proofs.Common.{rules, ◌≡◌, ℕ, List, Global, Vec, length, vec_len, sym, ap, ◌∙◌, subst, arith}
 use Rattle.meta_store.specs.Table.{Table}
+use Rattle.node_core.specs.Growing.{Descends}
 use Rattle.node_file.specs.File.{file_state}
 use Rattle.node_journal.specs.declared.receipt.Receipt.{Receipt}
 use Rattle.node_call.specs.Batch.{HasRoomFor, IsRefusedAt, entries_of}
@@ -9,6 +10,7 @@ use Rattle.node_desk.specs.Batching.{CanBatch, CanKeepAll}
 use Rattle.node_desk.specs.Desk.{DeskView}
 use Rattle.node_desk.proofs.Batched.{batch_counts, batch_makes, batch_of_life, batch_within, few_changes, leaves_of_batch, nothing_left, refused_at, refuses_batch}
 use Rattle.node_desk.proofs.Kept.{began_on, kept_within}
+use Rattle.node_desk.proofs.LastingAll.{batch_known, keeps_left_all, keeps_stored_all}
 use Rattle.node_desk.proofs.desk.Desk.act_all.Goals as goal
 
 pub returns-then-self-clause-began : goal.returns-then-self-clause-began
@@ -124,6 +126,38 @@ returns-in-Err-done-clause-any_moment g c = λ _.
     (leaves_of_batch d.content d.moment d.left_since s.outlets.file.device c.store_and_show_all-done.new.self.file.device s.state c.args.writes.items k
     c.store_and_show_all-done.ensures.any_moment)
 
+pub invariant_of-self-in-Err-done : goal.invariant_of-self-in-Err-done
+invariant_of-self-in-Err-done g c =
+    let i = c.self.invariant in
+    let w = i.8 c.if-self.false in
+    let s = c.self.inside in
+    let d = g.D.Device in
+    let n = g.J.Naming in
+    let batch = c.make_all-made.new.batch in
+    let done = c.store_and_show_all-done in
+    let state : c.undo-in-Err-done.new.state ≡ s.state = c.undo-in-Err-done.ensures.state ∙ c.make_all-made.ensures.back ∙ c.in_ok-savepoint.ensures.back in
+    let journal : c.undo-in-Err-done.new.journal.items ≡ s.journal.items = search rules in
+    rw (journal, c.in-Err-done.ensures.same, state) (
+      i.0,
+      i.1,
+      i.2,
+      i.3,
+      i.4,
+      i.5,
+      i.6,
+      done.ensures.whose.served ∙ i.7,
+      (λ going. let still = c.in-Err-done.ensures.still going in record {
+        file = still.0;
+        publisher = still.1 ∙ w.publisher;
+        within = subst (λ (b : List ℕ). IsStoredOf s.state.table (file_state b).contents.table) (sym (c.in-Err-done.ensures.whole going still.0).0) w.within;
+        known = subst (λ (b : List ℕ). Descends (file_state b).contents.table s.state.table) (sym (c.in-Err-done.ensures.whole going still.0).0) w.known;
+      }),
+      i.9,
+      keeps_left_all d.content d.may_leave d.moment d.left_since n.node n.incarnation n.opening g.met.D.Device.now_counts s.base s.journal.items
+          s.outlets.file.device done.new.self.file.device s.state c.make_all-made.new.state c.args.writes.items batch.receipts.items batch.changes.items
+          (g.met.D.Device.what_is_read_is_left s.outlets.file.device) w.known c.in_default.ensures.made done.ensures.any_moment i.10,
+    )
+
 pub returns-clause-any_moment : goal.returns-clause-any_moment
 returns-clause-any_moment g c = λ _.
     let s = c.self.inside in
@@ -151,7 +185,8 @@ invariant_of-self-2 g c =
     let done = c.in_default-done.ensures in
     let many : c.len-3.result ≡ length receipts =
     omega (arith, c.len-3.ensures, ap (λ (v : Vec Receipt Global). vec_len v) kept.ensures.receipts, batch.receipts.ok.0) in
-    let content = g.D.Device.content in
+    let d = g.D.Device in
+    let content = d.content in
     rw (c.in_default.ensures.journal, done.list) (
       journaled_all s.base s.state new s.journal.items (entries_of receipts) s.outlets.publisher.list changes i.0 b.run,
       i.1,
@@ -167,6 +202,12 @@ invariant_of-self-2 g c =
         within =
             batch_within s.state new writes receipts changes (file_state (content s.outlets.file.device)) (file_state (content kept.new.self.file.device)) b w.within
             done.stored.tells;
+        known =
+            batch_known s.state new writes receipts changes (file_state (content s.outlets.file.device)) (file_state (content kept.new.self.file.device)) b w.known
+            done.stored.tells;
       }),
       i.9,
+      keeps_stored_all content d.may_leave d.moment d.left_since n.node n.incarnation n.opening s.base s.journal.items s.outlets.file.device kept.new.self.file.device
+          kept.new.self.file.gate s.state new writes receipts changes (g.met.D.Device.what_is_read_is_left s.outlets.file.device) w.known b done.stored.tells
+          done.stored.settled.opens done.stored.settled.durable i.10,
     )
