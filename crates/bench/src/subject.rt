@@ -73,13 +73,18 @@ impl Subject {
         Ok(())
     }
 
-    /// Joins the cluster of node 0, which hears of it, so that both are neighbours.
-    pub(crate) fn join(&mut self, contact: &mut Subject) -> io::Result<()> {
+    /// Joins the cluster of node 0, and returns the frame that lets it hear of that.
+    pub(crate) fn joining(&mut self) -> io::Result<Option<ByteString>> {
         let event = NodeEvent::Join {
             contact: node(0)?,
             word: 0,
         };
-        if let Some(frame) = last_frame(self.step(event)?) {
+        Ok(last_frame(self.step(event)?))
+    }
+
+    /// Joins the cluster of node 0, which hears of it, so that both are neighbours.
+    pub(crate) fn join(&mut self, contact: &mut Subject) -> io::Result<()> {
+        if let Some(frame) = self.joining()? {
             contact.take(frame)?;
         }
         Ok(())

@@ -24,19 +24,6 @@ pub(crate) fn run<J: Naming, R: Wait + Clock + Print>(
     rt: &R,
     alloc: Global,
     node: &Node<MemoryDevice, J, &R>,
-    writers: &mut Vec<WriteSeat<J>>,
-) -> io::Result<()> {
-    let Some(mut seat) = writers.pop() else {
-        return Err(refused(()));
-    };
-    let done = measure(rt, alloc, node, &mut seat);
-    writers.push(seat).map_err(refused).and(done)
-}
-
-fn measure<J: Naming, R: Wait + Clock + Print>(
-    rt: &R,
-    alloc: Global,
-    node: &Node<MemoryDevice, J, &R>,
     seat: &mut WriteSeat<J>,
 ) -> io::Result<()> {
     let rows = Rows::new(alloc, KEYS)?;
