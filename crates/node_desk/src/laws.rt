@@ -2,8 +2,9 @@
 
 ghost use Rattle.node_desk.specs.Lasting.{WritesStay};
 
-/// **No acknowledged write is lost**: the lives in a node's file rise, and whatever crashes leave of
-/// it, each later life knows all that a life before it knew and wrote.
+/// The number of a life that is begun in a file is greater than those before, and what a life that
+/// opened with that file keeps counts all that was counted there. `Desk::close` says that a life
+/// keeps its writes.
 pub fn acknowledged_writes_stay()
     ensures { WritesStay }
 {}

@@ -139,8 +139,8 @@ pub record HaveNoCause (closed : List ClosedNode) : Type 0 where
   pub memory_alone : (receipts : List Receipt) (fault : RecordFault)
       → All (IsKept closed) receipts → Refuses closed receipts fault → fault ≡ Memory
 
--- the journals of a run of a world, in which no write names the read of a `PutOver`, are refused
--- for want of memory alone
+-- whole journals of a run of a world, in which no write names the read of a `PutOver`, are refused
+-- for want of memory alone, if each receipt is of its entry
 abbrev pub ARunHasNoCause : Type 0
 ARunHasNoCause = (closed : List ClosedNode) → AreWhole closed → (told : AreOfARun closed)
     → NamesNoPutOver told.world → HaveNoCause closed

@@ -14,8 +14,8 @@ pub fn what_is_closed_is_equal()
     ensures { WhatIsClosedIsEqual }
 {}
 
-/// The journals of a run of a world are refused only when memory runs out, as long as no write
-/// names the read of a `PutOver`, which no reply hands out. If a receipt is of no entry, it is 63.
+/// Whole journals of a run of a world, with receipts of their entries, are refused only when memory
+/// runs out, as long as no write names the read of a `PutOver`, which no reply hands out.
 pub fn a_run_has_no_cause()
     ensures { ARunHasNoCause }
 {}
