@@ -64,8 +64,8 @@ abbrev pub HasFileRoomFor : ℕ → List Published → Type 0
 HasFileRoomFor gate changes = refusal_of_batch false gate (stored_rows changes) ≡ None
 
 -- why the objects of these changes aren't stored: a file of this closed gate has no room for the
--- one at a place; or there is one, and room for all, and its device failed, which stops it, or
--- memory ran out, which may stop it
+-- one at a place; or there is one, and its device failed, which stops it, or memory ran out, which
+-- may stop it; it is stopped only if there was room for all
 abbrev pub RefusesStoringAll : {D : Type 0} → ℕ → List Published → ℕ → ℕ → FileView D → BatchFault
     → Type 0
 RefusesStoringAll gate changes before now new (batches.Object place FileFull) =
@@ -105,9 +105,9 @@ LeavesOfEvent old event content bytes =
 
 -- ---- why it isn't stored
 
--- something was to be stored, and a file of this closed gate has no room for it; or it has room, and
--- its device, whose count of failures was `before` and is `now`, failed, which stops the file, or
--- memory ran out
+-- something was to be stored, and a file of this closed gate has no room for it; or it has, and its
+-- device, whose count of failures was `before` and is `now`, failed, which stops the file, or memory
+-- ran out
 abbrev pub RefusesStoring : {D : Type 0} → ℕ → Option Record → ℕ → ℕ → FileView D → FileFault
     → Type 0
 RefusesStoring gate stored before now new FileFull =

@@ -25,9 +25,9 @@ pub record ListsChange (event : NodeEvent) (reply : Reply) (held : Table) (old n
   pub published : IsPublishedBy event reply held changes
   pub list : new ≡ old ++ changes
 
--- why what is ready isn't kept: the file has no room for what is to be stored; or it has, and the
--- device failed, which stops the node, or memory ran out, which may stop it if something was to be
--- stored or published
+-- why what is ready isn't kept: the file has no room for what is to be stored; or the device failed,
+-- which stops the node; or memory ran out, which may stop it if something was to be stored or
+-- published. It is stopped only if the file has room
 abbrev pub RefusesKeeping : ℕ → Option Record → Option Published → ℕ → ℕ → Bool → LockFault → Type 0
 RefusesKeeping gate stored change before now stopped FileFull =
     IsTooLong gate stored × (stopped ≡ false)

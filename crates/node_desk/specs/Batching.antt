@@ -88,8 +88,8 @@ RefusesBatch failed old writes (refusals.Node Memory) new =
 RefusesBatch failed old writes (refusals.Node fault) new = ⊥
 
 -- why the outlets refuse what a batch publishes: the file has no room for the object at a place; or
--- there is a change, and room for all, and its device failed, which stops it, or memory ran out,
--- which may stop it
+-- there is a change, and its device failed, which stops it, or memory ran out, which may stop it. It
+-- is stopped only if there was room for all
 abbrev pub RefusesKeepingAll : ℕ → List Published → ℕ → ℕ → Bool → BatchRefusal → Type 0
 RefusesKeepingAll gate changes before now stopped (refusals.Write place FileFull) =
     (refusal_of_batch false gate (stored_rows changes)

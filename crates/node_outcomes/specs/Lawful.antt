@@ -1,5 +1,5 @@
--- A lawful node and a lawful event: what the types of their parts keep, said of the parts. Each life
--- begins with a lawful node, and each step by a lawful event leaves one.
+-- A lawful node and a lawful event: what the types of their parts keep, said of the parts. Each
+-- life begins with a lawful node, and each step by a lawful event leaves one.
 use Rattle.std.specs.Prelude.{◌≡◌, ◌<◌, ◌≤◌, ◌^◌, All, IfSome}
 use Rattle.meta_types.specs.Name.{IsKey}
 use Rattle.meta_types.specs.Node.{IsNode}
@@ -20,8 +20,9 @@ pub record NamesNodes (b : Broadcast) : Type 0 where
   pub queue : All (λ a. IsNode a.peer) b.queue
   pub missing : All (λ m. All (λ a. IsNode a.peer) m.announcers) b.missing
 
--- the number of the node and of its life are in their range, it holds a table, its broadcast's peers
--- are the members of its active view, and whomever views and broadcast name is another node
+-- the number of the node and of its life are in their range, it holds a table, the peers of its
+-- broadcast are the members of its active view, and whomever views and broadcast name is another
+-- node
 pub record IsLawfulNode (s : NodeParts) : Type 0 where
   pub node : IsNode s.node
   pub life : s.incarnation < 2 ^ 32

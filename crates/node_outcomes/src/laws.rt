@@ -1,5 +1,5 @@
-//! The laws of the outcomes of a node. The contract of a function is the law; its body does nothing,
-//! or reads.
+//! The laws of the outcomes of a node. The contract of a function is the law; its body does
+//! nothing, or reads.
 
 ghost use Rattle.std.specs.Prelude.{◌≡◌, ◌<◌, All, IfSome};
 ghost use Rattle.std.specs.Option.{option_copied};
@@ -23,8 +23,7 @@ pub fn each_event_has_an_outcome()
     ensures { EachEventHasAnOutcome }
 {}
 
-/// Each life begins with a lawful node, and steps and runs of lawful events leave one. So each event
-/// after a run has an outcome.
+/// Each life begins with a lawful node, and steps and runs of lawful events leave one.
 pub fn nodes_stay_lawful()
     ensures { NodesStayLawful }
 {}
