@@ -12,5 +12,5 @@ mod Answers
 mod Sending
 -- a step keeps a node lawful
 mod Keeping
--- each event has an outcome
-mod Outcomes
+-- each event has an outcome, and nodes stay lawful
+pub mod Outcomes

@@ -163,10 +163,14 @@ module _ (s : NodeParts) where
     outcome_of : (event : NodeEvent) (input : Input) → IsInput event input → IsLawfulInput s h input → HasAnOutcome s event
     outcome_of event input is lawful = outcome_by event input (refusal_of input s) is lawful refl
 
+    -- what spells a frame, even if the numbers in it were no bytes
+    pub frame_outcome : (bytes : List ℕ) (word : ℕ) (frame : Frame) → Spells frame bytes → HasAnOutcome s (Take bytes word)
+    frame_outcome bytes word frame spells = outcome_of (Take bytes word) (Received frame word) (spells, refl) spells.lawful
+
     taken_outcome : (bytes : List ℕ) (word : ℕ)
         → ((frame : Frame) × Spells frame bytes) ⊎ ((fault : FrameFault) × RefusesBytes bytes fault)
         → HasAnOutcome s (Take bytes word)
-    taken_outcome bytes word (inl (frame, spells)) = outcome_of (Take bytes word) (Received frame word) (spells, refl) spells.lawful
+    taken_outcome bytes word (inl (frame, spells)) = frame_outcome bytes word frame spells
     taken_outcome bytes word (inr (fault, refuses)) =
         inr (record { fault = OfFrame fault; other = not_frame fault; cause = inr (inl refuses) })
 
@@ -198,21 +202,37 @@ begins_lawful : (s : NodeParts) → IsLawfulOpening s → IsLawfulNode s
 begins_lawful s is =
     subst IsLawfulNode (sym is.begins) (opening_lawful s.node s.incarnation s.table is.node is.first is.life is.table)
 
+frame_input : (s : NodeParts) (h : IsLawfulNode s) (bytes : List ℕ) (word : ℕ) (input : Input) → IsInput (Take bytes word) input
+    → IsLawfulInput s h input
+frame_input s h bytes word (Received frame w) is = is.0.lawful
+frame_input s h bytes word (Local own) is = absurd is
+
 lawful_input : (s : NodeParts) (h : IsLawfulNode s) (event : NodeEvent) (input : Input) → IsInput event input → IsLawfulEvent event
     → IsLawfulInput s h input
-lawful_input s h (Take bytes word) (Received frame w) is lawful = is.0.lawful
+lawful_input s h (Take bytes word) (Received frame w) is lawful = frame_input s h bytes word (Received frame w) is
 lawful_input s h (Take bytes word) (Local own) is lawful = absurd is
 lawful_input s h event (Local own) is lawful = subst IsLawfulEvent (sym is) lawful
 lawful_input s h event (Received frame w) is lawful = absurd is
 
-step_stays : (old : NodeParts) (event : NodeEvent) (new : NodeParts) (s : Stepped) → IsLawfulNode old → IsLawfulEvent event
-    → IsNodeStep old event new s → IsLawfulNode new
-step_stays old event new s h lawful is =
+input_stays : (old : NodeParts) (event : NodeEvent) (new : NodeParts) (s : Stepped) (h : IsLawfulNode old) (is : IsNodeStep old event new s)
+    → IsLawfulInput old h is.input → IsLawfulNode new
+input_stays old event new s h is lawful =
     let done = node_draft_after is.input old in
-    let kept = Keeps-row_of_input old h is.input (lawful_input old h event is.input is.is_input lawful) is.step.accepted in
+    let kept = Keeps-row_of_input old h is.input lawful is.step.accepted in
     subst IsLawfulNode (sym is.step.node)
     (IsLawfulNode-same done.parts.watches done.parts.heard (node_after is.input old).steps
     (node_after is.input old).frames done.parts.ticks done.parts kept.lawful)
+
+step_stays : (old : NodeParts) (event : NodeEvent) (new : NodeParts) (s : Stepped) → IsLawfulNode old → IsLawfulEvent event
+    → IsNodeStep old event new s → IsLawfulNode new
+step_stays old event new s h lawful is =
+    input_stays old event new s h is (lawful_input old h event is.input is.is_input lawful)
+
+-- a step by what spells a frame, even if the numbers in it were no bytes
+pub frame_stays : (old : NodeParts) (bytes : List ℕ) (word : ℕ) (new : NodeParts) (s : Stepped) → IsLawfulNode old
+    → IsNodeStep old (Take bytes word) new s → IsLawfulNode new
+frame_stays old bytes word new s h is =
+    input_stays old (Take bytes word) new s h is (frame_input old h bytes word is.input is.is_input)
 
 run_stays : (steps : List (NodeEvent × Stepped)) (old new : NodeParts) → IsLawfulNode old → All IsLawfulEvent (events_of steps)
     → IsRun old steps new → IsLawfulNode new
