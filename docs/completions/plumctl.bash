@@ -27,7 +27,7 @@ _plumctl() {
     draw) words='--from --to --fold -h --help' files=1 ;;
     file) words='--rewrite --compact -h --help' files=1 ;;
     live)
-      words='--record --files -h --help'
+      words='--record --files --mixed -h --help'
       [ "$before" = --record ] || [ "$before" = --files ] && files=1
       ;;
   esac

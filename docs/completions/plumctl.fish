@@ -25,4 +25,5 @@ complete -c plumctl -n '__fish_seen_subcommand_from file' -l rewrite -r -F -d 'M
 complete -c plumctl -n '__fish_seen_subcommand_from file' -l compact -d 'Put a clean copy in the place of the file'
 complete -c plumctl -n '__fish_seen_subcommand_from live' -l record -r -F -d 'Write the run down as a scenario'
 complete -c plumctl -n '__fish_seen_subcommand_from live' -l files -r -a '(__fish_complete_directories)' -d 'Run the nodes on files in a new folder'
+complete -c plumctl -n '__fish_seen_subcommand_from live' -l mixed -d 'Let turns do all that a node can be asked'
 complete -c plumctl -n '__fish_seen_subcommand_from help' -a "$commands"

@@ -14,7 +14,7 @@ use Rattle.cluster_worker.specs.Frames.{up_to_most}
 use Rattle.cluster_worker.specs.Passes.{ArePassesOf}
 use Rattle.cluster_worker.specs.Plan.{refusal_of_run}
 use Rattle.cluster_worker.specs.Serving.{IsServed, LifeView, life_of_file, lives_from}
-use Rattle.cluster_worker.specs.Worked.{AreOutcomesOf, EndsRun, HasWorked, IsJob, IsOutcomeOf}
+use Rattle.cluster_worker.specs.Worked.{EndsRun, HasWorked, IsJob, IsOutcomeOf}
 use Rattle.cluster_worker.specs.declared.fault.ClusterFault.{ClusterFault}
 use Rattle.cluster_worker.specs.declared.fault.ClusterFault.TheVariants.{BadLimit, File, Memory, Node, NoSuchNode, NoThread}
 use Rattle.cluster_worker.specs.declared.passes.Passes.{Passes}
@@ -24,6 +24,7 @@ use Rattle.cluster_worker.specs.declared.serving.ServedFile.{ServedFile}
 use Rattle.cluster_worker.specs.declared.worker.Job.{Job}
 use Rattle.cluster_worker.specs.declared.worker.Worked.{Worked}
 use Rattle.cluster.specs.Run.{CanRun, IsPutTogether, IsRunOf, RefusesGathering, RefusesRun}
+use Rattle.cluster.specs.Threads.{AreOutcomesOf, TaskView, task_of}
 use Rattle.cluster.specs.declared.run.ClusterRun.{ClusterRun}
 
 -- who is stopped, once there is one worker more
@@ -97,19 +98,21 @@ all_added outcomes rest run none was =
     (was.0, sym was.1 ∙ (ap (λ l. map Ok was.0 ++ l) none ∙ append-nil (map Ok was.0)), was.2)
 
 -- if all workers came to their end, this came of each
-pub each_worked : (lives : List LifeView) (all : List Worked) → AreOutcomesOf lives (map Ok all)
-    → AllZip HasWorked lives all
-each_worked [] [] are = tt
-each_worked [] (w ∷ all) are = absurd are
-each_worked (life ∷ lives) [] are = absurd are
-each_worked (life ∷ lives) (w ∷ all) are = (are.0, each_worked lives all are.1)
+pub each_worked : (plan : ClusterPlan) (lives : List LifeView) (all : List Worked)
+    → AreOutcomesOf (map (task_of plan) lives) (map Ok all) → AllZip (HasWorked plan) lives all
+each_worked plan [] [] are = tt
+each_worked plan [] (w ∷ all) are = absurd are
+each_worked plan (life ∷ lives) [] are = absurd are
+each_worked plan (life ∷ lives) (w ∷ all) are = (are.0, each_worked plan lives all are.1)
 
-pub run_of : (lives : List LifeView) (outcomes : List (Result Worked LockFault)) (run : ClusterRun)
-    → AreOutcomesOf lives outcomes
-    → (all : List Worked) × (outcomes ≡ map Ok all) × IsPutTogether all run → IsRunOf lives run
-run_of lives outcomes run are made = record {
+pub run_of : (plan : ClusterPlan) (lives : List LifeView) (outcomes : List (Result Worked LockFault))
+    (run : ClusterRun) → AreOutcomesOf (map (task_of plan) lives) outcomes
+    → (all : List Worked) × (outcomes ≡ map Ok all) × IsPutTogether all run
+    → IsRunOf plan lives run
+run_of plan lives outcomes run are made = record {
   all = made.0;
-  worked = each_worked lives made.0 (subst (AreOutcomesOf lives) made.1 are);
+  worked = each_worked plan lives made.0
+      (subst (AreOutcomesOf (map (task_of plan) lives)) made.1 are);
   together = made.2;
 }
 
@@ -121,19 +124,19 @@ refuses fault ends =
     (λ is. subst (λ (f : LockFault). RefusesGathering (of_node f)) (sym is) refl)
     ends
 
-one_ends : (life : LifeView) (outcome : Result Worked LockFault) → IsOutcomeOf life outcome
-    → IfErr outcome EndsRun
-one_ends life (Ok w) is = tt
-one_ends life (Err fault) is = is
+one_ends : (plan : ClusterPlan) (life : LifeView) (outcome : Result Worked LockFault)
+    → IsOutcomeOf plan life outcome → IfErr outcome EndsRun
+one_ends plan life (Ok w) is = tt
+one_ends plan life (Err fault) is = is
 
 -- an outcome that is refused ends the run
-pub ends_run : (lives : List LifeView) (outcomes : List (Result Worked LockFault))
-    → AreOutcomesOf lives outcomes → All (λ o. IfErr o EndsRun) outcomes
+pub ends_run : (tasks : List TaskView) (outcomes : List (Result Worked LockFault))
+    → AreOutcomesOf tasks outcomes → All (λ o. IfErr o EndsRun) outcomes
 ends_run [] [] all = All-nil (λ (o : Result Worked LockFault). IfErr o EndsRun)
 ends_run [] (o ∷ more) all = absurd all
-ends_run (life ∷ lives) [] all = absurd all
-ends_run (life ∷ lives) (o ∷ more) all =
-    All-cons (λ (r : Result Worked LockFault). IfErr r EndsRun) o more (one_ends life o all.0) (ends_run lives more all.1)
+ends_run (task ∷ tasks) [] all = absurd all
+ends_run (task ∷ tasks) (o ∷ more) all =
+    All-cons (λ (r : Result Worked LockFault). IfErr r EndsRun) o more (one_ends task.plan task.life o all.0) (ends_run tasks more all.1)
 
 -- ---- the jobs of a run
 
@@ -166,19 +169,22 @@ all_jobs {D} content inboxes jobs served passes same also each linked =
     (subst (All (λ (s : ServedFile D). IsServed content s.file s.table)) (sym same) each)
     (subst (All (ArePassesOf inboxes)) (sym also) linked)
 
-lives_each : {D : Type 0} (jobs : List (Job D))
-    → map (λ (job : Job D). life_of_file job.served.file job.served.table) jobs
-    ≡ map (λ (s : ServedFile D). life_of_file s.file s.table) (map (λ (job : Job D). job.served) jobs)
-lives_each [] = refl
-lives_each (job ∷ jobs) = ap (λ l. life_of_file job.served.file job.served.table ∷ l) (lives_each jobs)
+tasks_each : {D : Type 0} (plan : ClusterPlan) (jobs : List (Job D))
+    → map (λ (job : Job D). task_of plan (life_of_file job.served.file job.served.table)) jobs
+    ≡ map (task_of plan) (map (λ (s : ServedFile D). life_of_file s.file s.table) (map (λ (job : Job D). job.served) jobs))
+tasks_each plan [] = refl
+tasks_each plan (job ∷ jobs) =
+    ap (λ l. task_of plan (life_of_file job.served.file job.served.table) ∷ l) (tasks_each plan jobs)
 
--- their lives are those of the files
-pub lives_of : {D : Type 0} (jobs : List (Job D)) (served : List (ServedFile D))
-    → map (λ (job : Job D). job.served) jobs ≡ served
-    → map (λ (job : Job D). life_of_file job.served.file job.served.table) jobs
-    ≡ map (λ (s : ServedFile D). life_of_file s.file s.table) served
-lives_of {D} jobs served same =
-    lives_each jobs ∙ ap (map (λ (s : ServedFile D). life_of_file s.file s.table)) same
+-- their tasks are those of the lives in these files
+pub tasks_of : {D : Type 0} (plan : ClusterPlan) (jobs : List (Job D)) (served : List (ServedFile D))
+    (lives : List LifeView) → map (λ (job : Job D). job.served) jobs ≡ served
+    → map (λ (s : ServedFile D). life_of_file s.file s.table) served ≡ lives
+    → map (λ (job : Job D). task_of plan (life_of_file job.served.file job.served.table)) jobs
+    ≡ map (task_of plan) lives
+tasks_of {D} plan jobs served lives same are =
+    tasks_each plan jobs
+    ∙ ap (map (task_of plan)) (ap (map (λ (s : ServedFile D). life_of_file s.file s.table)) same ∙ are)
 
 pub lives_count : (node : ℕ) (contents : List (List ℕ))
     → length (lives_from node contents) ≡ length contents

@@ -1,2 +1,4 @@
 -- what a run leaves
 pub mod Run
+-- what its threads do
+pub mod Threads

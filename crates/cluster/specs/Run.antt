@@ -21,10 +21,11 @@ pub record IsPutTogether (all : List Worked) (run : ClusterRun) : Type 0 where
   pub lost : run.lost ≡ up_to_most (sum_by (λ w. w.lost) all)
   pub stopped : run.stopped.items ≡ map (λ w. w.node) (filter (λ w. w.is_stopped) all)
 
--- what the workers of nodes in these lives leave, put together in the order of the nodes
-pub record IsRunOf (lives : List LifeView) (run : ClusterRun) : Type 0 where
+-- what the workers of nodes in these lives leave in a run of this plan, put together in the order of
+-- the nodes
+pub record IsRunOf (plan : ClusterPlan) (lives : List LifeView) (run : ClusterRun) : Type 0 where
   pub all : List Worked
-  pub worked : AllZip HasWorked lives all
+  pub worked : AllZip (HasWorked plan) lives all
   pub together : IsPutTogether all run
 
 -- the contents of `nodes` devices that hold nothing

@@ -166,7 +166,7 @@ pub fn run_cluster<R: Threads + Wait + Sync, G: TurnHook + Sync>(
     plan: ClusterPlan,
     gate: &G,
 ) -> Result<ClusterRun, ClusterFault>
-    ensures run { IfOk result (IsRunOf (first_lives plan.nodes)) }
+    ensures run { IfOk result (IsRunOf plan (first_lives plan.nodes)) }
     ensures accepted { OnOk result (refusal_of_run plan largest plan.nodes ≡ None) }
     ensures first { (fault : Fault) → refusal_of_run plan largest plan.nodes ≡ Some fault
         → IsErrOf result fault }
@@ -185,12 +185,20 @@ pub fn run_cluster<R: Threads + Wait + Sync, G: TurnHook + Sync>(
 /// its own, that starts it, makes its turns and closes it.
 ///
 /// Each node except the first joins through node 0. Then it makes one call in each turn, counted
-/// from 1. If 4 divides the turn, that is a write of the turn's number in decimal digits, with
+/// from 1. The frames of a call are put into the inboxes of their addressees; one that finds no room
+/// is lost. The random words of a node are those of a `Pcg64` whose seed is the plan's plus the
+/// node's number, wrapped.
+///
+/// Under [`Workload::Fixed`] a turn that 4 divides writes the turn's number in decimal digits, with
 /// stamp 0, under the key `live/all/k` and a digit, the turn modulo 8, over what the node holds
-/// there. Otherwise the oldest frame of the node's inbox is taken; if there is none, time goes on
-/// by a tick. The frames of a call are put into the inboxes of their addressees; one that finds no
-/// room is lost. Each join, frame and tick has the next random word, of a `Pcg64` whose seed is the
-/// plan's plus the node's number, wrapped.
+/// there. Any other takes the oldest frame of the node's inbox; if there is none, time goes on by a
+/// tick. Each join, frame and tick has the next random word.
+///
+/// Under [`Workload::Mixed`] a turn draws three words. In half of the turns it takes a frame or lets
+/// time go on, as above. In a quarter it reads, keeps, writes or deletes under one of the eight keys:
+/// with the context of what the node read there last, without one, or over what the node holds. In a
+/// quarter it begins an exchange, says hello, finds a peer down, leaves, joins, watches, or asks a
+/// watch for its changes.
 ///
 /// If a journal is full it is cut, and the call is made once more. A node whose device fails is
 /// stopped: it makes no more turns, while the others go on. 99 `Memory` ends the run; any other
@@ -213,7 +221,7 @@ pub fn run_cluster_on<D: Device + Drop + Send, R: Threads + Wait + Sync, G: Turn
     gate: &G,
 ) -> Result<ClusterRun, ClusterFault>
     requires { All (λ d. IsDurable (D.content d) (D.may_leave d)) devices.items }
-    ensures run { IfOk result (IsRunOf (lives_from 0 (map D.content devices.items))) }
+    ensures run { IfOk result (IsRunOf plan (lives_from 0 (map D.content devices.items))) }
     ensures accepted { OnOk result (CanRun D.content plan limits devices.items) }
     ensures first { (fault : Fault) → refusal_of_run plan limits (vec_len devices) ≡ Some fault
         → IsErrOf result fault }

@@ -2,10 +2,11 @@
 
 ghost use Rattle.std.specs.Prelude.{◌≡◌, ◌⊎◌, ◌≤◌, [], length, map, All, IfOk, IfErr, IsTrue, vec_capacity};
 ghost use Rattle.cluster_worker.specs.Serving.{life_of_file};
-ghost use Rattle.cluster_worker.specs.Worked.{IsOutcomeOf, AreOutcomesOf, IsJob};
+ghost use Rattle.cluster_worker.specs.Worked.{IsOutcomeOf, IsJob};
 ghost use Rattle.cluster_worker.specs.declared.fault.ClusterFault.TheVariants.{Memory, NoThread};
+ghost use Rattle.cluster.specs.Threads.{AreOutcomesOf, task_of};
 
-use cluster_worker::{ClusterFault, Job, Shared, TurnHook, Worked, work};
+use cluster_worker::{ClusterFault, ClusterPlan, Job, Shared, TurnHook, Worked, work};
 use devices::Device;
 use meta_store::Store;
 use meta_types::NodeId;
@@ -18,33 +19,37 @@ use std::thread::{self, Promise, PromisedHandle, Scope, Threads};
 /// What comes of one worker; refused if it ends the whole run.
 type Outcome = Result<Worked, LockFault>;
 
-/// The node of a worker, in this life, which opened with this table.
+/// The worker of a node in this life, which opened with this table, in a run of this plan.
 #[derive(Drop)]
-struct InLife {
+struct Task {
+    plan: ClusterPlan,
     node: NodeId,
     incarnation: u32,
     opening: Snapshot<Store>,
 }
 
-impl Model for InLife {
-    ghost use Rattle.cluster_worker.specs.Serving.{LifeView};
+impl Model for Task {
+    ghost use Rattle.cluster.specs.Threads.{TaskView};
 
-    ghost Value = { LifeView };
+    ghost Value = { TaskView };
 
-    ghost view = { λ life. record {
-      node = life.node;
-      incarnation = life.incarnation;
-      opened = life.opening.value;
+    ghost view = { λ task. record {
+      plan = task.plan;
+      life = record {
+        node = task.node;
+        incarnation = task.incarnation;
+        opened = task.opening.value;
+      };
     } };
 }
 
-impl Promise<Outcome> for InLife {
-    ghost use Rattle.cluster_worker.specs.Worked.{IsOutcomeOf};
+impl Promise<Outcome> for Task {
+    ghost use Rattle.cluster.specs.Threads.{IsOutcomeOfTask};
 
-    ghost kept_by = { λ life outcome. IsOutcomeOf life outcome };
+    ghost kept_by = { λ task outcome. IsOutcomeOfTask task outcome };
 }
 
-type Handle = PromisedHandle<Outcome, InLife>;
+type Handle = PromisedHandle<Outcome, Task>;
 
 /// The workers' threads, as far as they could be made.
 #[derive(Drop)]
@@ -68,23 +73,26 @@ where
     requires jobs { All (λ job. IsJob D.content shared.now.inboxes.now
         job.served.file job.served.table job.passes) jobs.items }
     requires handles { (handles.items ≡ []) × (length jobs.items ≤ vec_capacity handles) }
-    ensures lives { IsTrue result.is_whole → map (λ h. h.promise) result.handles.items
-        ≡ map (λ job. life_of_file job.served.file job.served.table) jobs.items }
+    ensures tasks { IsTrue result.is_whole → map (λ h. h.promise) result.handles.items
+        ≡ map (λ job. task_of shared.now.plan
+        (life_of_file job.served.file job.served.table)) jobs.items }
     ensures few { length result.handles.items ≤ length jobs.items }
 {
     let mut handles = handles;
     for job in jobs {
-        let life = InLife {
+        let task = Task {
+            plan: shared.plan,
             node: job.served.file.node(),
             incarnation: job.served.file.life(),
             opening: Snapshot::of(&job.served.table),
         };
         let spawned = scope.spawn_with(
-            life,
+            task,
             move ||
                 requires { IsJob D.content shared.now.inboxes.now
                     job.served.file job.served.table job.passes }
-                ensures { IsOutcomeOf (life_of_file job.served.file job.served.table) result }
+                ensures { IsOutcomeOf shared.entry.now.plan
+                    (life_of_file job.served.file job.served.table) result }
             { work(shared, job) },
         );
         match spawned {
@@ -130,8 +138,8 @@ where
     G: TurnHook + Sync,
     requires { All (λ job. IsJob D.content shared.now.inboxes.now
         job.served.file job.served.table job.passes) jobs.items }
-    ensures worked { IfOk result (λ all. AreOutcomesOf
-        (map (λ job. life_of_file job.served.file job.served.table) jobs.items) all.items) }
+    ensures worked { IfOk result (λ all. AreOutcomesOf (map (λ job. task_of shared.now.plan
+        (life_of_file job.served.file job.served.table)) jobs.items) all.items) }
     ensures refused { IfErr result (λ fault. (fault ≡ Memory) ⊎ (fault ≡ NoThread)) }
 {
     let handles = Vec::with_capacity(shared.alloc, jobs.len())?;
@@ -147,7 +155,8 @@ where
             requires outcomes { (outcomes.items ≡ [])
                 × (length jobs.items ≤ vec_capacity outcomes) }
             ensures worked { IfOk result (λ all. AreOutcomesOf (map (λ job.
-                life_of_file job.served.file job.served.table) jobs.items) all.items) }
+                task_of shared.entry.now.plan (life_of_file job.served.file job.served.table))
+                jobs.items) all.items) }
             ensures refused { IfErr result (λ fault. (fault ≡ Memory) ⊎ (fault ≡ NoThread)) }
         {
             let spawned = spawn_all(scope, shared, jobs, handles);

@@ -13,6 +13,7 @@ use Rattle.cluster_worker.specs.Frames.{ArePutOrLost, Conveys, TakesFor, TakesFo
 use Rattle.cluster_worker.specs.Turns.{UnlessFailed, WorksOn, ending_of, with_takes}
 use Rattle.cluster_worker.specs.Worked.{HasConveyed}
 use Rattle.cluster_worker.specs.declared.passes.Passes.{Passes}
+use Rattle.cluster_worker.specs.declared.plan.ClusterPlan.{ClusterPlan}
 use Rattle.cluster_worker.specs.declared.turns.Ending.{Ending}
 use Rattle.cluster_worker.specs.declared.turns.Ending.TheVariants.{Failed, Stopped}
 use Rattle.cluster_worker.specs.declared.turns.Worker.{Worker}
@@ -138,11 +139,12 @@ unless_err {A} result ending given P Q is same more fact =
 -- ---- turn by turn
 
 -- a worker of this node has asked for its first call, and for one in each turn before this one
-pub record HasAsked (inboxes : List InboxView) (node turn : ℕ) (old new : Worker) : Type 0 where
+pub record HasAsked (plan : ClusterPlan) (inboxes : List InboxView) (node turn : ℕ) (old new : Worker)
+    : Type 0 where
   pub first : List NodeEvent
   pub joins : JoinsFirst node first
   pub later : List NodeEvent
-  pub of_turns : AreOfTurns 1 later
+  pub of_turns : AreOfTurns plan 1 later
   pub number : length later + 1 ≡ turn
   pub works : WorksOn inboxes (first ++ later) old new
 
@@ -155,10 +157,10 @@ first_some zero contact word some is = absurd (some refl)
 first_some (suc n) contact word some is = (word, ap (λ c. Join c word ∷ []) is)
 
 -- before the first turn
-pub first_asked : (inboxes : List InboxView) (node : ℕ) (old new : Worker)
+pub first_asked : (plan : ClusterPlan) (inboxes : List InboxView) (node : ℕ) (old new : Worker)
     → (asked : List NodeEvent) × JoinsFirst node asked × WorksOn inboxes asked old new
-    → HasAsked inboxes node 1 old new
-first_asked inboxes node old new is = record {
+    → HasAsked plan inboxes node 1 old new
+first_asked plan inboxes node old new is = record {
   first = is.0;
   joins = is.1;
   later = [];
@@ -167,35 +169,35 @@ first_asked inboxes node old new is = record {
   works = subst (λ l. WorksOn inboxes l old new) (sym (append-nil is.0)) is.2;
 }
 
-of_turns_on : (turn next : ℕ) (later : List NodeEvent) (event : NodeEvent)
-    → AreOfTurns turn later → next ≡ turn + length later → IsOfTurn next event
-    → AreOfTurns turn (later ++ event ∷ [])
-of_turns_on turn next [] event are same is =
-    (subst (λ t. IsOfTurn t event) (omega (arith, same)) is, tt)
-of_turns_on turn next (one ∷ later) event are same is =
-    (are.0, of_turns_on (turn + 1) next later event are.1 (omega (arith, same)) is)
+of_turns_on : (plan : ClusterPlan) (turn next : ℕ) (later : List NodeEvent) (event : NodeEvent)
+    → AreOfTurns plan turn later → next ≡ turn + length later → IsOfTurn plan next event
+    → AreOfTurns plan turn (later ++ event ∷ [])
+of_turns_on plan turn next [] event are same is =
+    (subst (λ t. IsOfTurn plan t event) (omega (arith, same)) is, tt)
+of_turns_on plan turn next (one ∷ later) event are same is =
+    (are.0, of_turns_on plan (turn + 1) next later event are.1 (omega (arith, same)) is)
 
 -- one turn more
-pub one_turn : (inboxes : List InboxView) (node turn : ℕ) (old mid new : Worker)
-    → HasAsked inboxes node turn old mid
-    → (event : NodeEvent) × IsOfTurn turn event × WorksOn inboxes (event ∷ []) mid new
-    → HasAsked inboxes node (turn + 1) old new
-one_turn inboxes node turn old mid new was is = record {
+pub one_turn : (plan : ClusterPlan) (inboxes : List InboxView) (node turn : ℕ) (old mid new : Worker)
+    → HasAsked plan inboxes node turn old mid
+    → (event : NodeEvent) × IsOfTurn plan turn event × WorksOn inboxes (event ∷ []) mid new
+    → HasAsked plan inboxes node (turn + 1) old new
+one_turn plan inboxes node turn old mid new was is = record {
   first = was.first;
   joins = was.joins;
   later = was.later ++ is.0 ∷ [];
-  of_turns = of_turns_on 1 turn was.later is.0 was.of_turns (omega (arith, was.number)) is.1;
+  of_turns = of_turns_on plan 1 turn was.later is.0 was.of_turns (omega (arith, was.number)) is.1;
   number = omega (arith, was.number, length_push was.later is.0);
   works = subst (λ l. WorksOn inboxes l old new) (append_assoc was.first was.later (is.0 ∷ []))
       (works_on inboxes (was.first ++ was.later) (is.0 ∷ []) old mid new was.works is.2);
 }
 
 -- what it was asked for, if it makes no more turns
-pub asked_of : (inboxes : List InboxView) (node turns turn : ℕ) (is_stopped : Bool)
-    (old new : Worker) → HasMade is_stopped turns (turn - 1) → HasAsked inboxes node turn old new
-    → (asked : List NodeEvent) × AreAsked node turns is_stopped asked
+pub asked_of : (plan : ClusterPlan) (inboxes : List InboxView) (node turn : ℕ) (is_stopped : Bool)
+    (old new : Worker) → HasMade is_stopped plan.turns (turn - 1) → HasAsked plan inboxes node turn old new
+    → (asked : List NodeEvent) × AreAsked plan node is_stopped asked
     × WorksOn inboxes asked old new
-asked_of inboxes node turns turn is_stopped old new made was =
+asked_of plan inboxes node turn is_stopped old new made was =
     let number : turn - 1 ≡ length was.later = omega (arith, was.number) in (
       was.first ++ was.later,
       record {
@@ -203,7 +205,7 @@ asked_of inboxes node turns turn is_stopped old new made was =
         joins = was.joins;
         later = was.later;
         of_turns = was.of_turns;
-        made = subst (HasMade is_stopped turns) number made;
+        made = subst (HasMade is_stopped plan.turns) number made;
         all = refl;
       },
       was.works,
@@ -222,28 +224,28 @@ ends : (is : Bool) → is_err (ending_of is) ≡ is
 ends true = refl
 ends false = refl
 
-pub conveyed_of : (inboxes : List InboxView) (turns : ℕ) (first last : Worker)
+pub conveyed_of : (plan : ClusterPlan) (inboxes : List InboxView) (first last : Worker)
     (made : Result (Unit {0}) Ending) (result : Result Worked LockFault)
     → first.receipts.items ≡ [] → first.lost ≡ 0
-    → UnlessFailed made ((asked : List NodeEvent) × AreAsked first.node turns (is_err made) asked
+    → UnlessFailed made ((asked : List NodeEvent) × AreAsked plan first.node (is_err made) asked
     × WorksOn inboxes asked first last)
     → last.node ≡ first.node → IfOk result (λ w. w.node ≡ last.node)
     → IfOk result (λ w. w.passes ≡ last.passes) → IfOk result (λ w. w.receipts ≡ last.receipts)
     → IfOk result (λ w. w.lost ≡ last.lost) → IfOk result (λ w. made ≡ ending_of w.is_stopped)
     → IfOk result (λ w. w.lost ≤ 18446744073709551615)
-    → IfOk result (HasConveyed inboxes turns first.passes)
-conveyed_of inboxes turns first last made (Err fault) none unlost works same node passes receipts lost stopped few = tt
-conveyed_of inboxes turns first last made (Ok w) none unlost works same node passes receipts lost stopped few =
+    → IfOk result (HasConveyed plan inboxes first.passes)
+conveyed_of plan inboxes first last made (Err fault) none unlost works same node passes receipts lost stopped few = tt
+conveyed_of plan inboxes first last made (Ok w) none unlost works same node passes receipts lost stopped few =
     let did = not_failed w.is_stopped made ((asked : List NodeEvent)
-    × AreAsked first.node turns (is_err made) asked × WorksOn inboxes asked first last) stopped works in
+    × AreAsked plan first.node (is_err made) asked × WorksOn inboxes asked first last) stopped works in
     let on = did.2 in
     let all : on.more ≡ w.receipts.items =
     sym (ap (λ v. v.items) receipts ∙ (on.receipts ∙ ap (λ l. l ++ on.more) none)) in
     let ended : is_err made ≡ w.is_stopped = ap is_err stopped ∙ ends w.is_stopped in
     record {
       asked = did.0;
-      are = subst (λ n. AreAsked n turns w.is_stopped did.0) (sym (node ∙ same))
-          (subst (λ b. AreAsked first.node turns b did.0) ended did.1);
+      are = subst (λ n. AreAsked plan n w.is_stopped did.0) (sym (node ∙ same))
+          (subst (λ b. AreAsked plan first.node b did.0) ended did.1);
       lost = on.lost;
       told = omega (arith, on.told, lost, unlost, few);
       conveys = subst (λ (l : List Receipt). Conveys inboxes did.0 l on.lost first.passes w.passes) all

@@ -24,17 +24,18 @@ use Rattle.cluster_worker.specs.Serving.{LifeView}
 use Rattle.cluster_worker.specs.Turns.{IsWorkerOf}
 use Rattle.cluster_worker.specs.Worked.{EndsRun, HasWorked, IsLeftOfLife, IsReceiptIn, frames_in}
 use Rattle.cluster_worker.specs.declared.fault.ClusterFault.{ClusterFault}
+use Rattle.cluster_worker.specs.declared.plan.ClusterPlan.{ClusterPlan}
 use Rattle.cluster_worker.specs.declared.turns.Worker.{Worker}
 use Rattle.cluster_worker.specs.declared.worker.Worked.{Worked}
 
 -- what an acknowledgement tells is a receipt of the worker
-receipt_in : (life : LifeView) (event : NodeEvent) (a : Acknowledged) (r : Receipt) → r ≡ a.receipt
-    → IsAsked event → AnswersCall life.node life.incarnation life.opened event a
-    → IsReceiptIn life r
-receipt_in life event a r is asked answers =
+receipt_in : (plan : ClusterPlan) (life : LifeView) (event : NodeEvent) (a : Acknowledged) (r : Receipt)
+    → r ≡ a.receipt → IsAsked plan event
+    → AnswersCall life.node life.incarnation life.opened event a → IsReceiptIn plan life r
+receipt_in plan life event a r is asked answers =
     let same : event ≡ r.entry.event =
     sym (ap (λ (x : Receipt). x.entry.event) is ∙ answers.receipt.is_event) in record {
-      asked = subst IsAsked same asked;
+      asked = subst (IsAsked plan) same asked;
       given = a;
       is = is;
       answers = subst (λ e. AnswersCall life.node life.incarnation life.opened e a) same answers;
@@ -42,16 +43,16 @@ receipt_in life event a r is asked answers =
 
 -- A worker goes on as the worker of its node: its passes stay those of the inboxes, and the receipt
 -- of a call that its seat counted is kept behind those that it has.
-pub goes_on : (inboxes : List InboxView) (life : LifeView) (counted now : ℕ) (event : NodeEvent)
-    (a : Acknowledged) (old new : Worker) (kept : List Receipt) (r : Receipt)
-    → IsWorkerOf inboxes life counted old → new.node ≡ old.node → new.passes.own ≡ old.passes.own
+pub goes_on : (plan : ClusterPlan) (inboxes : List InboxView) (life : LifeView) (counted now : ℕ)
+    (event : NodeEvent) (a : Acknowledged) (old new : Worker) (kept : List Receipt) (r : Receipt)
+    → IsWorkerOf plan inboxes life counted old → new.node ≡ old.node → new.passes.own ≡ old.passes.own
     → new.passes.takes ≡ old.passes.takes → ArePassesInto inboxes new.passes.puts.items
     → kept ≡ old.receipts.items → new.receipts.items ≡ kept ++ r ∷ [] → r ≡ a.receipt
-    → IsAsked event → AnswersCall life.node life.incarnation life.opened event a
+    → IsAsked plan event → AnswersCall life.node life.incarnation life.opened event a
     → now ≡ counted + 1 → new.lost ≤ old.lost + length r.entry.outbox
-    → IsWorkerOf inboxes life now new
-goes_on inboxes life counted now event a old new kept r was node own takes puts same all is asked answers one lost =
-    let before : All (IsReceiptIn life) kept = subst (All (IsReceiptIn life)) (sym same) was.receipts in
+    → IsWorkerOf plan inboxes life now new
+goes_on plan inboxes life counted now event a old new kept r was node own takes puts same all is asked answers one lost =
+    let before : All (IsReceiptIn plan life) kept = subst (All (IsReceiptIn plan life)) (sym same) was.receipts in
     let sum : frames_in new.receipts.items ≡ frames_in old.receipts.items + length r.entry.outbox =
     ap frames_in all
     ∙ (sum_by_push (λ (x : Receipt). length x.entry.outbox) kept r
@@ -64,56 +65,56 @@ goes_on inboxes life counted now event a old new kept r was node own takes puts 
             (was.passes.takes ∙ ap (λ (t : TakeView). Some t.line) (sym takes));
         puts = puts;
       };
-      receipts = subst (All (IsReceiptIn life)) (sym all)
-          (All-push (IsReceiptIn life) kept r before (receipt_in life event a r is asked answers));
+      receipts = subst (All (IsReceiptIn plan life)) (sym all)
+          (All-push (IsReceiptIn plan life) kept r before (receipt_in plan life event a r is asked answers));
       counted = omega (arith, number, was.counted, one);
       lost = omega (arith, lost, was.lost, sum);
     }
 
 -- a call that is refused changes nothing
-pub stays : (inboxes : List InboxView) (life : LifeView) (counted now : ℕ) (old new : Worker)
-    → IsWorkerOf inboxes life counted old → new.node ≡ old.node → new.passes ≡ old.passes
+pub stays : (plan : ClusterPlan) (inboxes : List InboxView) (life : LifeView) (counted now : ℕ)
+    (old new : Worker) → IsWorkerOf plan inboxes life counted old → new.node ≡ old.node → new.passes ≡ old.passes
     → new.receipts.items ≡ old.receipts.items → new.lost ≡ old.lost → now ≡ counted
-    → IsWorkerOf inboxes life now new
-stays inboxes life counted now old new was node passes receipts lost same = record {
+    → IsWorkerOf plan inboxes life now new
+stays plan inboxes life counted now old new was node passes receipts lost same = record {
   node = node ∙ was.node;
   passes = subst (ArePassesOf inboxes) (sym passes) was.passes;
-  receipts = subst (All (IsReceiptIn life)) (sym receipts) was.receipts;
+  receipts = subst (All (IsReceiptIn plan life)) (sym receipts) was.receipts;
   counted = ap length receipts ∙ (was.counted ∙ sym same);
   lost = subst (λ n. n ≤ frames_in new.receipts.items) (sym lost)
       (subst (λ l. old.lost ≤ frames_in l) (sym receipts) was.lost);
 }
 
 -- at the beginning
-pub begins : (inboxes : List InboxView) (life : LifeView) (worker : Worker)
+pub begins : (plan : ClusterPlan) (inboxes : List InboxView) (life : LifeView) (worker : Worker)
     → worker.node ≡ life.node → ArePassesOf inboxes worker.passes → worker.receipts.items ≡ []
-    → worker.lost ≡ 0 → IsWorkerOf inboxes life 0 worker
-begins inboxes life worker node passes receipts lost = record {
+    → worker.lost ≡ 0 → IsWorkerOf plan inboxes life 0 worker
+begins plan inboxes life worker node passes receipts lost = record {
   node = node;
   passes = passes;
-  receipts = subst (All (IsReceiptIn life)) (sym receipts) (All-nil (IsReceiptIn life));
+  receipts = subst (All (IsReceiptIn plan life)) (sym receipts) (All-nil (IsReceiptIn plan life));
   counted = ap length receipts;
   lost = omega (arith, lost);
 }
 
 -- what comes of a worker whose node was closed with its one seat
-pub worked_of : (inboxes : List InboxView) (life : LifeView) (calls : ℕ) (worker : Worker)
-    (closed : ClosedNode) (seats : List ℕ) (result : Result Worked LockFault)
-    → IsWorkerOf inboxes life calls worker
+pub worked_of : (plan : ClusterPlan) (inboxes : List InboxView) (life : LifeView) (calls : ℕ)
+    (worker : Worker) (closed : ClosedNode) (seats : List ℕ) (result : Result Worked LockFault)
+    → IsWorkerOf plan inboxes life calls worker
     → BeganWith life.node life.incarnation life.opened closed.base → EndsWithTable closed
     → (given : ℕ) × (closed.base.steps + length closed.journal ≡ given + sum_by (λ s. s) seats)
     → seats ≡ calls ∷ [] → IfOk result (λ w. w.node ≡ worker.node)
     → IfOk result (λ w. w.closed ≡ closed) → IfOk result (λ w. w.receipts ≡ worker.receipts)
-    → IfOk result (λ w. w.lost ≡ worker.lost) → IfOk result (HasWorked life)
-worked_of inboxes life calls worker closed seats (Err fault) was began run counts one node same receipts lost = tt
-worked_of inboxes life calls worker closed seats (Ok w) was began run counts one node same receipts lost =
+    → IfOk result (λ w. w.lost ≡ worker.lost) → IfOk result (HasWorked plan life)
+worked_of plan inboxes life calls worker closed seats (Err fault) was began run counts one node same receipts lost = tt
+worked_of plan inboxes life calls worker closed seats (Ok w) was began run counts one node same receipts lost =
     let number : length w.receipts.items ≡ length worker.receipts.items = ap (λ v. length v.items) receipts in
     let sum : sum_by (λ s. s) seats ≡ 0 + calls = ap (sum_by (λ s. s)) one in
     let counted : length w.receipts.items ≤ closed.base.steps + length closed.journal =
     omega (arith, number, was.counted, counts.1, sum) in record {
       node = node ∙ was.node;
       left = subst (IsLeftOfLife life) (sym same) (record { began = began; run = run });
-      receipts = subst (λ v. All (IsReceiptIn life) v.items) (sym receipts) was.receipts;
+      receipts = subst (λ v. All (IsReceiptIn plan life) v.items) (sym receipts) was.receipts;
       counted = subst (λ (c : ClosedNode). length w.receipts.items ≤ c.base.steps + length c.journal) (sym same) counted;
       lost = subst (λ n. n ≤ frames_in w.receipts.items) (sym lost)
           (subst (λ v. worker.lost ≤ frames_in v.items) (sym receipts) was.lost);

@@ -8,17 +8,19 @@ use Rattle.cluster_worker.specs.Frames.{Conveys, up_to_most}
 use Rattle.cluster_worker.specs.Passes.{ArePassesOf}
 use Rattle.cluster_worker.specs.Serving.{LifeView}
 use Rattle.cluster_worker.specs.Worked.{IsReceiptIn, frames_in}
+use Rattle.cluster_worker.specs.declared.plan.ClusterPlan.{ClusterPlan}
 use Rattle.cluster_worker.specs.declared.turns.Ending.{Ending}
 use Rattle.cluster_worker.specs.declared.turns.Ending.TheVariants.{Failed, Stopped}
 use Rattle.cluster_worker.specs.declared.turns.Worker.{Worker}
 
--- it is the worker of a node in this life, whose seat has counted `calls` calls: it has passes of
--- these inboxes and a receipt of each call, and no more frames are lost than were sent
-pub record IsWorkerOf (inboxes : List InboxView) (life : LifeView) (calls : ℕ) (worker : Worker)
-    : Type 0 where
+-- it is the worker of a node in this life, in a run of this plan, whose seat has counted `calls`
+-- calls: it has passes of these inboxes and a receipt of each call, and no more frames are lost than
+-- were sent
+pub record IsWorkerOf (plan : ClusterPlan) (inboxes : List InboxView) (life : LifeView) (calls : ℕ)
+    (worker : Worker) : Type 0 where
   pub node : worker.node ≡ life.node
   pub passes : ArePassesOf inboxes worker.passes
-  pub receipts : All (IsReceiptIn life) worker.receipts.items
+  pub receipts : All (IsReceiptIn plan life) worker.receipts.items
   pub counted : length worker.receipts.items ≡ calls
   pub lost : worker.lost ≤ frames_in worker.receipts.items
 

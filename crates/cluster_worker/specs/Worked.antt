@@ -1,6 +1,5 @@
 -- What comes of a worker.
 use Rattle.std.specs.Prelude.{◌≡◌, ◌≤◌, ◌+◌, ◌⊎◌, ℕ, List, length, sum_by, All, MatchResult, Result}
-use Rattle.std.specs.List.{AllZip}
 use Rattle.meta_store.specs.Table.{Table}
 use Rattle.node_file.specs.View.{FileView}
 use Rattle.node_desk.specs.Desk.{BeganWith}
@@ -17,6 +16,7 @@ use Rattle.cluster_worker.specs.Frames.{Conveys, up_to_most}
 use Rattle.cluster_worker.specs.Passes.{ArePassesOf}
 use Rattle.cluster_worker.specs.Serving.{IsServed, LifeView}
 use Rattle.cluster_worker.specs.declared.passes.Passes.{Passes}
+use Rattle.cluster_worker.specs.declared.plan.ClusterPlan.{ClusterPlan}
 use Rattle.cluster_worker.specs.declared.worker.Worked.{Worked}
 
 -- what is left of a node that was in this life: the base of its journal came from the table that it
@@ -25,10 +25,10 @@ pub record IsLeftOfLife (life : LifeView) (c : ClosedNode) : Type 0 where
   pub began : BeganWith life.node life.incarnation life.opened c.base
   pub run : EndsWithTable c
 
--- a worker may have been given the receipt by its node in this life: for a call that it may make,
--- from some state that the node comes to
-pub record IsReceiptIn (life : LifeView) (r : Receipt) : Type 0 where
-  pub asked : IsAsked r.entry.event
+-- a worker may have been given the receipt by its node in this life: for a call that it may make in
+-- a run of this plan, from some state that the node comes to
+pub record IsReceiptIn (plan : ClusterPlan) (life : LifeView) (r : Receipt) : Type 0 where
+  pub asked : IsAsked plan r.entry.event
   pub given : Acknowledged
   pub is : r ≡ given.receipt
   pub answers : AnswersCall life.node life.incarnation life.opened r.entry.event given
@@ -37,22 +37,22 @@ pub record IsReceiptIn (life : LifeView) (r : Receipt) : Type 0 where
 abbrev pub frames_in : List Receipt → ℕ
 frames_in receipts = sum_by (λ r. length r.entry.outbox) receipts
 
--- what comes of the worker of a node in this life: a receipt for no more calls than the node made
--- steps, and no more frames lost than were sent
-pub record HasWorked (life : LifeView) (w : Worked) : Type 0 where
+-- what comes of the worker of a node in this life, in a run of this plan: a receipt for no more
+-- calls than the node made steps, and no more frames lost than were sent
+pub record HasWorked (plan : ClusterPlan) (life : LifeView) (w : Worked) : Type 0 where
   pub node : w.node ≡ life.node
   pub left : IsLeftOfLife life w.closed
-  pub receipts : All (IsReceiptIn life) w.receipts.items
+  pub receipts : All (IsReceiptIn plan life) w.receipts.items
   pub counted : length w.receipts.items ≤ w.closed.base.steps + length w.closed.journal
   pub lost : w.lost ≤ frames_in w.receipts.items
 
--- what became of the frames of a worker that had these passes, in so many turns: its calls took
+-- what became of the frames of a worker that had these passes, in a run of this plan: its calls took
 -- those that its pass took, and of those that the calls of its receipts sent the lost ones are
 -- counted, while the others were put
-pub record HasConveyed (inboxes : List InboxView) (turns : ℕ) (before : Passes) (w : Worked)
-    : Type 0 where
+pub record HasConveyed (plan : ClusterPlan) (inboxes : List InboxView) (before : Passes)
+    (w : Worked) : Type 0 where
   pub asked : List NodeEvent
-  pub are : AreAsked w.node turns w.is_stopped asked
+  pub are : AreAsked plan w.node w.is_stopped asked
   pub lost : ℕ
   pub told : w.lost ≡ up_to_most lost
   pub conveys : Conveys inboxes asked w.receipts.items lost before w.passes
@@ -68,11 +68,7 @@ pub record IsJob {D : Type 0} (content : D → List ℕ) (inboxes : List InboxVi
   pub served : IsServed content file held
   pub connected : ArePassesOf inboxes passes
 
--- what comes of the worker of a node in this life, if it doesn't end the whole run; or why it ends
--- the run
-abbrev pub IsOutcomeOf : LifeView → Result Worked LockFault → Type 0
-IsOutcomeOf life outcome = MatchResult outcome (HasWorked life) EndsRun
-
--- what comes of each worker, in the order of the nodes
-abbrev pub AreOutcomesOf : List LifeView → List (Result Worked LockFault) → Type 0
-AreOutcomesOf lives outcomes = AllZip IsOutcomeOf lives outcomes
+-- what comes of the worker of a node in this life, in a run of this plan, if it doesn't end the whole
+-- run; or why it ends the run
+abbrev pub IsOutcomeOf : ClusterPlan → LifeView → Result Worked LockFault → Type 0
+IsOutcomeOf plan life outcome = MatchResult outcome (HasWorked plan life) EndsRun

@@ -8,8 +8,8 @@
 //! let worked = work(&shared, Job { served, passes })?;
 //! ```
 //!
-//! Read `plan`, `turn_hook`, `fault`; then `worker` with `turns`, `call` and `sending`; `serving`
-//! and `passes` hold what is done before.
+//! Read `plan`, `turn_hook`, `fault`; then `worker` with `turns`, `source`, `call` and `sending`;
+//! `serving` and `passes` hold what is done before.
 #![tactic(auto)]
 
 mod call;
@@ -18,13 +18,14 @@ mod passes;
 mod plan;
 mod sending;
 mod serving;
+mod source;
 mod turn_hook;
 mod turns;
 mod worker;
 
 pub use fault::ClusterFault;
 pub use passes::{Passes, close_all, connect};
-pub use plan::{ClusterPlan, Limits, MAX_NODES, is_node_count, refusal_of};
+pub use plan::{ClusterPlan, Limits, MAX_NODES, Workload, is_node_count, refusal_of};
 pub use serving::{ServedFile, begin_all};
 pub use turn_hook::{NoHook, TurnHook};
 pub use turns::Shared;

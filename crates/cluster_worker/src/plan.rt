@@ -8,13 +8,24 @@ use node_lock::MAX_JOURNAL;
 /// How many nodes a cluster has at most.
 pub const MAX_NODES: u64 = 16;
 
+/// What the turns of a run ask for.
+#[derive(Clone, Copy, Debug, PartialEq, Eq)]
+pub enum Workload {
+    /// Each fourth turn writes; the others take a frame, or let time go on.
+    Fixed,
+    /// Each turn draws one of all the events of a node.
+    Mixed,
+}
+
 /// A run of a cluster: of how many nodes, 1 to 16, numbered from 0; how many turns each of them
-/// makes; and the seed of their random words, to which each node adds its number.
+/// makes; the seed of their random words, to which each node adds its number; and what its turns
+/// ask for.
 #[derive(Clone, Copy, Debug, PartialEq, Eq)]
 pub struct ClusterPlan {
     pub nodes: u64,
     pub turns: u64,
     pub seed: u64,
+    pub workload: Workload,
 }
 
 /// How many frames the inbox of a node has room for, 1 to 1,024, and how many entries its journal

@@ -1,24 +1,26 @@
 //! The turns of a node, in the thread of its worker.
 
-ghost use Rattle.std.specs.Prelude.{◌≡◌, ◌≤◌, List, [], ◌∷◌, IfErr, IfOk, is_err};
+ghost use Rattle.std.specs.Prelude.{◌≡◌, ◌≤◌, List, [], ◌∷◌, IfErr, is_err};
 ghost use Rattle.node_events.specs.declared.event.NodeEvent.{NodeEvent as Event};
 ghost use Rattle.inbox.specs.Views.{TakeView};
-ghost use Rattle.cluster_worker.specs.Call.{AreAsked, IsAfterRefusal, IsAsked, JoinsFirst, IsOfTurn, event_of};
+ghost use Rattle.cluster_worker.specs.Call.{AreAsked, IsAfterRefusal, IsAsked, JoinsFirst, IsOfTurn};
 ghost use Rattle.node_call.specs.declared.fault.LockFault.TheVariants.{Memory};
 ghost use Rattle.cluster_worker.specs.Frames.{TakesFor};
-ghost use Rattle.cluster_worker.specs.Passes.{ArePassesOf};
+ghost use Rattle.cluster_worker.specs.Plan.{IsNodeCount};
 ghost use Rattle.cluster_worker.specs.Serving.{life_of};
 ghost use Rattle.cluster_worker.specs.Turns.{EndsTurns, IsWorkerOf, UnlessFailed, WorksOn, with_takes};
 ghost use Rattle.cluster_worker.specs.declared.turns.Ending.TheVariants.{Failed};
 
-use crate::call::{Call, write_of};
+use crate::call::ask_at_last;
 use crate::passes::Passes;
 use crate::plan::ClusterPlan;
 use crate::sending::send_all;
+use crate::source::event_of_turn;
 use crate::turn_hook::TurnHook;
 use devices::Device;
 use inbox::Inbox;
 use meta_types::NodeId;
+use node_events::NodeEvent;
 use node_lock::{LockFault, Naming, Node, Receipt, WriteSeat};
 use rand_core::{Rng, SeedableRng};
 use rand_pcg::Pcg64;
@@ -36,6 +38,7 @@ pub struct Shared<'c, R, G> {
     /// The inboxes of all nodes, in the order of their numbers.
     pub inboxes: &'c [Inbox],
     pub gate: &'c G,
+    ghost nodes: { IsNodeCount plan.nodes },
     ghost some: { 1 ≤ journal },
     ghost few: { journal ≤ 1048576 },
 }
@@ -114,21 +117,21 @@ fn make<D: Device + Drop, J: Naming, H: Wait + Drop, R: Wait, G>(
     node: &Node<D, J, H>,
     seat: &mut WriteSeat<J>,
     worker: &mut Worker,
-    call: &Call,
+    event: &NodeEvent,
 ) -> Result<(), Ending>
-    requires asked { IsAsked (event_of call.now) }
-    requires worker { IsWorkerOf shared.now.inboxes.now
+    requires asked { IsAsked shared.now.plan event.now }
+    requires worker { IsWorkerOf shared.now.plan shared.now.inboxes.now
         (life_of J.node J.incarnation J.opening) seat.old worker.old }
-    ensures worker { IsWorkerOf shared.now.inboxes.now
+    ensures worker { IsWorkerOf shared.now.plan shared.now.inboxes.now
         (life_of J.node J.incarnation J.opening) seat.new worker.new }
     ensures works { (takes : TakeView)
-        → TakesFor (event_of call.now) takes worker.old.passes.takes → UnlessFailed result
-        (WorksOn shared.now.inboxes.now (event_of call.now ∷ []) (with_takes takes worker.old)
+        → TakesFor event.now takes worker.old.passes.takes → UnlessFailed result
+        (WorksOn shared.now.inboxes.now (event.now ∷ []) (with_takes takes worker.old)
         worker.new) }
     ensures ending { IfErr result EndsTurns }
 {
     worker.receipts.reserve(1)?;
-    match call.make_at_last(shared.rt, node, seat) {
+    match ask_at_last(shared.rt, node, seat, event) {
         Ok(done) => {
             let receipt = done.into_receipt();
             let frames = receipt.entry.outbox.as_slice();
@@ -141,36 +144,6 @@ fn make<D: Device + Drop, J: Naming, H: Wait + Drop, R: Wait, G>(
     }
 }
 
-/// Returns the call of a turn. In each fourth turn that is a write; otherwise the oldest frame of
-/// the inbox is taken, or, if there is none, time goes on.
-fn call_of<R: Wait, G>(
-    shared: &Shared<R, G>,
-    passes: &mut Passes,
-    words: &mut Pcg64,
-    turn: u64,
-) -> Result<Call, AllocError>
-    requires passes { ArePassesOf shared.now.inboxes.now passes.old }
-    ensures passes { ArePassesOf shared.now.inboxes.now passes.new }
-    ensures puts { passes.new.puts ≡ passes.old.puts }
-    ensures takes { IfOk result
-        (λ call. TakesFor (event_of call) passes.old.takes passes.new.takes) }
-    ensures asked { IfOk result (λ call. IsOfTurn turn (event_of call)) }
-{
-    if turn % 4 == 0 {
-        return write_of(shared.alloc, turn);
-    }
-    let inbox = &shared.inboxes[passes.own];
-    let parcel = inbox.take(shared.rt, &mut passes.takes);
-    let word = words.next_u64();
-    match parcel {
-        Some(parcel) => Ok(Call::Take {
-            frame: parcel.frame,
-            word,
-        }),
-        None => Ok(Call::Tick { word }),
-    }
-}
-
 fn make_turn<D: Device + Drop, J: Naming, H: Wait + Drop, R: Wait, G>(
     shared: &Shared<R, G>,
     node: &Node<D, J, H>,
@@ -178,16 +151,25 @@ fn make_turn<D: Device + Drop, J: Naming, H: Wait + Drop, R: Wait, G>(
     worker: &mut Worker,
     turn: u64,
 ) -> Result<(), Ending>
-    requires worker { IsWorkerOf shared.now.inboxes.now
+    requires worker { IsWorkerOf shared.now.plan shared.now.inboxes.now
         (life_of J.node J.incarnation J.opening) seat.old worker.old }
-    ensures worker { IsWorkerOf shared.now.inboxes.now
+    ensures worker { IsWorkerOf shared.now.plan shared.now.inboxes.now
         (life_of J.node J.incarnation J.opening) seat.new worker.new }
-    ensures works { UnlessFailed result ((event : Event) × IsOfTurn turn event
+    ensures works { UnlessFailed result ((event : Event) × IsOfTurn shared.now.plan turn event
         × WorksOn shared.now.inboxes.now (event ∷ []) worker.old worker.new) }
     ensures ending { IfErr result EndsTurns }
 {
-    let call = call_of(shared, &mut worker.passes, &mut worker.words, turn)?;
-    make(shared, node, seat, worker, &call)
+    let event = event_of_turn(
+        shared,
+        &mut worker.passes,
+        &mut worker.words,
+        worker.receipts.as_slice(),
+        turn,
+    )?;
+    let made = make(shared, node, seat, worker, &event);
+    // Dropped by a call: no case of the proof then takes it apart.
+    drop(event);
+    made
 }
 
 /// Joins through node 0, unless the node is node 0 itself.
@@ -197,9 +179,9 @@ fn join_first<D: Device + Drop, J: Naming, H: Wait + Drop, R: Wait, G>(
     seat: &mut WriteSeat<J>,
     worker: &mut Worker,
 ) -> Result<(), Ending>
-    requires worker { IsWorkerOf shared.now.inboxes.now
+    requires worker { IsWorkerOf shared.now.plan shared.now.inboxes.now
         (life_of J.node J.incarnation J.opening) seat.old worker.old }
-    ensures worker { IsWorkerOf shared.now.inboxes.now
+    ensures worker { IsWorkerOf shared.now.plan shared.now.inboxes.now
         (life_of J.node J.incarnation J.opening) seat.new worker.new }
     ensures works { UnlessFailed result ((asked : List Event) × JoinsFirst worker.old.node asked
         × WorksOn shared.now.inboxes.now asked worker.old worker.new) }
@@ -208,11 +190,11 @@ fn join_first<D: Device + Drop, J: Naming, H: Wait + Drop, R: Wait, G>(
     if worker.node.number() == 0 {
         return Ok(());
     }
-    let call = Call::Join {
+    let event = NodeEvent::Join {
         contact: NodeId::new(0).unwrap(),
         word: worker.words.next_u64(),
     };
-    make(shared, node, seat, worker, &call)
+    make(shared, node, seat, worker, &event)
 }
 
 /// Joins, and makes all turns.
@@ -222,12 +204,12 @@ pub(crate) fn make_all<D: Device + Drop, J: Naming, H: Wait + Drop, R: Wait, G: 
     seat: &mut WriteSeat<J>,
     worker: &mut Worker,
 ) -> Result<(), Ending>
-    requires worker { IsWorkerOf shared.now.inboxes.now
+    requires worker { IsWorkerOf shared.now.plan shared.now.inboxes.now
         (life_of J.node J.incarnation J.opening) seat.old worker.old }
-    ensures worker { IsWorkerOf shared.now.inboxes.now
+    ensures worker { IsWorkerOf shared.now.plan shared.now.inboxes.now
         (life_of J.node J.incarnation J.opening) seat.new worker.new }
     ensures works { UnlessFailed result ((asked : List Event)
-        × AreAsked worker.old.node shared.now.plan.turns (is_err result) asked
+        × AreAsked shared.now.plan worker.old.node (is_err result) asked
         × WorksOn shared.now.inboxes.now asked worker.old worker.new) }
     ensures ending { IfErr result EndsTurns }
 {

@@ -50,9 +50,10 @@ pub fn work<D: Device + Drop, R: Wait, G: TurnHook>(
     job: Job<D>,
 ) -> Result<Worked, LockFault>
     requires { IsJob D.content shared.now.inboxes.now job.served.file job.served.table job.passes }
-    ensures worked { IfOk result (HasWorked (life_of_file job.served.file job.served.table)) }
+    ensures worked { IfOk result
+        (HasWorked shared.now.plan (life_of_file job.served.file job.served.table)) }
     ensures conveyed { IfOk result
-        (HasConveyed shared.now.inboxes.now shared.now.plan.turns job.passes) }
+        (HasConveyed shared.now.plan shared.now.inboxes.now job.passes) }
     ensures connected { IfOk result (λ w. ArePassesOf shared.now.inboxes.now w.passes) }
     ensures refused { IfErr result EndsRun }
 {
@@ -73,9 +74,10 @@ fn work_as<J: Naming, D: Device + Drop, R: Wait, G: TurnHook>(
     requires served { IsFileOf D.content J.node J.incarnation job.served.table job.served.file }
     requires job { IsJob D.content shared.now.inboxes.now
         job.served.file job.served.table job.passes }
-    ensures worked { IfOk result (HasWorked (life_of_file job.served.file job.served.table)) }
+    ensures worked { IfOk result
+        (HasWorked shared.now.plan (life_of_file job.served.file job.served.table)) }
     ensures conveyed { IfOk result
-        (HasConveyed shared.now.inboxes.now shared.now.plan.turns job.passes) }
+        (HasConveyed shared.now.plan shared.now.inboxes.now job.passes) }
     ensures connected { IfOk result (λ w. ArePassesOf shared.now.inboxes.now w.passes) }
     ensures refused { IfErr result EndsRun }
 {
@@ -111,13 +113,14 @@ fn use_node<J: Naming, D: Device + Drop, H: Wait + Drop, R: Wait, G: TurnHook>(
     started: Started<D, J, H>,
     worker: Worker,
 ) -> Result<Worked, LockFault>
-    requires worker { IsWorkerOf shared.now.inboxes.now
+    requires worker { IsWorkerOf shared.now.plan shared.now.inboxes.now
         (life_of J.node J.incarnation J.opening) 0 worker }
     requires writers { AreNewWriters 1 started.writers.items }
     requires readers { AreNewReaders 0 started.readers.items }
-    ensures worked { IfOk result (HasWorked (life_of J.node J.incarnation J.opening)) }
+    ensures worked { IfOk result
+        (HasWorked shared.now.plan (life_of J.node J.incarnation J.opening)) }
     ensures conveyed { IfOk result
-        (HasConveyed shared.now.inboxes.now shared.now.plan.turns worker.passes) }
+        (HasConveyed shared.now.plan shared.now.inboxes.now worker.passes) }
     ensures connected { IfOk result (λ w. ArePassesOf shared.now.inboxes.now w.passes) }
     ensures refused { IfErr result EndsRun }
 {

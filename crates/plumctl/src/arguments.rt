@@ -5,7 +5,7 @@ use crate::live::LiveArguments;
 use clap::builder::ValueParser;
 use clap::error::ErrorKind;
 use clap::{Arg, ArgAction, ArgMatches, Command, Error};
-use cluster::ClusterPlan;
+use cluster::{ClusterPlan, Workload};
 use meta_types::both;
 use plumctl_draw::Excerpt;
 use std::alloc::{AllocError, Global};
@@ -174,6 +174,9 @@ reading or writing failed, 4 memory ran out.";
 const LIVE_HELP: &str =
     "Each node has a worker in a thread of its own. All but node 0 join through node 0, and then
 each makes its turns: each fourth writes, the others take a frame that came, or let time go on.
+With --mixed half of the turns do that, and the others whatever else a node can be asked: they
+read, write, delete, keep, begin exchanges, leave, join and so on, as the random words say.
+
 What all of them did is then put together as one run of the proved core:
   live nodes 4 turns 200
   calls 803 lost 0
@@ -218,6 +221,8 @@ const SEED: &str = "SEED";
 const RECORD: &str = "record";
 
 const FILES: &str = "files";
+
+const MIXED: &str = "mixed";
 
 /// Makes a command with its help, which takes no argument.
 fn command_of<'a>(alloc: Global, name: &'a str, about: &'a str, long_help: &'a str) -> Command<'a> {
@@ -326,7 +331,12 @@ fn live_command<'a>(alloc: Global) -> Result<Command<'a>, AllocError> {
     let help = "Write the run down as a scenario, to a new file";
     let command = with_argument(command, option(alloc, RECORD, "FILE", help));
     let help = "Make a folder, and run the nodes on files there";
-    with_argument(command, option(alloc, FILES, "DIR", help))
+    let command = with_argument(command, option(alloc, FILES, "DIR", help));
+    let mixed = Arg::new(alloc, MIXED)
+        .long(MIXED)
+        .help("Let turns do all that a node can be asked")
+        .action(ArgAction::SetTrue);
+    with_argument(command, mixed)
 }
 
 /// Makes the command line, with its help.
@@ -392,6 +402,15 @@ fn copied<'a>(matches: &ArgMatches<'a>) -> Option<Copied<'a>> {
     }
 }
 
+/// Returns what the turns of `live` are to ask for.
+fn workload(matches: &ArgMatches<'_>) -> Workload {
+    if matches.get_flag(MIXED) {
+        Workload::Mixed
+    } else {
+        Workload::Fixed
+    }
+}
+
 /// Returns what the arguments of `live` ask for.
 fn live<'a>(matches: &ArgMatches<'a>) -> Asked<'a> {
     match (
@@ -400,7 +419,12 @@ fn live<'a>(matches: &ArgMatches<'a>) -> Asked<'a> {
         matches.get_one::<u64>(SEED),
     ) {
         (Some(nodes), Some(turns), Some(seed)) => Asked::Live(LiveArguments {
-            plan: ClusterPlan { nodes, turns, seed },
+            plan: ClusterPlan {
+                nodes,
+                turns,
+                seed,
+                workload: workload(matches),
+            },
             record: matches.get_str(RECORD),
             files: matches.get_str(FILES),
         }),

@@ -15,22 +15,24 @@ use Rattle.cluster.specs.Run.{CanRun, IsRunOf}
 use Rattle.cluster.specs.declared.run.ClusterRun.{ClusterRun}
 
 -- as many are closed as lived
-closed_of : (lives : List LifeView) (run : ClusterRun) → IsRunOf lives run → length run.closed.items ≡ length lives
-closed_of lives run is =
-    ap length is.together.closed ∙ length-map is.all _ ∙ AllZip-long HasWorked lives is.all is.worked
+closed_of : (plan : ClusterPlan) (lives : List LifeView) (run : ClusterRun) → IsRunOf plan lives run → length run.closed.items ≡ length lives
+closed_of plan lives run is =
+    ap length is.together.closed ∙ length-map is.all _ ∙ AllZip-long (HasWorked plan) lives is.all is.worked
 
 -- it is of so many nodes
 abbrev pub IsOfNodes : ℕ → Result ClusterRun ClusterFault → Type 0
 IsOfNodes nodes run = IfOk run (λ r. length r.closed.items ≡ nodes)
 
-of_lives : (lives : List LifeView) (nodes : ℕ) (run : Result ClusterRun ClusterFault)
-    → length lives ≡ nodes → IfOk run (IsRunOf lives) → IsOfNodes nodes run
-of_lives lives nodes (Ok run) many is = closed_of lives run is ∙ many
-of_lives lives nodes (Err fault) many is = tt
+of_lives : (plan : ClusterPlan) (lives : List LifeView) (nodes : ℕ)
+    (run : Result ClusterRun ClusterFault) → length lives ≡ nodes → IfOk run (IsRunOf plan lives)
+    → IsOfNodes nodes run
+of_lives plan lives nodes (Ok run) many is = closed_of plan lives run is ∙ many
+of_lives plan lives nodes (Err fault) many is = tt
 
-pub of_new : (nodes : ℕ) (run : Result ClusterRun ClusterFault) → IfOk run (IsRunOf (first_lives nodes)) → IsOfNodes nodes run
-of_new nodes run is =
-    of_lives (first_lives nodes) nodes run (length-map-range_with_len (λ node. life_of node 1 []) 0 nodes) is
+pub of_new : (plan : ClusterPlan) (run : Result ClusterRun ClusterFault)
+    → IfOk run (IsRunOf plan (first_lives plan.nodes)) → IsOfNodes plan.nodes run
+of_new plan run is =
+    of_lives plan (first_lives plan.nodes) plan.nodes run (length-map-range_with_len (λ node. life_of node 1 []) 0 plan.nodes) is
 
 -- ---- on devices
 
@@ -48,9 +50,9 @@ as_many : (plan : ClusterPlan) (devices : ℕ) → refusal_of_run plan largest d
 as_many plan devices none = eqb-true devices plan.nodes (none_of (is_outside 1 16 plan.nodes) (nat_eq devices plan.nodes) none)
 
 pub of_devices : {D : Type 0} (content : D → List ℕ) (plan : ClusterPlan) (devices : List D)
-    (run : Result ClusterRun ClusterFault) → IfOk run (IsRunOf (lives_from 0 (map content devices)))
+    (run : Result ClusterRun ClusterFault) → IfOk run (IsRunOf plan (lives_from 0 (map content devices)))
     → OnOk run (CanRun content plan largest devices) → IsOfNodes plan.nodes run
 of_devices content plan devices (Ok run) is can =
     let many = lives_are 0 (map content devices) ∙ (length-map devices content ∙ as_many plan (length devices) can.none) in
-    of_lives (lives_from 0 (map content devices)) plan.nodes (Ok run) many is
+    of_lives plan (lives_from 0 (map content devices)) plan.nodes (Ok run) many is
 of_devices content plan devices (Err fault) is can = tt

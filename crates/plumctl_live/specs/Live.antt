@@ -32,14 +32,14 @@ use Rattle.plumctl_live.specs.declared.run.LiveRun.{LiveRun}
 
 -- what a run on new devices in memory came to: all nodes are in their first lives
 pub record IsNewRun (plan : ClusterPlan) (run : Result ClusterRun ClusterFault) : Type 0 where
-  pub ran : IfOk run (IsRunOf (first_lives plan.nodes))
+  pub ran : IfOk run (IsRunOf plan (first_lives plan.nodes))
   pub accepted : OnOk run (refusal_of_run plan largest plan.nodes ≡ None)
   pub refused : IfErr run (RefusesNewRun plan)
 
 -- what a run on these devices came to
 pub record IsRunOn {D : Type 0} (content : D → List ℕ) (failed : D → ℕ) (plan : ClusterPlan)
     (devices : List D) (run : Result ClusterRun ClusterFault) : Type 0 where
-  pub ran : IfOk run (IsRunOf (lives_from 0 (map content devices)))
+  pub ran : IfOk run (IsRunOf plan (lives_from 0 (map content devices)))
   pub accepted : OnOk run (CanRun content plan largest devices)
   pub refused : IfErr run (RefusesRun content failed plan largest devices)
 
@@ -63,8 +63,8 @@ RefusesJudging run (Cluster fault) = ⊥
 
 -- what threads left is never refused with 62: their locks left journals that are runs
 abbrev pub NoRunIsUnequal : Type 0
-NoRunIsUnequal = (lives : List LifeView) (run : ClusterRun) (n : ℕ) → IsRunOf lives run
-    → RefusesJudging run (Record (record_faults.Unequal n)) → ⊥
+NoRunIsUnequal = (plan : ClusterPlan) (lives : List LifeView) (run : ClusterRun) (n : ℕ)
+    → IsRunOf plan lives run → RefusesJudging run (Record (record_faults.Unequal n)) → ⊥
 
 -- what a run came to: it was judged, or there is none
 abbrev pub Judges : Result ClusterRun ClusterFault → Result World LiveFault → Type 0

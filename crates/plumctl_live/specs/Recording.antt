@@ -10,6 +10,8 @@ use Rattle.world_core.specs.World.{World}
 use Rattle.run_record.specs.Record.{event_of}
 use Rattle.run_text.specs.Replay.{HasReplay, Replays, scenario_of_run}
 use Rattle.cluster_worker.specs.declared.plan.ClusterPlan.{ClusterPlan}
+use Rattle.cluster_worker.specs.declared.plan.Workload.{Workload}
+use Rattle.cluster_worker.specs.declared.plan.Workload.TheVariants.{Fixed, Mixed}
 use Rattle.scenario_text.specs.Commands.{Command}
 use Rattle.scenario_text.specs.Script.{commands_of, scenario_of}
 use Rattle.scenario_text.specs.Spelling.{spelled_scenario}
@@ -38,11 +40,16 @@ pub record MakesAgain (choices : Choices) (nodes : ℕ) (w : World) (text output
   pub world : stage.world ≡ w
   pub output_is : output ≡ line (codes "ok") ++ printed
 
+-- the option for this workload
+abbrev pub option_of : Workload → List ℕ
+option_of Fixed = []
+option_of Mixed = codes " --mixed"
+
 -- what is said about the recording of a run of this plan
 abbrev pub about : ClusterPlan → List ℕ
 about plan = codes "what the threads of 'plumctl live " ++ (decimal plan.nodes ++ (codes " "
-    ++ (decimal plan.turns ++ (codes " " ++ (decimal plan.seed
-    ++ codes "' did, call by call; at last the root of each node")))))
+    ++ (decimal plan.turns ++ (codes " " ++ (decimal plan.seed ++ (option_of plan.workload
+    ++ codes "' did, call by call; at last the root of each node"))))))
 
 -- a run of this plan has a recording: each of its events has a spelling
 abbrev pub HasRecording : ClusterPlan → World → Type 0

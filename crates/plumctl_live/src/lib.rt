@@ -3,7 +3,7 @@
 //! program itself reads its arguments, opens paths, and removes a recording that isn't whole.
 //!
 //! ```
-//! let plan = ClusterPlan { nodes: 4, turns: 200, seed: 7 };
+//! let plan = ClusterPlan { nodes: 4, turns: 200, seed: 7, workload: Workload::Fixed };
 //! let live = run_live(rt, alloc, plan, &NoHook, &mut writer, &mut errors);
 //! // printed: live nodes 4 turns 200, calls 803 lost 0, assembled
 //! if let Ok(world) = &live.judged {

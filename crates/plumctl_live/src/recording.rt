@@ -1,13 +1,13 @@
 //! A run that was judged, written down as a scenario.
 
-ghost use Rattle.std.specs.Prelude.{◌≡◌, ◌≢◌, ◌↔◌, IfOk, IfSome, IsErrOf, IsSome, OnOk};
+ghost use Rattle.std.specs.Prelude.{◌≡◌, ◌≢◌, ◌↔◌, ◌++◌, IfOk, IfSome, IsErrOf, IsSome, OnOk};
 ghost use Rattle.devices.specs.Device.{HasFailed};
 ghost use Rattle.devices.specs.declared.device.DeviceFault.TheVariants.{Failed};
 ghost use Rattle.run_record.specs.Record.{IsOfARun};
-ghost use Rattle.plumctl_live.specs.Recording.{EndsRecording, HasRecording, IsRecording, IsStored, about, note_of};
+ghost use Rattle.plumctl_live.specs.Recording.{EndsRecording, HasRecording, IsRecording, IsStored, about, note_of, option_of};
 
 use crate::folder::tell_device;
-use cluster::ClusterPlan;
+use cluster::{ClusterPlan, Workload};
 use devices::{Device, DeviceFault};
 use plumctl_core::tell;
 use printing::print_number;
@@ -16,6 +16,16 @@ use scenario_text::add_printable;
 use std::alloc::{AllocError, Global};
 use streams::{MAX_INPUT_LEN, Sink, StreamFault, write_whole};
 use world_core::World;
+
+/// Adds the option for a workload.
+fn add_option(text: &mut Vec<u8>, workload: Workload) -> Result<(), AllocError>
+    ensures { OnOk result (text.new.items ≡ text.old.items ++ option_of workload) }
+{
+    match workload {
+        Workload::Fixed => Ok(()),
+        Workload::Mixed => text.extend_from_slice(b" --mixed"),
+    }
+}
 
 /// The comment on top of a recording.
 fn about(alloc: Global, plan: ClusterPlan) -> Result<Vec<u8>, AllocError>
@@ -28,6 +38,7 @@ fn about(alloc: Global, plan: ClusterPlan) -> Result<Vec<u8>, AllocError>
     print_number(&mut text, plan.turns)?;
     text.push(b' ')?;
     print_number(&mut text, plan.seed)?;
+    add_option(&mut text, plan.workload)?;
     text.extend_from_slice(b"' did, call by call; at last the root of each node")?;
     Ok(text)
 }

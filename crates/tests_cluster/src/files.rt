@@ -1,6 +1,6 @@
 //! The nodes on files in a folder of its own.
 
-use cluster::{ClusterPlan, NoHook};
+use cluster::{ClusterPlan, NoHook, Workload};
 use devices::OpenFault;
 use plumctl_file::{Purpose, report_path};
 use plumctl_live::{new_files, run_live_on, tell_unmade};
@@ -19,6 +19,7 @@ fn status<R: Threads + Wait + Sync>(files: &HostRuntime, rt: &R, folder: &str) -
         nodes: 2,
         turns: 8,
         seed: 1,
+        workload: Workload::Fixed,
     };
     match new_files(files, folder, plan.nodes) {
         Ok(devices) => {

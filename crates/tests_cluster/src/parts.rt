@@ -3,7 +3,7 @@
 ghost use Rattle.std.specs.Prelude.{All, ◌≡◌};
 ghost use Rattle.devices.specs.Device.{IsDurable};
 
-use cluster::{ClusterFault, ClusterPlan, ClusterRun};
+use cluster::{ClusterFault, ClusterPlan, ClusterRun, Workload};
 use devices::{Device, FailsAfter, MemoryDevice};
 use node_journal::are_whole;
 use node_lock::{Closed, Receipt};
@@ -15,7 +15,12 @@ use std::process::Abort;
 pub(crate) fn plan(nodes: u64, turns: u64, seed: u64) -> ClusterPlan
     ensures { result.nodes ≡ nodes }
 {
-    ClusterPlan { nodes, turns, seed }
+    ClusterPlan {
+        nodes,
+        turns,
+        seed,
+        workload: Workload::Fixed,
+    }
 }
 
 /// Adds a device with nothing pending.

@@ -3,7 +3,7 @@
 ghost use Rattle.std.specs.Prelude.{IfOk};
 ghost use Rattle.run_record.specs.Record.{IsOfARun};
 
-use cluster::{ClusterPlan, NoHook};
+use cluster::{ClusterPlan, NoHook, Workload};
 use devices::{FailsAfter, MemoryDevice};
 use meta_store::Store;
 use meta_types::{FullPrefix, MetaKey, NodeId};
@@ -70,16 +70,34 @@ fn is_made_again<R: Threads + Wait + Abort + Sync>(
     lines(output.as_slice()) == all.saturating_add(plan.nodes).saturating_add(1)
 }
 
-#[test]
-fn runs_are_made_again(rt: HostRuntime) {
+/// Returns whether eight runs of four nodes are made again.
+fn are_made_again<R: Threads + Wait + Abort + Sync>(
+    rt: &R,
+    alloc: Global,
+    workload: Workload,
+) -> bool {
     for seed in 0..8 {
         let plan = ClusterPlan {
             nodes: 4,
             turns: 60,
             seed,
+            workload,
         };
-        assert!(&rt; is_made_again(&rt, rt.alloc(), plan));
+        if !is_made_again(rt, alloc, plan) {
+            return false;
+        }
     }
+    true
+}
+
+#[test]
+fn runs_are_made_again(rt: HostRuntime) {
+    assert!(&rt; are_made_again(&rt, rt.alloc(), Workload::Fixed));
+}
+
+#[test]
+fn mixed_runs_are_made_again(rt: HostRuntime) {
+    assert!(&rt; are_made_again(&rt, rt.alloc(), Workload::Mixed));
 }
 
 /// The recording of one node with the seed 1. The words follow from what `Pcg64` is, and were
@@ -107,18 +125,76 @@ tick 0 word 15403274284619518961
 root 0
 ";
 
-/// Returns whether five turns of one node have this recording.
+/// The recording of twenty mixed turns of one node with the seed 6105. Another program drew them.
+/// Turn 4 drew what is refused, and has no line.
+const MIXED_OF_SEED_6105: &[u8] = b"\
+# what the threads of 'plumctl live 1 20 6105 --mixed' did, call by call; at last the root of each node
+nodes 1
+tick 0 word 15780242802219785816
+watch 0 live/all 5
+leave 0
+read 0 live/all/k6
+del 0 live/all/k4
+tick 0 word 6045386567941944459
+put 0 live/all/k6 8 read 1
+over 0 live/all/k1 9
+del 0 live/all/k7
+read 0 live/all/k5
+tick 0 word 7087661283455591969
+del 0 live/all/k5 read 3
+watch 0 live/all 8
+put 0 live/all/k1 15
+del 0 live/all/k2
+over 0 live/all/k5 17
+keep 0 live/all/k2
+put 0 live/all/k6 19 read 1
+tick 0 word 11405888240072031948
+root 0
+";
+
+/// The recording of twenty mixed turns of one node with the seed 2822, of which turns 7 and 12 were
+/// refused.
+const MIXED_OF_SEED_2822: &[u8] = b"\
+# what the threads of 'plumctl live 1 20 2822 --mixed' did, call by call; at last the root of each node
+nodes 1
+leave 0
+del 0 live/all/k4
+tick 0 word 7371935094919203966
+tick 0 word 4706093621589310847
+read 0 live/all/k0
+tick 0 word 1944509687847500138
+keep 0 live/all/k7
+keep 0 live/all/k5
+watch 0 live/all 4
+tick 0 word 12014820242914165504
+tick 0 word 14149464507874185649
+tick 0 word 11142422157360786447
+put 0 live/all/k0 15 read 1
+over 0 live/all/k4 16
+watch 0 live/all 5
+tick 0 word 5144106623694654704
+put 0 live/all/k0 19 read 1
+changes 0 2
+root 0
+";
+
+/// Returns a plan of one node.
+fn of_one(turns: u64, seed: u64, workload: Workload) -> ClusterPlan {
+    ClusterPlan {
+        nodes: 1,
+        turns,
+        seed,
+        workload,
+    }
+}
+
+/// Returns whether the run of this plan has this recording.
 fn is_recorded<R: Threads + Wait + Abort + Sync>(
     rt: &R,
     alloc: Global,
-    seed: u64,
+    plan: ClusterPlan,
     wanted: &[u8],
 ) -> bool {
-    let plan = ClusterPlan {
-        nodes: 1,
-        turns: 5,
-        seed,
-    };
     let world = live(rt, alloc, plan).ok().expect(rt, "a run of the world");
     let text = recording_of(alloc, plan, &world).expect(rt, "memory");
     drop(world);
@@ -128,8 +204,18 @@ fn is_recorded<R: Threads + Wait + Abort + Sync>(
 /// What one node does is fixed by the seed.
 #[test]
 fn one_node_has_one_recording(rt: HostRuntime) {
-    assert!(&rt; is_recorded(&rt, rt.alloc(), 1, OF_SEED_1));
-    assert!(&rt; is_recorded(&rt, rt.alloc(), 7, OF_SEED_7));
+    let plan = of_one(5, 1, Workload::Fixed);
+    assert!(&rt; is_recorded(&rt, rt.alloc(), plan, OF_SEED_1));
+    let plan = of_one(5, 7, Workload::Fixed);
+    assert!(&rt; is_recorded(&rt, rt.alloc(), plan, OF_SEED_7));
+}
+
+#[test]
+fn one_node_has_one_mixed_recording(rt: HostRuntime) {
+    let plan = of_one(20, 6105, Workload::Mixed);
+    assert!(&rt; is_recorded(&rt, rt.alloc(), plan, MIXED_OF_SEED_6105));
+    let plan = of_one(20, 2822, Workload::Mixed);
+    assert!(&rt; is_recorded(&rt, rt.alloc(), plan, MIXED_OF_SEED_2822));
 }
 
 /// Writes a recording to a device that fails after `passed` calls. Returns the status, whether the
@@ -167,6 +253,7 @@ fn is_written<R: Threads + Wait + Abort + Sync>(
         nodes: 2,
         turns: 8,
         seed: 3,
+        workload: Workload::Fixed,
     };
     let world = live(rt, alloc, plan).ok().expect(rt, "a run of the world");
     let (ended, is_there, errors) = written(rt, alloc, plan, &world, passed);
@@ -223,6 +310,7 @@ const ONE: ClusterPlan = ClusterPlan {
     nodes: 1,
     turns: 1,
     seed: 0,
+    workload: Workload::Fixed,
 };
 
 /// The recording of the keeping of one key.

@@ -1,6 +1,6 @@
 //! Runs of threads, made again by one.
 
-use cluster::{ClusterPlan, ClusterRun, NoHook, run_cluster};
+use cluster::{ClusterPlan, ClusterRun, NoHook, Workload, run_cluster};
 use hash_tree::plain_root;
 use node_journal::are_whole;
 use node_lock::Closed;
@@ -57,6 +57,7 @@ fn runs_of_threads_are_made_again(rt: HostRuntime) {
             nodes: 4,
             turns: 60,
             seed,
+            workload: Workload::Fixed,
         };
         assert!(&rt; is_replayed(&rt, rt.alloc(), plan));
     }

@@ -8,7 +8,7 @@ use Rattle.cluster.proofs.run.run_cluster.Goals as goal
 pub returns-clause-run : goal.returns-clause-run
 returns-clause-run c d =
     let same = ap (lives_from 0) d.in_ok-devices.ensures.empty ∙ first_on d.an_empty_file_is_served.ensures d.args.plan.nodes (omega arith) in
-    subst (λ (lives : List LifeView). IfOk d.run_cluster_on.result (IsRunOf lives)) same d.run_cluster_on.ensures.run
+    subst (λ (lives : List LifeView). IfOk d.run_cluster_on.result (IsRunOf d.args.plan lives)) same d.run_cluster_on.ensures.run
 
 pub returns-clause-refused : goal.returns-clause-refused
 returns-clause-refused c d =

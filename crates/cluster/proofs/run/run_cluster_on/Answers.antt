@@ -3,11 +3,11 @@ use Rattle.std.proofs.lemmas.List.{length-map}
 use Rattle.cluster_worker.specs.Passes.{ArePassesOf}
 use Rattle.cluster_worker.specs.Plan.{refusal_of_run}
 use Rattle.cluster.specs.Run.{CanRun, IsRunOf, RefusesGathering, RefusesRun}
+use Rattle.cluster.specs.Threads.{AreOutcomesOf, task_of}
 use Rattle.cluster_worker.specs.Serving.{life_of_file, lives_from}
-use Rattle.cluster_worker.specs.Worked.{AreOutcomesOf}
 use Rattle.cluster_worker.specs.declared.serving.ServedFile.{ServedFile}
 use Rattle.cluster_worker.proofs.Made.{each_has_passes}
-use Rattle.cluster.proofs.Gathered.{all_jobs, ends_run, err_more, inboxes_within, lives_count, lives_of, ok_more, on_ok, refuses_gathering, refuses_working, run_of}
+use Rattle.cluster.proofs.Gathered.{all_jobs, ends_run, err_more, inboxes_within, lives_count, ok_more, on_ok, refuses_gathering, refuses_working, run_of, tasks_of}
 use Rattle.cluster.proofs.run.run_cluster_on.Goals as goal
 
 pub connect-requires-clause-nodes : goal.connect-requires-clause-nodes
@@ -55,11 +55,11 @@ pub returns-clause-run : goal.returns-clause-run
 returns-clause-run g c =
     let lives = lives_from 0 (map g.D.Device.content c.args.devices.items) in
     let outcomes = c.in_ok-outcomes.field-0.items in
-    let same = lives_of c.in_ok-jobs.jobs.items c.in_ok-served.served.items c.in_ok-jobs.ensures.served
-    ∙ c.in_ok-served.ensures.lives in
-    let worked : AreOutcomesOf lives outcomes =
-    subst (λ ls. AreOutcomesOf ls outcomes) same c.in_ok-outcomes.ensures.worked in
-    ok_more _ (IsRunOf lives) c.gather.result (λ run made. run_of lives outcomes run worked made) c.gather.ensures.run
+    let plan = c.args.plan in
+    let same = tasks_of plan c.in_ok-jobs.jobs.items c.in_ok-served.served.items lives c.in_ok-jobs.ensures.served c.in_ok-served.ensures.lives in
+    let worked : AreOutcomesOf (map (task_of plan) lives) outcomes =
+    subst (λ tasks. AreOutcomesOf tasks outcomes) same c.in_ok-outcomes.ensures.worked in
+    ok_more _ (IsRunOf plan lives) c.gather.result (λ run made. run_of plan lives outcomes run worked made) c.gather.ensures.run
 
 pub returns-clause-accepted : goal.returns-clause-accepted
 returns-clause-accepted g c =

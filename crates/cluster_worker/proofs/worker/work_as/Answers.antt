@@ -8,7 +8,7 @@ pub use_node-requires-clause-worker : goal.use_node-requires-clause-worker
 use_node-requires-clause-worker g c =
     let n = g.J.Naming in
     let new = c.new-worker.ensures in
-    begins c.args.shared.now.inboxes.now (life_of n.node n.incarnation n.opening) c.new-worker.result
+    begins c.args.shared.now.plan c.args.shared.now.inboxes.now (life_of n.node n.incarnation n.opening) c.new-worker.result
     (new.node ∙ (c.node.ensures ∙ c.requires.served.node))
     (subst (ArePassesOf c.args.shared.now.inboxes.now) (sym new.passes) c.requires.job.connected)
     new.nothing.0 new.nothing.1

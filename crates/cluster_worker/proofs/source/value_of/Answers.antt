@@ -1,6 +1,6 @@
 use Rattle.std.proofs.Common.{ap, arith}
 use Rattle.std.proofs.lemmas.Fmt.{length-decimal-le}
-use Rattle.cluster_worker.proofs.call.value_of.Goals as goal
+use Rattle.cluster_worker.proofs.source.value_of.Goals as goal
 
 -- a number has at most 20 digits
 pub unwrap-requires : goal.unwrap-requires
