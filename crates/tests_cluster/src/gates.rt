@@ -1,7 +1,7 @@
 //! Workers run side by side: one waits in a gate until another has made all its turns.
 
 use crate::parts::{Came, failing, plan, told};
-use cluster::{Limits, TurnHook, run_cluster, run_cluster_on};
+use cluster::{ClusterRun, Limits, TurnHook, run_cluster, run_cluster_on};
 use meta_types::NodeId;
 use std::alloc::Global;
 use std::sync::Wait;
@@ -9,7 +9,7 @@ use std::sync::atomic::{AtomicBool, Ordering};
 use std::thread::{self, Threads};
 
 /// How many times a turn that is held looks whether the other was made.
-const LOOKS: u32 = 1_000_000;
+const LOOKS: u32 = 100_000_000;
 
 /// A turn of a node.
 type Turn = (u16, u64);
@@ -120,4 +120,40 @@ fn what_finds_no_room_is_lost_and_counted(rt: HostRuntime) {
         code: 0,
     };
     assert!(rt; told(rt.alloc(), run) == Ok(wanted));
+}
+
+/// Turns enough that the writes of one node alone send more frames than an inbox may take.
+const MANY: u64 = 4_200;
+
+/// Returns how many frames are lost if the inbox of each node takes the first 1,024 that the other
+/// sends, and no more.
+fn beyond_1024(run: &ClusterRun) -> u64 {
+    let (mut of_node_0, mut of_node_1) = (0u64, 0u64);
+    for receipt in run.receipts.iter() {
+        let sent = receipt.entry.outbox.as_slice().len() as u64;
+        if receipt.node.number() == 0 {
+            of_node_0 = of_node_0.saturating_add(sent);
+        } else {
+            of_node_1 = of_node_1.saturating_add(sent);
+        }
+    }
+    of_node_0
+        .saturating_sub(1_024)
+        .saturating_add(of_node_1.saturating_sub(1_024))
+}
+
+/// Neither node takes a frame before the other has sent all: node 0 waits, and then node 1 makes no
+/// more turns.
+#[test]
+fn run_cluster_has_the_largest_inboxes(rt: HostRuntime) {
+    let gate = Holds::new((0, 1), (1, MANY));
+    let run = run_cluster(&rt, rt.alloc(), plan(2, MANY, 1), &gate);
+    let (lost, wanted) = match &run {
+        Ok(run) => (run.lost, beyond_1024(run)),
+        Err(_fault) => (0, 0),
+    };
+    drop(run);
+    assert!(rt; gate.has_come.load(Ordering::SeqCst));
+    assert!(rt; wanted > 0);
+    assert!(rt; lost == wanted);
 }
